@@ -1,0 +1,13 @@
+-- Sets of codes. A set is a list of ranges, each with its first and its last code; what counts of it is which codes it holds.
+use Rattle.std.specs.Prelude.{ℕ, ◌+◌, ◌≤◌, List, [], ◌∷◌, Bool, ◌&&◌}
+use Rattle.std.specs.Prelude.{nat_le}
+use Rattle.std.specs.List.{list_any}
+
+-- whether some range holds the code
+unfoldable pub has : List (ℕ × ℕ) → ℕ → Bool
+has ranges code = list_any (λ r. nat_le r.0 code && nat_le code r.1) ranges
+
+-- sorted from the code `low` on, disjoint, and not touching
+abbrev pub Above : ℕ → List (ℕ × ℕ) → Type 0
+Above low [] = Unit {0}
+Above low (r ∷ rs) = (low ≤ r.0) × (r.0 ≤ r.1) × Above (r.1 + 2) rs

@@ -1,0 +1,9 @@
+//! Sets of codes, the named classes and case folding of Python's `re`, and the letters of a list of sets.
+#![tactic(auto)]
+
+pub mod code_set;
+pub mod universe;
+
+pub use code_set::CodeSet;
+pub use rl_lists::{Bytes, Codes, Items, Members, OutOfMemory, Path, Places, Ranks, Word};
+pub use universe::Universe;
