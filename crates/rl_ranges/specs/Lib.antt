@@ -1,2 +1,4 @@
 pub mod Codes
 pub mod Text
+pub mod Named
+pub mod Letters

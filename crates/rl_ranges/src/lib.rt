@@ -2,8 +2,10 @@
 #![tactic(auto)]
 
 pub mod code_set;
+pub mod named;
 pub mod universe;
 
 pub use code_set::CodeSet;
+pub use named::Named;
 pub use rl_lists::{Bytes, Codes, Items, Members, OutOfMemory, Path, Places, Ranks, Word};
 pub use universe::Universe;
