@@ -1,0 +1,18 @@
+-- Language. A tree spans two places of a text where it may match the codes between them. A text is in the language of a tree
+-- that spans its start and its end. These are the regular languages of any textbook, with guards.
+use Rattle.std.specs.Prelude.{◌≡◌, ℕ, suc, ◌<◌, ◌⊎◌, IsTrue, List, slice_get}
+use Rattle.rl_syntax.specs.Guards.{is_in, holds_at}
+use Rattle.rl_syntax.specs.Tree.{Tree, empty, one, guard, both, either, many}
+
+-- from place to place by any number of steps of `R` that each go forward
+pub data Rounds (R : ℕ → ℕ → Type 0) : ℕ → ℕ → Type 0 where
+  stop : {i : ℕ} → Rounds R i i
+  again : {i k j : ℕ} → i < k → R i k → Rounds R k j → Rounds R i j
+
+abbrev pub Spans : Tree → List ℕ → ℕ → ℕ → Type 0
+Spans empty w i j = i ≡ j
+Spans (one set) w i j = IsTrue (is_in set (slice_get w i)) × (suc i ≡ j)
+Spans (guard g) w i j = IsTrue (holds_at g w i) × (i ≡ j)
+Spans (both e f) w i j = (k : ℕ) × Spans e w i k × Spans f w k j
+Spans (either e f) w i j = Spans e w i j ⊎ Spans f w i j
+Spans (many e greedy) w i j = Rounds (Spans e w) i j

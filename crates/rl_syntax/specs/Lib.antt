@@ -1,0 +1,11 @@
+pub mod Guards
+pub mod Tree
+pub mod Language
+pub mod Run
+pub mod Cost
+pub mod PatTree
+pub mod IsPattern
+pub mod Lowering
+pub mod Modes
+pub mod Family
+pub mod Pattern

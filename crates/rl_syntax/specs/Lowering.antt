@@ -1,0 +1,72 @@
+-- Lowering. A pattern's tree: a class is its set, items in turn nest to the right, and so do branches; a group is its body; a
+-- repeat is copies of its body, and anchors and boundaries are guards.
+use Rattle.std.specs.Prelude.{ℕ, zero, suc, ◌-◌, Bool, true, false, List, [], ◌∷◌, ◌++◌, Option, None, Some, replicate, if◌then◌else◌}
+use Rattle.rl_syntax.specs.declared.anchors.AnchorKind.{AnchorKind}
+use Rattle.rl_syntax.specs.declared.anchors.AnchorKind.TheVariants.{Caret, TextStart, Dollar, TextEnd}
+use Rattle.rl_syntax.specs.declared.anchors.Guard.{Guard}
+use Rattle.rl_syntax.specs.declared.anchors.Guard.TheVariants.{Start, LineStart, LineEnd, TextEnd as AtTextEnd, Word, NotWord}
+use Rattle.rl_syntax.specs.Tree.{Tree, empty, one, guard, both, either, many}
+use Rattle.rl_syntax.specs.PatTree.{PatTree, PatTrees, BranchTrees, nothing, class, seq, choice, repeat, group, anchor, boundary, outside, no_items, item, no_branches, branch}
+
+-- trees one after another; none is nothing
+abbrev pub in_turn : List Tree → Tree
+in_turn [] = empty
+in_turn (t ∷ []) = t
+in_turn (t ∷ u ∷ us) = both t (in_turn (u ∷ us))
+
+-- one of the trees, the earlier ones tried first
+abbrev pub one_of : List Tree → Tree
+one_of [] = empty
+one_of (t ∷ []) = t
+one_of (t ∷ u ∷ us) = either t (one_of (u ∷ us))
+
+-- the tree or nothing; a greedy one tries the tree first
+abbrev pub option_of : Bool → Tree → Tree
+option_of true t = either t empty
+option_of false t = either empty t
+
+-- up to so many copies, each of which is left out only with those after it: no tree where there is none, else one
+abbrev pub options : Bool → Tree → ℕ → List Tree
+options greedy t zero = []
+options greedy t (suc k) = option_of greedy (in_turn (t ∷ options greedy t k)) ∷ []
+
+-- what follows the least number of copies
+abbrev pub tail_of : Bool → Tree → ℕ → Option ℕ → List Tree
+tail_of greedy t least None = many t greedy ∷ []
+tail_of greedy t least (Some most) = options greedy t (most - least)
+
+-- the tree from a least up to a greatest number of times
+abbrev pub times : ℕ → Option ℕ → Bool → Tree → Tree
+times least most greedy t = in_turn (replicate least t ++ tail_of greedy t least most)
+
+-- the guard of an anchor; the flag is MULTILINE. A `$` without it is in no body.
+abbrev pub guard_of : AnchorKind → Bool → Guard
+guard_of Caret multiline = if multiline then LineStart else Start
+guard_of TextStart multiline = Start
+guard_of Dollar multiline = LineEnd
+guard_of TextEnd multiline = AtTextEnd
+
+-- the guard of a boundary; the flags say that it is a `\B`, and that words are the ASCII ones
+abbrev pub boundary_guard : Bool → Bool → Guard
+boundary_guard negated ascii = if negated then NotWord ascii else Word ascii
+
+abbrev mutual
+  -- the tree of a pattern. A feature that isn't judged is in no body.
+  pub lowered : PatTree → Tree
+  lowered (nothing span) = empty
+  lowered (class span set) = one set
+  lowered (seq span ps) = in_turn (items_lowered ps)
+  lowered (choice span bs) = one_of (branches_lowered bs)
+  lowered (repeat span mark least most greedy p) = times least most greedy (lowered p)
+  lowered (group span captures p) = lowered p
+  lowered (anchor span kind multiline) = guard (guard_of kind multiline)
+  lowered (boundary span negated ascii) = guard (boundary_guard negated ascii)
+  lowered (outside span what) = empty
+
+  pub items_lowered : PatTrees → List Tree
+  items_lowered no_items = []
+  items_lowered (item p ps) = lowered p ∷ items_lowered ps
+
+  pub branches_lowered : BranchTrees → List Tree
+  branches_lowered no_branches = []
+  branches_lowered (branch span p bs) = lowered p ∷ branches_lowered bs

@@ -1,0 +1,38 @@
+-- Run. What a backtracking matcher does on a text from a place on, in order: each test of a code against a set, and each
+-- place at which the tree has ended. This is the matcher of Weideman, van der Merwe, Berglund and Watson (2016), as a
+-- recursion on the tree. A round of `many` that took no code isn't followed by another.
+use Rattle.std.specs.Prelude.{ℕ, zero, suc, ◌-◌, Bool, true, false, nat_lt, List, [], ◌∷◌, ◌++◌, length, slice_get, if◌then◌else◌}
+use Rattle.rl_syntax.specs.Guards.{is_in, holds_at}
+use Rattle.rl_syntax.specs.Tree.{Tree, empty, one, guard, both, either, many}
+
+pub data Step : Type 0 where
+  -- a code, or the text's end, is tested against a set
+  test : Step
+  -- the tree has ended at a place
+  end : ℕ → Step
+
+-- the steps with each end replaced by what follows from its place
+abbrev pub onward : List Step → (ℕ → List Step) → List Step
+onward [] next = []
+onward (test ∷ steps) next = test ∷ onward steps next
+onward (end j ∷ steps) next = next j ++ onward steps next
+
+-- one more item: at the end where the flag is true, and in front where it is false
+abbrev pub one_more : {A : Type 0} → Bool → A → List A → List A
+one_more true x l = l ++ x ∷ []
+one_more false x l = x ∷ l
+
+-- at most so many rounds of the body and one more, from a place on
+abbrev pub rounds : (ℕ → List Step) → Bool → ℕ → ℕ → List Step
+rounds body greedy zero i = one_more greedy (end i) (body i)
+rounds body greedy (suc n) i =
+    one_more greedy (end i) (onward (body i) (λ j. if nat_lt i j then rounds body greedy n j else end j ∷ []))
+
+-- the run of a tree on a text from a place on. As each round of `many` takes a code, the codes that are left bound the rounds.
+abbrev pub run : Tree → List ℕ → ℕ → List Step
+run empty w i = end i ∷ []
+run (one set) w i = test ∷ (if is_in set (slice_get w i) then end (suc i) ∷ [] else [])
+run (guard g) w i = if holds_at g w i then end i ∷ [] else []
+run (both e f) w i = onward (run e w i) (run f w)
+run (either e f) w i = run e w i ++ run f w i
+run (many e greedy) w i = rounds (run e w) greedy (length w - i) i

@@ -1,0 +1,68 @@
+//! Patterns with their outer anchors taken off.
+
+ghost use Rattle.std.specs.Prelude.{◌≡◌};
+ghost use Rattle.rl_syntax.specs.PatTree.{pat_of};
+ghost use Rattle.rl_syntax.specs.IsPattern.{IsPattern, IsPattern-prop};
+
+use crate::anchors::Trail;
+use crate::pat::Pat;
+use rl_ranges::Universe;
+
+/// A pattern that can be judged: its body, the outer anchors that were taken off it, and the universe of its codes.
+#[derive(Drop)]
+pub struct Pattern {
+    body: Pat,
+    leading: bool,
+    trailing: Trail,
+    universe: Universe,
+    ghost judged: { IsPattern universe (pat_of body) } by { IsPattern-prop universe (pat_of body) },
+}
+
+impl Pattern {
+    ghost use Rattle.rl_syntax.specs.Pattern.{body_of, is_anchored, trail_of, universe_of};
+
+    /// The pattern of a body and its outer anchors.
+    pub fn new(body: Pat, leading: bool, trailing: Trail, universe: Universe) -> Pattern
+        requires { IsPattern universe (pat_of body) }
+        ensures body { body_of result ≡ pat_of body }
+        ensures leading { is_anchored result ≡ leading }
+        ensures trailing { trail_of result ≡ trailing }
+        ensures universe { universe_of result ≡ universe }
+    {
+        Pattern {
+            body,
+            leading,
+            trailing,
+            universe,
+        }
+    }
+
+    /// The body, without the outer anchors.
+    pub fn body(&self) -> &Pat
+        ensures same { pat_of result.now ≡ body_of self.now }
+        ensures judged { IsPattern (universe_of self.now) (body_of self.now) }
+    {
+        &self.body
+    }
+
+    /// Whether there is a leading anchor.
+    pub fn leading(&self) -> bool
+        ensures { result ≡ is_anchored self.now }
+    {
+        self.leading
+    }
+
+    /// The trailing anchor.
+    pub fn trailing(&self) -> Trail
+        ensures { result ≡ trail_of self.now }
+    {
+        self.trailing
+    }
+
+    /// The universe of the pattern's codes.
+    pub fn universe(&self) -> Universe
+        ensures { result ≡ universe_of self.now }
+    {
+        self.universe
+    }
+}
