@@ -28,7 +28,9 @@ impl<T> Items<T> {
     pub fn new(alloc: Global) -> Items<T>
         ensures { result ≡ [] }
     {
-        Items { items: Vec::new(alloc) }
+        Items {
+            items: Vec::new(alloc),
+        }
     }
 
     /// The list of a vector's items.

@@ -4,7 +4,6 @@
 pub mod items;
 
 pub use items::Items;
-
 use std::alloc::{AllocError, AllocFailed};
 
 /// Memory was refused. What the call was given is unchanged.
@@ -43,3 +42,6 @@ pub type Members = Items<u32>;
 
 /// A list of bytes.
 pub type Bytes = Items<u8>;
+
+#[cfg(test)]
+mod tests;
