@@ -1,0 +1,7 @@
+pub mod Items
+pub mod Letters
+pub mod States
+pub mod Rows
+pub mod Automaton
+pub mod Walk
+pub mod StandsFor

@@ -1,0 +1,13 @@
+//! Ordered automata: what a backtracking matcher tries, by states and letters.
+#![tactic(auto)]
+
+mod error;
+mod letters;
+mod prio;
+mod rows;
+
+pub use error::PrioError;
+pub use prio::Prio;
+
+#[cfg(test)]
+mod tests;

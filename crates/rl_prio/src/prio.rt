@@ -1,0 +1,61 @@
+//! The ordered automaton.
+
+ghost use Rattle.std.specs.Prelude.{◌≡◌, ◌<◌, ◌≤◌, All};
+ghost use Rattle.rl_prio.specs.Automaton.{Automaton, IsAutomaton, letters_count, moves_at};
+
+use crate::letters::Letters;
+use crate::rows::RowTable;
+use std::marker::Model;
+
+/// An ordered automaton: for each state and letter the states that are moved to, in the order in which they are tried.
+/// State 0 is the start, the last but one is the accepting state, and the last one is the dead state.
+#[derive(Drop)]
+pub struct Prio {
+    letters: Letters,
+    states: u32,
+    rows: RowTable,
+}
+
+impl Model for Prio {
+    ghost use Rattle.rl_prio.specs.Automaton.{Automaton, IsAutomaton};
+
+    ghost Value = { Automaton };
+
+    ghost view = { λ p. record { table = p.letters; states = p.states; rows = p.rows.rows } };
+
+    ghost invariant = { λ p. IsAutomaton (record { table = p.letters; states = p.states; rows = p.rows.rows }) };
+}
+
+impl Prio {
+    /// The automaton of its letters, its states and its closed rows, one for each state and letter, the end letter last.
+    pub(crate) fn from_parts(letters: Letters, states: u32, rows: RowTable) -> Prio
+        requires { IsAutomaton (record { table = letters; states = states; rows = rows.rows }) }
+        ensures { result ≡ record { table = letters; states = states; rows = rows.rows } }
+    {
+        Prio {
+            letters,
+            states,
+            rows,
+        }
+    }
+
+    /// How many states there are.
+    pub fn states(&self) -> u32
+        ensures count { result ≡ self.now.states }
+        ensures automaton { IsAutomaton self.now }
+    {
+        self.states
+    }
+
+    /// The states that a state moves to on a letter, in the order in which they are tried. The letter after the last one is
+    /// the end letter.
+    pub fn moves(&self, state: u32, letter: u32) -> &[u32]
+        requires state_in { state < self.now.states }
+        requires letter_in { letter ≤ letters_count self.now }
+        ensures moves { result.now ≡ moves_at self.now state letter }
+        ensures targets { All (λ target. target < self.now.states) result.now }
+    {
+        let width = self.letters.count() as usize + 1;
+        self.rows.row(state as usize * width + letter as usize)
+    }
+}

@@ -1,0 +1,101 @@
+//! Rows of numbers in one vector.
+
+ghost use Rattle.std.specs.Prelude.{◌≡◌, ◌<◌, ◌≤◌, [], ◌∷◌, ◌++◌, length, slice_index, slice_index_or, OnOk, OnErr};
+ghost use Rattle.rl_prio.specs.Rows.{rows_from, start_at, RiseTo};
+
+use rl_lists::OutOfMemory;
+use std::alloc::Global;
+use std::marker::Model;
+
+/// Rows of numbers, one behind another. The last one is still open; the others are closed.
+#[derive(Drop)]
+pub(crate) struct RowTable {
+    targets: Vec<u32>,
+    ends: Vec<usize>,
+}
+
+impl Model for RowTable {
+    ghost use Rattle.std.specs.Prelude.{length};
+    ghost use Rattle.rl_prio.specs.Rows.{Rows, rows_of, RiseTo};
+
+    ghost Value = { Rows };
+
+    ghost view = { λ r. rows_of r.ends.items r.targets.items };
+
+    ghost invariant = { λ r. RiseTo (length r.targets.items) 0 r.ends.items };
+}
+
+impl RowTable {
+    /// No row, and an open one without a number. It takes memory only once it grows.
+    pub(crate) fn new(alloc: Global) -> RowTable
+        ensures { result ≡ record { rows = []; open_row = [] } }
+    {
+        RowTable {
+            targets: Vec::new(alloc),
+            ends: Vec::new(alloc),
+        }
+    }
+
+    /// Puts a number at the end of the open row.
+    ///
+    /// # Errors
+    /// [`OutOfMemory`] where there was no memory for it; nothing is changed then.
+    pub(crate) fn put(&mut self, target: u32) -> Result<(), OutOfMemory>
+        ensures put { OnOk result (self.new ≡ record self.old { open_row = self.old.open_row ++ target ∷ [] }) }
+        ensures unchanged { OnErr result (self.new ≡ self.old) }
+    {
+        self.targets.push(target)?;
+        Ok(())
+    }
+
+    /// Closes the open row, and opens another without a number.
+    ///
+    /// # Errors
+    /// [`OutOfMemory`] where there was no memory for it; nothing is changed then.
+    pub(crate) fn close(&mut self) -> Result<(), OutOfMemory>
+        ensures closed { OnOk result (self.new ≡ record { rows = self.old.rows ++ self.old.open_row ∷ []; open_row = [] }) }
+        ensures unchanged { OnErr result (self.new ≡ self.old) }
+    {
+        let end = self.targets.len();
+        self.ends.push(end)?;
+        Ok(())
+    }
+
+    /// A closed row.
+    pub(crate) fn row(&self, i: usize) -> &[u32]
+        requires { i < length self.now.rows }
+        ensures { result.now ≡ slice_index_or self.now.rows i [] }
+    {
+        part(&self.targets, &self.ends, i)
+    }
+}
+
+/// The part of the numbers that ends at the place with the number `i`, and begins at the place before it.
+fn part<'a>(targets: &'a [u32], ends: &[usize], i: usize) -> &'a [u32]
+    requires in_ends { i < length ends.now }
+    requires rise { RiseTo (length targets.now) 0 ends.now }
+    ensures { result.now ≡ slice_index_or (rows_from 0 ends.now targets.now) i [] }
+{
+    let (start, end) = range_of(ends, i, targets.len());
+    &targets[start..end]
+}
+
+/// Where the part that ends at the place with the number `i` begins and ends, of a list of the given size.
+fn range_of(ends: &[usize], i: usize, size: usize) -> (usize, usize)
+    requires in_ends { i < length ends.now }
+    requires rise { RiseTo size 0 ends.now }
+    ensures start { result.0 ≡ start_at 0 ends.now i }
+    ensures end { result.1 ≡ slice_index ends.now i }
+    ensures in_order { result.0 ≤ result.1 }
+    ensures within { result.1 ≤ size }
+{
+    (start_of(ends, i), ends[i])
+}
+
+/// Where the part that ends at the place with the number `i` begins.
+fn start_of(ends: &[usize], i: usize) -> usize
+    requires { i < length ends.now }
+    ensures { result ≡ start_at 0 ends.now i }
+{
+    if i == 0 { 0 } else { ends[i - 1] }
+}
