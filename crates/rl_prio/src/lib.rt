@@ -2,7 +2,6 @@
 #![tactic(auto)]
 
 mod error;
-mod letters;
 mod prio;
 mod rows;
 

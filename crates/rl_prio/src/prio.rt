@@ -3,8 +3,8 @@
 ghost use Rattle.std.specs.Prelude.{◌≡◌, ◌<◌, ◌≤◌, All};
 ghost use Rattle.rl_prio.specs.Automaton.{Automaton, IsAutomaton, letters_count, moves_at};
 
-use crate::letters::Letters;
 use crate::rows::RowTable;
+use rl_ranges::Letters;
 use std::marker::Model;
 
 /// An ordered automaton: for each state and letter the states that are moved to, in the order in which they are tried.
@@ -45,6 +45,13 @@ impl Prio {
         ensures automaton { IsAutomaton self.now }
     {
         self.states
+    }
+
+    /// The letters. The end letter has the number after theirs.
+    pub fn letters(&self) -> &Letters
+        ensures { result.now ≡ self.now.table }
+    {
+        &self.letters
     }
 
     /// The states that a state moves to on a letter, in the order in which they are tried. The letter after the last one is

@@ -1,7 +1,9 @@
 -- Sets of codes. A set is a list of ranges, each with its first and its last code; what counts of it is which codes it holds.
-use Rattle.std.specs.Prelude.{ℕ, ◌+◌, ◌≤◌, List, [], ◌∷◌, Bool, ◌&&◌}
+use Rattle.std.specs.Prelude.{ℕ, ◌+◌, ◌<◌, ◌≤◌, List, [], ◌∷◌, Bool, ◌&&◌, IsTrue}
 use Rattle.std.specs.Prelude.{nat_le}
 use Rattle.std.specs.List.{list_any}
+use Rattle.rl_ranges.specs.declared.universe.Universe.{Universe}
+use Rattle.rl_ranges.specs.Text.{code_count}
 
 -- whether some range holds the code
 unfoldable pub has : List (ℕ × ℕ) → ℕ → Bool
@@ -11,3 +13,7 @@ has ranges code = list_any (λ r. nat_le r.0 code && nat_le code r.1) ranges
 abbrev pub Above : ℕ → List (ℕ × ℕ) → Type 0
 Above low [] = Unit {0}
 Above low (r ∷ rs) = (low ≤ r.0) × (r.0 ≤ r.1) × Above (r.1 + 2) rs
+
+-- every code that the set holds is one of the universe
+abbrev pub IsInside : Universe → List (ℕ × ℕ) → Type 0
+IsInside universe ranges = (c : ℕ) → IsTrue (has ranges c) → c < code_count universe

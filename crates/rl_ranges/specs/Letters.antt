@@ -1,5 +1,5 @@
 -- Letters. Two codes are one letter where every set of a list holds both or neither. Letters are numbered by their least code.
-use Rattle.std.specs.Prelude.{ℕ, ◌≡◌, ◌<◌, ◌≤◌, ◌⊎◌, suc, zero, Bool, true, false, ◌&&◌, List, [], ◌∷◌, ◌++◌, length, nat_le, slice_get, slice_index_or, if◌then◌else◌, IsTrue, Some}
+use Rattle.std.specs.Prelude.{ℕ, ◌≡◌, ◌<◌, ◌≤◌, ◌⊎◌, suc, zero, Bool, true, ◌&&◌, List, [], ◌∷◌, ◌++◌, length, nat_le, slice_get, slice_index_or, if◌then◌else◌, Some}
 use Rattle.std.specs.List.{list_any}
 use Rattle.std.proofs.Math.Bool.{beq}
 

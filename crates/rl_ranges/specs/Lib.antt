@@ -1,4 +1,6 @@
-pub mod Codes
 pub mod Text
+pub mod Codes
+pub mod Building
 pub mod Named
 pub mod Letters
+pub mod Numbering

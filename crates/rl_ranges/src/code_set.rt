@@ -1,8 +1,12 @@
 //! Sets of codes as sorted ranges.
 
-ghost use Rattle.std.specs.Prelude.{◌≡◌, ℕ, ◌≤◌, List, []};
-ghost use Rattle.rl_ranges.specs.Codes.{has, Above};
+ghost use Rattle.std.specs.Prelude.{◌≡◌, ℕ, ◌≤◌, ◌<◌, ◌&&◌, ◌||◌, not, true, false, nat_lt, List, [], IfOk, MatchOption, IsTrue};
+ghost use Rattle.rl_ranges.specs.Text.{code_count};
+ghost use Rattle.rl_ranges.specs.Codes.{has, Above, IsInside};
+ghost use Rattle.rl_ranges.specs.Building.{is_within};
 
+use crate::ranges::{both, either, gaps};
+use crate::universe::Universe;
 use rl_lists::OutOfMemory;
 use std::alloc::Global;
 use std::marker::Model;
@@ -32,6 +36,84 @@ impl CodeSet {
         CodeSet {
             ranges: Vec::new(alloc),
         }
+    }
+
+    /// The codes from `first` to `last`.
+    ///
+    /// # Errors
+    /// [`OutOfMemory`] where there was no memory for the range.
+    pub fn range(alloc: Global, first: u32, last: u32) -> Result<CodeSet, OutOfMemory>
+        requires filled { first ≤ last }
+        requires inside { last ≤ 0x10_FFFF }
+        ensures members { IfOk result (λ s. (c : ℕ) → has s c ≡ is_within first last c) }
+        ensures inside { IfOk result (λ s. (u : Universe) → last < code_count u → IsInside u s) }
+    {
+        let ranges = Vec::from_slice(alloc, &[(first, last)])?;
+        Ok(CodeSet { ranges })
+    }
+
+    /// The codes that one of the two sets holds.
+    ///
+    /// # Errors
+    /// [`OutOfMemory`] where there was no memory for the set.
+    pub fn union(&self, other: &CodeSet) -> Result<CodeSet, OutOfMemory>
+        ensures members { IfOk result (λ s. (c : ℕ) → has s c ≡ (has self.now c || has other.now c)) }
+    {
+        let ranges = either(*self.ranges.allocator(), &self.ranges, &other.ranges)?;
+        Ok(CodeSet { ranges })
+    }
+
+    /// The codes that both sets hold.
+    ///
+    /// # Errors
+    /// [`OutOfMemory`] where there was no memory for the set.
+    pub fn meet(&self, other: &CodeSet) -> Result<CodeSet, OutOfMemory>
+        ensures members { IfOk result (λ s. (c : ℕ) → has s c ≡ (has self.now c && has other.now c)) }
+    {
+        let ranges = both(*self.ranges.allocator(), &self.ranges, &other.ranges)?;
+        Ok(CodeSet { ranges })
+    }
+
+    /// The codes of the universe that the set does not hold.
+    ///
+    /// # Errors
+    /// [`OutOfMemory`] where there was no memory for the set.
+    pub fn complement(&self, universe: Universe) -> Result<CodeSet, OutOfMemory>
+        requires { IsInside universe self.now }
+        ensures members { IfOk result (λ s. (c : ℕ)
+            → has s c ≡ (nat_lt c (code_count universe) && not (has self.now c))) }
+        ensures inside { IfOk result (IsInside universe) }
+    {
+        let ranges = gaps(*self.ranges.allocator(), &self.ranges, universe.count())?;
+        Ok(CodeSet { ranges })
+    }
+
+    /// The same set once more.
+    ///
+    /// # Errors
+    /// [`OutOfMemory`] where there was no memory for the set.
+    pub fn copy(&self) -> Result<CodeSet, OutOfMemory>
+        ensures { IfOk result (λ s. s ≡ self.now) }
+    {
+        let ranges = Vec::from_slice(*self.ranges.allocator(), &self.ranges)?;
+        Ok(CodeSet { ranges })
+    }
+
+    /// The least code that the set holds, if it holds one.
+    pub fn first_code(&self) -> Option<u32>
+        ensures { MatchOption result ((c : ℕ) → has self.now c ≡ false)
+            (λ least. (has self.now least ≡ true) × ((c : ℕ) → c < least → has self.now c ≡ false)) }
+    {
+        let (first, _) = self.ranges.first()?;
+        Some(*first)
+    }
+
+    /// The set's ranges, in order.
+    pub(crate) fn as_ranges(&self) -> &[(u32, u32)]
+        ensures value { result.now ≡ self.now }
+        ensures sorted { Above 0 result.now }
+    {
+        &self.ranges
     }
 
     /// Whether the set holds the code.

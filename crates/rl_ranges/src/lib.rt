@@ -2,10 +2,14 @@
 #![tactic(auto)]
 
 pub mod code_set;
+pub mod letters;
 pub mod named;
+mod ranges;
+mod stretches;
 pub mod universe;
 
 pub use code_set::CodeSet;
+pub use letters::{Letters, LettersError};
 pub use named::Named;
 pub use rl_lists::{Bytes, Codes, Items, Members, OutOfMemory, Path, Places, Ranks, Word};
 pub use universe::Universe;

@@ -1,5 +1,7 @@
 //! The codes that a text may have.
 
+ghost use Rattle.std.specs.Prelude.{◌≡◌};
+
 /// The universe of a text: which codes there are.
 #[derive(Clone, Copy, Debug, PartialEq, Eq)]
 pub enum Universe {
@@ -7,4 +9,18 @@ pub enum Universe {
     Str,
     /// The codes of a bytes object, 0 to 255.
     Bytes,
+}
+
+impl Universe {
+    ghost use Rattle.rl_ranges.specs.Text.{code_count};
+
+    /// How many codes there are; they are the numbers below it.
+    pub fn count(self) -> u32
+        ensures { result ≡ code_count self }
+    {
+        match self {
+            Universe::Str => 0x11_0000,
+            Universe::Bytes => 0x100,
+        }
+    }
 }

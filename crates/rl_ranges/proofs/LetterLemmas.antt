@@ -1,0 +1,258 @@
+-- Letters: what follows of codes that the sets don't tell apart.
+use Rattle.std.proofs.Common.{Bool, List, Some, [], ap, ap₂, arith, false, get_or, inl, inr, le_refl, length, refl, slice_get, subst, suc, sym, true, zero, ℕ, ◌&&◌, ◌*◌, ◌++◌, ◌+◌, ◌-◌, ◌<◌, ◌==◌, ◌∙◌, ◌∷◌, ◌≡◌, ◌≤◌}
+use Rattle.std.proofs.Math.Bool.{beq}
+use Rattle.std.proofs.lemmas.Bool.{and_from, and_parts, both_ways, cases_Bool, cases_eq, eq-eqb, le-leb, ne_eqb}
+use Rattle.std.proofs.lemmas.Bool.Decides.{nat_tests}
+use Rattle.std.proofs.lemmas.Grind.{pieces}
+use Rattle.std.proofs.lemmas.List.Edits.{sets}
+use Rattle.std.proofs.lemmas.Option.{slice_get-get_or}
+use Rattle.std.specs.List.{list_any}
+use Rattle.std.specs.Prelude.{if◌then◌else◌}
+use Rattle.rl_ranges.proofs.FirstsLemmas.{IsLikeness, firsts-below, firsts-congr, firsts-finer, firsts-rising, firsts-zero, number-hit, number-least, number-lt, number-of_first, number-only, number-same, piece-new, place-same}
+use Rattle.rl_ranges.proofs.SetLemmas.{and-true, and_assoc}
+use Rattle.rl_ranges.specs.Building.{range_at}
+use Rattle.rl_ranges.specs.Letters.{IsLetters, IsPlain, LetterTable, alike, class_of, classes, letter_at, letter_from, place_where}
+use Rattle.rl_ranges.specs.Numbering.{IsNumbered, IsPreferred, TellsApart, firsts, same_value}
+
+beq-same : (x : Bool) → beq x x ≡ true
+beq-same true = refl
+beq-same false = refl
+
+pub beq-true : (x y : Bool) → beq x y ≡ true → x ≡ y
+beq-true true true h = refl
+beq-true true false h = cc
+beq-true false true h = cc
+beq-true false false h = refl
+
+pub beq-from : (x y : Bool) → x ≡ y → beq x y ≡ true
+beq-from x y h = subst (λ z. beq x z ≡ true) h (beq-same x)
+
+pub alike-itself : (sets : List (ℕ → Bool)) (c : ℕ) → alike sets c c ≡ true
+alike-itself [] c = refl
+alike-itself (s ∷ sets) c = and_from _ _ (beq-same (s c)) (alike-itself sets c)
+
+pub alike-back : (sets : List (ℕ → Bool)) (c d : ℕ) → alike sets c d ≡ true → alike sets d c ≡ true
+alike-back [] c d h = refl
+alike-back (s ∷ sets) c d h =
+    let parts = and_parts (beq (s c) (s d)) (alike sets c d) h in
+    and_from _ _ (beq-from (s d) (s c) (sym (beq-true (s c) (s d) parts.0))) (alike-back sets c d parts.1)
+
+pub alike-onward : (sets : List (ℕ → Bool)) (c d e : ℕ) → alike sets c d ≡ true → alike sets d e ≡ true → alike sets c e ≡ true
+alike-onward [] c d e h k = refl
+alike-onward (s ∷ sets) c d e h k =
+    let first = and_parts (beq (s c) (s d)) (alike sets c d) h in
+    let second = and_parts (beq (s d) (s e)) (alike sets d e) k in
+    and_from _ _ (beq-from (s c) (s e) (beq-true (s c) (s d) first.0 ∙ beq-true (s d) (s e) second.0)) (alike-onward sets c d e first.1 second.1)
+
+pub IsLikeness-alike : (sets : List (ℕ → Bool)) → IsLikeness (alike sets)
+IsLikeness-alike sets = record { itself = alike-itself sets; back = alike-back sets; onward = alike-onward sets }
+
+-- one more set
+pub alike-push : (sets : List (ℕ → Bool)) (s : ℕ → Bool) (c d : ℕ) → alike (sets ++ s ∷ []) c d ≡ (alike sets c d && beq (s c) (s d))
+alike-push [] s c d = and-true (beq (s c) (s d))
+alike-push (t ∷ sets) s c d =
+    ap (λ b. beq (t c) (t d) && b) (alike-push sets s c d) ∙ and_assoc (beq (t c) (t d)) (alike sets c d) (beq (s c) (s d))
+
+pub classes-firsts : (sets : List (ℕ → Bool)) (n : ℕ) → classes sets n ≡ firsts (alike sets) n
+unfolding classes firsts
+classes-firsts sets zero = refl
+classes-firsts sets (suc n) = ap (λ l. if list_any (alike sets n) l then l else l ++ n ∷ []) (classes-firsts sets n)
+
+pub class_of-place : (sets : List (ℕ → Bool)) (n c : ℕ) → class_of sets n c ≡ place_where (alike sets c) (firsts (alike sets) n)
+unfolding class_of
+class_of-place sets n c = ap (place_where (alike sets c)) (classes-firsts sets n)
+
+-- every code has the least code of its letter in the list, at the number of the letter
+pub class_found : (sets : List (ℕ → Bool)) (n c : ℕ) → c < n → (r : ℕ) × (slice_get (classes sets n) (class_of sets n c) ≡ Some r) × (alike sets c r ≡ true)
+class_found sets n c lt =
+    let laws = IsLikeness-alike sets in
+    let l = firsts (alike sets) n in
+    let place = place_where (alike sets c) l in
+    (get_or l place 0, ap₂ slice_get (classes-firsts sets n) (class_of-place sets n c) ∙ slice_get-get_or l place 0 (number-lt (alike sets) laws n c lt), number-hit (alike sets) laws n c lt)
+
+-- codes are of one letter where the sets don't tell them apart, and only there
+pub class_of-same : (sets : List (ℕ → Bool)) (n c d : ℕ) → alike sets c d ≡ true → class_of sets n c ≡ class_of sets n d
+class_of-same sets n c d h =
+    class_of-place sets n c ∙ number-same (alike sets) (IsLikeness-alike sets) n c d h ∙ sym (class_of-place sets n d)
+
+pub class_of-only : (sets : List (ℕ → Bool)) (n c d : ℕ) → c < n → d < n → class_of sets n c ≡ class_of sets n d → alike sets c d ≡ true
+class_of-only sets n c d hc hd same =
+    number-only (alike sets) (IsLikeness-alike sets) n c d hc hd (sym (class_of-place sets n c) ∙ same ∙ class_of-place sets n d)
+
+pub class_of-lt : (sets : List (ℕ → Bool)) (n c : ℕ) → c < n → class_of sets n c < length (classes sets n)
+class_of-lt sets n c lt =
+    rw (class_of-place sets n c, classes-firsts sets n) (number-lt (alike sets) (IsLikeness-alike sets) n c lt)
+
+-- the least codes rise, and are codes
+pub classes-rising : (sets : List (ℕ → Bool)) (n i j : ℕ) → i < j → j < length (classes sets n) → get_or (classes sets n) i 0 < get_or (classes sets n) j 0
+classes-rising sets n i j ij lt =
+    rw (classes-firsts sets n) (firsts-rising (alike sets) n i j ij (subst (λ l. j < length l) (classes-firsts sets n) lt))
+
+pub classes-below : (sets : List (ℕ → Bool)) (n k : ℕ) → k < length (classes sets n) → get_or (classes sets n) k 0 < n
+classes-below sets n k lt =
+    rw (classes-firsts sets n) (firsts-below (alike sets) n k (subst (λ l. k < length l) (classes-firsts sets n) lt))
+
+-- a letter's least code is of that letter, and not above any code of it
+pub class_of-first : (sets : List (ℕ → Bool)) (n k : ℕ) → k < length (classes sets n) → class_of sets n (get_or (classes sets n) k 0) ≡ k
+class_of-first sets n k lt =
+    class_of-place sets n (get_or (classes sets n) k 0)
+    ∙ ap (λ l. place_where (alike sets (get_or l k 0)) (firsts (alike sets) n)) (classes-firsts sets n)
+    ∙ number-of_first (alike sets) (IsLikeness-alike sets) n k (subst (λ l. k < length l) (classes-firsts sets n) lt)
+
+pub class_of-least : (sets : List (ℕ → Bool)) (n c : ℕ) → c < n → get_or (classes sets n) (class_of sets n c) 0 ≤ c
+class_of-least sets n c lt =
+    rw (class_of-place sets n c, classes-firsts sets n) (number-least (alike sets) (IsLikeness-alike sets) n c lt)
+
+-- more sets have at least as many letters
+pub classes-more : (sets : List (ℕ → Bool)) (s : ℕ → Bool) (n : ℕ) → length (classes sets n) ≤ length (classes (sets ++ s ∷ []) n)
+classes-more sets s n =
+    rw (classes-firsts sets n, classes-firsts (sets ++ s ∷ []) n)
+    (firsts-finer (alike sets) (alike (sets ++ s ∷ [])) (IsLikeness-alike sets)
+    (λ c d h. (and_parts (alike sets c d) (beq (s c) (s d)) (sym (alike-push sets s c d) ∙ h)).0) n)
+
+pub alike-append : (xs ys : List (ℕ → Bool)) (c d : ℕ) → alike (xs ++ ys) c d ≡ (alike xs c d && alike ys c d)
+alike-append [] ys c d = refl
+alike-append (s ∷ xs) ys c d =
+    ap (λ b. beq (s c) (s d) && b) (alike-append xs ys c d) ∙ and_assoc (beq (s c) (s d)) (alike xs c d) (alike ys c d)
+
+pub classes-append : (xs ys : List (ℕ → Bool)) (n : ℕ) → length (classes xs n) ≤ length (classes (xs ++ ys) n)
+classes-append xs ys n =
+    rw (classes-firsts xs n, classes-firsts (xs ++ ys) n)
+    (firsts-finer (alike xs) (alike (xs ++ ys)) (IsLikeness-alike xs)
+    (λ c d h. (and_parts (alike xs c d) (alike ys c d) (sym (alike-append xs ys c d) ∙ h)).0) n)
+
+-- ---- the table of the letters, one set after the other
+
+-- two codes have one number where they are alike, and only there
+pub number-tells : (sets : List (ℕ → Bool)) (n c d : ℕ) → c < n → d < n
+    → (place_where (alike sets c) (firsts (alike sets) n) == place_where (alike sets d) (firsts (alike sets) n)) ≡ alike sets c d
+number-tells sets n c d hc hd = elim (cases_Bool (alike sets c d)) [
+  | inl hit ↦ eq-eqb _ _ (number-same (alike sets) (IsLikeness-alike sets) n c d hit) ∙ sym hit
+  | inr miss ↦ ne_eqb _ _ (λ same. both_ways _ miss (number-only (alike sets) (IsLikeness-alike sets) n c d hc hd same)) ∙ sym miss
+]
+
+-- a pair is told by its number
+pair_tells : (a b : ℕ) (x y : Bool) → (2 * a + (if x then 1 else 0) == 2 * b + (if y then 1 else 0)) ≡ ((a == b) && beq x y)
+pair_tells a b true true = grind (arith, nat_tests)
+pair_tells a b true false = grind (arith, nat_tests)
+pair_tells a b false true = grind (arith, nat_tests)
+pair_tells a b false false = grind (arith, nat_tests)
+
+pub TellsApart-none : (n : ℕ) → 0 < n → (stretches : List (ℕ × ℕ)) (least : List ℕ) → stretches ≡ (0, 0) ∷ [] → least ≡ 0 ∷ [] → TellsApart stretches least [] n
+TellsApart-none n some stretches least s_is l_is =
+    let more : 0 + suc (n - 1) ≡ n = omega arith in
+    let all : firsts (alike []) n ≡ 0 ∷ [] =
+    ap (firsts (alike [])) (sym more)
+    ∙ piece-new (alike []) (IsLikeness-alike []) 0 (n - 1) (ap (list_any (alike [] 0)) (firsts-zero (alike []))) (λ c low high. refl)
+    ∙ ap (λ l. l ++ 0 ∷ []) (firsts-zero (alike [])) in
+    record {
+      covers = rw s_is (record {
+        some = omega arith;
+        start = refl;
+        rising = λ j k jk k_in. absurd (omega arith);
+        within = λ k k_in. let at : 0 ≡ k = omega arith in omega (arith, ap (λ i. (range_at ((0, 0) ∷ []) i).0) at);
+      });
+      below = rw (s_is, l_is) (λ k k_in. let at : 0 ≡ k = omega arith in omega (arith, ap (λ i. (range_at ((0, 0) ∷ []) i).1) at));
+      few = rw l_is (omega arith);
+      same_firsts = l_is ∙ sym all;
+      same_number = λ c c_in. rw (s_is, all) (ap (λ b. if b then 0 else 0) (le-leb 0 c (omega arith)));
+    }
+
+-- the pieces of the letters and of one more set are told apart as the sets with that one tell
+pub pieces_tell : (sets : List (ℕ → Bool)) (s : ℕ → Bool) (n : ℕ) (stretches held pieces : List (ℕ × ℕ)) (least : List ℕ) → TellsApart stretches least sets n
+    → ((c : ℕ) → c < n → letter_from 0 held c ≡ (if s c then 1 else 0)) → ((c : ℕ) → letter_from 0 pieces c ≡ 2 * letter_from 0 stretches c + letter_from 0 held c)
+    → (c d : ℕ) → c < n → d < n → same_value pieces c d ≡ alike (sets ++ s ∷ []) c d
+pieces_tell sets s n stretches held pieces least t held_is pieces_is c d hc hd =
+    ap₂ (λ x y. x == y)
+    (pieces_is c ∙ ap₂ (λ x y. 2 * x + y) (t.same_number c hc) (held_is c hc))
+    (pieces_is d ∙ ap₂ (λ x y. 2 * x + y) (t.same_number d hd) (held_is d hd))
+    ∙ pair_tells _ _ (s c) (s d)
+    ∙ ap (λ b. b && beq (s c) (s d)) (number-tells sets n c d hc hd)
+    ∙ sym (alike-push sets s c d)
+
+pub TellsApart-more : (sets : List (ℕ → Bool)) (s : ℕ → Bool) (n : ℕ) (stretches held pieces stretches' : List (ℕ × ℕ)) (least least' : List ℕ) → TellsApart stretches least sets n
+    → ((c : ℕ) → c < n → letter_from 0 held c ≡ (if s c then 1 else 0)) → ((c : ℕ) → letter_from 0 pieces c ≡ 2 * letter_from 0 stretches c + letter_from 0 held c)
+    → IsNumbered pieces n stretches' least' → TellsApart stretches' least' (sets ++ s ∷ []) n
+TellsApart-more sets s n stretches held pieces stretches' least least' t held_is pieces_is h =
+    let tell = pieces_tell sets s n stretches held pieces least t held_is pieces_is in
+    let same = firsts-congr (same_value pieces) (alike (sets ++ s ∷ [])) n tell in
+    let all : least' ≡ firsts (alike (sets ++ s ∷ [])) n = h.same_firsts ∙ same in
+    record {
+      covers = h.covers;
+      below = h.below;
+      few = h.few;
+      same_firsts = all;
+      same_number = λ c c_in. h.same_number c c_in ∙ ap (place_where (same_value pieces c)) all
+          ∙ place-same (same_value pieces c) (alike (sets ++ s ∷ []) c) (firsts (alike (sets ++ s ∷ [])) n)
+          (λ k k_in. tell c (get_or (firsts (alike (sets ++ s ∷ [])) n) k 0) c_in (firsts-below (alike (sets ++ s ∷ [])) n k k_in));
+    }
+
+-- too many pieces are too many letters
+pub pieces_many : (sets : List (ℕ → Bool)) (s : ℕ → Bool) (more : List (ℕ → Bool)) (n : ℕ) (stretches held pieces : List (ℕ × ℕ)) (least : List ℕ) → TellsApart stretches least sets n
+    → ((c : ℕ) → c < n → letter_from 0 held c ≡ (if s c then 1 else 0)) → ((c : ℕ) → letter_from 0 pieces c ≡ 2 * letter_from 0 stretches c + letter_from 0 held c)
+    → 128 < length (firsts (same_value pieces) n) → 128 < length (classes ((sets ++ s ∷ []) ++ more) n)
+pieces_many sets s more n stretches held pieces least t held_is pieces_is many =
+    let same = firsts-congr (same_value pieces) (alike (sets ++ s ∷ [])) n (pieces_tell sets s n stretches held pieces least t held_is pieces_is) in
+    omega (arith, ap length same, ap length (classes-firsts (sets ++ s ∷ []) n), classes-append (sets ++ s ∷ []) more n)
+
+-- the finished table
+pub IsLetters-from : (sets : List (ℕ → Bool)) (n : ℕ) (t : LetterTable) (least : List ℕ) → TellsApart t.stretches least sets n → t.codes ≡ n → 126 < n → length t.samples ≡ length least
+    → ((k : ℕ) → k < length least → IsPreferred t.stretches 32 k (get_or least k 0) (get_or t.samples k 0)) → IsLetters t sets n
+unfolding letter_at
+IsLetters-from sets n t least h codes plain_in len prefer =
+    let all : least ≡ classes sets n = h.same_firsts ∙ sym (classes-firsts sets n) in
+    let letter : (c : ℕ) → c < n → letter_from 0 t.stretches c ≡ class_of sets n c = λ c lt. h.same_number c lt ∙ sym (class_of-place sets n c) in
+    record {
+      same_codes = codes;
+      same_count = len ∙ ap length all;
+      same_letter = letter;
+      same_sample = λ l l_in.
+          let k_in : l < length least = omega arith in
+          let first : slice_get (classes sets n) l ≡ Some (get_or least l 0) = ap (λ xs. slice_get xs l) (sym all) ∙ slice_get-get_or least l 0 k_in in
+          let l_known : l < length (classes sets n) = omega (arith, ap length all) in
+          elim (prefer l k_in) [
+            | inl p ↦
+                let below : get_or t.samples l 0 < n = omega (arith, p.1) in
+                record {
+                  within = below;
+                  in_it = sym (letter _ below) ∙ p.2;
+                  least = λ d lt same plain. p.3 d plain.0 lt (letter d (omega (arith, plain.1)) ∙ same);
+                  plain = inl (p.0, p.1);
+                }
+            | inr p ↦
+                let none : (d : ℕ) → d < n → class_of sets n d ≡ l → IsPlain d → ⊥ = λ d d_in same plain. p.1 d plain.0 plain.1 (letter d d_in ∙ same) in
+                let is : get_or t.samples l 0 ≡ get_or (classes sets n) l 0 = p.0 ∙ ap (λ xs. get_or xs l 0) all in
+                let below : get_or t.samples l 0 < n = omega (arith, is, classes-below sets n l l_known) in
+                record {
+                  within = below;
+                  in_it = ap (class_of sets n) is ∙ class_of-first sets n l l_known;
+                  least = λ d lt same plain. none d (omega arith) same plain;
+                  plain = inr (first ∙ ap Some (sym p.0), none);
+                }
+          ];
+    }
+
+-- one more plain code is preferred
+pub IsPreferred-more : (stretches : List (ℕ × ℕ)) (code k first old new : ℕ) → code ≤ 126 → IsPreferred stretches (code + 1) k first old
+    → (k ≡ letter_from 0 stretches code → new ≡ code) → ((k ≡ letter_from 0 stretches code → ⊥) → new ≡ old) → IsPreferred stretches code k first new
+IsPreferred-more stretches code k first old new le was here there = elim (cases_eq k (letter_from 0 stretches code)) [
+  | inl same ↦ rw (here same) (inl (le_refl _, le, sym same, λ d low lt is. absurd (omega arith)))
+  | inr other ↦ rw (there other) (elim was [
+    | inl p ↦ inl (
+      omega (arith, p.0),
+      p.1,
+      p.2,
+      λ d low lt is. elim (cases_eq code d) [
+        | inl at ↦ other (sym is ∙ ap (letter_from 0 stretches) (sym at))
+        | inr later ↦ p.3 d (omega arith) lt is
+      ],
+    )
+    | inr p ↦ inr (
+      p.0,
+      λ d low high is. elim (cases_eq code d) [
+        | inl at ↦ other (sym is ∙ ap (letter_from 0 stretches) (sym at))
+        | inr later ↦ p.1 d (omega arith) high is
+      ],
+    )
+  ])
+]

@@ -1,0 +1,5 @@
+pub mod FirstsLemmas
+pub mod LetterLemmas
+pub mod NumberingLemmas
+pub mod SetLemmas
+pub mod StretchLemmas

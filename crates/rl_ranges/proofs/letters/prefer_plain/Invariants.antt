@@ -1,0 +1,9 @@
+use Rattle.std.proofs.Common.{get_or, length, ℕ, ◌-◌, ◌<◌, ◌≡◌}
+use Rattle.rl_ranges.specs.Numbering.{IsPreferred}
+use Rattle.rl_ranges.proofs.letters.prefer_plain.Given as goal
+
+abbrev pub invariant-loop-back : goal.invariant-loop-back
+invariant-loop-back l = record {
+  len : length l.samples.items ≡ length l.fn.samples.items;
+  each : (k : ℕ) → k < length l.fn.samples.items → IsPreferred l.stretches (127 - l.back) k (get_or l.fn.samples.items k 0) (get_or l.samples.items k 0);
+}

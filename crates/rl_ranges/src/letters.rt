@@ -1,0 +1,154 @@
+//! The letters of a list of sets: codes that no set of the list tells apart are one letter.
+
+ghost use Rattle.std.specs.Prelude.{◌≡◌, ◌<◌, ◌≤◌, ℕ, All, IfOk, IfErr, length, map, slice_index_or};
+ghost use Rattle.rl_ranges.specs.Text.{code_count};
+ghost use Rattle.rl_ranges.specs.Codes.{has, IsInside};
+ghost use Rattle.rl_ranges.specs.Letters.{LetterTable, IsLetters, classes, letter_at};
+ghost use Rattle.rl_ranges.specs.Numbering.{Covers, ValuesBelow, IsPreferred};
+
+use crate::code_set::CodeSet;
+use crate::stretches::{Numbering, edges, numbered, value_at, zipped};
+use crate::universe::Universe;
+use rl_lists::OutOfMemory;
+use std::alloc::{AllocError, AllocFailed, Global};
+use std::marker::Model;
+
+/// Why there are no letters.
+#[derive(Clone, Copy, Debug, PartialEq, Eq)]
+pub enum LettersError {
+    /// There are more than 128 letters.
+    TooMany,
+    /// Memory was refused.
+    OutOfMemory,
+}
+
+impl From<OutOfMemory> for LettersError {
+    ghost use Rattle.std.specs.Prelude.{◌≡◌};
+    ghost use Rattle.rl_ranges.specs.declared.letters.LettersError.TheVariants as error;
+
+    ghost from_gives = { λ _ e. e ≡ error.OutOfMemory };
+
+    fn from(_: OutOfMemory) -> Self {
+        LettersError::OutOfMemory
+    }
+}
+
+impl From<AllocError> for LettersError {
+    ghost use Rattle.std.specs.Prelude.{◌≡◌};
+    ghost use Rattle.rl_ranges.specs.declared.letters.LettersError.TheVariants as error;
+
+    ghost from_gives = { λ _ e. e ≡ error.OutOfMemory };
+
+    fn from(_: AllocError) -> Self {
+        LettersError::OutOfMemory
+    }
+}
+
+impl<T: Drop> From<AllocFailed<T>> for LettersError {
+    ghost use Rattle.std.specs.Prelude.{◌≡◌};
+    ghost use Rattle.rl_ranges.specs.declared.letters.LettersError.TheVariants as error;
+
+    ghost from_gives = { λ _ e. e ≡ error.OutOfMemory };
+
+    fn from(_: AllocFailed<T>) -> Self {
+        LettersError::OutOfMemory
+    }
+}
+
+/// The letters of a list of sets. Two codes are one letter where every set holds both or neither. Letters are numbered from 0
+/// by their least code.
+#[derive(Drop)]
+pub struct Letters {
+    codes: u32,
+    stretches: Vec<(u32, u32)>,
+    samples: Vec<u32>,
+}
+
+impl Model for Letters {
+    ghost use Rattle.rl_ranges.specs.Letters.{LetterTable};
+    ghost use Rattle.rl_ranges.specs.Numbering.{IsTable};
+
+    ghost Value = { LetterTable };
+
+    ghost view = { λ t. record { codes = t.codes; stretches = t.stretches.items; samples = t.samples.items } };
+
+    ghost invariant = { λ t. IsTable t.codes t.stretches.items t.samples.items };
+}
+
+impl Letters {
+    /// The letters of the sets, for the codes of the universe.
+    ///
+    /// # Errors
+    /// [`LettersError::TooMany`] exactly where there are more than 128 letters, [`LettersError::OutOfMemory`] where there was
+    /// no memory for them.
+    pub fn of(
+        alloc: Global,
+        sets: &Vec<CodeSet>,
+        universe: Universe,
+    ) -> Result<Letters, LettersError>
+        requires { All (IsInside universe) sets.now.items }
+        ensures ok { IfOk result
+            (λ t. IsLetters t (map has sets.now.items) (code_count universe)) }
+        ensures few { IfOk result (λ t. length t.samples ≤ 128) }
+        ensures too_many { IfErr result (λ e. e ≡ LettersError.TooMany
+            → 128 < length (classes (map has sets.now.items) (code_count universe))) }
+    {
+        let count = universe.count();
+        let mut known = Numbering {
+            stretches: Vec::from_slice(alloc, &[(0, 0)])?,
+            least: Vec::from_slice(alloc, &[0])?,
+        };
+        for set in sets {
+            let held = edges(alloc, set.as_ranges(), count)?;
+            let pieces = zipped(alloc, &known.stretches, &held, count)?;
+            known = numbered(alloc, &pieces, 2 * known.least.len(), count)?;
+        }
+        let Numbering { stretches, least } = known;
+        let mut samples = least;
+        prefer_plain(&mut samples, &stretches);
+        Ok(Letters {
+            codes: count,
+            stretches,
+            samples,
+        })
+    }
+
+    /// How many letters there are.
+    pub fn count(&self) -> u32
+        ensures { result ≡ length self.now.samples }
+    {
+        self.samples.len() as u32
+    }
+
+    /// The letter of the code.
+    pub fn letter_of(&self, code: u32) -> u32
+        requires { code < self.now.codes }
+        ensures value { result ≡ letter_at self.now code }
+        ensures inside { result < length self.now.samples }
+    {
+        value_at(&self.stretches, code)
+    }
+
+    /// The code that stands for the letter: its least code from 0x20 to 0x7E, or its least code where it has none there.
+    pub fn sample(&self, letter: u32) -> u32
+        requires { letter < length self.now.samples }
+        ensures { result ≡ slice_index_or self.now.samples letter 0 }
+    {
+        self.samples[letter as usize]
+    }
+}
+
+/// Puts the least code from 0x20 to 0x7E of each value in place of its least code, where there is one.
+fn prefer_plain(samples: &mut Vec<u32>, stretches: &[(u32, u32)])
+    requires covers { (count : ℕ) × Covers stretches.now count }
+    requires below { ValuesBelow (length samples.old.items) stretches.now }
+    ensures len { length samples.new.items ≡ length samples.old.items }
+    ensures each { (k : ℕ) → k < length samples.old.items → IsPreferred stretches.now 32 k
+        (slice_index_or samples.old.items k 0) (slice_index_or samples.new.items k 0) }
+{
+    for back in 0..95 {
+        let code = 126 - back;
+        let value = value_at(stretches, code);
+        samples[value as usize] = code;
+    }
+}

@@ -1,0 +1,150 @@
+//! Sorted lists of ranges: how one is built from ranges that come in order, and the operations of sets on them.
+
+ghost use Rattle.std.specs.Prelude.{◌≡◌, ℕ, ◌+◌, ◌≤◌, ◌<◌, ◌||◌, ◌&&◌, not, true, nat_lt, OnOk, IfOk, length, drop};
+ghost use Rattle.rl_ranges.specs.Codes.{has, Above};
+ghost use Rattle.rl_ranges.specs.Building.{is_within, BeginsBy, ComeInOrder, range_at};
+
+use rl_lists::OutOfMemory;
+use std::alloc::Global;
+
+/// Adds the codes from `first` to `last`, which begin no earlier than the last range there. A range that touches or overlaps
+/// the last one is joined with it.
+///
+/// # Errors
+/// [`OutOfMemory`] where there was no memory for another range.
+pub(crate) fn append(ranges: &mut Vec<(u32, u32)>, first: u32, last: u32) -> Result<(), OutOfMemory>
+    requires sorted { Above 0 ranges.old.items }
+    requires filled { first ≤ last }
+    requires begins { BeginsBy ranges.old.items first }
+    ensures sorted { OnOk result (Above 0 ranges.new.items) }
+    ensures members { OnOk result ((c : ℕ)
+        → has ranges.new.items c ≡ (has ranges.old.items c || is_within first last c)) }
+    ensures begins { OnOk result (BeginsBy ranges.new.items first) }
+{
+    let len = ranges.len();
+    if len > 0 {
+        let (start, end) = ranges[len - 1];
+        if first.saturating_sub(end) <= 1 {
+            ranges[len - 1] = (start, end.max(last));
+            return Ok(());
+        }
+    }
+    ranges.push((first, last))?;
+    Ok(())
+}
+
+/// Adds the ranges from the place `from` on, which come in order and begin no earlier than the last range there.
+///
+/// # Errors
+/// [`OutOfMemory`] where there was no memory for another range.
+pub(crate) fn append_from(
+    ranges: &mut Vec<(u32, u32)>,
+    more: &[(u32, u32)],
+    from: usize,
+) -> Result<(), OutOfMemory>
+    requires sorted { Above 0 ranges.old.items }
+    requires ordered { ComeInOrder more.now }
+    requires inside { from ≤ length more.now }
+    requires begins { from < length more.now → BeginsBy ranges.old.items (range_at more.now from).0 }
+    ensures sorted { OnOk result (Above 0 ranges.new.items) }
+    ensures members { OnOk result ((c : ℕ)
+        → has ranges.new.items c ≡ (has ranges.old.items c || has (drop from more.now) c)) }
+    ensures unchanged { OnOk result (length more.now ≤ from → ranges.new.items ≡ ranges.old.items) }
+{
+    for i in from..more.len() {
+        let (first, last) = more[i];
+        append(ranges, first, last)?;
+    }
+    Ok(())
+}
+
+/// The codes that one of the two lists holds.
+///
+/// # Errors
+/// [`OutOfMemory`] where there was no memory for the list.
+pub(crate) fn either(
+    alloc: Global,
+    left: &[(u32, u32)],
+    right: &[(u32, u32)],
+) -> Result<Vec<(u32, u32)>, OutOfMemory>
+    requires left { ComeInOrder left.now }
+    requires right { ComeInOrder right.now }
+    ensures sorted { IfOk result (λ v. Above 0 v.items) }
+    ensures members { IfOk result (λ v. (c : ℕ) → has v.items c ≡ (has left.now c || has right.now c)) }
+{
+    let mut ranges = Vec::new(alloc);
+    let mut i = 0;
+    let mut j = 0;
+    while i < left.len() && j < right.len() {
+        if left[i].0 <= right[j].0 {
+            append(&mut ranges, left[i].0, left[i].1)?;
+            i += 1;
+        } else {
+            append(&mut ranges, right[j].0, right[j].1)?;
+            j += 1;
+        }
+    }
+    append_from(&mut ranges, left, i)?;
+    append_from(&mut ranges, right, j)?;
+    Ok(ranges)
+}
+
+/// The codes that both lists hold.
+///
+/// # Errors
+/// [`OutOfMemory`] where there was no memory for the list.
+pub(crate) fn both(
+    alloc: Global,
+    left: &[(u32, u32)],
+    right: &[(u32, u32)],
+) -> Result<Vec<(u32, u32)>, OutOfMemory>
+    requires left { Above 0 left.now }
+    requires right { Above 0 right.now }
+    ensures sorted { IfOk result (λ v. Above 0 v.items) }
+    ensures members { IfOk result (λ v. (c : ℕ) → has v.items c ≡ (has left.now c && has right.now c)) }
+{
+    let mut ranges = Vec::new(alloc);
+    let mut i = 0;
+    let mut j = 0;
+    while i < left.len() && j < right.len() {
+        let first = left[i].0.max(right[j].0);
+        let last = left[i].1.min(right[j].1);
+        if first <= last {
+            append(&mut ranges, first, last)?;
+        }
+        if left[i].1 <= right[j].1 {
+            i += 1;
+        } else {
+            j += 1;
+        }
+    }
+    Ok(ranges)
+}
+
+/// The codes below `count` that the list does not hold.
+///
+/// # Errors
+/// [`OutOfMemory`] where there was no memory for the list.
+pub(crate) fn gaps(
+    alloc: Global,
+    held: &[(u32, u32)],
+    count: u32,
+) -> Result<Vec<(u32, u32)>, OutOfMemory>
+    requires held { Above 0 held.now }
+    requires inside { (c : ℕ) → has held.now c ≡ true → c < count }
+    ensures sorted { IfOk result (λ v. Above 0 v.items) }
+    ensures members { IfOk result (λ v. (c : ℕ) → has v.items c ≡ (nat_lt c count && not (has held.now c))) }
+{
+    let mut ranges = Vec::new(alloc);
+    let mut next = 0;
+    for &(first, last) in held {
+        if next < first {
+            append(&mut ranges, next, first - 1)?;
+        }
+        next = last + 1;
+    }
+    if next < count {
+        append(&mut ranges, next, count - 1)?;
+    }
+    Ok(ranges)
+}
