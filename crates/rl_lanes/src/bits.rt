@@ -1,0 +1,44 @@
+// One word of 64 bits, bit by bit.
+ghost use Rattle.std.specs.Prelude.{◌≡◌, ◌≢◌, ◌↔◌, ℕ, ◌<◌, ◌≤◌, if◌then◌else◌, IsTrue};
+ghost use Rattle.std.specs.Int.{bit_at};
+
+/// The word with one bit set or cleared.
+#[inline(always)]
+pub(crate) fn with_bit(word: u64, bit: usize, to: bool) -> u64
+    requires { bit < 64 }
+    ensures same { bit_at result bit ≡ (if to then 1 else 0) }
+    ensures others { (k : ℕ) → k < 64 → k ≢ bit → bit_at result k ≡ bit_at word k }
+{
+    let mask = 1 << bit;
+    if to { word | mask } else { word & !mask }
+}
+
+/// Whether a bit is set.
+#[inline(always)]
+pub(crate) fn has_bit(word: u64, bit: usize) -> bool
+    requires { bit < 64 }
+    ensures { IsTrue result ↔ (bit_at word bit ≡ 1) }
+{
+    (word >> bit) & 1 != 0
+}
+
+/// The word with the bits below one cleared.
+#[inline(always)]
+pub(crate) fn from_bit(word: u64, bit: usize) -> u64
+    requires { bit < 64 }
+    ensures below { (k : ℕ) → k < bit → bit_at result k ≡ 0 }
+    ensures kept { (k : ℕ) → bit ≤ k → k < 64 → bit_at result k ≡ bit_at word k }
+{
+    word & (u64::MAX << bit)
+}
+
+/// The lowest bit that is set.
+#[inline(always)]
+pub(crate) fn lowest(word: u64) -> usize
+    requires { word ≢ 0 }
+    ensures bound { result < 64 }
+    ensures set { bit_at word result ≡ 1 }
+    ensures below { (k : ℕ) → k < result → bit_at word k ≡ 0 }
+{
+    word.trailing_zeros() as usize
+}

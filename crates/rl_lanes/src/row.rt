@@ -1,0 +1,233 @@
+// A row of truth values.
+ghost use Rattle.std.specs.Prelude.{◌≡◌, ◌↔◌, ℕ, ◌+◌, ◌*◌, ◌/◌, ◌^◌, ◌<◌, ◌≤◌, Bool, false, length, replicate, count_by, slice_index_or, slice_set, IsTrue, IfOk, IfSome, IfNone};
+ghost use Rattle.std.specs.Bool.{OnFalse};
+ghost use Rattle.rl_lanes.specs.Rows.{list_or, list_and_not, Meets, AreApart, IsSubset, HasOther, NoneFrom, IsLeastFrom};
+ghost use Rattle.rl_lanes.specs.Packed.{truths, IsPacked, words_of, IsLeastBitFrom, NoBitFrom};
+
+use crate::bits::{from_bit, has_bit, lowest, with_bit};
+use crate::words::{any_both, any_outside, count_words, or_words, subtract_words};
+use rl_lists::OutOfMemory;
+use std::alloc::Global;
+use std::hash::{Hash, Hasher};
+use std::marker::Model;
+
+/// How many truth values a word holds.
+pub(crate) const WORD: usize = 64;
+
+/// A row of truth values, which stands for the set of the places that hold true.
+///
+/// Contracts see it as the list of its values. Its bits past the last value are false.
+#[derive(Debug, Drop)]
+pub struct BitRow {
+    words: Vec<u64>,
+    len: usize,
+}
+
+impl Model for BitRow {
+    ghost use Rattle.std.specs.Prelude.{Bool, List};
+    ghost use Rattle.rl_lanes.specs.Packed.{truths, IsPacked};
+
+    ghost Value = { List Bool };
+
+    ghost view = { λ r. truths r.len r.words.items };
+
+    ghost invariant = { λ r. IsPacked r.len r.words.items };
+}
+
+impl BitRow {
+    /// A row of `len` places that hold false.
+    ///
+    /// # Errors
+    /// [`OutOfMemory`] where there was no memory for the row.
+    pub fn zeros(alloc: Global, len: usize) -> Result<BitRow, OutOfMemory>
+        ensures { IfOk result (λ row. row ≡ replicate len false) }
+    {
+        let words = Vec::from_elem(alloc, 0, len.div_ceil(WORD))?;
+        Ok(BitRow { words, len })
+    }
+
+    /// A row with the same values.
+    ///
+    /// # Errors
+    /// [`OutOfMemory`] where there was no memory for the row.
+    pub fn copy(&self) -> Result<BitRow, OutOfMemory>
+        ensures { IfOk result (λ row. row ≡ self.now) }
+    {
+        let words = self.words.clone()?;
+        Ok(BitRow {
+            words,
+            len: self.len,
+        })
+    }
+
+    /// How many places the row has.
+    pub fn len(&self) -> usize
+        ensures { result ≡ length self.now }
+    {
+        self.len
+    }
+
+    /// Whether no place holds true.
+    pub fn is_empty(&self) -> bool
+        ensures { IsTrue result ↔ NoneFrom self.now 0 }
+    {
+        self.next_from(0).is_none()
+    }
+
+    /// The value at a place.
+    pub fn get(&self, i: usize) -> bool
+        requires { i < length self.now }
+        ensures { result ≡ slice_index_or self.now i false }
+    {
+        has_bit(self.words[i / WORD], i % WORD)
+    }
+
+    /// Puts a value at a place.
+    pub fn set(&mut self, i: usize, to: bool)
+        requires { i < length self.old }
+        ensures { self.new ≡ slice_set self.old i to }
+    {
+        let word = i / WORD;
+        self.words[word] = with_bit(self.words[word], i % WORD, to);
+    }
+
+    /// Makes each place hold false.
+    pub fn clear(&mut self)
+        ensures { self.new ≡ replicate (length self.old) false }
+    {
+        self.words.as_mut_slice().fill(0);
+    }
+
+    /// Makes the row its union with another.
+    pub fn or_into(&mut self, other: &BitRow)
+        requires { length self.old ≡ length other.now }
+        ensures union { self.new ≡ list_or self.old other.now }
+        ensures len { length self.new ≡ length self.old }
+    {
+        or_words(self.words.as_mut_slice(), other.words());
+    }
+
+    /// Makes the row its union with the row that the words hold.
+    pub(crate) fn add_words(&mut self, added: &[u64])
+        requires { IsPacked (length self.old) added.now }
+        ensures { self.new ≡ list_or self.old (truths (length self.old) added.now) }
+    {
+        or_words(self.words.as_mut_slice(), added);
+    }
+
+    /// Takes the other row's places out of the row.
+    pub fn subtract(&mut self, other: &BitRow)
+        requires { length self.old ≡ length other.now }
+        ensures difference { self.new ≡ list_and_not self.old other.now }
+        ensures len { length self.new ≡ length self.old }
+    {
+        subtract_words(self.words.as_mut_slice(), other.words());
+    }
+
+    /// Whether some place holds true in both rows.
+    pub fn meets(&self, other: &BitRow) -> bool
+        requires { length self.now ≡ length other.now }
+        ensures meets { IsTrue result ↔ Meets self.now other.now }
+        ensures apart { OnFalse result (AreApart self.now other.now) }
+    {
+        any_both(self.words(), other.words())
+    }
+
+    /// Whether each place that holds true in the row does in the other.
+    pub fn is_subset(&self, of: &BitRow) -> bool
+        requires { length self.now ≡ length of.now }
+        ensures subset { IsTrue result ↔ IsSubset self.now of.now }
+        ensures other { OnFalse result (HasOther self.now of.now) }
+    {
+        !any_outside(self.words(), of.words())
+    }
+
+    /// How many places hold true.
+    pub fn count(&self) -> usize
+        ensures { result ≡ count_by (λ holds. holds) self.now }
+    {
+        // The count is at most the length, so it fits.
+        let _len = self.len;
+        count_words(self.words())
+    }
+
+    /// The least place at or above one that holds true. It passes over words of zeros.
+    ///
+    /// The places that hold true, in rising order, are `next_from(0)`, and after a place `i` `next_from(i + 1)`.
+    pub fn next_from(&self, i: usize) -> Option<usize>
+        ensures found { IfSome result (IsLeastFrom self.now i) }
+        ensures none { IfNone result (NoneFrom self.now i) }
+        ensures next_fits { IfSome result (λ least. least + 1 < 2 ^ 64) }
+    {
+        if i < self.len {
+            next_bit(self.words(), i)
+        } else {
+            None
+        }
+    }
+
+    /// The words that hold the values.
+    fn words(&self) -> &[u64]
+        ensures { result.now ≡ words_of self.now }
+    {
+        let words = self.words.as_slice();
+        words
+    }
+}
+
+impl PartialEq for BitRow {
+    ghost use Rattle.std.specs.Cmp.{bool_eq_equiv, partial_equiv_from_equiv};
+    ghost use Rattle.std.proofs.lemmas.Cmp.{lists_equiv};
+    ghost use Rattle.rl_lanes.specs.Rows.{row_eq};
+
+    ghost eq = { row_eq };
+
+    ghost laws = { partial_equiv_from_equiv (lists_equiv bool_eq_equiv) };
+
+    fn eq(&self, other: &BitRow) -> bool {
+        self.len == other.len && self.words() == other.words()
+    }
+}
+
+impl Eq for BitRow {
+    ghost use Rattle.std.specs.Cmp.{bool_eq_equiv};
+    ghost use Rattle.std.proofs.lemmas.Cmp.{lists_equiv};
+
+    ghost laws = { lists_equiv bool_eq_equiv };
+}
+
+impl Hash for BitRow {
+    ghost use Rattle.std.specs.Hash as fed;
+    ghost use Rattle.std.specs.Hash.{same_Alike};
+    ghost use Rattle.rl_lanes.specs.Packed.{words_of};
+    ghost use Rattle.rl_lanes.specs.Rows.{row_eq, row_eq_decides};
+
+    ghost hash_input = { λ row. fed.slice fed.u64 (words_of row) };
+
+    ghost respects_eq = { (same_Alike (λ row. fed.slice fed.u64 (words_of row)) row_eq_decides).fed };
+
+    fn hash<H: Hasher>(&self, state: &mut H) {
+        self.words().hash(state);
+    }
+}
+
+/// The least place at or above one that holds true in the words.
+fn next_bit(words: &[u64], i: usize) -> Option<usize>
+    requires within { i / 64 < length words.now }
+    requires small { 64 * length words.now ≤ 2 ^ 64 }
+    ensures found { IfSome result (IsLeastBitFrom words.now i) }
+    ensures none { IfNone result (NoBitFrom words.now i) }
+{
+    let first = i / WORD;
+    let word = from_bit(words[first], i % WORD);
+    if word != 0 {
+        return Some(WORD * first + lowest(word));
+    }
+    for at in first + 1..words.len() {
+        let word = words[at];
+        if word != 0 {
+            return Some(WORD * at + lowest(word));
+        }
+    }
+    None
+}

@@ -1,0 +1,97 @@
+-- The search for the closing quotes of a literal, step by step.
+use Rattle.std.proofs.Common.{◌≡◌, ℕ, zero, suc, ◌+◌, ◌-◌, ◌<◌, ◌≤◌, Bool, true, false, cond, not, ◌&&◌, ◌||◌, eqb, List, [], ◌∷◌, length, drop, refl, ap, sym, ◌∙◌, arith, Some, None, Option, subst}
+use Rattle.std.specs.Prelude.{option_map, ◌==◌, nat_eq}
+use Rattle.std.specs.List.{prefix_len}
+use Rattle.std.proofs.lemmas.Bool.{false≢true}
+use Rattle.std.proofs.lemmas.Bool.Decides.{nat_tests}
+use Rattle.std.proofs.lemmas.List.{drop-drop}
+use Rattle.rl_pylex.specs.Bytes.{has_at, is_quote, is_backslash, ends_line}
+use Rattle.rl_pylex.specs.Literals.{close_from, unit_size, quotes_at, Skips, is_plain}
+
+option_map-map : (f g : ℕ → ℕ) (o : Option ℕ) → option_map f (option_map g o) ≡ option_map (λ x. f (g x)) o
+option_map-map f g None = refl
+option_map-map f g (Some x) = refl
+
+option_map-same : (f g : ℕ → ℕ) (o : Option ℕ) → ((n : ℕ) → f n ≡ g n) → option_map f o ≡ option_map g o
+option_map-same f g None h = refl
+option_map-same f g (Some x) h = ap Some (h x)
+
+option_map-zero : (o : Option ℕ) → option_map (λ n. 0 + n) o ≡ o
+option_map-zero None = refl
+option_map-zero (Some x) = ap Some (omega arith)
+
+-- what is passed is counted
+skipped : (count quote k : ℕ) (xs : List ℕ)
+    → close_from count quote k xs ≡ option_map (λ n. k + n) (close_from count quote 0 (drop k xs))
+skipped count quote zero xs = sym (option_map-zero (close_from count quote 0 xs))
+skipped count quote (suc k) [] = refl
+skipped count quote (suc k) (x ∷ xs) =
+    ap (option_map suc) (skipped count quote k xs)
+    ∙ option_map-map suc (λ n. k + n) (close_from count quote 0 (drop k xs))
+    ∙ option_map-same (λ n. suc (k + n)) (λ n. suc k + n) (close_from count quote 0 (drop k xs)) (λ n. omega arith)
+
+pub Skips-zero : (count quote : ℕ) (xs : List ℕ) → Skips count quote 0 xs
+Skips-zero count quote xs = sym (option_map-zero (close_from count quote 0 xs))
+
+pub Skips-then : (count quote m n : ℕ) (xs : List ℕ) → Skips count quote m xs → Skips count quote n (drop m xs) → Skips count quote (m + n) xs
+Skips-then count quote m n xs first second =
+    first ∙ ap (option_map (λ k. m + k)) second
+    ∙ option_map-map (λ k. m + k) (λ k. n + k) (close_from count quote 0 (drop n (drop m xs)))
+    ∙ option_map-same (λ k. m + (n + k)) (λ k. m + n + k) (close_from count quote 0 (drop n (drop m xs))) (λ k. omega arith)
+    ∙ ap (λ ys. option_map (λ k. m + n + k) (close_from count quote 0 ys)) (drop-drop n m xs)
+
+Skips-suc : (count quote v x : ℕ) (xs : List ℕ) → close_from count quote 0 (x ∷ xs) ≡ option_map suc (close_from count quote v xs) → Skips count quote (suc v) (x ∷ xs)
+Skips-suc count quote v x xs step =
+    step ∙ ap (option_map suc) (skipped count quote v xs)
+    ∙ option_map-map suc (λ n. v + n) (close_from count quote 0 (drop v xs))
+    ∙ option_map-same (λ n. suc (v + n)) (λ n. suc v + n) (close_from count quote 0 (drop v xs)) (λ n. omega arith)
+
+unit_size-some : (xs : List ℕ) → 0 < unit_size xs
+unfolding unit_size
+unit_size-some xs = grind (arith, nat_tests)
+
+opened : (A : Type 0) (b c : Bool) (x y z : A) → b ≡ false → c ≡ false → cond b x (cond c y z) ≡ z
+opened A b c x y z e f = rw (e, f) refl
+
+-- a unit that is no closing quotes and no fault is passed
+pub Skips-unit : (count quote : ℕ) (xs : List ℕ) → 0 < length xs → quotes_at count quote xs ≡ false → (count == 1 && has_at ends_line 0 xs) ≡ false → Skips count quote (unit_size xs) xs
+Skips-unit count quote [] some other line = absurd (omega arith)
+Skips-unit count quote (x ∷ xs) some other line =
+    let e : suc (unit_size (x ∷ xs) - 1) ≡ unit_size (x ∷ xs) = omega (arith, unit_size-some (x ∷ xs)) in
+    subst (λ (n : ℕ). Skips count quote n (x ∷ xs)) e
+    (Skips-suc count quote (unit_size (x ∷ xs) - 1) x xs
+    (opened (Option ℕ) (quotes_at count quote (x ∷ xs)) (count == 1 && ends_line x) (Some count) None (option_map suc (close_from count quote (unit_size (x ∷ xs) - 1) xs)) other line))
+
+quotes_at-other : (count quote c : ℕ) (xs : List ℕ) → 0 < count → nat_eq quote c ≡ false → quotes_at count quote (c ∷ xs) ≡ false
+quotes_at-other zero quote c xs some other = absurd (omega arith)
+quotes_at-other (suc k) quote c xs some other = rw other refl
+
+plain_is_other : (quote c : ℕ) → is_quote quote ≡ true → is_plain c ≡ true → nat_eq quote c ≡ false
+plain_is_other quote c q p = grind (arith, nat_tests)
+
+plain_in_line : (c : ℕ) → is_plain c ≡ true → ends_line c ≡ false
+plain_in_line c p = grind (arith, nat_tests)
+
+plain_unit : (c : ℕ) (xs : List ℕ) → is_plain c ≡ true → unit_size (c ∷ xs) ≡ 1
+unfolding unit_size
+plain_unit c xs p = grind (arith, nat_tests)
+
+and-false : (b c : Bool) → c ≡ false → (b && c) ≡ false
+and-false true c e = e
+and-false false c e = refl
+
+plain_first : (count quote x k : ℕ) (xs : List ℕ) (b : Bool) → is_plain x ≡ b → 0 < count → is_quote quote ≡ true → Skips count quote k xs → Skips count quote (cond b (1 + k) 0) (x ∷ xs)
+plain_first count quote x k xs false e some q rest = Skips-zero count quote (x ∷ xs)
+plain_first count quote x k xs true e some q rest =
+    Skips-then count quote 1 k (x ∷ xs)
+    (subst (λ (n : ℕ). Skips count quote n (x ∷ xs)) (plain_unit x xs e)
+    (Skips-unit count quote (x ∷ xs) (omega arith) (quotes_at-other count quote x xs some (plain_is_other quote x q e)) (and-false (count == 1) (ends_line x) (plain_in_line x e))))
+    rest
+
+-- a run of plain bytes is passed
+pub Skips-plain : (count quote : ℕ) (xs : List ℕ) → 0 < count → is_quote quote ≡ true → Skips count quote (prefix_len is_plain xs) xs
+Skips-plain count quote [] some q = refl
+Skips-plain count quote (x ∷ xs) some q =
+    plain_first count quote x (prefix_len is_plain xs) xs (is_plain x) refl some q (Skips-plain count quote xs some q)
+
+pub ruleset skips = (Skips-unit, Skips-plain, Skips-then)

@@ -1,0 +1,9 @@
+-- The law is that of the pieces and of the search for closing quotes.
+use Rattle.rl_pylex.proofs.TokenFacts.{IsInOrder-tokens}
+use Rattle.rl_pylex.proofs.LiteralFacts.{IsLiteral-token}
+use Rattle.rl_pylex.proofs.Alone.{literal_alone}
+use Rattle.rl_pylex.proofs.laws.token_texts.Goals as goal
+
+pub returns : goal.returns
+returns c =
+    record { in_order = IsInOrder-tokens; literals = IsLiteral-token; alone = literal_alone }

@@ -1,0 +1,80 @@
+-- The coding line of a source (PEP 263, with stricter rules on what counts as one).
+use Rattle.std.specs.Prelude.{ℕ, ◌+◌, Bool, true, false, not, ◌&&◌, ◌||◌, ◌==◌, nat_eq, List, [], ◌∷◌, length, take, drop, take_while, codes, Option, Some, None, option_map, option_and_then, is_some, if◌then◌else◌, bytes_eq}
+use Rattle.std.specs.List.{list_any, prefix_len}
+use Rattle.std.specs.Option.{option_or}
+use Rattle.std.specs.Str.{str_to_ascii_lowercase}
+use Rattle.std.specs.Char.{is_ascii_alphanumeric}
+use Rattle.rl_pylex.specs.declared.coding.Named.{Named}
+use Rattle.rl_pylex.specs.Bytes.{has_at, begins, is_in, is_blank, in_line, line_end}
+
+-- a space or a tab
+abbrev pub is_gap : ℕ → Bool
+is_gap c = is_in " \t" c
+
+-- a letter, a digit or one of `-`, `_` and `.`
+abbrev pub in_coding : ℕ → Bool
+in_coding c = is_ascii_alphanumeric c || is_in "-_." c
+
+-- the longest name at this place of the text, if it isn't empty
+unfoldable pub name_at : ℕ → List ℕ → Option Named
+name_at from text =
+    let size = prefix_len in_coding (drop from text) in
+    if size == 0 then None else Some (record { from = from; size = size })
+
+-- the name of the `coding` with which the text begins: `:` or `=` stands directly after it, and then perhaps spaces or tabs
+unfoldable pub named_here : List ℕ → Option Named
+named_here text =
+    if begins "coding:" text || begins "coding=" text then name_at (7 + prefix_len is_gap (drop 7 text)) text else None
+
+-- the same name in a text with n more bytes in front
+abbrev pub from_place : ℕ → Option Named → Option Named
+from_place n None = None
+from_place n (Some named) = Some (record { from = n + named.from; size = named.size })
+
+-- the name of the first `coding` that has one
+abbrev pub first_named : List ℕ → Option Named
+first_named [] = None
+first_named (c ∷ text) = option_or (named_here (c ∷ text)) (from_place 1 (first_named text))
+
+-- the name of a coding line: spaces, tabs or form feeds, a `#`, and later a `coding` with a name
+unfoldable pub coding_of_line : List ℕ → Option Named
+coding_of_line line =
+    let blanks = prefix_len is_blank line in
+    if begins "#" (drop blanks line) then from_place blanks (first_named (drop blanks line)) else None
+
+-- the line holds nothing but spaces, tabs, form feeds and perhaps a comment
+unfoldable pub is_bare : List ℕ → Bool
+is_bare line =
+    let rest = drop (prefix_len is_blank line) line in length rest == 0 || begins "#" rest
+
+abbrev pub line_of : List ℕ → List ℕ
+line_of text = take_while in_line text
+
+-- where the second line begins, or the length of a text of one line
+unfoldable pub second_place : List ℕ → ℕ
+second_place text = length (line_of text) + line_end (drop (length (line_of text)) text)
+
+-- the second line's name counts where the first line is bare
+unfoldable pub second_coding : List ℕ → Option Named
+second_coding text =
+    if is_bare (line_of text)
+    then from_place (second_place text) (coding_of_line (line_of (drop (second_place text) text))) else None
+
+-- the name of the coding line of the text
+unfoldable pub coding_of : List ℕ → Option Named
+coding_of text = option_or (coding_of_line (line_of text)) (second_coding text)
+
+-- the names with which a source is read as UTF-8, in any case
+abbrev pub is_accepted : List ℕ → Bool
+is_accepted name =
+    list_any (bytes_eq (str_to_ascii_lowercase name))
+    (codes "utf-8" ∷ codes "utf8" ∷ codes "utf_8" ∷ codes "utf-8-sig" ∷ codes "ascii" ∷ codes "us-ascii" ∷ [])
+
+abbrev pub place_if_wrong : Option Named → List ℕ → Option ℕ
+place_if_wrong None text = None
+place_if_wrong (Some named) text =
+    if is_accepted (take named.size (drop named.from text)) then None else Some named.from
+
+-- the place of the name of a coding line that names another coding
+unfoldable pub wrong_coding : List ℕ → Option ℕ
+wrong_coding text = place_if_wrong (coding_of text) text

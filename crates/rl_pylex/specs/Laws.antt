@@ -1,0 +1,38 @@
+-- Laws of sources and their tokens: a source has one answer, one list of tokens or one fault; tokens stand in order; a literal's text is a literal by itself.
+use Rattle.std.specs.Prelude.{◌≡◌, ◌≢◌, ◌≤◌, ℕ, List, [], ◌∷◌, length, IsUtf8}
+use Rattle.rl_pylex.specs.declared.token_list.Token.{Token}
+use Rattle.rl_pylex.specs.declared.fault.LexError.{LexError}
+use Rattle.rl_pylex.specs.declared.fault.LexError.TheVariants as error
+use Rattle.rl_pylex.specs.declared.token_list.TokenKind.TheVariants as kind
+use Rattle.rl_pylex.specs.Literals.{IsLiteral}
+use Rattle.rl_pylex.specs.Source.{text_of, IsReadAt, IsInOrder, IsTokenList, IsFault}
+
+-- two token lists of a source are the same
+abbrev pub HasOneTokenList : Type 0
+HasOneTokenList = (source : List ℕ) (ts us : List Token) → IsTokenList source ts → IsTokenList source us → ts ≡ us
+
+-- a source with a token list has no fault
+abbrev pub HasNoFaultBeside : Type 0
+HasNoFaultBeside =
+    (source : List ℕ) (ts : List Token) (e : LexError) → IsTokenList source ts → IsFault source e → e ≡ error.OutOfMemory
+
+-- two faults of a source are the same, but for refused memory, which is none of the source
+abbrev pub HasOneFault : Type 0
+HasOneFault =
+    (source : List ℕ) (e f : LexError) → IsFault source e → IsFault source f
+    → e ≢ error.OutOfMemory → f ≢ error.OutOfMemory → e ≡ f
+
+-- each token is what is read at its place, and the tokens stand in order and don't overlap
+abbrev pub HasTokensInOrder : Type 0
+HasTokensInOrder = (source : List ℕ) (tokens : List Token) → IsTokenList source tokens → IsInOrder source tokens
+
+-- the text of a literal token is a literal by itself
+abbrev pub HasLiteralTexts : Type 0
+HasLiteralTexts =
+    (source : List ℕ) (token : Token) → IsReadAt source token → token.kind ≡ kind.Literal → IsLiteral (text_of source token)
+
+-- a literal by itself, of at most 4,194,304 bytes of UTF-8, is a source of one token
+abbrev pub HasLiteralsAlone : Type 0
+HasLiteralsAlone =
+    (text : List ℕ) → IsLiteral text → length text ≤ 4194304 → IsUtf8 text
+    → IsTokenList text (record { kind = kind.Literal; from = 0; upto = length text } ∷ [])

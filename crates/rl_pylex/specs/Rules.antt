@@ -1,0 +1,107 @@
+-- The table of the rules of tokens, row by row: what each rule takes at the front of the text that is left, and the token that it gives.
+use Rattle.std.specs.Prelude.{ℕ, ◌<◌, ◌≤◌, ⊤, ◌+◌, ◌-◌, Bool, not, ◌&&◌, ◌||◌, ◌==◌, List, [], ◌∷◌, drop, Option, Some, None, unwrap_or, if◌then◌else◌}
+use Rattle.std.specs.List.{prefix_len}
+use Rattle.std.specs.Char.{is_ascii_digit}
+use Rattle.rl_pylex.specs.declared.rules.Fit.{Fit}
+use Rattle.rl_pylex.specs.declared.rules.Fit.TheVariants.{Passes, Takes, Breaks}
+use Rattle.rl_pylex.specs.declared.rules.Reading.{Reading}
+use Rattle.rl_pylex.specs.declared.rules.Reading.TheVariants.{Piece, Unterminated, Stray}
+use Rattle.rl_pylex.specs.declared.token_list.TokenKind.{TokenKind}
+use Rattle.rl_pylex.specs.declared.token_list.TokenKind.TheVariants as kind
+use Rattle.rl_pylex.specs.Bytes.{has_at, begins, is_blank, is_backslash, in_line, starts_name, in_name, in_number, is_operator, opens_bracket, closes_bracket, line_end}
+use Rattle.rl_pylex.specs.Literals.{prefix_size, size_after}
+
+-- A rule passes, takes so many bytes, or fits and finds no end.
+abbrev pub takes_if : Bool → ℕ → Fit
+takes_if fits size = if fits then Takes size else Passes
+
+-- a space, a tab or a form feed
+unfoldable pub blank : List ℕ → Fit
+blank text = takes_if (has_at is_blank 0 text) 1
+
+-- a backslash and a line end
+unfoldable pub joined_line : List ℕ → Fit
+joined_line text =
+    takes_if (has_at is_backslash 0 text && not (line_end (drop 1 text) == 0)) (1 + line_end (drop 1 text))
+
+-- a line end
+unfoldable pub new_line : List ℕ → Fit
+new_line text = takes_if (not (line_end text == 0)) (line_end text)
+
+-- `#` up to the next line end or the end of the text
+unfoldable pub comment : List ℕ → Fit
+comment text = takes_if (begins "#" text) (prefix_len in_line text)
+
+abbrev pub fit_of_size : Option ℕ → Fit
+fit_of_size None = Breaks
+fit_of_size (Some size) = Takes size
+
+abbrev pub fit_after : Option ℕ → List ℕ → Fit
+fit_after None text = Passes
+fit_after (Some n) text = fit_of_size (size_after n text)
+
+-- a prefix or none, directly followed by a quote, up to the closing quotes
+unfoldable pub literal : List ℕ → Fit
+literal text = fit_after (prefix_size text) text
+
+-- the longest run of letters, `_`, codes of at least 0x80 and digits that begins with no digit
+unfoldable pub name : List ℕ → Fit
+name text = takes_if (has_at starts_name 0 text) (prefix_len in_name text)
+
+-- a digit, or `.` directly before one, and the longest run of letters, digits, `_` and `.` after it
+unfoldable pub number : List ℕ → Fit
+number text =
+    takes_if (has_at is_ascii_digit 0 text || (begins "." text && has_at is_ascii_digit 1 text)) (prefix_len in_number text)
+
+-- one of the characters of operators and brackets
+unfoldable pub operator : List ℕ → Fit
+operator text = takes_if (has_at is_operator 0 text) 1
+
+-- A row of the table: its rule, and the kind of the token that it gives, if it gives one.
+pub record Row : Type 0 where
+  pub rule : List ℕ → Fit
+  pub kind : Option TokenKind
+
+abbrev pub row : (List ℕ → Fit) → Option TokenKind → Row
+row rule kind = record { rule = rule; kind = kind }
+
+-- a line end inside brackets gives no token
+abbrev pub line_end_kind : ℕ → Option TokenKind
+line_end_kind depth = if depth == 0 then Some kind.LineEnd else None
+
+-- the table of rules at a bracket depth
+abbrev pub rows : ℕ → List Row
+rows depth =
+    row blank None
+    ∷ row joined_line None
+    ∷ row new_line (line_end_kind depth)
+    ∷ row comment (Some kind.Comment)
+    ∷ row literal (Some kind.Literal)
+    ∷ row name (Some kind.Name)
+    ∷ row number (Some kind.Number)
+    ∷ row operator (Some kind.Op)
+    ∷ []
+
+abbrev pub reading_by : Fit → Option TokenKind → Option Reading
+reading_by Passes kind = None
+reading_by (Takes size) kind = Some (Piece kind size)
+reading_by Breaks kind = Some Unterminated
+
+-- what the first row that fits gives; a stray code where none does
+abbrev pub first_of_rows : List Row → List ℕ → Reading
+first_of_rows [] text = Stray
+first_of_rows (r ∷ rs) text = unwrap_or (reading_by (r.rule text) r.kind) (first_of_rows rs text)
+
+unfoldable pub reading : ℕ → List ℕ → Reading
+reading depth text = first_of_rows (rows depth) text
+
+-- a piece has a byte at least, and at most this many
+abbrev pub IsBoundedReading : Reading → ℕ → Type 0
+IsBoundedReading (Piece kind size) most = (0 < size) × (size ≤ most)
+IsBoundedReading Unterminated most = ⊤
+IsBoundedReading Stray most = ⊤
+
+-- The bracket depth after the piece with which the text begins. Only an operator's piece begins with a bracket, so the first byte tells.
+unfoldable pub depth_after : ℕ → List ℕ → ℕ
+depth_after depth text =
+    if has_at opens_bracket 0 text then depth + 1 else (if has_at closes_bracket 0 text then depth - 1 else depth)

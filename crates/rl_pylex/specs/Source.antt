@@ -1,0 +1,103 @@
+-- The tokens of a source: it is cut into pieces in order, each piece is what the first rule that fits takes at its place, and the tokens are the pieces that have a kind.
+use Rattle.std.specs.Prelude.{◌≡◌, ℕ, zero, ◌+◌, ◌-◌, ◌<◌, ◌≤◌, Bool, List, [], ◌∷◌, ◌++◌, length, take, drop, filter_map, Option, Some, None, IsUtf8, ⊤, All, AllPairs}
+use Rattle.std.specs.Str.{IsValidUpTo}
+use Rattle.rl_pylex.specs.declared.token_list.TokenKind.{TokenKind}
+use Rattle.rl_pylex.specs.declared.token_list.Token.{Token}
+use Rattle.rl_pylex.specs.declared.fault.LexError.{LexError}
+use Rattle.rl_pylex.specs.declared.fault.LexError.TheVariants as error
+use Rattle.rl_pylex.specs.declared.rules.Reading.{Reading}
+use Rattle.rl_pylex.specs.declared.rules.Reading.TheVariants as reads
+use Rattle.rl_pylex.specs.Bytes.{text_start}
+use Rattle.rl_pylex.specs.Rules.{reading, depth_after}
+use Rattle.rl_pylex.specs.Coding.{wrong_coding}
+
+-- the bytes of a token
+abbrev pub text_of : List ℕ → Token → List ℕ
+text_of source token = take (token.upto - token.from) (drop token.from source)
+
+pub record Piece : Type 0 where
+  pub kind : Option TokenKind
+  pub from : ℕ
+  pub size : ℕ
+
+abbrev pub token_of_kind : Option TokenKind → ℕ → ℕ → Option Token
+token_of_kind None from size = None
+token_of_kind (Some kind) from size = Some (record { kind = kind; from = from; upto = from + size })
+
+abbrev pub token_of : Piece → Option Token
+token_of piece = token_of_kind piece.kind piece.from piece.size
+
+-- From the place `at` and this bracket depth up to the place `end` and that depth the source is cut into these pieces.
+abbrev pub Cut : List ℕ → ℕ → ℕ → List Piece → ℕ → ℕ → Type 0
+Cut source at depth [] end end_depth = (at ≡ end) × (depth ≡ end_depth)
+Cut source at depth (p ∷ ps) end end_depth =
+    (p.from ≡ at) × (reading depth (drop at source) ≡ reads.Piece p.kind p.size)
+    × Cut source (at + p.size) (depth_after depth (drop at source)) ps end end_depth
+
+-- the first `at` bytes are cut into pieces with these tokens, and the bracket depth behind them is `depth`
+pub record Reaches (source : List ℕ) (at depth : ℕ) (tokens : List Token) : Type 0 where
+  pub pieces : List Piece
+  pub cut : Cut source (text_start source) 0 pieces at depth
+  pub are : tokens ≡ filter_map token_of pieces
+
+-- at most 4,194,304 bytes of UTF-8, with no coding line of another coding
+pub record IsReadable (source : List ℕ) : Type 0 where
+  pub short : length source ≤ 4194304
+  pub utf8 : IsUtf8 source
+  pub coding : wrong_coding (drop (text_start source) source) ≡ None
+
+-- the whole source is cut into pieces with these tokens
+pub record ReachesEnd (source : List ℕ) (tokens : List Token) : Type 0 where
+  pub depth : ℕ
+  pub reaches : Reaches source (length source) depth tokens
+
+-- the tokens of the source
+pub record IsTokenList (source : List ℕ) (tokens : List Token) : Type 0 where
+  pub readable : IsReadable source
+  pub whole : ReachesEnd source tokens
+
+-- the pieces reach the place p, and this is read there
+pub record Meets (source : List ℕ) (p : ℕ) (found : Reading) : Type 0 where
+  pub within : p < length source
+  pub depth : ℕ
+  pub before : List Token
+  pub reaches : Reaches source p depth before
+  pub found_there : reading depth (drop p source) ≡ found
+
+-- no piece: a fault
+abbrev pub IsStop : Reading → Type 0
+IsStop (reads.Piece kind size) = ⊥
+IsStop reads.Unterminated = ⊤
+IsStop reads.Stray = ⊤
+
+-- the first fault of a piece
+abbrev pub StopsAt : List ℕ → LexError → Type 0
+StopsAt source (error.Unterminated p) = Meets source p reads.Unterminated
+StopsAt source (error.StrayCode p) = Meets source p reads.Stray
+StopsAt source error.OutOfMemory = ⊤
+StopsAt source error.FileTooLong = ⊥
+StopsAt source (error.NotUtf8 n) = ⊥
+StopsAt source (error.Coding p) = ⊥
+
+-- The source has this fault. The first that holds counts, in the order of the cases here but for the last two, of which the first by place counts.
+abbrev pub IsFault : List ℕ → LexError → Type 0
+IsFault source error.FileTooLong = 4194304 < length source
+IsFault source (error.NotUtf8 n) = (length source ≤ 4194304) × IsValidUpTo source n
+IsFault source (error.Coding p) =
+    (length source ≤ 4194304) × IsUtf8 source
+    × ((q : ℕ) × (wrong_coding (drop (text_start source) source) ≡ Some q) × (p ≡ text_start source + q))
+IsFault source (error.Unterminated p) = IsReadable source × StopsAt source (error.Unterminated p)
+IsFault source (error.StrayCode p) = IsReadable source × StopsAt source (error.StrayCode p)
+IsFault source error.OutOfMemory = ⊤
+
+-- The token is what is read at its place, at some bracket depth. It has a byte at least and lies in the source.
+pub record IsReadAt (source : List ℕ) (token : Token) : Type 0 where
+  pub some : token.from < token.upto
+  pub within : token.upto ≤ length source
+  pub depth : ℕ
+  pub read : reading depth (drop token.from source) ≡ reads.Piece (Some token.kind) (token.upto - token.from)
+
+-- each token is what is read at its place, and the tokens stand in order and don't overlap
+pub record IsInOrder (source : List ℕ) (tokens : List Token) : Type 0 where
+  pub each : All (IsReadAt source) tokens
+  pub ordered : AllPairs (λ a b. a.upto ≤ b.from) tokens

@@ -1,0 +1,153 @@
+// Classes of bytes, line ends, and the front of a text.
+ghost use Rattle.std.specs.Prelude.{◌≡◌, ℕ, ◌+◌, ◌≤◌, not, ◌||◌, drop, length, position};
+ghost use Rattle.std.specs.List.{prefix_len};
+ghost use Rattle.rl_pylex.specs.Bytes.{has_at, is_blank, is_backslash, is_quote, ends_line, in_line, starts_name, in_name, in_number, is_operator, is_plain_operator, opens_bracket, closes_bracket, line_end, text_start};
+
+pub fn is_blank(byte: u8) -> bool
+    ensures { result ≡ is_blank byte }
+{
+    matches!(byte, b' ' | b'\t' | b'\x0C')
+}
+
+pub fn is_quote(byte: u8) -> bool
+    ensures { result ≡ is_quote byte }
+{
+    matches!(byte, b'"' | b'\'')
+}
+
+pub fn ends_line(byte: u8) -> bool
+    ensures { result ≡ ends_line byte }
+{
+    matches!(byte, b'\n' | b'\r')
+}
+
+pub fn starts_name(byte: u8) -> bool
+    ensures { result ≡ starts_name byte }
+{
+    byte.is_ascii_alphabetic() || byte == b'_' || byte > 127
+}
+
+pub fn in_name(byte: u8) -> bool
+    ensures { result ≡ in_name byte }
+{
+    starts_name(byte) || byte.is_ascii_digit()
+}
+
+pub fn in_number(byte: u8) -> bool
+    ensures { result ≡ in_number byte }
+{
+    byte.is_ascii_alphanumeric() || byte == b'_' || byte == b'.'
+}
+
+pub fn is_operator(byte: u8) -> bool
+    ensures { result ≡ is_operator byte }
+{
+    is_plain_operator(byte) || byte == b'.'
+}
+
+/// Whether the byte is an operator's character that begins no number.
+pub fn is_plain_operator(byte: u8) -> bool
+    ensures { result ≡ is_plain_operator byte }
+{
+    matches!(
+        byte,
+        b'(' | b')'
+            | b'['
+            | b']'
+            | b'{'
+            | b'}'
+            | b','
+            | b':'
+            | b';'
+            | b'='
+            | b'+'
+            | b'-'
+            | b'*'
+            | b'/'
+            | b'%'
+            | b'&'
+            | b'|'
+            | b'^'
+            | b'~'
+            | b'<'
+            | b'>'
+            | b'@'
+            | b'!'
+    )
+}
+
+pub fn opens_bracket(byte: u8) -> bool
+    ensures { result ≡ opens_bracket byte }
+{
+    matches!(byte, b'(' | b'[' | b'{')
+}
+
+pub fn closes_bracket(byte: u8) -> bool
+    ensures { result ≡ closes_bracket byte }
+{
+    matches!(byte, b')' | b']' | b'}')
+}
+
+/// The text from a place on.
+pub fn rest_from(text: &[u8], at: usize) -> &[u8]
+    requires { at ≤ length text.now }
+    ensures { result.now ≡ drop at text.now }
+{
+    &text[at..]
+}
+
+/// How many bytes the line end at the front of the text has.
+#[tactic(auto, unfolding(crate::specs::Bytes::line_end))]
+pub fn line_end(text: &[u8]) -> usize
+    ensures value { result ≡ line_end text.now }
+    ensures within { result ≤ length text.now }
+{
+    match text {
+        [b'\r', b'\n', ..] => 2,
+        [b'\n' | b'\r', ..] => 1,
+        _ => 0,
+    }
+}
+
+/// Where the text of a source begins, behind its byte order mark.
+#[tactic(auto, unfolding(crate::specs::Bytes::text_start))]
+pub fn text_start(source: &[u8]) -> usize
+    ensures value { result ≡ text_start source.now }
+    ensures within { result ≤ length source.now }
+{
+    if source.starts_with(b"\xEF\xBB\xBF") {
+        3
+    } else {
+        0
+    }
+}
+
+fn after_line(text: &[u8]) -> Option<usize>
+    ensures { result ≡ position (λ c. not (in_line c)) text.now }
+{
+    text.iter().position(|byte| ends_line(*byte))
+}
+
+/// How many bytes there are up to the next line end or the end of the text.
+#[tactic(auto, using(crate::proofs::Runs::line_run, crate::proofs::Runs::runs))]
+pub fn line_size(text: &[u8]) -> usize
+    ensures value { result ≡ prefix_len in_line text.now }
+    ensures within { result ≤ length text.now }
+{
+    after_line(text).unwrap_or(text.len())
+}
+
+fn after_blanks(text: &[u8]) -> Option<usize>
+    ensures { result ≡ position (λ c. not (is_blank c)) text.now }
+{
+    text.iter().position(|byte| !is_blank(*byte))
+}
+
+/// How many spaces, tabs and form feeds stand at the front of the text.
+#[tactic(auto, using(crate::proofs::Runs::blank_run, crate::proofs::Runs::runs))]
+pub fn blank_size(text: &[u8]) -> usize
+    ensures value { result ≡ prefix_len is_blank text.now }
+    ensures within { result ≤ length text.now }
+{
+    after_blanks(text).unwrap_or(text.len())
+}

@@ -1,0 +1,52 @@
+// Why a source has no tokens.
+ghost use Rattle.std.specs.Prelude.{◌≡◌};
+
+use rl_lists::OutOfMemory;
+use std::alloc::{AllocError, AllocFailed};
+
+/// Why a source has no tokens. Each number is a byte place in the source, a byte order mark counted.
+#[derive(Clone, Copy, Debug, PartialEq, Eq)]
+pub enum LexError {
+    /// The source isn't UTF-8: the length of its longest front that is.
+    NotUtf8(u32),
+    /// The coding line names another coding: the place of that name.
+    Coding(u32),
+    /// A literal has no end: the place where it begins.
+    Unterminated(u32),
+    /// The source has more than 4,194,304 bytes.
+    FileTooLong,
+    /// No token begins with the code at this place.
+    StrayCode(u32),
+    /// Memory was refused.
+    OutOfMemory,
+}
+
+impl From<OutOfMemory> for LexError {
+    ghost use Rattle.rl_pylex.specs.declared.fault.LexError.TheVariants as error;
+
+    ghost from_gives = { λ _ e. e ≡ error.OutOfMemory };
+
+    fn from(_: OutOfMemory) -> Self {
+        LexError::OutOfMemory
+    }
+}
+
+impl From<AllocError> for LexError {
+    ghost use Rattle.rl_pylex.specs.declared.fault.LexError.TheVariants as error;
+
+    ghost from_gives = { λ _ e. e ≡ error.OutOfMemory };
+
+    fn from(_: AllocError) -> Self {
+        LexError::OutOfMemory
+    }
+}
+
+impl<T: Drop> From<AllocFailed<T>> for LexError {
+    ghost use Rattle.rl_pylex.specs.declared.fault.LexError.TheVariants as error;
+
+    ghost from_gives = { λ _ e. e ≡ error.OutOfMemory };
+
+    fn from(_: AllocFailed<T>) -> Self {
+        LexError::OutOfMemory
+    }
+}

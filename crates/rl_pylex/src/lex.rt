@@ -1,0 +1,102 @@
+// The tokens of a source: the checks on the whole of it, then its pieces one by one.
+ghost use Rattle.std.specs.Prelude.{◌≡◌, ℕ, ◌+◌, ◌<◌, ◌≤◌, ◌++◌, length, drop, IfOk, IfErr, OnOk, IsOkUnless, option_to_list, IsUtf8, MatchResult};
+ghost use Rattle.std.specs.List.{prefix_len};
+ghost use Rattle.std.specs.Str.{IsValidUpTo};
+ghost use Rattle.rl_pylex.specs.Bytes.{text_start, is_blank};
+ghost use Rattle.rl_pylex.specs.Coding.{wrong_coding};
+ghost use Rattle.rl_pylex.specs.Source.{token_of_kind, Reaches, IsReadable, ReachesEnd, StopsAt, IsTokenList, IsFault};
+
+use crate::bytes::{blank_size, rest_from, text_start};
+use crate::coding::wrong_coding;
+use crate::rules::{Reading, depth_after, read_front};
+use crate::{LexError, Token, TokenKind, TokenList};
+use std::alloc::Global;
+
+/// The greatest length of a source, in bytes.
+const MOST_BYTES: usize = 4_194_304;
+
+/// Puts the token of a piece behind the others, if the piece has one.
+fn push_piece(
+    tokens: &mut TokenList,
+    kind: Option<TokenKind>,
+    at: usize,
+    size: usize,
+) -> Result<(), LexError>
+    requires { at + size ≤ 4194304 }
+    ensures pushed { OnOk result (tokens.new ≡ tokens.old ++ option_to_list (token_of_kind kind at size)) }
+    ensures memory { IsOkUnless result LexError.OutOfMemory }
+{
+    if let Some(kind) = kind {
+        tokens.push(Token {
+            kind,
+            from: at as u32,
+            upto: (at + size) as u32,
+        })?;
+    }
+    Ok(())
+}
+
+/// The place behind the spaces, tabs and form feeds that stand at a place.
+fn after_blanks(source: &[u8], at: usize) -> usize
+    requires { at ≤ length source.now }
+    ensures value { result ≡ at + prefix_len is_blank (drop at source.now) }
+    ensures within { result ≤ length source.now }
+{
+    at + blank_size(rest_from(source, at))
+}
+
+/// The tokens of a source of at most 4,194,304 bytes, from the place `first` on where its text begins.
+#[tactic(auto, using(crate::proofs::Cuts::pieces))]
+fn read_pieces(alloc: Global, source: &[u8], first: usize) -> Result<TokenList, LexError>
+    requires short { length source.now ≤ 4194304 }
+    requires begins { first ≡ text_start source.now }
+    requires within { first ≤ length source.now }
+    ensures ok { IfOk result (ReachesEnd source.now) }
+    ensures err { IfErr result (StopsAt source.now) }
+{
+    let mut tokens = TokenList::new(alloc);
+    let mut at = first;
+    let mut depth = 0;
+    while at < source.len() {
+        let text = rest_from(source, at);
+        match read_front(text, depth) {
+            Reading::Piece(kind, size) => {
+                push_piece(&mut tokens, kind, at, size)?;
+                depth = depth_after(text, depth);
+                at = after_blanks(source, at + size);
+            }
+            Reading::Unterminated => return Err(LexError::Unterminated(at as u32)),
+            Reading::Stray => return Err(LexError::StrayCode(at as u32)),
+        }
+    }
+    Ok(tokens)
+}
+
+/// The tokens of a source in order. They don't overlap, and each one's text is its slice of the source.
+///
+/// # Errors
+/// The first of these that holds. Each but `FileTooLong` and `OutOfMemory` has a byte place, a byte order mark
+/// counted.
+/// - [`LexError::FileTooLong`] exactly where the source has more than 4,194,304 bytes
+/// - [`LexError::NotUtf8`] exactly where it isn't UTF-8, with the length of its longest front that is
+/// - [`LexError::Coding`] exactly where its coding line names another coding than UTF-8 or ASCII, with the place of
+///   that name
+/// - [`LexError::Unterminated`], with the place where it begins, or [`LexError::StrayCode`], with its place, exactly
+///   where a literal without an end or a stray code is the first fault by place
+/// - [`LexError::OutOfMemory`] where memory was refused
+pub fn tokens(alloc: Global, source: &[u8]) -> Result<TokenList, LexError>
+    ensures ok { IfOk result (IsTokenList source.now) }
+    ensures err { IfErr result (IsFault source.now) }
+{
+    if source.len() > MOST_BYTES {
+        return Err(LexError::FileTooLong);
+    }
+    if let Err(error) = str::from_utf8(source) {
+        return Err(LexError::NotUtf8(error.valid_up_to() as u32));
+    }
+    let first = text_start(source);
+    if let Some(place) = wrong_coding(rest_from(source, first)) {
+        return Err(LexError::Coding((first + place) as u32));
+    }
+    read_pieces(alloc, source, first)
+}

@@ -1,0 +1,166 @@
+// A literal: its prefix, its quotes, and the search for the quotes that close it.
+ghost use Rattle.std.specs.Prelude.{◌≡◌, ℕ, ◌+◌, ◌<◌, ◌≤◌, ◌⊎◌, IsTrue, [], ◌∷◌, length, drop, IfSome, option_map, false, true, not, ◌&&◌, ◌==◌, position};
+ghost use Rattle.std.specs.List.{prefix_len};
+ghost use Rattle.std.specs.Str.{str_to_ascii_lowercase};
+ghost use Rattle.rl_pylex.specs.Bytes.{has_at, is_quote, ends_line};
+ghost use Rattle.rl_pylex.specs.Literals.{is_prefix, opens_after, prefix_size, starts_literal, Skips, is_plain, quotes_at, quote_count, unit_size, close_from, size_after};
+
+use crate::bytes::{ends_line, is_quote, rest_from};
+
+/// Whether the byte is a quote or a letter of a prefix.
+pub fn starts_literal(byte: u8) -> bool
+    ensures { result ≡ starts_literal byte }
+{
+    is_quote(byte) || matches!(byte.to_ascii_lowercase(), b'r' | b'u' | b'b' | b'f')
+}
+
+fn is_prefix_letter(letter: u8) -> bool
+    ensures { result ≡ is_prefix (str_to_ascii_lowercase (letter ∷ [])) }
+{
+    matches!(letter.to_ascii_lowercase(), b'r' | b'u' | b'b' | b'f')
+}
+
+fn are_prefix_letters(first: u8, second: u8) -> bool
+    ensures { result ≡ is_prefix (str_to_ascii_lowercase (first ∷ second ∷ [])) }
+{
+    matches!(
+        (first.to_ascii_lowercase(), second.to_ascii_lowercase()),
+        (b'b' | b'f', b'r') | (b'r', b'b' | b'f')
+    )
+}
+
+/// How long the prefix of the literal at the front of the text is, if a literal is there.
+#[tactic(auto, unfolding(crate::specs::Literals::prefix_size, crate::specs::Literals::opens_after))]
+pub fn prefix_size(text: &[u8]) -> Option<usize>
+    ensures value { result ≡ prefix_size text.now }
+    ensures within { IfSome result (λ n. n < length text.now) }
+    ensures quote { IfSome result (λ n. has_at is_quote n text.now ≡ true) }
+{
+    match text {
+        [a, ..] if is_quote(*a) => Some(0),
+        [a, b, ..] if is_quote(*b) && is_prefix_letter(*a) => Some(1),
+        [a, b, c, ..] if is_quote(*c) && are_prefix_letters(*a, *b) => Some(2),
+        _ => None,
+    }
+}
+
+/// How many quotes open the literal whose first quote is at the front of the text.
+#[tactic(auto, unfolding(crate::specs::Literals::quote_count))]
+pub fn quote_count(text: &[u8]) -> usize
+    requires { 0 < length text.now }
+    ensures value { result ≡ quote_count text.now }
+    ensures within { result ≤ length text.now }
+    ensures counts { (result ≡ 1) ⊎ (result ≡ 3) }
+{
+    match text {
+        [a, b, c, ..] if *a == *b && *a == *c => 3,
+        _ => 1,
+    }
+}
+
+fn quotes_at(text: &[u8], count: usize, quote: u8) -> bool
+    requires { (count ≡ 1) ⊎ (count ≡ 3) }
+    ensures value { result ≡ quotes_at count quote text.now }
+    ensures within { IsTrue result → count ≤ length text.now }
+{
+    if count == 3 {
+        text.starts_with(&[quote, quote, quote])
+    } else {
+        text.starts_with(&[quote])
+    }
+}
+
+fn is_plain(byte: u8) -> bool
+    ensures { result ≡ is_plain byte }
+{
+    !(is_quote(byte) || byte == b'\\' || ends_line(byte))
+}
+
+fn after_plain(text: &[u8]) -> Option<usize>
+    ensures { result ≡ position (λ c. not (is_plain c)) text.now }
+{
+    text.iter().position(|byte| !is_plain(*byte))
+}
+
+/// How many bytes at the front of a literal's body are passed one by one.
+#[tactic(auto, using(crate::proofs::Runs::plain_run, crate::proofs::Runs::runs))]
+fn plain_size(text: &[u8]) -> usize
+    ensures value { result ≡ prefix_len is_plain text.now }
+    ensures within { result ≤ length text.now }
+{
+    after_plain(text).unwrap_or(text.len())
+}
+
+/// How many bytes at the front of a literal's body pass together.
+#[tactic(auto, unfolding(crate::specs::Literals::unit_size))]
+fn unit_size(text: &[u8]) -> usize
+    ensures value { result ≡ unit_size text.now }
+    ensures some { 0 < result }
+    ensures few { result ≤ 3 }
+{
+    match text {
+        [b'\\', b'\r', b'\n', ..] => 3,
+        [b'\\', ..] => 2,
+        _ => 1,
+    }
+}
+
+/// How many bytes at the front of a body to pass, where no closing quotes and no fault stand there.
+#[tactic(auto, using(crate::proofs::Closing::skips))]
+fn skip(body: &[u8], count: usize, quote: u8) -> usize
+    requires some { 0 < length body.now }
+    requires counts { 0 < count }
+    requires quotes { is_quote quote ≡ true }
+    requires other { quotes_at count quote body.now ≡ false }
+    requires line { (count == 1 && has_at ends_line 0 body.now) ≡ false }
+    ensures skips { Skips count quote result body.now }
+    ensures moves { 0 < result }
+    ensures bound { result ≤ length body.now + 3 }
+{
+    let unit = unit_size(body);
+    if unit >= body.len() {
+        return unit;
+    }
+    unit + plain_size(rest_from(body, unit))
+}
+
+fn breaks_line(body: &[u8], count: usize) -> bool
+    requires { 0 < length body.now }
+    ensures { result ≡ (count == 1 && has_at ends_line 0 body.now) }
+{
+    count == 1 && ends_line(body[0])
+}
+
+/// How many bytes there are up to the end of the closing quotes, `count` of `quote`, if there are any.
+fn close_from(body: &[u8], count: usize, quote: u8) -> Option<usize>
+    requires counts { (count ≡ 1) ⊎ (count ≡ 3) }
+    requires quotes { is_quote quote ≡ true }
+    ensures value { result ≡ close_from count quote 0 body.now }
+    ensures within { IfSome result (λ m. m ≤ length body.now) }
+{
+    let mut at = 0;
+    while at < body.len() {
+        let rest = rest_from(body, at);
+        if quotes_at(rest, count, quote) {
+            return Some(at + count);
+        }
+        if breaks_line(rest, count) {
+            return None;
+        }
+        at += skip(rest, count, quote);
+    }
+    None
+}
+
+/// The size of the literal at the front of the text, where its prefix has `n` bytes.
+#[tactic(auto, using(crate::proofs::Fronts::quote_at), unfolding(crate::specs::Literals::size_after))]
+pub fn size_after(text: &[u8], n: usize) -> Option<usize>
+    requires within { n < length text.now }
+    requires quote { has_at is_quote n text.now ≡ true }
+    ensures value { result ≡ size_after n text.now }
+    ensures within { IfSome result (λ m. m ≤ length text.now) }
+{
+    let quotes = quote_count(rest_from(text, n));
+    let close = close_from(rest_from(text, n + quotes), quotes, text[n])?;
+    Some(n + quotes + close)
+}

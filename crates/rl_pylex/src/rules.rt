@@ -1,0 +1,243 @@
+// The rules of tokens, each on the text that is left.
+ghost use Rattle.std.specs.Prelude.{◌≡◌, ℕ, ◌+◌, ◌^◌, ◌<◌, ◌≤◌, length, drop, not, ◌&&◌, ◌||◌, position, Option};
+ghost use Rattle.std.specs.List.{prefix_len};
+ghost use Rattle.rl_pylex.specs.Bytes.{has_at, is_backslash, starts_name, in_name, in_number};
+ghost use Rattle.rl_pylex.specs.Literals.{starts_literal};
+ghost use Rattle.rl_pylex.specs.Rules.{takes_if, blank, joined_line, new_line, comment, literal, name, number, operator, line_end_kind, reading_by, reading, IsBoundedReading, depth_after};
+
+use crate::TokenKind;
+use crate::bytes::{
+    closes_bracket, ends_line, in_name, in_number, is_blank, is_operator, is_plain_operator,
+    line_end, line_size, opens_bracket, rest_from, starts_name,
+};
+use crate::literals::{prefix_size, size_after, starts_literal};
+
+/// What a rule takes at the front of a text.
+#[derive(Clone, Copy, Debug, PartialEq, Eq)]
+pub enum Fit {
+    /// The rule doesn't fit.
+    Passes,
+    /// The rule fits and takes so many bytes.
+    Takes(usize),
+    /// The rule fits, and the text has no end for it.
+    Breaks,
+}
+
+/// What is read at the front of a text.
+#[derive(Clone, Copy, Debug, PartialEq, Eq)]
+pub enum Reading {
+    /// So many bytes, a token of this kind or none.
+    Piece(Option<TokenKind>, usize),
+    /// A literal without an end.
+    Unterminated,
+    /// A code that begins no token.
+    Stray,
+}
+
+fn takes_if(fits: bool, size: usize) -> Fit
+    ensures { result ≡ takes_if fits size }
+{
+    if fits { Fit::Takes(size) } else { Fit::Passes }
+}
+
+#[tactic(auto, unfolding(crate::specs::Rules::blank))]
+fn blank(text: &[u8]) -> Fit
+    ensures { result ≡ blank text.now }
+{
+    match text {
+        [byte, ..] if is_blank(*byte) => Fit::Takes(1),
+        _ => Fit::Passes,
+    }
+}
+
+#[tactic(auto, unfolding(crate::specs::Rules::joined_line))]
+fn joined_line(text: &[u8]) -> Fit
+    ensures { result ≡ joined_line text.now }
+{
+    match text {
+        [b'\\', rest @ ..] => {
+            let end = line_end(rest);
+            takes_if(end != 0, 1 + end)
+        }
+        _ => Fit::Passes,
+    }
+}
+
+#[tactic(auto, unfolding(crate::specs::Rules::new_line))]
+fn new_line(text: &[u8]) -> Fit
+    ensures { result ≡ new_line text.now }
+{
+    let end = line_end(text);
+    takes_if(end != 0, end)
+}
+
+#[tactic(auto, unfolding(crate::specs::Rules::comment))]
+fn comment(text: &[u8]) -> Fit
+    ensures { result ≡ comment text.now }
+{
+    match text {
+        [b'#', ..] => Fit::Takes(line_size(text)),
+        _ => Fit::Passes,
+    }
+}
+
+#[tactic(auto, unfolding(crate::specs::Rules::literal))]
+fn literal(text: &[u8]) -> Fit
+    ensures { result ≡ literal text.now }
+{
+    match prefix_size(text) {
+        None => Fit::Passes,
+        Some(n) => match size_after(text, n) {
+            None => Fit::Breaks,
+            Some(size) => Fit::Takes(size),
+        },
+    }
+}
+
+fn after_name(text: &[u8]) -> Option<usize>
+    ensures { result ≡ position (λ c. not (in_name c)) text.now }
+{
+    text.iter().position(|byte| !in_name(*byte))
+}
+
+#[tactic(auto, using(crate::proofs::Runs::name_run, crate::proofs::Runs::runs))]
+fn name_size(text: &[u8]) -> usize
+    ensures { result ≡ prefix_len in_name text.now }
+{
+    after_name(text).unwrap_or(text.len())
+}
+
+#[tactic(auto, unfolding(crate::specs::Rules::name))]
+fn name(text: &[u8]) -> Fit
+    ensures { result ≡ name text.now }
+{
+    match text {
+        [byte, ..] if starts_name(*byte) => Fit::Takes(name_size(text)),
+        _ => Fit::Passes,
+    }
+}
+
+fn starts_plain_name(byte: u8) -> bool
+    ensures { result ≡ (starts_name byte && not (starts_literal byte)) }
+{
+    starts_name(byte) && !starts_literal(byte)
+}
+
+fn after_number(text: &[u8]) -> Option<usize>
+    ensures { result ≡ position (λ c. not (in_number c)) text.now }
+{
+    text.iter().position(|byte| !in_number(*byte))
+}
+
+#[tactic(auto, using(crate::proofs::Runs::number_run, crate::proofs::Runs::runs))]
+fn number_size(text: &[u8]) -> usize
+    ensures { result ≡ prefix_len in_number text.now }
+{
+    after_number(text).unwrap_or(text.len())
+}
+
+#[tactic(auto, unfolding(crate::specs::Rules::number))]
+fn number(text: &[u8]) -> Fit
+    ensures { result ≡ number text.now }
+{
+    match text {
+        [byte, ..] if byte.is_ascii_digit() => Fit::Takes(number_size(text)),
+        [b'.', byte, ..] if byte.is_ascii_digit() => Fit::Takes(number_size(text)),
+        _ => Fit::Passes,
+    }
+}
+
+#[tactic(auto, unfolding(crate::specs::Rules::operator))]
+fn operator(text: &[u8]) -> Fit
+    ensures { result ≡ operator text.now }
+{
+    match text {
+        [byte, ..] if is_operator(*byte) => Fit::Takes(1),
+        _ => Fit::Passes,
+    }
+}
+
+fn reading_by(fit: Fit, kind: Option<TokenKind>) -> Option<Reading>
+    ensures { result ≡ reading_by fit kind }
+{
+    match fit {
+        Fit::Passes => None,
+        Fit::Takes(size) => Some(Reading::Piece(kind, size)),
+        Fit::Breaks => Some(Reading::Unterminated),
+    }
+}
+
+fn line_end_kind(depth: u32) -> Option<TokenKind>
+    ensures { result ≡ line_end_kind depth }
+{
+    if depth == 0 {
+        Some(TokenKind::LineEnd)
+    } else {
+        None
+    }
+}
+
+/// What the first rule that fits takes at the front of the text, at a bracket depth: each rule is tried in turn.
+#[tactic(auto, unfolding(crate::specs::Rules::reading))]
+fn try_rules(text: &[u8], depth: u32) -> Reading
+    ensures { result ≡ reading depth text.now }
+{
+    if let Some(found) = reading_by(blank(text), None) {
+        return found;
+    }
+    if let Some(found) = reading_by(joined_line(text), None) {
+        return found;
+    }
+    if let Some(found) = reading_by(new_line(text), line_end_kind(depth)) {
+        return found;
+    }
+    if let Some(found) = reading_by(comment(text), Some(TokenKind::Comment)) {
+        return found;
+    }
+    if let Some(found) = reading_by(literal(text), Some(TokenKind::Literal)) {
+        return found;
+    }
+    if let Some(found) = reading_by(name(text), Some(TokenKind::Name)) {
+        return found;
+    }
+    if let Some(found) = reading_by(number(text), Some(TokenKind::Number)) {
+        return found;
+    }
+    reading_by(operator(text), Some(TokenKind::Op)).unwrap_or(Reading::Stray)
+}
+
+/// The same. The first byte tells most operators and names at once.
+fn first_fit(text: &[u8], depth: u32) -> Reading
+    ensures { result ≡ reading depth text.now }
+{
+    match text {
+        [byte, ..] if is_plain_operator(*byte) => Reading::Piece(Some(TokenKind::Op), 1),
+        [byte, ..] if starts_plain_name(*byte) => {
+            Reading::Piece(Some(TokenKind::Name), name_size(text))
+        }
+        _ => try_rules(text, depth),
+    }
+}
+
+/// What is read at the front of the text, at a bracket depth.
+#[tactic(auto, using(crate::proofs::Sizes::bounded))]
+pub fn read_front(text: &[u8], depth: u32) -> Reading
+    ensures value { result ≡ reading depth text.now }
+    ensures bounded { IsBoundedReading result (length text.now) }
+{
+    first_fit(text, depth)
+}
+
+/// The bracket depth after the piece at the front of the text.
+#[tactic(auto, unfolding(crate::specs::Rules::depth_after))]
+pub fn depth_after(text: &[u8], depth: u32) -> u32
+    requires { depth + 1 < 2 ^ 32 }
+    ensures value { result ≡ depth_after depth text.now }
+    ensures bound { result ≤ depth + 1 }
+{
+    match text {
+        [byte, ..] if opens_bracket(*byte) => depth + 1,
+        [byte, ..] if closes_bracket(*byte) => depth.saturating_sub(1),
+        _ => depth,
+    }
+}

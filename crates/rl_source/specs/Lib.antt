@@ -1,0 +1,9 @@
+pub mod Faults
+pub mod NodeMap
+pub mod Distinct
+pub mod Told
+pub mod Asked
+pub mod Written
+pub mod MemSinkState
+pub mod SinkOver
+pub mod MemTreeState

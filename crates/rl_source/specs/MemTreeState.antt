@@ -1,0 +1,38 @@
+-- What a tree over memory is, and the exact course of its calls.
+use Rattle.std.specs.Prelude.{◌≡◌, ℕ, ◌+◌, Bool, true, false, ◌||◌, not, List, ◌++◌, length, count_by, Result, IsErr, IsErrOf, ◌==◌}
+use Rattle.std.specs.List.{list_any}
+use Rattle.rl_source.specs.Told.{Told}
+use Rattle.rl_source.specs.declared.nodes.Node.{Node}
+use Rattle.rl_source.specs.declared.nodes.Call.{Call}
+use Rattle.rl_source.specs.declared.trees.TreeError.{TreeError}
+use Rattle.rl_source.specs.declared.trees.TreeError.TheVariants as error
+
+pub record MemTreeState : Type 0 where
+  -- the map: each path stands once
+  pub nodes : List Node
+  -- the numbers, from 1, of the calls that are to fail
+  pub failing : List ℕ
+  -- the calls so far
+  pub trail : List Call
+
+-- the map and the trail
+abbrev pub told_of : MemTreeState → Told
+told_of t = record { nodes = t.nodes; trail = t.trail }
+
+-- how many calls failed
+abbrev pub failed_calls : MemTreeState → ℕ
+failed_calls t = count_by (λ c. c.failed) t.trail
+
+-- the next call is to fail, whatever it asks
+abbrev pub call_fails : MemTreeState → Bool
+call_fails t = list_any (λ n. n == length t.trail + 1) t.failing
+
+-- after a call that added this to the trail
+abbrev pub after_call : MemTreeState → List Call → MemTreeState
+after_call t calls = record t { trail = t.trail ++ calls }
+
+-- a call fails where it is to fail or the map has no answer, and nowhere else
+pub record FailsExactly {A : Type 0} (t : MemTreeState) (has_answer : Bool) (result : Result A TreeError) : Type 0 where
+  pub fails : call_fails t ≡ true → IsErr result
+  pub unknown : has_answer ≡ false → IsErr result
+  pub only : IsErrOf result error.Failed → (call_fails t || not has_answer) ≡ true

@@ -1,0 +1,168 @@
+//! A tree over memory, whose calls can be made to fail.
+ghost use Rattle.std.specs.Prelude.{◌≡◌, ◌&&◌, [], Bool, true, false, length, List, ℕ, take, Some, option_copied, is_none, is_some, IfOk, IfSome, IsSomeAnd, IsErr, IsErrOf, OnOk, OnErr, ◌∷◌, ◌++◌};
+ghost use Rattle.std.specs.Str.{bytes_eq};
+ghost use Rattle.rl_source.specs.Told.{Told, after};
+ghost use Rattle.rl_source.specs.Distinct.{Lists, has_double, names_twice, is_double};
+
+use crate::doubles::is_double;
+use crate::node_map::{bytes_at, children_at, copy_of, kind_at};
+use crate::nodes::{Call, CallName, Child, Kind, Name, Nodes};
+use crate::trees::{Tree, TreeError};
+use rl_lists::OutOfMemory;
+use std::alloc::{AllocError, AllocFailed, Global};
+use std::marker::Model;
+
+/// Why a [`MemTree`] wasn't made.
+#[derive(Clone, Copy, Debug, PartialEq, Eq)]
+pub enum MemTreeError {
+    /// Two nodes have one path, or a folder has two children of one name.
+    DoublePath,
+    /// Memory was refused.
+    OutOfMemory,
+}
+
+impl From<OutOfMemory> for MemTreeError {
+    ghost use Rattle.rl_source.specs.declared.mem_tree.MemTreeError.TheVariants as error;
+
+    ghost from_gives = { λ _ e. e ≡ error.OutOfMemory };
+
+    fn from(_: OutOfMemory) -> Self {
+        MemTreeError::OutOfMemory
+    }
+}
+
+/// A tree over a list of nodes. It tells its map, which is that list, and its trail.
+///
+/// Its calls are numbered together from 1, by their place in the trail. A call fails where its number was given as one
+/// that is to fail, or where the map has no answer for it. A call that answers [`TreeError::OutOfMemory`] isn't in the
+/// trail. It is made for tests: each call looks through the nodes from the first one on.
+#[derive(Drop)]
+pub struct MemTree {
+    alloc: Global,
+    nodes: Nodes,
+    failing: Vec<u64>,
+    trail: Vec<Call>,
+}
+
+impl Model for MemTree {
+    ghost use Rattle.std.specs.Prelude.{◌≡◌, false};
+    ghost use Rattle.rl_source.specs.MemTreeState.{MemTreeState};
+    ghost use Rattle.rl_source.specs.Distinct.{is_double};
+
+    ghost Value = { MemTreeState };
+
+    ghost view = { λ t. record { nodes = t.nodes; failing = t.failing.items; trail = t.trail.items } };
+
+    ghost invariant = { λ t. is_double t.nodes ≡ false };
+}
+
+impl MemTree {
+    ghost use Rattle.rl_source.specs.MemTreeState.{MemTreeState, call_fails, after_call};
+    ghost use Rattle.rl_source.specs.Asked.{call_of};
+
+    /// A tree of these nodes, in which the calls with these numbers fail. No call was made on it yet.
+    ///
+    /// # Errors
+    /// [`MemTreeError::DoublePath`] where two nodes have one path, or a folder has two children of one name;
+    /// [`MemTreeError::OutOfMemory`] where memory was refused.
+    pub fn new(alloc: Global, nodes: Nodes, failing: Vec<u64>) -> Result<MemTree, MemTreeError>
+        ensures ok { IfOk result
+            (λ tree. tree ≡ record { nodes = nodes; failing = failing.items; trail = [] }) }
+        ensures double { IsErrOf result MemTreeError.DoublePath → is_double nodes ≡ true }
+        ensures refused { is_double nodes ≡ true → IsErr result }
+    {
+        if is_double(alloc, nodes.as_slice())? {
+            return Err(MemTreeError::DoublePath);
+        }
+        Ok(MemTree {
+            alloc,
+            nodes,
+            failing,
+            trail: Vec::new(alloc),
+        })
+    }
+
+    /// Whether the next call is to fail, whatever it asks.
+    fn call_fails(&self) -> bool
+        ensures { result ≡ call_fails self.now }
+    {
+        self.failing.contains(&(self.trail.len() as u64 + 1))
+    }
+
+    /// Puts a call into the trail.
+    fn note(&mut self, name: CallName, path: &str, failed: bool) -> Result<(), OutOfMemory>
+        ensures ok { OnOk result (self.new ≡ record self.old {
+          trail = self.old.trail ++ call_of name path.now failed ∷ [];
+        }) }
+        ensures err { OnErr result (self.new ≡ self.old) }
+    {
+        let path = Name::from_text(self.alloc, path)?;
+        self.trail.push(Call { name, path, failed })?;
+        Ok(())
+    }
+}
+
+impl Tree for MemTree {
+    ghost use Rattle.rl_source.specs.MemTreeState.{MemTreeState, FailsExactly, told_of, failed_calls, after_call};
+    ghost use Rattle.rl_source.specs.Asked.{noted, HasTreeCause};
+    ghost use Rattle.rl_source.specs.NodeMap.{kind_at, children_at, bytes_at};
+
+    ghost told = { λ t. Some (told_of t) };
+
+    ghost fault_count = { failed_calls };
+
+    fn faults(&self) -> u64 {
+        self.trail.iter().filter(|call| call.failed).count() as u64
+    }
+
+    fn kind(&mut self, path: &str) -> Result<Kind, TreeError>
+        ensures told { Some (told_of self.new) ≡ after (noted CallName.Kind path.now result) (Some (told_of self.old)) }
+        ensures answer { IfOk result (λ found. kind_at self.old.nodes path.now ≡ Some found) }
+        ensures cause { HasTreeCause (failed_calls self.old) (failed_calls self.new) result }
+        ensures state { self.new ≡ after_call self.old (noted CallName.Kind path.now result) }
+        ensures exact { FailsExactly self.old (is_some (kind_at self.old.nodes path.now)) result }
+    {
+        let found = if self.call_fails() {
+            None
+        } else {
+            kind_at(self.nodes.as_slice(), path)
+        };
+        self.note(CallName::Kind, path, found.is_none())?;
+        found.ok_or(TreeError::Failed)
+    }
+
+    fn children(&mut self, path: &str) -> Result<Vec<Child>, TreeError>
+        ensures told { Some (told_of self.new) ≡ after (noted CallName.Children path.now result) (Some (told_of self.old)) }
+        ensures answer { IfOk result (λ found.
+            IsSomeAnd (children_at self.old.nodes path.now) (λ children. Lists children found.items)) }
+        ensures cause { HasTreeCause (failed_calls self.old) (failed_calls self.new) result }
+        ensures state { self.new ≡ after_call self.old (noted CallName.Children path.now result) }
+        ensures exact { FailsExactly self.old (is_some (children_at self.old.nodes path.now)) result }
+    {
+        let found = match children_at(self.nodes.as_slice(), path) {
+            Some(children) if !self.call_fails() => Some(copy_of(self.alloc, children)?),
+            _ => None,
+        };
+        self.note(CallName::Children, path, found.is_none())?;
+        found.ok_or(TreeError::Failed)
+    }
+
+    fn read(&mut self, path: &str, at_most: usize) -> Result<Vec<u8>, TreeError>
+        ensures told { Some (told_of self.new) ≡ after (noted CallName.Read path.now result) (Some (told_of self.old)) }
+        ensures answer { IfOk result (λ bytes.
+            IsSomeAnd (bytes_at self.old.nodes path.now) (λ content. bytes.items ≡ take at_most content)) }
+        ensures cause { HasTreeCause (failed_calls self.old) (failed_calls self.new) result }
+        ensures state { self.new ≡ after_call self.old (noted CallName.Read path.now result) }
+        ensures exact { FailsExactly self.old (is_some (bytes_at self.old.nodes path.now)) result }
+    {
+        let found = match bytes_at(self.nodes.as_slice(), path) {
+            Some(content) if !self.call_fails() => {
+                let wanted = content.len().min(at_most);
+                Some(Vec::from_slice(self.alloc, &content[..wanted])?)
+            }
+            _ => None,
+        };
+        self.note(CallName::Read, path, found.is_none())?;
+        found.ok_or(TreeError::Failed)
+    }
+}

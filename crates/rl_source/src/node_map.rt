@@ -1,0 +1,69 @@
+//! Look-ups in a list of nodes.
+ghost use Rattle.std.specs.Prelude.{◌≡◌, Bool, List, option_copied, option_map, IfOk};
+ghost use Rattle.rl_source.specs.NodeMap.{held_at, kind_of, kind_at, children_at, bytes_at};
+
+use crate::nodes::{Child, Held, Kind, Node};
+use rl_lists::OutOfMemory;
+use std::alloc::Global;
+
+impl Held {
+    /// The kind of what stands there.
+    pub fn kind(&self) -> Kind
+        ensures { result ≡ kind_of self.now }
+    {
+        match self {
+            Held::File(_) => Kind::File,
+            Held::Folder(_) => Kind::Folder,
+            Held::Other => Kind::Other,
+        }
+    }
+}
+
+/// What stands at a path.
+fn held_at<'a>(nodes: &'a [Node], path: &str) -> Option<&'a Held>
+    ensures { option_copied result ≡ held_at nodes.now path.now }
+{
+    let node = nodes.iter().find(|node| node.path.as_str() == path)?;
+    Some(&node.held)
+}
+
+/// The kind of what stands at a path.
+pub(crate) fn kind_at(nodes: &[Node], path: &str) -> Option<Kind>
+    ensures { result ≡ kind_at nodes.now path.now }
+{
+    match held_at(nodes, path) {
+        Some(held) => Some(held.kind()),
+        None => None,
+    }
+}
+
+/// The children of the folder at a path.
+pub(crate) fn children_at<'a>(nodes: &'a [Node], path: &str) -> Option<&'a [Child]>
+    ensures { option_map (λ c. c.now) result ≡ children_at nodes.now path.now }
+{
+    match held_at(nodes, path) {
+        Some(Held::Folder(children)) => Some(children.as_slice()),
+        _ => None,
+    }
+}
+
+/// The bytes of the file at a path.
+pub(crate) fn bytes_at<'a>(nodes: &'a [Node], path: &str) -> Option<&'a [u8]>
+    ensures { option_map (λ c. c.now) result ≡ bytes_at nodes.now path.now }
+{
+    match held_at(nodes, path) {
+        Some(Held::File(content)) => Some(content.as_slice()),
+        _ => None,
+    }
+}
+
+/// A copy of the children.
+pub(crate) fn copy_of(alloc: Global, children: &[Child]) -> Result<Vec<Child>, OutOfMemory>
+    ensures { IfOk result (λ copy. copy.items ≡ children.now) }
+{
+    let mut copy = Vec::with_capacity(alloc, children.len())?;
+    for child in children {
+        copy.push(child.clone()?)?;
+    }
+    Ok(copy)
+}

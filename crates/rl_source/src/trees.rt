@@ -1,0 +1,96 @@
+//! What a tree of files answers.
+ghost use Rattle.std.specs.Prelude.{◌≡◌, ℕ, List, take, Option, IfOk, IfSome, IsSomeAnd, Some};
+ghost use Rattle.rl_source.specs.Told.{Told, after};
+
+use crate::nodes::{CallName, Child, Kind};
+use rl_lists::OutOfMemory;
+use std::alloc::{AllocError, AllocFailed};
+
+/// Why a call of a tree has no answer.
+#[derive(Clone, Copy, Debug, PartialEq, Eq)]
+pub enum TreeError {
+    /// The tree couldn't answer: nothing of the kind that was asked for stands at the path, or the outside failed.
+    Failed,
+    /// Memory was refused.
+    OutOfMemory,
+}
+
+impl From<OutOfMemory> for TreeError {
+    ghost use Rattle.rl_source.specs.declared.trees.TreeError.TheVariants as error;
+
+    ghost from_gives = { λ _ e. e ≡ error.OutOfMemory };
+
+    fn from(_: OutOfMemory) -> Self {
+        TreeError::OutOfMemory
+    }
+}
+
+impl From<AllocError> for TreeError {
+    ghost use Rattle.rl_source.specs.declared.trees.TreeError.TheVariants as error;
+
+    ghost from_gives = { λ _ e. e ≡ error.OutOfMemory };
+
+    fn from(_: AllocError) -> Self {
+        TreeError::OutOfMemory
+    }
+}
+
+impl<T: Drop> From<AllocFailed<T>> for TreeError {
+    ghost use Rattle.rl_source.specs.declared.trees.TreeError.TheVariants as error;
+
+    ghost from_gives = { λ _ e. e ≡ error.OutOfMemory };
+
+    fn from(_: AllocFailed<T>) -> Self {
+        TreeError::OutOfMemory
+    }
+}
+
+/// A tree of files that can be asked.
+///
+/// It may tell its map from paths to what stands there, and with it the trail of the calls so far. No call changes the
+/// map. An answer is the map's, where the map is told; where the map has none, the call answers
+/// [`TreeError::Failed`].
+pub trait Tree {
+    ghost use Rattle.rl_source.specs.Asked.{noted, HasTreeCause};
+    ghost use Rattle.rl_source.specs.NodeMap.{kind_at, children_at, bytes_at};
+    ghost use Rattle.rl_source.specs.Distinct.{Lists};
+
+    // The map and the trail, where the tree tells them: both or neither.
+    ghost told: { Self → Option Told };
+    // How many faults there were. It stands still at its last value.
+    ghost fault_count: { Self → ℕ };
+
+    /// How many calls failed so far, up to `u64::MAX`.
+    fn faults(&self) -> u64
+        ensures { result ≡ fault_count self.now };
+
+    /// What stands at a path.
+    ///
+    /// # Errors
+    /// [`TreeError::Failed`] where the tree couldn't answer; [`TreeError::OutOfMemory`] where memory was refused.
+    fn kind(&mut self, path: &str) -> Result<Kind, TreeError>
+        ensures told { told self.new ≡ after (noted CallName.Kind path.now result) (told self.old) }
+        ensures answer { IfOk result (λ found. IfSome (told self.old)
+            (λ t. kind_at t.nodes path.now ≡ Some found)) }
+        ensures cause { HasTreeCause (fault_count self.old) (fault_count self.new) result };
+
+    /// The children of a folder, in some order, each name once.
+    ///
+    /// # Errors
+    /// [`TreeError::Failed`] where the tree couldn't answer; [`TreeError::OutOfMemory`] where memory was refused.
+    fn children(&mut self, path: &str) -> Result<Vec<Child>, TreeError>
+        ensures told { told self.new ≡ after (noted CallName.Children path.now result) (told self.old) }
+        ensures answer { IfOk result (λ found. IfSome (told self.old)
+            (λ t. IsSomeAnd (children_at t.nodes path.now) (λ children. Lists children found.items))) }
+        ensures cause { HasTreeCause (fault_count self.old) (fault_count self.new) result };
+
+    /// The first `at_most` bytes of a file, or all of them where there are fewer.
+    ///
+    /// # Errors
+    /// [`TreeError::Failed`] where the tree couldn't answer; [`TreeError::OutOfMemory`] where memory was refused.
+    fn read(&mut self, path: &str, at_most: usize) -> Result<Vec<u8>, TreeError>
+        ensures told { told self.new ≡ after (noted CallName.Read path.now result) (told self.old) }
+        ensures answer { IfOk result (λ bytes. IfSome (told self.old)
+            (λ t. IsSomeAnd (bytes_at t.nodes path.now) (λ content. bytes.items ≡ take at_most content))) }
+        ensures cause { HasTreeCause (fault_count self.old) (fault_count self.new) result };
+}

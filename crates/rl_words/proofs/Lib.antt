@@ -1,0 +1,5 @@
+pub mod CommandLemmas
+pub mod DoubtfulWords
+pub mod GivenLemmas
+pub mod InLemmas
+pub mod ValueLemmas

@@ -1,0 +1,83 @@
+-- What a valid call asks for, over texts and numbers.
+use Rattle.std.specs.Prelude.{◌≤◌, ℕ, ⊤, IfSome, List, Option, option_map}
+use Rattle.clap.specs.Walk.{Text, texts}
+use Rattle.rl_words.specs.declared.built.ActionName.{ActionName}
+use Rattle.rl_words.specs.declared.built.ActionName.TheVariants as name
+use Rattle.rl_words.specs.declared.words.ModeWord.{ModeWord}
+use Rattle.rl_words.specs.declared.words.FormatWord.{FormatWord}
+use Rattle.rl_words.specs.declared.words.Options.{Options}
+use Rattle.rl_words.specs.declared.words.Action.{Action}
+use Rattle.rl_words.specs.declared.words.Action.TheVariants as action
+use Rattle.rl_words.specs.declared.words.Words.{Words}
+
+-- the action with its arguments
+pub data Asked : Type 0 where
+  check : List Text → Asked  -- the paths
+  class : Text → Asked  -- the pattern
+  cost : Text → Text → Asked  -- the pattern and the text
+  sample : ℕ → ℕ → Asked  -- SEED and COUNT
+  prove : Text → Asked  -- the pattern
+  verify : Text → Text → Asked  -- the pattern and FILE
+  compare : Text → Text → Asked  -- the two patterns
+
+-- the options that were given
+pub record Chosen : Type 0 where
+  pub mode : Option ModeWord
+  pub format : Option FormatWord
+  pub max_degree : Option ℕ
+  pub max_pairs : Option ℕ
+  pub settings : Option Text
+  pub report : Option ℕ
+  pub baseline : Option Text
+
+pub record Call : Type 0 where
+  pub action : Asked
+  pub options : Chosen
+
+abbrev pub asked : Action → Asked
+asked (action.Check paths) = check (texts paths)
+asked (action.Class pattern) = class pattern.now
+asked (action.Cost pattern text) = cost pattern.now text.now
+asked (action.Sample seed count) = sample seed count
+asked (action.Prove pattern) = prove pattern.now
+asked (action.Verify pattern file) = verify pattern.now file.now
+asked (action.Compare first second) = compare first.now second.now
+
+abbrev pub chosen : Options → Chosen
+chosen options = record {
+  mode = options.mode;
+  format = options.format;
+  max_degree = options.max_degree;
+  max_pairs = options.max_pairs;
+  settings = option_map (λ path. path.now) options.settings;
+  report = options.report;
+  baseline = option_map (λ path. path.now) options.baseline;
+}
+
+-- what the typed words say
+abbrev pub said : Words → Call
+said words = record { action = asked words.action; options = chosen words.options }
+
+abbrev pub name_of : Asked → ActionName
+name_of (check paths) = name.Check
+name_of (class pattern) = name.Class
+name_of (cost pattern text) = name.Cost
+name_of (sample seed count) = name.Sample
+name_of (prove pattern) = name.Prove
+name_of (verify pattern file) = name.Verify
+name_of (compare first second) = name.Compare
+
+-- ---- the ranges of a call's numbers
+
+abbrev pub IsBetween : ℕ → ℕ → ℕ → Type 0
+IsBetween low high n = (low ≤ n) × (n ≤ high)
+
+abbrev pub HasActionRanges : Asked → Type 0
+HasActionRanges (sample seed count) = IsBetween 0 2147483647 seed × IsBetween 1 20000 count
+HasActionRanges _ = ⊤
+
+pub record HasRanges (call : Call) : Type 0 where
+  pub action : HasActionRanges call.action
+  pub max_degree : IfSome call.options.max_degree (IsBetween 0 999999)
+  pub max_pairs : IfSome call.options.max_pairs (IsBetween 1 1000)
+  pub report : IfSome call.options.report (IsBetween 1 2)

@@ -1,0 +1,6 @@
+pub mod Built
+pub mod Call
+pub mod Command
+pub mod Values
+pub mod Given
+pub mod Usage

@@ -1,0 +1,132 @@
+//! The command that the words are read by, in `clap`'s terms.
+ghost use Rattle.std.specs.Prelude.{◌≡◌, Some, None, false, map, IfOk, IsErrOf, option_map};
+ghost use Rattle.std.specs.String.{string_bytes};
+ghost use Rattle.clap.specs.Walk.{all_of, first_of, rows_of, rule_of, texts};
+ghost use Rattle.clap.specs.Simple.{app_of, with_rule};
+ghost use Rattle.clap.specs.Matches.{found_of};
+ghost use Rattle.rl_words.specs.Command.{action_rule, args_rule, bare_app, option_rule};
+ghost use Rattle.rl_words.specs.Command.{relint_app, rows_given};
+
+use crate::WordsError;
+use clap::error::ErrorKind;
+use clap::{Arg, ArgAction, ArgMatches, Command};
+use std::alloc::{AllocError, Global};
+
+// The argument ACTION.
+fn action_argument<'a>(alloc: Global) -> Arg<'a>
+    ensures rule { rule_of result ≡ action_rule }
+    ensures local { result.global ≡ false }
+{
+    Arg::new(alloc, "action").required(true)
+}
+
+// The arguments after ACTION.
+fn args_argument<'a>(alloc: Global) -> Arg<'a>
+    ensures rule { rule_of result ≡ args_rule }
+    ensures local { result.global ≡ false }
+{
+    Arg::new(alloc, "args").num_args(0..)
+}
+
+// An option of one value.
+fn option_argument<'a>(alloc: Global, name: &'a str) -> Arg<'a>
+    ensures rule { rule_of result ≡ option_rule name.entry.now }
+    ensures local { result.global ≡ false }
+{
+    Arg::new(alloc, name).long(name).action(ArgAction::Set)
+}
+
+// The command before its arguments.
+fn bare_command<'a>(alloc: Global) -> Command<'a>
+    ensures { app_of result ≡ bare_app }
+{
+    Command::new(alloc, "relint")
+        .no_binary_name(true)
+        .disable_help_flag(true)
+}
+
+// The command with ACTION.
+fn with_action<'a>(alloc: Global, command: Command<'a>) -> Result<Command<'a>, AllocError>
+    ensures { IfOk result (λ c. app_of c ≡ with_rule (app_of command.entry) action_rule) }
+{
+    command.arg(action_argument(alloc))
+}
+
+// The command with ARGS.
+fn with_args<'a>(alloc: Global, command: Command<'a>) -> Result<Command<'a>, AllocError>
+    ensures { IfOk result (λ c. app_of c ≡ with_rule (app_of command.entry) args_rule) }
+{
+    command.arg(args_argument(alloc))
+}
+
+// The command with one more option.
+fn with_option<'a>(
+    alloc: Global,
+    command: Command<'a>,
+    name: &'a str,
+) -> Result<Command<'a>, AllocError>
+    ensures { IfOk result (λ c. app_of c
+        ≡ with_rule (app_of command.entry) (option_rule name.entry.now)) }
+{
+    command.arg(option_argument(alloc, name))
+}
+
+// The command with its arguments and its seven options.
+fn relint_command<'a>(alloc: Global) -> Result<Command<'a>, AllocError>
+    ensures { IfOk result (λ c. app_of c ≡ relint_app) }
+{
+    let action = with_action(alloc, bare_command(alloc))?;
+    let args = with_args(alloc, action)?;
+    let mode = with_option(alloc, args, "mode")?;
+    let format = with_option(alloc, mode, "format")?;
+    let max_degree = with_option(alloc, format, "max-degree")?;
+    let max_pairs = with_option(alloc, max_degree, "max-pairs")?;
+    let settings = with_option(alloc, max_pairs, "settings")?;
+    let report = with_option(alloc, settings, "report")?;
+    with_option(alloc, report, "baseline")
+}
+
+/// What the words give under the command.
+///
+/// # Errors
+/// [`WordsError::Invalid`] where the command doesn't take the words; [`WordsError::OutOfMemory`].
+pub(crate) fn matches_given<'a>(
+    alloc: Global,
+    words: &'a [String],
+) -> Result<ArgMatches<'a>, WordsError>
+    ensures ok { IfOk result (λ m. rows_given (map string_bytes words.entry.now)
+        ≡ Some (rows_of (found_of m))) }
+    ensures invalid { IsErrOf result WordsError.Invalid
+        → rows_given (map string_bytes words.entry.now) ≡ None }
+{
+    let command = relint_command(alloc)?;
+    match command.try_get_matches_from(words) {
+        Ok(matches) => Ok(matches),
+        Err(error) => Err(error_of(error.kind())),
+    }
+}
+
+// Every refusal by the command but that of memory says that the words aren't a valid call.
+fn error_of(kind: ErrorKind) -> WordsError
+    ensures memory { kind ≡ ErrorKind.OutOfMemory → result ≡ WordsError.OutOfMemory }
+{
+    match kind {
+        ErrorKind::OutOfMemory => WordsError::OutOfMemory,
+        _ => WordsError::Invalid,
+    }
+}
+
+/// The first value of an argument or an option.
+pub(crate) fn value_of<'a>(matches: &ArgMatches<'a>, name: &str) -> Option<&'a str>
+    ensures { option_map (λ s. s.now) result ≡ first_of name.now (rows_of (found_of matches.now)) }
+{
+    matches.get_str(name)
+}
+
+/// All values of an argument or an option, in order, where there are any.
+pub(crate) fn values_of<'m, 'a>(matches: &'m ArgMatches<'a>, name: &str) -> Option<&'m [&'a str]>
+    ensures { option_map (λ s. texts s.now) result
+        ≡ all_of name.now (rows_of (found_of matches.entry.now)) }
+{
+    matches.get_strs(name)
+}

@@ -1,0 +1,18 @@
+//! The words of the command line: which of them are a valid call, and what such a call asks for.
+#![tactic(auto)]
+
+mod actions;
+mod built;
+mod command;
+mod error;
+mod options;
+mod read;
+mod usage;
+mod values;
+mod words;
+
+pub use built::{ActionName, BUILT, Built};
+pub use error::WordsError;
+pub use read::read_words;
+pub use usage::usage_text;
+pub use words::{Action, FormatWord, ModeWord, Options, Paths, Words};

@@ -1,0 +1,121 @@
+use crate::{Action, FormatWord, ModeWord, WordsError, read_words, usage_text};
+use std::alloc::{AllocError, Global};
+use std::test::Fail;
+
+fn strings(alloc: Global, words: &[&str]) -> Result<Vec<String>, AllocError> {
+    let mut strings = Vec::new(alloc);
+    for word in words {
+        strings.push(String::from_str(alloc, word)?)?;
+    }
+    Ok(strings)
+}
+
+struct Taken {
+    words: &'static [&'static str],
+    mode: Option<ModeWord>,
+    format: Option<FormatWord>,
+    max_pairs: Option<u32>,
+}
+
+static TAKEN: [Taken; 6] = [
+    Taken {
+        words: &["cost", "a*", "aa"],
+        mode: None,
+        format: None,
+        max_pairs: None,
+    },
+    Taken {
+        words: &["--mode=match", "cost", "a*", "aa"],
+        mode: Some(ModeWord::Match),
+        format: None,
+        max_pairs: None,
+    },
+    Taken {
+        words: &["cost", "--mode", "search", "a*", "aa"],
+        mode: Some(ModeWord::Search),
+        format: None,
+        max_pairs: None,
+    },
+    Taken {
+        words: &["cost", "a*", "--format", "json", "aa"],
+        mode: None,
+        format: Some(FormatWord::Json),
+        max_pairs: None,
+    },
+    Taken {
+        words: &["cost", "a*", "aa", "--max-pairs=000600"],
+        mode: None,
+        format: None,
+        max_pairs: Some(600),
+    },
+    Taken {
+        words: &["cost", "--", "a*", "aa"],
+        mode: None,
+        format: None,
+        max_pairs: None,
+    },
+];
+
+static REFUSED: [&[&str]; 22] = [
+    &[],
+    &["cost"],
+    &["cost", "a*"],
+    &["cost", "a*", "aa", "b"],
+    &["costs", "a*", "aa"],
+    &["cost", "a*", "aa", "--mode=match", "--mode=match"],
+    &["cost", "a*", "aa", "--mod=match"],
+    &["cost", "a*", "aa", "--mode"],
+    &["cost", "a*", "aa", "--mode=Match"],
+    &["cost", "a*", "aa", "--format=xml"],
+    &["cost", "a*", "aa", "--max-degree=0000002"],
+    &["cost", "a*", "aa", "--max-degree=+2"],
+    &["cost", "a*", "aa", "--max-pairs=0"],
+    &["cost", "a*", "aa", "--max-pairs=1001"],
+    &["cost", "a*", "aa", "--report=3"],
+    &["cost", "a*", "aa", "--settings="],
+    &["cost", "a*", "aa", "--baseline="],
+    &["cost", "-a", "aa"],
+    &["--help"],
+    &["cost", "a*", "aa", "-h"],
+    &["help"],
+    &["--version"],
+];
+
+#[test]
+fn takes_cost(rt: HostRuntime) -> Result<(), Fail> {
+    for row in &TAKEN {
+        let words = strings(rt.alloc(), row.words)?;
+        let read = read_words(rt.alloc(), &words)?;
+        match read.action {
+            Action::Cost { pattern, text } => {
+                assert!(rt; pattern == "a*" && text == "aa");
+            }
+            _ => assert!(rt; false, "another action"),
+        }
+        assert_eq!(rt; read.options.mode, row.mode);
+        assert_eq!(rt; read.options.format, row.format);
+        assert_eq!(rt; read.options.max_pairs, row.max_pairs);
+        assert_eq!(rt; read.options.max_degree, None);
+        assert_eq!(rt; read.options.report, None);
+    }
+    Ok(())
+}
+
+#[test]
+fn refuses(rt: HostRuntime) -> Result<(), Fail> {
+    for words in &REFUSED {
+        let words = strings(rt.alloc(), words)?;
+        let refused = match read_words(rt.alloc(), &words) {
+            Ok(_) => false,
+            Err(error) => error == WordsError::Invalid,
+        };
+        assert!(rt; refused);
+    }
+    Ok(())
+}
+
+#[test]
+fn tells_usage(rt: HostRuntime) {
+    let usage = usage_text();
+    assert!(rt; usage.starts_with("usage: relint ") && usage.ends_with('\n'));
+}

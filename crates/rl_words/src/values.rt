@@ -1,0 +1,70 @@
+//! The values of options and the numbers of `sample`, by the texts that stand for them.
+ghost use Rattle.std.specs.Prelude.{◌≡◌, option_map};
+ghost use Rattle.std.specs.Char.{is_ascii_digit};
+ghost use Rattle.std.specs.List.{list_all};
+ghost use Rattle.rl_words.specs.Values.{format_of, is_numeral, mode_of, number_of, path_of};
+
+use crate::{FormatWord, ModeWord};
+
+// Whether each byte is an ASCII digit.
+fn has_digits_only(text: &str) -> bool
+    ensures { result ≡ list_all is_ascii_digit text.now }
+{
+    text.bytes().all(|byte| byte.is_ascii_digit())
+}
+
+// One to `digits` ASCII digits.
+fn is_numeral(digits: usize, text: &str) -> bool
+    ensures { result ≡ is_numeral digits text.now }
+{
+    !text.is_empty() && text.len() <= digits && has_digits_only(text)
+}
+
+/// The number from `low` to `high` that one to `digits` ASCII digits write.
+pub(crate) fn number_of(digits: usize, low: u32, high: u32, text: &str) -> Option<u32>
+    ensures { result ≡ number_of digits low high text.now }
+{
+    if !is_numeral(digits, text) {
+        return None;
+    }
+    match text.parse::<u32>() {
+        Ok(number) if low <= number && number <= high => Some(number),
+        _ => None,
+    }
+}
+
+/// The mode of a word.
+pub(crate) fn mode_of(word: &str) -> Option<ModeWord>
+    ensures { result ≡ mode_of word.now }
+{
+    match word {
+        "fullmatch" => Some(ModeWord::Fullmatch),
+        "match" => Some(ModeWord::Match),
+        "search" => Some(ModeWord::Search),
+        _ => None,
+    }
+}
+
+/// The layout of a word; `has_sarif` says whether `sarif` is one.
+pub(crate) fn format_of(has_sarif: bool, word: &str) -> Option<FormatWord>
+    ensures { result ≡ format_of has_sarif word.now }
+{
+    match word {
+        "text" => Some(FormatWord::Text),
+        "brief" => Some(FormatWord::Brief),
+        "json" => Some(FormatWord::Json),
+        "sarif" if has_sarif => Some(FormatWord::Sarif),
+        _ => None,
+    }
+}
+
+/// The path that an option names, where the option is in.
+pub(crate) fn path_of<'a>(is_in: bool, path: &'a str) -> Option<&'a str>
+    ensures { option_map (λ p. p.now) result ≡ path_of is_in path.entry.now }
+{
+    if is_in && !path.is_empty() {
+        Some(path)
+    } else {
+        None
+    }
+}

@@ -1,0 +1,67 @@
+//! What a valid call asks for. Each text is borrowed from the words.
+use rl_lists::Items;
+
+/// The words of `--mode`.
+#[derive(Clone, Copy, Debug, PartialEq, Eq)]
+pub enum ModeWord {
+    Fullmatch,
+    Match,
+    Search,
+}
+
+/// The words of `--format`.
+#[derive(Clone, Copy, Debug, PartialEq, Eq)]
+pub enum FormatWord {
+    Text,
+    Brief,
+    Json,
+    Sarif,
+}
+
+/// The options that were given.
+#[derive(Clone, Copy, Debug)]
+pub struct Options<'a> {
+    /// What `--mode` says.
+    pub mode: Option<ModeWord>,
+    /// The layout.
+    pub format: Option<FormatWord>,
+    /// The greatest degree that isn't a finding, from 0 to 999999.
+    pub max_degree: Option<u32>,
+    /// The limit on pairs, from 1 to 1000.
+    pub max_pairs: Option<u32>,
+    /// The path of the settings file, not empty.
+    pub settings: Option<&'a str>,
+    /// The version of the report, 1 or 2.
+    pub report: Option<u32>,
+    /// The path of the baseline file, not empty.
+    pub baseline: Option<&'a str>,
+}
+
+/// Paths of a tree, none of them empty.
+pub type Paths<'a> = Items<&'a str>;
+
+/// The action with its arguments.
+#[derive(Drop)]
+pub enum Action<'a> {
+    /// Judges the sources at the paths, of which there is at least one.
+    Check { paths: Paths<'a> },
+    /// Judges one pattern.
+    Class { pattern: &'a str },
+    /// Counts the steps of a pattern on a text.
+    Cost { pattern: &'a str, text: &'a str },
+    /// Judges a source of made-up patterns; `seed` from 0 to 2147483647, `count` from 1 to 20000.
+    Sample { seed: u32, count: u32 },
+    /// Writes the certificate of a pattern's verdict.
+    Prove { pattern: &'a str },
+    /// Judges the certificate in `file`, a path that isn't empty.
+    Verify { pattern: &'a str, file: &'a str },
+    /// Compares the languages of two patterns.
+    Compare { first: &'a str, second: &'a str },
+}
+
+/// A valid call.
+#[derive(Drop)]
+pub struct Words<'a> {
+    pub action: Action<'a>,
+    pub options: Options<'a>,
+}
