@@ -1,20 +1,17 @@
 -- A literal by itself is a source of one token.
-use Rattle.std.proofs.Common.{◌≡◌, ℕ, zero, suc, ◌+◌, ◌-◌, ◌<◌, ◌≤◌, Bool, true, false, cond, not, ◌&&◌, List, [], ◌∷◌, length, drop, take, refl, ap, sym, ◌∙◌, arith, Some, None, Option, subst}
-use Rattle.std.specs.Prelude.{unwrap_or, nat_eq, ◌==◌, IsUtf8}
+use Rattle.std.proofs.Common.{◌≡◌, ℕ, suc, ◌+◌, ◌≤◌, Bool, true, false, cond, not, List, [], ◌∷◌, length, drop, take, refl, ap, sym, ◌∙◌, arith, Some, None, subst}
+use Rattle.std.specs.Prelude.{nat_eq, ◌==◌, IsUtf8}
 use Rattle.std.specs.List.{prefix_len}
 use Rattle.std.proofs.lemmas.Bool.Decides.{nat_tests}
-use Rattle.std.proofs.lemmas.List.{length-drop}
-use Rattle.rl_pylex.specs.declared.token_list.TokenKind.{TokenKind}
 use Rattle.rl_pylex.specs.declared.token_list.TokenKind.TheVariants as kind
-use Rattle.rl_pylex.specs.declared.token_list.Token.{Token}
 use Rattle.rl_pylex.specs.declared.rules.Fit.{Fit}
 use Rattle.rl_pylex.specs.declared.rules.Fit.TheVariants.{Passes, Takes}
 use Rattle.rl_pylex.specs.declared.rules.Reading.TheVariants.{Piece}
-use Rattle.rl_pylex.specs.Bytes.{begins, is_blank, is_backslash, ends_line, in_line, opens_bracket, closes_bracket, text_start}
+use Rattle.rl_pylex.specs.Bytes.{is_blank, is_backslash, ends_line, in_line, text_start}
 use Rattle.rl_pylex.specs.Literals.{opens_after, prefix_size, starts_literal, IsLiteral}
 use Rattle.rl_pylex.specs.Rules.{blank, joined_line, new_line, comment, fit_of_size, fit_after, literal, line_end_kind, reading, depth_after}
-use Rattle.rl_pylex.specs.Coding.{line_of, coding_of_line, is_bare, second_coding, coding_of, place_if_wrong, wrong_coding}
-use Rattle.rl_pylex.specs.Source.{Cut, ReachesEnd, IsReadable, IsTokenList}
+use Rattle.rl_pylex.specs.Coding.{line_of, coding_of_line, is_bare, second_coding, coding_of, wrong_coding}
+use Rattle.rl_pylex.specs.Source.{Cut, ReachesEnd, IsTokenList}
 use Rattle.rl_pylex.proofs.Firsts.{passed, taken, blank-not, joined_line-not, new_line-not, comment-not, literal-not}
 
 starts-literal : (x : ℕ) (xs : List ℕ) (m : ℕ) → literal (x ∷ xs) ≡ Takes m → starts_literal x ≡ true

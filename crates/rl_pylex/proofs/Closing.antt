@@ -1,11 +1,10 @@
 -- The search for the closing quotes of a literal, step by step.
-use Rattle.std.proofs.Common.{◌≡◌, ℕ, zero, suc, ◌+◌, ◌-◌, ◌<◌, ◌≤◌, Bool, true, false, cond, not, ◌&&◌, ◌||◌, eqb, List, [], ◌∷◌, length, drop, refl, ap, sym, ◌∙◌, arith, Some, None, Option, subst}
+use Rattle.std.proofs.Common.{◌≡◌, ℕ, zero, suc, ◌+◌, ◌-◌, ◌<◌, Bool, true, false, cond, ◌&&◌, List, [], ◌∷◌, length, drop, refl, ap, sym, ◌∙◌, arith, Some, None, Option, subst}
 use Rattle.std.specs.Prelude.{option_map, ◌==◌, nat_eq}
 use Rattle.std.specs.List.{prefix_len}
-use Rattle.std.proofs.lemmas.Bool.{false≢true}
 use Rattle.std.proofs.lemmas.Bool.Decides.{nat_tests}
 use Rattle.std.proofs.lemmas.List.{drop-drop}
-use Rattle.rl_pylex.specs.Bytes.{has_at, is_quote, is_backslash, ends_line}
+use Rattle.rl_pylex.specs.Bytes.{has_at, is_quote, ends_line}
 use Rattle.rl_pylex.specs.Literals.{close_from, unit_size, quotes_at, Skips, is_plain}
 
 option_map-map : (f g : ℕ → ℕ) (o : Option ℕ) → option_map f (option_map g o) ≡ option_map (λ x. f (g x)) o

@@ -1,14 +1,12 @@
 -- The cut of a source into pieces: one piece more at its end, and that there is one cut.
-use Rattle.std.proofs.Common.{◌≡◌, ℕ, zero, suc, ◌+◌, ◌-◌, ◌<◌, ◌≤◌, Bool, true, false, cond, List, [], ◌∷◌, ◌++◌, length, drop, refl, ap, sym, ◌∙◌, arith, Some, None, Option, subst}
+use Rattle.std.proofs.Common.{◌≡◌, ℕ, ◌+◌, ◌<◌, ◌≤◌, Bool, true, false, cond, List, [], ◌∷◌, ◌++◌, length, drop, refl, ap, sym, ◌∙◌, arith, Some, None, Option, subst}
 use Rattle.std.proofs.Common.{add-zero, add_assoc}
 use Rattle.std.specs.Prelude.{filter_map, option_to_list}
 use Rattle.std.specs.List.{prefix_len}
 use Rattle.std.proofs.lemmas.List.Elements.{filter_map-append}
-use Rattle.std.proofs.Math.Seq.{drop-length}
 use Rattle.std.proofs.lemmas.List.{length-drop, drop-drop, append-nil}
 use Rattle.rl_pylex.specs.declared.token_list.TokenKind.{TokenKind}
 use Rattle.rl_pylex.specs.declared.token_list.Token.{Token}
-use Rattle.rl_pylex.specs.declared.rules.Reading.{Reading}
 use Rattle.rl_pylex.specs.declared.rules.Reading.TheVariants as reads
 use Rattle.rl_pylex.specs.Bytes.{text_start, is_blank}
 use Rattle.rl_pylex.specs.Rules.{reading, depth_after}

@@ -1,18 +1,17 @@
 -- A rule fits only where the first byte is one of its own.
-use Rattle.std.proofs.Common.{◌≡◌, ℕ, zero, suc, ◌+◌, ◌-◌, ◌<◌, ◌≤◌, Bool, true, false, cond, not, ◌&&◌, ◌||◌, List, [], ◌∷◌, length, get_or, drop, take, refl, ap, sym, ◌∙◌, arith, Some, None, Option, subst}
+use Rattle.std.proofs.Common.{◌≡◌, ℕ, ◌+◌, ◌<◌, Bool, true, false, not, ◌&&◌, ◌||◌, List, [], ◌∷◌, length, get_or, refl, ap, sym, ◌∙◌, arith, Some, None, Option, subst}
 use Rattle.std.specs.Prelude.{unwrap_or, ◌==◌, nat_eq, codes}
 use Rattle.std.specs.List.{prefix_len, list_any}
-use Rattle.std.specs.Char.{is_ascii_digit, to_ascii_lowercase}
-use Rattle.std.specs.Str.{str_to_ascii_lowercase}
+use Rattle.std.specs.Char.{to_ascii_lowercase}
 use Rattle.std.proofs.lemmas.Bool.{false≢true, eqb-true}
 use Rattle.std.proofs.lemmas.Bool.Decides.{nat_tests}
 use Rattle.rl_pylex.specs.declared.token_list.TokenKind.{TokenKind}
 use Rattle.rl_pylex.specs.declared.token_list.TokenKind.TheVariants as kind
 use Rattle.rl_pylex.specs.declared.rules.Fit.{Fit}
-use Rattle.rl_pylex.specs.declared.rules.Fit.TheVariants.{Passes, Takes, Breaks}
+use Rattle.rl_pylex.specs.declared.rules.Fit.TheVariants.{Passes, Takes}
 use Rattle.rl_pylex.specs.declared.rules.Reading.{Reading}
-use Rattle.rl_pylex.specs.declared.rules.Reading.TheVariants.{Piece, Unterminated, Stray}
-use Rattle.rl_pylex.specs.Bytes.{has_at, begins, is_in, ends_line, is_blank, is_backslash, is_quote, in_line, starts_name, in_name, in_number, is_operator, is_plain_operator, opens_bracket, closes_bracket, line_end}
+use Rattle.rl_pylex.specs.declared.rules.Reading.TheVariants.{Piece}
+use Rattle.rl_pylex.specs.Bytes.{is_in, ends_line, is_blank, is_backslash, is_quote, starts_name, in_name, is_plain_operator, opens_bracket, closes_bracket, line_end}
 use Rattle.rl_pylex.specs.Literals.{is_prefix, opens_after, prefix_size, starts_literal}
 use Rattle.rl_pylex.specs.Rules.{takes_if, blank, joined_line, new_line, comment, fit_after, literal, name, number, operator, line_end_kind, reading_by, reading, depth_after}
 

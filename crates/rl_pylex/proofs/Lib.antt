@@ -9,3 +9,4 @@ pub mod TokenFacts
 pub mod Alone
 pub mod LiteralFacts
 mod Firsts
+mod Examples

@@ -1,11 +1,11 @@
 -- The text of a literal token is a literal by itself: it has its prefix, its quotes, its body and the closing quotes.
-use Rattle.std.proofs.Common.{◌≡◌, ℕ, zero, suc, ◌+◌, ◌-◌, ◌<◌, ◌≤◌, ◌⊎◌, min, Bool, true, false, cond, not, ◌&&◌, ◌||◌, List, [], ◌∷◌, length, get_or, drop, take, replicate, refl, ap, sym, ◌∙◌, arith, Some, None, Option, subst, inl, inr}
-use Rattle.std.specs.Prelude.{unwrap_or, option_map, nat_eq, ◌==◌, ◌≢◌, find, ⊤}
+use Rattle.std.proofs.Common.{◌≡◌, ℕ, zero, suc, ◌+◌, ◌-◌, ◌<◌, ◌≤◌, ◌⊎◌, Bool, true, false, cond, ◌&&◌, List, [], ◌∷◌, length, get_or, drop, take, replicate, refl, ap, sym, ◌∙◌, arith, Some, None, Option, subst, inl, inr}
+use Rattle.std.specs.Prelude.{unwrap_or, option_map, nat_eq, ◌==◌, ◌≢◌}
 use Rattle.std.specs.List.{starts_with}
 use Rattle.std.specs.Str.{str_to_ascii_lowercase}
 use Rattle.std.proofs.lemmas.Bool.{false≢true}
 use Rattle.std.proofs.lemmas.Bool.Decides.{nat_tests}
-use Rattle.std.proofs.lemmas.List.{length-drop, drop-drop}
+use Rattle.std.proofs.lemmas.List.{length-drop}
 use Rattle.std.proofs.Math.ListN.{length-replicate, length-take}
 use lib.Pointwise.{pointwise, pointwise_long}
 use Rattle.rl_pylex.specs.declared.token_list.TokenKind.{TokenKind}

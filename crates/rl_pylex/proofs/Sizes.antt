@@ -1,5 +1,5 @@
 -- A piece has a byte at least, and lies in the text.
-use Rattle.std.proofs.Common.{◌≡◌, ℕ, zero, suc, ◌+◌, ◌-◌, ◌<◌, ◌≤◌, Bool, true, false, cond, not, ◌&&◌, ◌||◌, List, [], ◌∷◌, length, get_or, drop, take, refl, ap, sym, ◌∙◌, arith, Some, None, Option, subst, replicate}
+use Rattle.std.proofs.Common.{◌≡◌, ℕ, zero, suc, ◌+◌, ◌-◌, ◌<◌, ◌≤◌, Bool, true, false, cond, not, ◌&&◌, ◌||◌, List, [], ◌∷◌, length, get_or, drop, take, refl, sym, arith, Some, None, Option, subst, replicate}
 use Rattle.std.specs.Prelude.{option_map, unwrap_or, ◌==◌, nat_eq, IfSome, ⊤}
 use Rattle.std.specs.List.{prefix_len}
 use Rattle.std.specs.Char.{is_ascii_digit}
@@ -7,13 +7,12 @@ use Rattle.std.proofs.lemmas.Bool.{false≢true}
 use Rattle.std.proofs.lemmas.Bool.Decides.{nat_tests}
 use Rattle.std.proofs.lemmas.List.{length-drop}
 use Rattle.std.proofs.Math.ListN.{length-replicate, length-take}
-use Rattle.std.proofs.lemmas.Grind.{common_steps}
 use lib.Pointwise.{pointwise_long}
 use Rattle.rl_pylex.specs.declared.token_list.TokenKind.{TokenKind}
 use Rattle.rl_pylex.specs.declared.rules.Fit.{Fit}
 use Rattle.rl_pylex.specs.declared.rules.Fit.TheVariants.{Passes, Takes, Breaks}
 use Rattle.rl_pylex.specs.declared.rules.Reading.{Reading}
-use Rattle.rl_pylex.specs.declared.rules.Reading.TheVariants.{Piece, Unterminated, Stray}
+use Rattle.rl_pylex.specs.declared.rules.Reading.TheVariants.{Stray}
 use Rattle.rl_pylex.specs.Bytes.{has_at, begins, ends_line, is_blank, is_backslash, in_line, starts_name, in_name, in_number, is_operator, line_end}
 use Rattle.rl_pylex.specs.Literals.{close_from, quotes_at, quote_count, size_after, prefix_size, unit_size}
 use Rattle.rl_pylex.specs.Rules.{takes_if, blank, joined_line, new_line, comment, fit_of_size, fit_after, literal, name, number, operator, line_end_kind, reading_by, reading, IsBoundedReading}
@@ -49,9 +48,6 @@ some-of n h = grind (arith, nat_tests)
 run_begins : (p q : ℕ → Bool) (xs : List ℕ) → has_at p 0 xs ≡ true → ((x : ℕ) → p x ≡ true → q x ≡ true) → 0 < prefix_len q xs
 run_begins p q [] h f = absurd (false≢true h)
 run_begins p q (x ∷ xs) h f = rw (f x h) (omega arith)
-
-has_byte : ℕ → ℕ → Bool
-has_byte c x = nat_eq c x
 
 blank-bounded : (text : List ℕ) → IsBounded (blank text) (length text)
 unfolding blank

@@ -1,14 +1,13 @@
 -- What a token list says of its tokens: their places, and the texts of literals.
-use Rattle.std.proofs.Common.{◌≡◌, ℕ, zero, suc, ◌+◌, ◌-◌, ◌<◌, ◌≤◌, Bool, true, false, cond, List, [], ◌∷◌, ◌++◌, length, get_or, drop, take, refl, ap, sym, ◌∙◌, arith, Some, None, Option, subst}
-use Rattle.std.specs.Prelude.{filter_map, ⊤, All, AllPairs}
+use Rattle.std.proofs.Common.{◌≡◌, ℕ, zero, suc, ◌+◌, ◌-◌, ◌<◌, ◌≤◌, List, [], ◌∷◌, length, drop, ap, sym, ◌∙◌, arith, Some, None, Option, subst}
+use Rattle.std.specs.Prelude.{filter_map, All, AllPairs}
 use Rattle.std.proofs.lemmas.List.Kept.{AllPairs-cons}
 use Rattle.rl_pylex.specs.declared.token_list.TokenKind.{TokenKind}
-use Rattle.rl_pylex.specs.declared.token_list.TokenKind.TheVariants as kind
 use Rattle.rl_pylex.specs.declared.token_list.Token.{Token}
 use Rattle.rl_pylex.specs.declared.rules.Reading.{Reading}
 use Rattle.rl_pylex.specs.declared.rules.Reading.TheVariants as reads
 use Rattle.rl_pylex.specs.Rules.{reading, depth_after, IsBoundedReading}
-use Rattle.rl_pylex.specs.Source.{Piece, token_of_kind, token_of, Cut, Reaches, ReachesEnd, IsTokenList, IsReadAt, IsInOrder}
+use Rattle.rl_pylex.specs.Source.{Piece, token_of, Cut, IsTokenList, IsReadAt, IsInOrder}
 use Rattle.rl_pylex.proofs.Sizes.{reading-bounded}
 
 All-nil : {X : Type 0} (P : X → Type 0) → All P []

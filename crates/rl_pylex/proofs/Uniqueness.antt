@@ -1,13 +1,12 @@
 -- A source is cut in one way, up to its end or its first fault.
-use Rattle.std.proofs.Common.{◌≡◌, ℕ, zero, suc, ◌+◌, ◌-◌, ◌<◌, ◌≤◌, List, [], ◌∷◌, ◌++◌, length, drop, take, refl, ap, sym, ◌∙◌, arith, Some, None, Option, subst}
-use Rattle.std.specs.Prelude.{filter_map, ⊤, IsUtf8}
+use Rattle.std.proofs.Common.{◌≡◌, ℕ, ◌+◌, List, [], ◌∷◌, length, drop, refl, ap, sym, ◌∙◌, arith, Some, None, Option, subst}
+use Rattle.std.specs.Prelude.{filter_map, IsUtf8}
 use Rattle.std.specs.Str.{IsValidUpTo}
 use Rattle.std.proofs.Math.Seq.{drop-length}
 use Rattle.std.proofs.lemmas.List.{take_all}
 use Rattle.std.proofs.lemmas.Str.{utf8_valid_len-IsValidUpTo}
 use Rattle.rl_pylex.specs.declared.token_list.TokenKind.{TokenKind}
 use Rattle.rl_pylex.specs.declared.token_list.Token.{Token}
-use Rattle.rl_pylex.specs.declared.fault.LexError.{LexError}
 use Rattle.rl_pylex.specs.declared.fault.LexError.TheVariants as error
 use Rattle.rl_pylex.specs.declared.rules.Reading.{Reading}
 use Rattle.rl_pylex.specs.declared.rules.Reading.TheVariants as reads
@@ -15,7 +14,7 @@ use Rattle.rl_pylex.specs.Bytes.{text_start, line_end}
 use Rattle.rl_pylex.specs.Coding.{wrong_coding}
 use Rattle.rl_pylex.specs.Literals.{opens_after, prefix_size}
 use Rattle.rl_pylex.specs.Rules.{blank, joined_line, new_line, comment, literal, name, number, operator, reading, depth_after}
-use Rattle.rl_pylex.specs.Source.{Piece, token_of, Cut, Reaches, ReachesEnd, Meets, IsStop, IsReadable, IsTokenList, StopsAt, IsFault}
+use Rattle.rl_pylex.specs.Source.{Piece, token_of, Cut, Reaches, Meets, IsStop, IsTokenList}
 use Rattle.rl_pylex.specs.Laws.{HasOneTokenList, HasNoFaultBeside, HasOneFault}
 
 -- nothing is read at the end of a source

@@ -1,6 +1,6 @@
 -- Words on the bytes at the front of a text, line ends, and the classes of bytes that the rules of tokens name.
 -- A code of at least 0x80 has only bytes of at least 0x80 in UTF-8, and no other code has one. So a run of codes of such a class and the run of its bytes are the same text.
-use Rattle.std.specs.Prelude.{ℕ, ◌+◌, Bool, true, false, not, ◌&&◌, ◌||◌, ◌==◌, nat_eq, nat_lt, List, [], ◌∷◌, slice_get, codes, if◌then◌else◌}
+use Rattle.std.specs.Prelude.{ℕ, Bool, false, not, ◌||◌, ◌==◌, nat_eq, nat_lt, List, [], ◌∷◌, slice_get, codes, if◌then◌else◌}
 use Rattle.std.specs.List.{list_any, starts_with}
 use Rattle.std.specs.Option.{option_map_or}
 use Rattle.std.specs.Char.{is_ascii_digit, is_ascii_alphabetic, is_ascii_alphanumeric}

@@ -1,11 +1,11 @@
 -- The coding line of a source (PEP 263, with stricter rules on what counts as one).
-use Rattle.std.specs.Prelude.{ℕ, ◌+◌, Bool, true, false, not, ◌&&◌, ◌||◌, ◌==◌, nat_eq, List, [], ◌∷◌, length, take, drop, take_while, codes, Option, Some, None, option_map, option_and_then, is_some, if◌then◌else◌, bytes_eq}
+use Rattle.std.specs.Prelude.{ℕ, ◌+◌, Bool, ◌||◌, ◌==◌, List, [], ◌∷◌, length, take, drop, take_while, codes, Option, Some, None, if◌then◌else◌, bytes_eq}
 use Rattle.std.specs.List.{list_any, prefix_len}
 use Rattle.std.specs.Option.{option_or}
 use Rattle.std.specs.Str.{str_to_ascii_lowercase}
 use Rattle.std.specs.Char.{is_ascii_alphanumeric}
 use Rattle.rl_pylex.specs.declared.coding.Named.{Named}
-use Rattle.rl_pylex.specs.Bytes.{has_at, begins, is_in, is_blank, in_line, line_end}
+use Rattle.rl_pylex.specs.Bytes.{begins, is_in, is_blank, in_line, line_end}
 
 -- a space or a tab
 abbrev pub is_gap : ℕ → Bool

@@ -1,5 +1,5 @@
 -- The tokens of a source: it is cut into pieces in order, each piece is what the first rule that fits takes at its place, and the tokens are the pieces that have a kind.
-use Rattle.std.specs.Prelude.{◌≡◌, ℕ, zero, ◌+◌, ◌-◌, ◌<◌, ◌≤◌, Bool, List, [], ◌∷◌, ◌++◌, length, take, drop, filter_map, Option, Some, None, IsUtf8, ⊤, All, AllPairs}
+use Rattle.std.specs.Prelude.{◌≡◌, ℕ, ◌+◌, ◌-◌, ◌<◌, ◌≤◌, List, [], ◌∷◌, length, take, drop, filter_map, Option, Some, None, IsUtf8, ⊤, All, AllPairs}
 use Rattle.std.specs.Str.{IsValidUpTo}
 use Rattle.rl_pylex.specs.declared.token_list.TokenKind.{TokenKind}
 use Rattle.rl_pylex.specs.declared.token_list.Token.{Token}

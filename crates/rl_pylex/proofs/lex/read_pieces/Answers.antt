@@ -1,5 +1,5 @@
 -- One piece more is read at the place, and then blanks.
-use Rattle.std.proofs.Common.{◌≡◌, ℕ, ◌≤◌, ◌+◌, arith, length, drop, sym, subst}
+use Rattle.std.proofs.Common.{ℕ, ◌+◌, arith, sym, subst}
 use Rattle.rl_pylex.specs.Source.{Reaches}
 use Rattle.rl_pylex.proofs.Cuts.{Reaches-step, Reaches-blanks}
 use Rattle.rl_pylex.proofs.lex.read_pieces.Goals as goal
