@@ -1,0 +1,72 @@
+//! Laws of ordered automata, for all trees and texts. The functions do nothing: what they ensure is what is proved.
+
+ghost use Rattle.std.specs.Prelude.{◌≡◌, ◌↔◌, ◌⊎◌, ℕ, ◌+◌, ◌*◌, ◌^◌, ◌<◌, ◌≤◌, Bool, true, List, [], length, All, IsTrue};
+ghost use Rattle.rl_ranges.specs.Letters.{alike};
+ghost use Rattle.rl_syntax.specs.declared.re.Ending.{Ending};
+ghost use Rattle.rl_syntax.specs.declared.re.Ending.TheVariants.{AtEnd, Anywhere};
+ghost use Rattle.rl_syntax.specs.Tree.{Tree, size, guards_in};
+ghost use Rattle.rl_syntax.specs.Language.{Spans};
+ghost use Rattle.rl_syntax.specs.Cost.{all_tests, cost, matched};
+ghost use Rattle.rl_prio.specs.Items.{first, after, longest};
+ghost use Rattle.rl_prio.specs.Letters.{all_sets, kinds};
+ghost use Rattle.rl_prio.specs.States.{state_count};
+ghost use Rattle.rl_prio.specs.Automaton.{Automaton, letters_count, accepting_state, dead_state, moves_at};
+ghost use Rattle.rl_prio.specs.Walk.{walk, word_at, walk_cost, walk_matched};
+ghost use Rattle.rl_prio.specs.StandsFor.{StandsOver, StandsFor};
+
+/// The walk of an automaton that stands for a tree is the run of the tree, on every text of the automaton's codes: the two
+/// have the same steps, hits and misses alike. So they have one cost, and match alike. The letters may be those of more sets
+/// than the tree's own, as long as codes that these sets don't tell apart aren't told apart by the tree's sets.
+pub fn walk_is_run()
+    ensures costs { (a : Automaton) (t : Tree) (ending : Ending) (w : List ℕ) → StandsFor a t ending → All (λ c. c < a.table.codes) w
+        → walk_cost a (word_at a w) ≡ cost t ending w }
+    ensures matches { (a : Automaton) (t : Tree) (ending : Ending) (w : List ℕ) → StandsFor a t ending → All (λ c. c < a.table.codes) w
+        → walk_matched a (word_at a w) ≡ matched t ending w }
+    ensures steps_over { (a : Automaton) (t : Tree) (ending : Ending) (sets : List (ℕ → Bool)) → StandsOver a t ending sets
+        → ((c d : ℕ) → alike sets c d ≡ true → alike (all_sets t) c d ≡ true)
+        → (w : List ℕ) → All (λ c. c < a.table.codes) w → walk a 0 (word_at a w) ≡ all_tests t ending w }
+    ensures costs_over { (a : Automaton) (t : Tree) (ending : Ending) (sets : List (ℕ → Bool)) → StandsOver a t ending sets
+        → ((c d : ℕ) → alike sets c d ≡ true → alike (all_sets t) c d ≡ true)
+        → (w : List ℕ) → All (λ c. c < a.table.codes) w → walk_cost a (word_at a w) ≡ cost t ending w }
+    ensures matches_over { (a : Automaton) (t : Tree) (ending : Ending) (sets : List (ℕ → Bool)) → StandsOver a t ending sets
+        → ((c d : ℕ) → alike sets c d ≡ true → alike (all_sets t) c d ≡ true)
+        → (w : List ℕ) → All (λ c. c < a.table.codes) w → walk_matched a (word_at a w) ≡ matched t ending w }
+{}
+
+/// The match law. A text is matched to its end exactly where the tree spans the whole of it, and anywhere exactly where the
+/// tree spans a beginning of it.
+pub fn matches_are_spans()
+    ensures to_end { (t : Tree) (w : List ℕ) → IsTrue (matched t AtEnd w) ↔ Spans t w 0 (length w) }
+    ensures to_some { (t : Tree) (w : List ℕ) → IsTrue (matched t Anywhere w) ↔ ((j : ℕ) × Spans t w 0 j) }
+{}
+
+/// After the end letter nothing is left to be read: a move on it leads to the accepting state or to the dead one, and neither
+/// of these has a move.
+pub fn end_letter_ends()
+    ensures ends { (a : Automaton) (t : Tree) (ending : Ending) (sets : List (ℕ → Bool)) → StandsOver a t ending sets
+        → (q : ℕ) → All (λ target. (target ≡ accepting_state a) ⊎ (target ≡ dead_state a)) (moves_at a q (letters_count a)) }
+    ensures accepted { (a : Automaton) (t : Tree) (ending : Ending) (sets : List (ℕ → Bool)) → StandsOver a t ending sets
+        → (letter : ℕ) → moves_at a (accepting_state a) letter ≡ [] }
+    ensures died { (a : Automaton) (t : Tree) (ending : Ending) (sets : List (ℕ → Bool)) → StandsOver a t ending sets
+        → (letter : ℕ) → moves_at a (dead_state a) letter ≡ [] }
+{}
+
+/// Lists of items are bounded by the size `s` of the tree: those on entering a tree have at most `2^s` items, those after a
+/// place of it at most `2^(s s)`. So have the lists of moves of an automaton that stands for the tree.
+pub fn item_lists_are_short()
+    ensures entered { (t : Tree) (b : ℕ) → length (first t b) ≤ 2 ^ size t }
+    ensures later { (t : Tree) (b p : ℕ) → length (after t b p) ≤ 2 ^ (size t * size t) }
+    ensures longest { (t : Tree) → longest t ≤ 2 ^ (size t * size t) }
+    ensures moves { (a : Automaton) (t : Tree) (ending : Ending) (sets : List (ℕ → Bool)) → StandsOver a t ending sets
+        → (q letter : ℕ) → length (moves_at a q letter) ≤ 2 ^ (size t * size t) }
+{}
+
+/// There are at most four kinds of letters, since guards name three sets at most, of which one lies in another; and one kind
+/// where the tree has no guard. So a tree of size `s` has at most `4 s + 3` states.
+pub fn states_are_few()
+    ensures kinds { (t : Tree) (n : ℕ) → length (kinds t n) ≤ 4 }
+    ensures one_kind { (t : Tree) (n : ℕ) → guards_in t ≡ [] → 0 < n → length (kinds t n) ≡ 1 }
+    ensures counted { (t : Tree) (n : ℕ) → state_count t n ≤ 4 * size t + 3 }
+    ensures states { (a : Automaton) (t : Tree) (ending : Ending) (sets : List (ℕ → Bool)) → StandsOver a t ending sets
+        → a.states ≤ 4 * size t + 3 }
+{}
