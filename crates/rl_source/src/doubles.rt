@@ -1,5 +1,5 @@
 //! Whether a list of nodes is a map: whether a path, or the name of a child of one folder, stands there twice.
-ghost use Rattle.std.specs.Prelude.{◌≡◌, List, IfOk};
+ghost use Rattle.std.specs.Prelude.{◌≡◌, IfOk};
 ghost use Rattle.rl_source.specs.Distinct.{has_double, names_twice, is_double};
 
 use crate::nodes::{Child, Held, Node};

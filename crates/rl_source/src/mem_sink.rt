@@ -1,5 +1,5 @@
 //! A sink over memory, whose writes can be made short and can be made to fail.
-ghost use Rattle.std.specs.Prelude.{◌≡◌, ◌<◌, ◌≤◌, [], Bool, true, false, length, Some, Ok, IfOk, IsErr, vec_len, vec_capacity};
+ghost use Rattle.std.specs.Prelude.{◌≡◌, ◌<◌, ◌≤◌, [], true, false, length, Some, Ok, IfOk, IsErr, vec_len, vec_capacity};
 ghost use Rattle.std.specs.Io.KnownBytes.{WriteAppends};
 ghost use Rattle.rl_source.specs.Faults.{HasCause};
 ghost use Rattle.rl_source.specs.MemSinkState.{MemSinkState, write_fails, taken_of, after_fault, after_taking};

@@ -1,8 +1,7 @@
 //! A tree over memory, whose calls can be made to fail.
-ghost use Rattle.std.specs.Prelude.{◌≡◌, ◌&&◌, [], Bool, true, false, length, List, ℕ, take, Some, option_copied, is_none, is_some, IfOk, IfSome, IsSomeAnd, IsErr, IsErrOf, OnOk, OnErr, ◌∷◌, ◌++◌};
-ghost use Rattle.std.specs.Str.{bytes_eq};
-ghost use Rattle.rl_source.specs.Told.{Told, after};
-ghost use Rattle.rl_source.specs.Distinct.{Lists, has_double, names_twice, is_double};
+ghost use Rattle.std.specs.Prelude.{◌≡◌, [], true, false, take, Some, is_some, IfOk, IsSomeAnd, IsErr, IsErrOf, OnOk, OnErr, ◌∷◌, ◌++◌};
+ghost use Rattle.rl_source.specs.Told.{after};
+ghost use Rattle.rl_source.specs.Distinct.{Lists, is_double};
 
 use crate::doubles::is_double;
 use crate::node_map::{bytes_at, children_at, copy_of, kind_at};

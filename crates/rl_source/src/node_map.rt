@@ -1,23 +1,10 @@
 //! Look-ups in a list of nodes.
-ghost use Rattle.std.specs.Prelude.{◌≡◌, Bool, List, option_copied, option_map, IfOk};
-ghost use Rattle.rl_source.specs.NodeMap.{held_at, kind_of, kind_at, children_at, bytes_at};
+ghost use Rattle.std.specs.Prelude.{◌≡◌, option_copied, option_map, IfOk};
+ghost use Rattle.rl_source.specs.NodeMap.{held_at, kind_at, children_at, bytes_at};
 
 use crate::nodes::{Child, Held, Kind, Node};
 use rl_lists::OutOfMemory;
 use std::alloc::Global;
-
-impl Held {
-    /// The kind of what stands there.
-    pub fn kind(&self) -> Kind
-        ensures { result ≡ kind_of self.now }
-    {
-        match self {
-            Held::File(_) => Kind::File,
-            Held::Folder(_) => Kind::Folder,
-            Held::Other => Kind::Other,
-        }
-    }
-}
 
 /// What stands at a path.
 fn held_at<'a>(nodes: &'a [Node], path: &str) -> Option<&'a Held>

@@ -104,6 +104,21 @@ pub enum Held {
     Other,
 }
 
+impl Held {
+    ghost use Rattle.rl_source.specs.NodeMap.{kind_of};
+
+    /// The kind of what stands there.
+    pub fn kind(&self) -> Kind
+        ensures { result ≡ kind_of self.now }
+    {
+        match self {
+            Held::File(_) => Kind::File,
+            Held::Folder(_) => Kind::Folder,
+            Held::Other => Kind::Other,
+        }
+    }
+}
+
 /// A path with what stands there.
 #[derive(Drop)]
 pub struct Node {

@@ -1,5 +1,5 @@
 //! What a tree of files answers.
-ghost use Rattle.std.specs.Prelude.{◌≡◌, ℕ, List, take, Option, IfOk, IfSome, IsSomeAnd, Some};
+ghost use Rattle.std.specs.Prelude.{◌≡◌, ℕ, take, Option, IfOk, IfSome, IsSomeAnd, Some};
 ghost use Rattle.rl_source.specs.Told.{Told, after};
 
 use crate::nodes::{CallName, Child, Kind};
