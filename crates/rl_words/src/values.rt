@@ -29,7 +29,8 @@ pub(crate) fn number_of(digits: usize, low: u32, high: u32, text: &str) -> Optio
     }
     match text.parse::<u32>() {
         Ok(number) if low <= number && number <= high => Some(number),
-        _ => None,
+        Ok(_) => None,
+        Err(_) => None,
     }
 }
 

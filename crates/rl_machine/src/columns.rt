@@ -1,0 +1,135 @@
+//! Columns, from the text's end to its start.
+
+ghost use Rattle.std.specs.Prelude.{◌≡◌, ℕ, ◌<◌, ◌≤◌, ◌-◌, [], ◌∷◌, List, Bool, ◌++◌, length, All, IfOk, slice_index_or, true, false, ◌==◌, if◌then◌else◌};
+ghost use Rattle.rl_prio.specs.Automaton.{Automaton, IsAutomaton, letters_count, accepting_state};
+ghost use Rattle.rl_prio.specs.Walk.{stepped, walk, walk_cost, walk_matched};
+ghost use Rattle.rl_machine.specs.declared.steps.Counted.{Counted};
+ghost use Rattle.rl_machine.specs.Counts.{Shows, Counts};
+ghost use Rattle.rl_machine.specs.Columns.{StandAt, StandFor, ShowsWalk};
+
+use crate::steps::{Counted, Steps};
+use rl_prio::Prio;
+use rl_ranges::OutOfMemory;
+use std::alloc::Global;
+use std::marker::Model;
+
+/// The column of a list of letters: for each state of an automaton the steps from it on these letters and the end letter, and
+/// whether there is a hit. Contracts see it as the list of what it has for each state.
+#[derive(Drop)]
+pub struct Columns {
+    cells: Vec<Counted>,
+    spare: Vec<Counted>,
+}
+
+impl Model for Columns {
+    ghost use Rattle.std.specs.Prelude.{◌≡◌, ◌<◌, List, length};
+    ghost use Rattle.rl_machine.specs.declared.steps.Counted.{Counted};
+
+    ghost Value = { List Counted };
+
+    ghost view = { λ c. c.cells.items };
+
+    ghost invariant = { λ c. (0 < length c.cells.items) × (length c.spare.items ≡ length c.cells.items) };
+}
+
+/// The step of one move: a hit where it leads to the accepting state, and else what is counted from its state.
+fn one_step(cells: &[Counted], accepting: u32, target: u32) -> Counted
+    requires { target < length cells.now }
+    ensures { (next : ℕ → List Bool)
+        → ((q : ℕ) (other : Counted) → q < length cells.now → Shows (slice_index_or cells.now q other) (next q))
+        → Shows result (if target == accepting then true ∷ [] else false ∷ next target) }
+{
+    if target == accepting {
+        Counted {
+            steps: Steps::Exact(1),
+            matched: true,
+        }
+    } else {
+        cells[target as usize].after_miss()
+    }
+}
+
+/// The steps of moves in order, up to and with the first hit.
+fn all_steps(cells: &[Counted], accepting: u32, targets: &[u32]) -> Counted
+    requires { All (λ target. target < length cells.now) targets.now }
+    ensures { (next : ℕ → List Bool)
+        → ((q : ℕ) (other : Counted) → q < length cells.now → Shows (slice_index_or cells.now q other) (next q))
+        → Shows result (stepped accepting next targets.now) }
+{
+    match targets {
+        [] => Counted::nothing(),
+        [target, further @ ..] => {
+            one_step(cells, accepting, *target).before(all_steps(cells, accepting, further))
+        }
+    }
+}
+
+/// Writes what is counted from each state on a letter and, behind it, the letters that `cells` is the column of.
+fn put_letter(a: &Prio, letter: u32, cells: &[Counted], into: &mut Vec<Counted>)
+    requires made_for { length cells.now ≡ a.now.states }
+    requires same_size { length into.old.items ≡ length cells.now }
+    requires letter_in { letter ≤ letters_count a.now }
+    ensures size { length into.new.items ≡ a.now.states }
+    ensures in_front { (letters : List ℕ) → StandAt a.now cells.now letters
+        → StandAt a.now into.new.items (letter ∷ letters) }
+{
+    let accepting = a.states() - 2;
+    for state in 0..a.states() {
+        into[state as usize] = all_steps(cells, accepting, a.moves(state, letter));
+    }
+}
+
+/// What stands at no letter at all, for so many states.
+fn nothing_counted(alloc: Global, states: u32) -> Result<Vec<Counted>, OutOfMemory>
+    ensures size { IfOk result (λ cells. length cells.items ≡ states) }
+    ensures stand { IfOk result (λ cells. (a : Automaton) → a.states ≡ states → StandAt a cells.items []) }
+{
+    let cells = vec![in alloc; Counted::nothing(); states as usize]?;
+    Ok(cells)
+}
+
+impl Columns {
+    /// The column of the empty list of letters.
+    ///
+    /// # Errors
+    /// [`OutOfMemory`] where there was no memory for two columns.
+    pub fn at_end(alloc: Global, a: &Prio) -> Result<Columns, OutOfMemory>
+        ensures { IfOk result (λ c. StandFor a.now c []) }
+    {
+        let mut columns = Columns {
+            cells: nothing_counted(alloc, a.states())?,
+            spare: nothing_counted(alloc, a.states())?,
+        };
+        columns.put(a, a.letters().count());
+        Ok(columns)
+    }
+
+    /// Puts a letter in front of the letters that this is the column of. It takes no memory.
+    pub fn advance(&mut self, a: &Prio, letter: u32)
+        requires made_for { length self.old ≡ a.now.states }
+        requires letter_in { letter < letters_count a.now }
+        ensures made_for { length self.new ≡ a.now.states }
+        ensures in_front { (letters : List ℕ) → StandFor a.now self.old letters → StandFor a.now self.new (letter ∷ letters) }
+    {
+        self.put(a, letter);
+    }
+
+    /// Puts a letter, or the end letter, in front.
+    fn put(&mut self, a: &Prio, letter: u32)
+        requires made_for { length self.old ≡ a.now.states }
+        requires letter_in { letter ≤ letters_count a.now }
+        ensures made_for { length self.new ≡ a.now.states }
+        ensures in_front { (letters : List ℕ) → StandAt a.now self.old letters → StandAt a.now self.new (letter ∷ letters) }
+    {
+        put_letter(a, letter, &self.cells, &mut self.spare);
+        std::mem::swap(&mut self.cells, &mut self.spare);
+    }
+
+    /// The cost of the text of the letters that this is the column of, and whether it is matched.
+    pub fn answer(&self) -> Counted
+        ensures { (a : Automaton) (letters : List ℕ) → StandFor a self.now letters → ShowsWalk result a letters }
+    {
+        let first = self.cells[0];
+        first.after_miss()
+    }
+}

@@ -1,0 +1,45 @@
+//! The cost of a text.
+
+ghost use Rattle.std.specs.Prelude.{ℕ, ◌<◌, List, All, IfOk};
+ghost use Rattle.rl_syntax.specs.declared.re.Ending.{Ending};
+ghost use Rattle.rl_syntax.specs.Tree.{Tree};
+ghost use Rattle.rl_prio.specs.StandsFor.{StandsFor};
+ghost use Rattle.rl_machine.specs.Counts.{ShowsCost};
+ghost use Rattle.rl_machine.specs.Columns.{ShowsText};
+
+use crate::columns::Columns;
+use crate::steps::Counted;
+use rl_prio::Prio;
+use rl_ranges::{Codes, OutOfMemory};
+use std::alloc::Global;
+
+/// How many steps the automaton's walk takes on a text up to and with the first hit, or in all where there is none, and
+/// whether there is a hit: one, and each test that a backtracking matcher makes. For a tree that the automaton stands for this
+/// is the cost of the text. It keeps two columns and goes over the text once, from its end.
+///
+/// # Errors
+/// [`OutOfMemory`] where there was no memory for two columns.
+pub fn cost(alloc: Global, a: &Prio, text: &Codes) -> Result<Counted, OutOfMemory>
+    requires { All (λ code. code < a.now.table.codes) text.now }
+    ensures walked { IfOk result (λ c. ShowsText c a.now text.now) }
+    ensures of_tree { IfOk result (λ c. (t : Tree) (ending : Ending) → StandsFor a.now t ending → ShowsCost c t ending text.now) }
+{
+    let counted = counted_on(alloc, a, text)?;
+    Ok(counted)
+}
+
+/// The steps of the walk on the text, and whether it has a hit.
+fn counted_on(alloc: Global, a: &Prio, text: &Codes) -> Result<Counted, OutOfMemory>
+    requires { All (λ code. code < a.now.table.codes) text.now }
+    ensures { IfOk result (λ c. ShowsText c a.now text.now) }
+{
+    let mut columns = Columns::at_end(alloc, a)?;
+    let codes = text.as_slice();
+    let mut left = codes.len();
+    while left > 0 {
+        left -= 1;
+        let letter = a.letters().letter_of(codes[left]);
+        columns.advance(a, letter);
+    }
+    Ok(columns.answer())
+}
