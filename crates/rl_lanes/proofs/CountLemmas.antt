@@ -1,5 +1,5 @@
 -- Lemmas on how many bits of words are set, and on the words that a row's values make.
-use Rattle.std.proofs.Common.{◌≡◌, ◌≢◌, ℕ, zero, suc, ◌+◌, ◌-◌, ◌*◌, ◌/◌, ◌%◌, ◌^◌, ◌<◌, ◌≤◌, ◌⊎◌, Bool, true, false, cond, eqb, List, [], ◌∷◌, length, get_or, take, drop, map, refl, sym, ap, ◌∙◌, inl, inr, arith, count_ones, count_by, w64, Fits}
+use Rattle.std.proofs.Common.{◌≡◌, ◌≢◌, ℕ, zero, suc, ◌+◌, ◌-◌, ◌*◌, ◌/◌, ◌%◌, ◌^◌, ◌<◌, ◌≤◌, Bool, true, false, cond, eqb, List, length, get_or, take, drop, map, refl, sym, ap, ◌∙◌, inl, inr, arith, count_ones, count_by}
 use Rattle.std.specs.Int.{bit_at, div_ceil}
 use Rattle.std.specs.List.{range_with_len}
 use Rattle.std.specs.Simd.Lanes.{sum_l, mask_l}
@@ -13,12 +13,12 @@ use Rattle.std.proofs.lemmas.List.{ext_get_or, get_or_past, length-take}
 use Rattle.std.proofs.Math.Seq.{take-length}
 use Rattle.std.proofs.Math.Pow.{pow_mono}
 use Rattle.std.proofs.lemmas.List.Sums.{sum_by-cons}
-use Rattle.std.proofs.lemmas.List.FromFn.{length-map-range_with_len, get_or-map-range_with_len, length-range_with_len}
+use Rattle.std.proofs.lemmas.List.FromFn.{length-map-range_with_len, get_or-map-range_with_len}
 use Rattle.std.proofs.lemmas.Nat.Bits.{bit_at-lt, bit_at-zero, same_from_bits_below}
-use Rattle.std.proofs.lemmas.Simd.{bit_mask_l, mask_l-lt, ones-mask_l, length-chunk, get_or-chunk}
-use Rattle.rl_lanes.specs.Packed.{bit, truths, IsPacked, words_of}
+use Rattle.std.proofs.lemmas.Simd.{bit_mask_l, mask_l-lt, ones-mask_l, get_or-chunk}
+use Rattle.rl_lanes.specs.Packed.{bit, truths, words_of}
 use Rattle.rl_lanes.proofs.WordLemmas.{ones-take_one}
-use Rattle.rl_lanes.proofs.PackedLemmas.{AreWords, IsRow, IsRow-from_bits, IsRow-length, IsRow-get_or, bit-at, length-truths, get_or-truths}
+use Rattle.rl_lanes.proofs.PackedLemmas.{AreWords, IsRow, IsRow-from_bits, IsRow-length, IsRow-get_or, bit-at}
 
 -- how many of the n places from a on pass p
 ones_from : (ℕ → Bool) → ℕ → ℕ → ℕ
@@ -166,16 +166,16 @@ bit-words_of row i =
     let f = λ (k : ℕ). mask_l (take 64 (drop (64 * k) row)) in
     let place : 64 * k + j ≡ i = omega arith in
     elim (cases_lt k n) [
-      inl lt ↦
-        ap (λ w. eqb (bit_at w j) 1) (get_or-map-range_with_len f 0 n k k 0 lt (omega arith))
-        ∙ ap (λ b. eqb b 1) (bit_mask_l (take 64 (drop (64 * k) row)) j)
-        ∙ test_of (get_or (take 64 (drop (64 * k) row)) j false)
-        ∙ get_or-chunk (64 * k) 64 row j false (omega arith)
-        ∙ ap (λ p. get_or row p false) place
-    | inr ge ↦
-        ap (λ w. eqb (bit_at w j) 1) (get_or_past (map f (range_with_len 0 n)) k 0 (omega (arith, length-map-range_with_len f 0 n)))
-        ∙ ap (λ b. eqb b 1) (bit_at-zero j)
-        ∙ sym (get_or_past row i false (omega arith))
+      | inl lt ↦
+          ap (λ w. eqb (bit_at w j) 1) (get_or-map-range_with_len f 0 n k k 0 lt (omega arith))
+          ∙ ap (λ b. eqb b 1) (bit_mask_l (take 64 (drop (64 * k) row)) j)
+          ∙ test_of (get_or (take 64 (drop (64 * k) row)) j false)
+          ∙ get_or-chunk (64 * k) 64 row j false (omega arith)
+          ∙ ap (λ p. get_or row p false) place
+      | inr ge ↦
+          ap (λ w. eqb (bit_at w j) 1) (get_or_past (map f (range_with_len 0 n)) k 0 (omega (arith, length-map-range_with_len f 0 n)))
+          ∙ ap (λ b. eqb b 1) (bit_at-zero j)
+          ∙ sym (get_or_past row i false (omega arith))
     ]
 
 pub AreWords-words_of : (row : List Bool) → AreWords (words_of row)
@@ -185,8 +185,8 @@ AreWords-words_of row k =
     let f = λ (k : ℕ). mask_l (take 64 (drop (64 * k) row)) in
     let part = take 64 (drop (64 * k) row) in
     elim (cases_lt k n) [
-      inl lt ↦ omega (arith, get_or-map-range_with_len f 0 n k k 0 lt (omega arith), mask_l-lt part, pow_mono {i = length part} {j = 64} (omega (arith, length-take 64 (drop (64 * k) row))))
-    | inr ge ↦ omega (arith, get_or_past (map f (range_with_len 0 n)) k 0 (omega (arith, length-map-range_with_len f 0 n)))
+      | inl lt ↦ omega (arith, get_or-map-range_with_len f 0 n k k 0 lt (omega arith), mask_l-lt part, pow_mono {i = length part} {j = 64} (omega (arith, length-take 64 (drop (64 * k) row))))
+      | inr ge ↦ omega (arith, get_or_past (map f (range_with_len 0 n)) k 0 (omega (arith, length-map-range_with_len f 0 n)))
     ]
 
 pub IsRow-words_of : (row : List Bool) → IsRow (length row) (words_of row) row

@@ -1,19 +1,18 @@
 -- Lemmas on the vector of words of a row, once its words are written.
-use Rattle.std.proofs.Common.{◌≡◌, ℕ, ◌+◌, ◌/◌, ◌%◌, ◌^◌, ◌<◌, ◌≤◌, Option, Some, None, IfSome, IfNone, Bool, true, false, not, ◌&&◌, ◌↔◌, ◌≢◌, cond, eqb, List, length, get_or, set, replicate, inl, inr, refl, sym, ap, ◌∙◌, subst, arith, bit_and, IsTrue, MatchBool}
+use Rattle.std.proofs.Common.{◌≡◌, ℕ, ◌+◌, ◌/◌, ◌%◌, ◌^◌, ◌<◌, ◌≤◌, Option, Some, None, IfSome, IfNone, Bool, true, false, not, ◌&&◌, ◌↔◌, ◌≢◌, cond, eqb, List, length, get_or, set, replicate, refl, sym, ap, ◌∙◌, subst, arith, bit_and, IsTrue, MatchBool}
 use Rattle.std.specs.Bool.{OnFalse}
 use Rattle.std.specs.Global.{Vec}
 use Rattle.std.specs.Vec.{with_items}
 use Rattle.std.specs.Simd.Lanes.{zip2}
-use Rattle.std.proofs.lemmas.List.{with_items_is, get_or_read, get_or_past}
+use Rattle.std.proofs.lemmas.List.{with_items_is, get_or_read}
 use Rattle.std.proofs.lemmas.Simd.{length-replicate}
 use Rattle.std.specs.Int.{bit_at, div_ceil}
-use Rattle.std.proofs.lemmas.Bool.{cases_lt, and_parts, both_ways, not-true, not-false, false≢true, eq-eqb, ne_eqb}
+use Rattle.std.proofs.lemmas.Bool.{and_parts, both_ways, not-true, not-false, false≢true, eq-eqb, ne_eqb}
 use Rattle.std.proofs.lemmas.Nat.{and_le_l}
 use Rattle.rl_lanes.specs.Rows.{Meets, AreApart, IsSubset, HasOther, NoneFrom, IsLeastFrom}
 use Rattle.rl_lanes.specs.Words.{JoinsEach, SomePair, NoPair, and_not}
 use Rattle.rl_lanes.specs.Packed.{bit, words_of, NoBitFrom, IsLeastBitFrom}
 use Rattle.rl_lanes.proofs.PackedLemmas.{AreWords, IsRow, IsRow-length, IsRow-words, IsRow-joined, IsRow-get_or, IsRow-set, IsRow-zeros, JoinsBits, JoinsBits-and, JoinsBits-and_not, place_from_pair, no_place_from_pairs}
-
 use Rattle.rl_lanes.proofs.RowLemmas.{place_within}
 use Rattle.rl_lanes.proofs.CountLemmas.{IsRow-words_of, AreWords-words_of}
 
@@ -34,12 +33,16 @@ meets_is x y a b some same a_is b_is pairs = cases some pairs
   where
     r : IsRow (length x) (words_of x) x
     r = IsRow-words_of x
+
     s : IsRow (length y) (words_of y) y
     s = IsRow-words_of y
+
     fits_a : AreWords a
     fits_a = subst AreWords (sym a_is) (AreWords-words_of x)
+
     fits_b : AreWords b
     fits_b = subst AreWords (sym b_is) (AreWords-words_of y)
+
     at_x : (i : ℕ) → get_or x i false ≡ bit a i
     at_x i = IsRow-get_or r i ∙ ap (λ l. bit l i) (sym a_is)
 
@@ -64,12 +67,16 @@ is_subset_is x y a b some same a_is b_is pairs = cases some pairs
   where
     r : IsRow (length x) (words_of x) x
     r = IsRow-words_of x
+
     s : IsRow (length y) (words_of y) y
     s = IsRow-words_of y
+
     fits_a : AreWords a
     fits_a = subst AreWords (sym a_is) (AreWords-words_of x)
+
     fits_b : AreWords b
     fits_b = subst AreWords (sym b_is) (AreWords-words_of y)
+
     at_x : (i : ℕ) → get_or x i false ≡ bit a i
     at_x i = IsRow-get_or r i ∙ ap (λ l. bit l i) (sym a_is)
 

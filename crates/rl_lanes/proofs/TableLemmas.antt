@@ -1,15 +1,13 @@
 -- Lemmas on the rows that the words of a table hold.
-use Rattle.std.proofs.Common.{◌≡◌, ◌≢◌, ℕ, suc, ◌+◌, ◌-◌, ◌*◌, ◌/◌, ◌%◌, ◌^◌, ◌<◌, ◌≤◌, ◌⊎◌, Bool, false, cond, List, [], length, get_or, set, take, drop, map, replicate, refl, sym, ap, ◌∙◌, subst, inl, inr, arith}
+use Rattle.std.proofs.Common.{◌≡◌, ◌≢◌, ℕ, suc, ◌+◌, ◌-◌, ◌*◌, ◌/◌, ◌%◌, ◌<◌, ◌≤◌, ◌⊎◌, Bool, false, cond, List, [], length, get_or, set, take, replicate, sym, ap, ◌∙◌, subst, inl, inr, arith}
 use Rattle.std.specs.Int.{bit_at, div_ceil}
-use Rattle.std.specs.List.{range_with_len}
 use Rattle.std.specs.Global.{Vec}
 use Rattle.std.proofs.lemmas.Bool.{cases_lt, cases_eq}
-use Rattle.std.proofs.lemmas.List.{ext_get_or, get_or_past, get_or_read, get_or-set_same, get_or-set_other, length-set, length-replicate, get_or-replicate, drop-replicate, take-replicate}
+use Rattle.std.proofs.lemmas.List.{ext_get_or, get_or_read, get_or-set_same, get_or-set_other, length-set, length-replicate, get_or-replicate, drop-replicate, take-replicate}
 use Rattle.std.proofs.lemmas.List.FromFn.{length-map-range_with_len, get_or-map-range_with_len}
 use Rattle.std.proofs.lemmas.Simd.{length-chunk, get_or-chunk}
-use Rattle.std.proofs.lemmas.Nat.{mul-add-lt}
-use Rattle.std.proofs.Math.Nat.{mul_comm, mul-le-mul_right}
-use Rattle.rl_lanes.specs.Packed.{truths, words_at, table_rows, IsPacked, IsPackedTable}
+use Rattle.std.proofs.Math.Nat.{mul-le-mul_right}
+use Rattle.rl_lanes.specs.Packed.{truths, words_at, table_rows, IsPackedTable}
 use Rattle.rl_lanes.proofs.PackedLemmas.{IsRow, IsRow-length, IsRow-set, IsRow-zeros}
 
 -- how many words a row of a table has

@@ -8,6 +8,13 @@ use Rattle.std.proofs.Math.Seq.{take-add}
 use Rattle.std.proofs.lemmas.List.{map_more, map-append}
 use Rattle.rl_lanes.specs.Words.{JoinsAt, SomeWord, NoWord, SomePairAt, NoPairAt}
 
+-- the words before `at` are joined by f with the other list's, and the others are as they were
+pub record JoinsBelow (f : ℕ → ℕ → ℕ) (at : ℕ) (old other new : List ℕ) : Type 0 where
+  pub long : length new ≡ length old
+  pub within : at ≤ length old
+  pub below : (k : ℕ) → k < at → get_or new k 0 ≡ f (get_or old k 0) (get_or other k 0)
+  pub above : (k : ℕ) → at ≤ k → get_or new k 0 ≡ get_or old k 0
+
 -- eight words are stored that f makes of the two lists' words
 pub JoinsAt-put_chunk : (f : ℕ → ℕ → ℕ) (at : ℕ) (old other lanes : List ℕ) → length lanes ≡ 8 → at + 8 ≤ length old → ((k : ℕ) → k < 8 → get_or lanes k 0 ≡ f (get_or old (at + k) 0) (get_or other (at + k) 0)) → JoinsAt f at old other (put_chunk at old lanes)
 JoinsAt-put_chunk f at old other lanes long room each = record {

@@ -1,5 +1,5 @@
 -- Facts of each or some of the words of two lists, and of eight words from a place on.
-use Rattle.std.specs.Prelude.{◌≡◌, ◌≢◌, ℕ, ◌+◌, ◌^◌, ◌<◌, ◌≤◌, List, length, slice_index, bit_and}
+use Rattle.std.specs.Prelude.{◌≡◌, ◌≢◌, ℕ, ◌+◌, ◌<◌, ◌≤◌, List, length, slice_index, bit_and}
 use Rattle.std.specs.Int.{bit_not, w64}
 
 -- the bits of x that y does not have
@@ -17,13 +17,6 @@ pub record JoinsAt (f : ℕ → ℕ → ℕ) (at : ℕ) (old other new : List �
 pub record JoinsEach (f : ℕ → ℕ → ℕ) (old other new : List ℕ) : Type 0 where
   pub long : length new ≡ length old
   pub each : (k : ℕ) → k < length old → slice_index new k ≡ f (slice_index old k) (slice_index other k)
-
--- the words before `at` are joined by f with the other list's, and the others are as they were
-pub record JoinsBelow (f : ℕ → ℕ → ℕ) (at : ℕ) (old other new : List ℕ) : Type 0 where
-  pub long : length new ≡ length old
-  pub within : at ≤ length old
-  pub below : (k : ℕ) → k < at → slice_index new k ≡ f (slice_index old k) (slice_index other k)
-  pub above : (k : ℕ) → at ≤ k → slice_index new k ≡ slice_index old k
 
 -- some word is not 0
 abbrev pub SomeWord : List ℕ → Type 0

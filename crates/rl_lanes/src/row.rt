@@ -67,7 +67,7 @@ impl BitRow {
         self.len
     }
 
-    /// Whether no place holds true.
+    /// Whether no place holds true, as in a row that has no place.
     pub fn is_empty(&self) -> bool
         ensures { IsTrue result ↔ NoneFrom self.now 0 }
     {
@@ -146,7 +146,7 @@ impl BitRow {
     pub fn count(&self) -> usize
         ensures { result ≡ count_by (λ holds. holds) self.now }
     {
-        // The count is at most the length, so it fits.
+        // The count is at most the length, which is read so that it is known to fit.
         let _len = self.len;
         count_words(self.words())
     }
@@ -170,6 +170,7 @@ impl BitRow {
     fn words(&self) -> &[u64]
         ensures { result.now ≡ words_of self.now }
     {
+        // Named, so that each is known to be a word of 64 bits.
         let words = self.words.as_slice();
         words
     }

@@ -116,6 +116,9 @@ fn rows_are_keys(rt: HostRuntime) -> Result<(), Fail> {
     assert_eq!(rt; (number, added), (0, false));
     assert_eq!(rt; numbers.insert(row.copy()?, 7u32)?, None);
     assert_eq!(rt; numbers.get(&row).copied(), Some(7));
-    assert_eq!(rt; numbers.get(&BitRow::zeros(rt.alloc(), 100)?).copied(), None);
+    assert_eq!(rt;
+        numbers.get(&BitRow::zeros(rt.alloc(), 100)?).copied(),
+        None
+    );
     Ok(())
 }

@@ -1,5 +1,5 @@
-use Rattle.std.proofs.Common.{◌*◌, ◌<◌, ◌≤◌, ◌/◌, arith, get_or, length, subst}
-use Rattle.rl_lanes.proofs.NextLemmas.{IsRest, first_word_found, first_word_empty, word_found, word_empty, no_word_left}
+use Rattle.std.proofs.Common.{arith}
+use Rattle.rl_lanes.proofs.NextLemmas.{first_word_found, first_word_empty, word_found, word_empty, no_word_left}
 use Rattle.rl_lanes.proofs.row.next_bit.Goals as goal
 
 pub returns-then-word-ne0-clause-found : goal.returns-then-word-ne0-clause-found

@@ -1,5 +1,4 @@
 use Rattle.std.proofs.Common.{◌≡◌, ℕ, ◌-◌, ◌<◌, ◌≤◌, bit_and, get_or}
-use Rattle.rl_lanes.specs.Words.{and_not}
 use Rattle.rl_lanes.proofs.words.any_both.Given as goal
 
 abbrev pub invariant-lanes : goal.invariant-lanes

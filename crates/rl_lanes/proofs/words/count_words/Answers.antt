@@ -1,4 +1,4 @@
-use Rattle.std.proofs.Common.{◌+◌, arith, ap, ◌∙◌, count_ones, take, map, add-one, get_or}
+use Rattle.std.proofs.Common.{◌+◌, arith}
 use Rattle.rl_lanes.proofs.WordLemmas.{ones-take_more, ones-take_le, ones-take_one}
 use Rattle.rl_lanes.proofs.words.count_words.Goals as goal
 

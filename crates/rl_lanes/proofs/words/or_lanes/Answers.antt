@@ -1,4 +1,4 @@
-use Rattle.std.proofs.Common.{bit_or, arith, ap, ◌∙◌}
+use Rattle.std.proofs.Common.{bit_or, arith, ◌∙◌}
 use Rattle.std.specs.Simd.Lanes.{chunk, zip2}
 use Rattle.std.proofs.lemmas.Simd.{length-chunk, get_or-chunk, length-zip2, get_or-zip2}
 use Rattle.rl_lanes.proofs.WordLemmas.{JoinsAt-put_chunk}

@@ -1,5 +1,5 @@
 use Rattle.std.proofs.Common.{◌-◌, bit_or}
-use Rattle.rl_lanes.specs.Words.{JoinsBelow, and_not}
+use Rattle.rl_lanes.proofs.WordLemmas.{JoinsBelow}
 use Rattle.rl_lanes.proofs.words.or_words.Given as goal
 
 abbrev pub invariant-lanes : goal.invariant-lanes

@@ -1,4 +1,4 @@
-use Rattle.std.proofs.Common.{ℕ, ◌<◌, ◌^◌, map, count_ones, ap, sym, ◌∙◌, arith, rules}
+use Rattle.std.proofs.Common.{◌<◌, ◌^◌, map, count_ones, ap, sym, ◌∙◌, arith, rules}
 use Rattle.std.specs.Simd.Lanes.{sum_l}
 use Rattle.std.proofs.lemmas.List.Sums.{count_by-le-length}
 use Rattle.rl_lanes.proofs.PackedLemmas.{IsRow, IsRow-length}

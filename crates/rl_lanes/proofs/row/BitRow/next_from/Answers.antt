@@ -1,4 +1,4 @@
-use Rattle.std.proofs.Common.{◌<◌, ◌^◌, ◌*◌, ◌≤◌, ◌/◌, length, ap, arith, rules}
+use Rattle.std.proofs.Common.{◌<◌, ◌^◌, length, ap, arith, rules}
 use Rattle.rl_lanes.proofs.PackedLemmas.{IsRow, IsRow-length}
 use Rattle.rl_lanes.proofs.CountLemmas.{IsRow-words_of}
 use Rattle.rl_lanes.proofs.StoredLemmas.{least_is, none_is, none_past, next_fits}

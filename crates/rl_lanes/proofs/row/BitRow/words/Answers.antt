@@ -1,4 +1,4 @@
-use Rattle.std.proofs.Common.{ℕ, ◌^◌, ◌<◌, get_or, subst, arith, rules, ◌∙◌, sym}
+use Rattle.std.proofs.Common.{◌^◌, ◌<◌, get_or, subst, rules, ◌∙◌, sym}
 use Rattle.rl_lanes.proofs.PackedLemmas.{AreWords, IsRow}
 use Rattle.rl_lanes.proofs.CountLemmas.{words_of-IsRow}
 use Rattle.rl_lanes.proofs.row.BitRow.words.Goals as goal

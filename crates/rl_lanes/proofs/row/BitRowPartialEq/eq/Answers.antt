@@ -1,7 +1,6 @@
-use Rattle.std.proofs.Common.{◌≡◌, ◌≢◌, ℕ, List, Bool, length, eqb, ap, sym, ◌∙◌, subst}
+use Rattle.std.proofs.Common.{eqb, sym, ◌∙◌}
 use Rattle.std.specs.Cmp.Lexicographic.{pointwise}
 use Rattle.std.proofs.lemmas.Bool.{ne_eqb}
-use Rattle.rl_lanes.specs.Packed.{words_of}
 use Rattle.rl_lanes.proofs.PackedLemmas.{IsRow, IsRow-length}
 use Rattle.rl_lanes.proofs.CountLemmas.{rows_equal, rows_apart}
 use Rattle.rl_lanes.proofs.row.BitRowPartialEq.eq.Goals as goal

@@ -1,6 +1,5 @@
-use Rattle.std.proofs.Common.{◌≡◌, ◌+◌, ℕ, List, Bool, false, [], length, get_or, replicate, ap, sym, ◌∙◌, subst, arith}
+use Rattle.std.proofs.Common.{◌≡◌, ◌+◌, [], length, get_or, ap, sym, ◌∙◌, subst, arith}
 use Rattle.rl_lanes.specs.Rows.{list_or}
-use Rattle.rl_lanes.specs.Tables.{image}
 use Rattle.rl_lanes.specs.Packed.{truths}
 use Rattle.rl_lanes.proofs.ImageLemmas.{JoinsRows, JoinsRows-none, JoinsRows-more, JoinsRows-all}
 use Rattle.rl_lanes.proofs.table.BitTable.image.Goals as goal

@@ -1,5 +1,5 @@
-use Rattle.std.proofs.Common.{◌≡◌, ◌+◌, ◌-◌, ◌*◌, ◌≤◌, ◌<◌, ℕ, List, Bool, [], length, get_or, take, drop, ap, sym, ◌∙◌, subst, arith}
-use Rattle.rl_lanes.specs.Packed.{words_at, truths, IsPacked}
+use Rattle.std.proofs.Common.{◌≡◌, ◌+◌, ◌-◌, ◌*◌, ◌<◌, ℕ, List, Bool, [], length, get_or, take, drop, ap, sym, subst, arith}
+use Rattle.rl_lanes.specs.Packed.{words_at}
 use Rattle.rl_lanes.proofs.PackedLemmas.{IsRow, IsRow-length}
 use Rattle.rl_lanes.proofs.TableLemmas.{IsTable, IsTable-row, IsTable-length, row_end, width_of}
 use Rattle.rl_lanes.proofs.table.BitTable.row_words.Goals as goal

@@ -1,4 +1,4 @@
-use Rattle.std.proofs.Common.{◌≡◌, ◌+◌, ◌*◌, ◌/◌, ◌≤◌, ◌<◌, ℕ, List, Bool, ap, sym, ◌∙◌, arith}
+use Rattle.std.proofs.Common.{◌≡◌, ◌+◌, ◌*◌, ◌/◌, ap, arith}
 use Rattle.rl_lanes.proofs.TableLemmas.{IsTable, IsTable-put, table_place_fits, width_of}
 use Rattle.rl_lanes.proofs.table.BitTable.set.Goals as goal
 

@@ -1,4 +1,4 @@
-use Rattle.std.proofs.Common.{◌≡◌, ◌*◌, ◌<◌, ◌^◌, ℕ, List, Some, SomeIff, ap, sym, ◌∙◌, subst, replicate, false}
+use Rattle.std.proofs.Common.{◌≡◌, ◌*◌, ℕ, List, ap, sym, ◌∙◌, subst, replicate, false}
 use Rattle.rl_lanes.proofs.TableLemmas.{IsTable, IsTable-zeros, width_of}
 use Rattle.rl_lanes.proofs.table.BitTable.zeros.Goals as goal
 

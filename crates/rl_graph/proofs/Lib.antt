@@ -1,0 +1,11 @@
+pub mod Sums
+pub mod PathLaws
+pub mod TwinPaths
+pub mod GraphLaws
+pub mod ProductLaws
+pub mod SearchLaws
+pub mod SearchEnds
+pub mod StackLaws
+pub mod ScanLaws
+pub mod PartLaws
+pub mod WalkLaws

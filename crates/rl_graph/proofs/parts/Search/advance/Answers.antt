@@ -1,0 +1,15 @@
+use Rattle.std.proofs.Common.{◌≤◌, length, ◌∙◌}
+use Rattle.rl_graph.specs.Search.{stand_of}
+use Rattle.rl_graph.proofs.SearchLaws.{turn}
+use Rattle.rl_graph.proofs.ScanLaws.{none-end}
+use Rattle.rl_graph.proofs.parts.Search.advance.Goals as goal
+
+pub loop-frame-preserved : goal.loop-frame-preserved
+loop-frame-preserved g c =
+    let next = g.M.NextStates.next c.args.m.now in
+    let f = c.scan-found.new.frame in
+    let kept = c.scan-found.ensures.kept in
+    let end = none-end c.scan-found.result (length (next f.state f.letter) ≤ f.number) (cc (c.is_some.ensures, c.if-is_some.false)) c.scan-found.ensures.end in (
+      turn next (g.M.NextStates.size c.args.m.now) (stand_of c.scan-found.new.self) f c.scan-found.ensures.search end,
+      record { places = kept.places ∙ c.loop-frame.invariant.1.places; frames = kept.frames ∙ c.loop-frame.invariant.1.frames },
+    )

@@ -1,0 +1,15 @@
+use Rattle.std.proofs.Common.{Bool, List, ◌+◌, ◌↔◌, IsTrue, false, get_or, length, sym, subst, ◌∙◌, ap}
+use Rattle.std.proofs.lemmas.List.{length_push}
+use Rattle.rl_graph.specs.Parts.{HasInner}
+use Rattle.rl_graph.proofs.PartLaws.{marks-more}
+use Rattle.rl_graph.proofs.parts.inner_marks.Goals as goal
+
+pub loop-state-preserved : goal.loop-state-preserved
+loop-state-preserved g c =
+    let next = g.M.NextStates.next c.args.m.now in
+    let i = c.loop-state.invariant in
+    let e = c.in_ok-push.ensures.items in (
+      ap length e ∙ (length_push c.loop-state.marks.items c.has_inner.result ∙ ap (λ z. z + 1) i.0),
+      λ q h. subst (λ (z : List Bool). IsTrue (get_or z q false) ↔ HasInner next c.args.numbers.now q) (sym e)
+          (marks-more (HasInner next c.args.numbers.now) c.loop-state.marks.items c.loop-state.state c.has_inner.result i.0 i.1 c.has_inner.ensures q h),
+    )

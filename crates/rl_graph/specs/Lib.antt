@@ -1,0 +1,8 @@
+pub mod Paths
+pub mod Twins
+pub mod Bounds
+pub mod Graph
+pub mod Product
+pub mod Parts
+pub mod Search
+pub mod Walks

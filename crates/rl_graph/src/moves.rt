@@ -1,0 +1,120 @@
+//! Graphs whose moves are asked for one at a time, and the product of two copies of a multigraph.
+
+ghost use Rattle.std.specs.Prelude.{◌≡◌, ℕ, ◌+◌, ◌*◌, ◌/◌, ◌%◌, ◌^◌, ◌<◌, ◌≤◌, List, length, slice_index, map, flat_map};
+ghost use Rattle.rl_graph.specs.Paths.{IsBounded};
+ghost use Rattle.rl_graph.specs.Graph.{edges_of};
+ghost use Rattle.rl_graph.specs.Product.{pair_moves};
+
+use crate::graph::Multigraph;
+
+/// A graph of numbered states and letters whose moves are asked for one at a time.
+pub trait NextStates {
+    // How many states the graph has.
+    ghost size: { Self → ℕ };
+
+    // How many letters the graph has.
+    ghost width: { Self → ℕ };
+
+    // The ordered targets of the moves of a state on a letter.
+    ghost next: { Self → ℕ → ℕ → List ℕ };
+
+    /// How many states the graph has.
+    fn states(&self) -> u64
+        ensures number { result ≡ size self.now }
+        ensures bounded { IsBounded (next self.now) (size self.now) (width self.now) };
+
+    /// How many letters the graph has.
+    fn letters(&self) -> u32
+        ensures { result ≡ width self.now };
+
+    /// How many moves a state has on a letter.
+    fn count(&self, from: u64, letter: u32) -> u64
+        requires state_in { from < size self.now }
+        requires letter_in { letter < width self.now }
+        ensures { result ≡ length (next self.now from letter) };
+
+    /// The state that the move with this number, counted from 0, leads to.
+    fn target(&self, from: u64, letter: u32, number: u64) -> u64
+        requires state_in { from < size self.now }
+        requires letter_in { letter < width self.now }
+        requires number_in { number < length (next self.now from letter) }
+        ensures target { result ≡ slice_index (next self.now from letter) number }
+        ensures inside { result < size self.now };
+}
+
+impl NextStates for Multigraph {
+    ghost size = { λ g. g.states };
+
+    ghost width = { λ g. g.letters };
+
+    ghost next = { edges_of };
+
+    fn states(&self) -> u64 {
+        u64::from(Multigraph::states(self))
+    }
+
+    fn letters(&self) -> u32 {
+        Multigraph::letters(self)
+    }
+
+    fn count(&self, from: u64, letter: u32) -> u64 {
+        let _count = Multigraph::states(self);
+        self.edges(from as u32, letter).len() as u64
+    }
+
+    fn target(&self, from: u64, letter: u32, number: u64) -> u64 {
+        let _count = Multigraph::states(self);
+        u64::from(self.edges(from as u32, letter)[number as usize])
+    }
+}
+
+/// Two copies of a multigraph that go side by side on the same letters. The pair of the states `p` and `q` of a graph
+/// with `n` states is the state `p * n + q`; where `q` has `k` moves on a letter, the move `i` of `p` with the move `j`
+/// of `q` is the move `i * k + j`.
+#[derive(Clone, Copy)]
+pub struct Twice<'a> {
+    /// The graph.
+    pub graph: &'a Multigraph,
+}
+
+/// The pair of states at a place in the product of two rows.
+fn chosen(first: &[u32], second: &[u32], count: u64, number: u64) -> u64
+    requires number_in { number < length first.now * length second.now }
+    requires small { count < 2 ^ 32 }
+    ensures { result ≡ slice_index (flat_map (λ x. map (λ y. x * count + y) second.now) first.now) number }
+{
+    let width = second.len() as u64;
+    u64::from(first[(number / width) as usize]) * count
+        + u64::from(second[(number % width) as usize])
+}
+
+impl<'a> NextStates for Twice<'a> {
+    ghost size = { λ t. t.graph.now.states * t.graph.now.states };
+
+    ghost width = { λ t. t.graph.now.letters };
+
+    ghost next = { λ t q l. pair_moves (edges_of t.graph.now) t.graph.now.states q l };
+
+    fn states(&self) -> u64 {
+        let count = u64::from(self.graph.states());
+        count * count
+    }
+
+    fn letters(&self) -> u32 {
+        self.graph.letters()
+    }
+
+    fn count(&self, from: u64, letter: u32) -> u64 {
+        let count = u64::from(self.graph.states());
+        let first = self.graph.edges((from / count) as u32, letter);
+        let second = self.graph.edges((from % count) as u32, letter);
+        first.len() as u64 * second.len() as u64
+    }
+
+    fn target(&self, from: u64, letter: u32, number: u64) -> u64 {
+        let count = u64::from(self.graph.states());
+        let first = self.graph.edges((from / count) as u32, letter);
+        let second = self.graph.edges((from % count) as u32, letter);
+        chosen(first, second, count, number)
+    }
+}

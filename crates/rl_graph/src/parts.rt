@@ -1,0 +1,347 @@
+//! The parts of a graph, by the path-based search of Gabow (2000).
+
+ghost use Rattle.std.specs.Prelude.{◌≡◌, ◌<◌, ◌≤◌, ◌+◌, ◌^◌, ◌↔◌, ℕ, [], length, IfOk, OnOk, IfSome, IfNone, IsTrue, map, false, slice_index_or};
+ghost use Rattle.rl_graph.specs.Paths.{Has, Reaches, OnCycle};
+ghost use Rattle.rl_graph.specs.Parts.{number_of, cycle_of, IsParts, HasInner, HasInnerOn, IsNumbered, AreInner};
+ghost use Rattle.rl_graph.specs.Search.{stand_of, start_of, opened, place_of, part_in, unseen, with_top, IsSearch, IsCut, IsClosed, IsFinished, IsListed, IsAllDone, IsUnseenMove, IsMet, IsKept, StaysSeen, work_of};
+ghost use Rattle.rl_graph.specs.declared.parts.Place.TheVariants.{Unseen, Done};
+
+use crate::moves::NextStates;
+use rl_lists::OutOfMemory;
+use std::alloc::Global;
+use std::marker::Model;
+
+/// Where a state stands in the search.
+#[derive(Clone, Copy)]
+enum Place {
+    Unseen,
+    /// On the stack of open states, at this depth.
+    Open(u64),
+    /// In the part with this number.
+    Done(u64),
+}
+
+/// An open state with the move that is looked at next.
+#[derive(Clone, Copy)]
+struct Frame {
+    state: u64,
+    depth: u64,
+    letter: u32,
+    number: u64,
+}
+
+/// The search: the place of each state, the open states, the depths at which their groups begin, the open states
+/// whose moves aren't all looked at, and how many parts are done.
+#[derive(Drop)]
+struct Search {
+    places: Vec<Place>,
+    open_states: Vec<u64>,
+    marks: Vec<u64>,
+    frames: Vec<Frame>,
+    parts: u64,
+}
+
+impl Search {
+    /// A search over so many states, none of which is seen.
+    fn new(alloc: Global, count: u64) -> Result<Search, OutOfMemory>
+        ensures { IfOk result (λ s. stand_of s ≡ start_of count) }
+    {
+        let places = vec![in alloc; Place::Unseen; count as usize]?;
+        Ok(Search {
+            places,
+            open_states: Vec::new(alloc),
+            marks: Vec::new(alloc),
+            frames: Vec::new(alloc),
+            parts: 0,
+        })
+    }
+
+    /// Puts a state on the stack, in a group of its own and with a frame.
+    fn open(&mut self, state: u64) -> Result<(), OutOfMemory>
+        requires { state < length (stand_of self.old).places }
+        ensures { OnOk result (stand_of self.new ≡ opened (stand_of self.old) state) }
+    {
+        let depth = self.open_states.len() as u64;
+        self.open_states.push(state)?;
+        self.marks.push(depth)?;
+        self.frames.push(Frame {
+            state,
+            depth,
+            letter: 0,
+            number: 0,
+        })?;
+        self.places[state as usize] = Place::Open(depth);
+        Ok(())
+    }
+
+    /// Takes the open states from a depth on off the stack, as the next part.
+    fn close(&mut self, from: u64)
+        requires listed { IsListed (stand_of self.old) }
+        requires within { from ≤ length (stand_of self.old).open_states }
+        requires room { (stand_of self.old).parts < 2 ^ 63 }
+        ensures { IsClosed from (stand_of self.old) (stand_of self.new) }
+    {
+        let part = self.parts;
+        for depth in from as usize..self.open_states.len() {
+            let state = self.open_states[depth];
+            self.places[state as usize] = Place::Done(part);
+        }
+        self.open_states.truncate(from as usize);
+        self.parts += 1;
+    }
+
+    /// Finishes an open state whose moves are all looked at: where the last group begins with it, the group is closed.
+    fn finish(&mut self, depth: u64)
+        requires listed { IsListed (stand_of self.old) }
+        requires within { depth ≤ length (stand_of self.old).open_states }
+        requires room { (stand_of self.old).parts < 2 ^ 63 }
+        ensures { IsFinished depth (stand_of self.old) (stand_of self.new) }
+    {
+        if self.marks.last().copied() == Some(depth) {
+            self.marks.pop();
+            self.close(depth);
+        }
+    }
+
+    /// Whether a state is unseen; where it is open, the groups from its own on are joined.
+    fn meet(&mut self, target: u64) -> bool
+        requires { target < length (stand_of self.old).places }
+        ensures { IsMet target (stand_of self.old) (stand_of self.new) result }
+    {
+        match self.places[target as usize] {
+            Place::Unseen => true,
+            Place::Open(depth) => {
+                cut(&mut self.marks, depth);
+                false
+            }
+            Place::Done(_) => false,
+        }
+    }
+
+    /// Looks at the moves of the frame's state on the frame's letter, up to the first one to an unseen state, which it
+    /// answers. A move to an open state joins the groups from that state's on.
+    fn scan<M: NextStates>(&mut self, m: &M, frame: &mut Frame) -> Option<u64>
+        requires letter_in { frame.old.letter < M.width m.now }
+        requires search { IsSearch (M.next m.now) (M.size m.now) (with_top (stand_of self.old) frame.old) }
+        ensures search { IsSearch (M.next m.now) (M.size m.now) (with_top (stand_of self.new) frame.new) }
+        ensures kept { IsKept (stand_of self.old) (stand_of self.new) }
+        ensures letter { frame.new.letter ≡ frame.old.letter }
+        ensures found { IfSome result (λ w. IsUnseenMove (M.next m.now) (M.size m.now) (stand_of self.new) frame.new w) }
+        ensures end { IfNone result (length (M.next m.now frame.new.state frame.new.letter) ≤ frame.new.number) }
+    {
+        let _states = m.states();
+        let count = m.count(frame.state, frame.letter);
+        while frame.number < count {
+            let target = m.target(frame.state, frame.letter, frame.number);
+            if self.meet(target) {
+                return Some(target);
+            }
+            frame.number += 1;
+        }
+        None
+    }
+
+    /// Looks at the moves of the frame's state from the one at which the frame stands, up to the first one to an
+    /// unseen state, which it answers.
+    fn advance<M: NextStates>(&mut self, m: &M, frame: &mut Frame) -> Option<u64>
+        requires search { IsSearch (M.next m.now) (M.size m.now) (with_top (stand_of self.old) frame.old) }
+        ensures search { IsSearch (M.next m.now) (M.size m.now) (with_top (stand_of self.new) frame.new) }
+        ensures kept { IsKept (stand_of self.old) (stand_of self.new) }
+        ensures found { IfSome result (λ w. IsUnseenMove (M.next m.now) (M.size m.now) (stand_of self.new) frame.new w) }
+        ensures end { IfNone result (M.width m.now ≤ frame.new.letter) }
+    {
+        let letters = m.letters();
+        while frame.letter < letters {
+            let found = self.scan(m, frame);
+            if found.is_some() {
+                return found;
+            }
+            frame.letter += 1;
+            frame.number = 0;
+        }
+        None
+    }
+
+    /// Looks at the moves of the frame's state: opens the first unseen state that one leads to, or finishes the state.
+    fn step<M: NextStates>(&mut self, m: &M, mut frame: Frame) -> Result<(), OutOfMemory>
+        requires search { IsSearch (M.next m.now) (M.size m.now) (with_top (stand_of self.old) frame) }
+        ensures search { OnOk result (IsSearch (M.next m.now) (M.size m.now) (stand_of self.new)) }
+        ensures seen { OnOk result (StaysSeen (stand_of self.old) (stand_of self.new)) }
+        ensures work { OnOk result (work_of (stand_of self.new) ≤ work_of (stand_of self.old)) }
+    {
+        let _states = m.states();
+        match self.advance(m, &mut frame) {
+            Some(state) => {
+                self.frames.push(frame)?;
+                self.open(state)?;
+            }
+            None => self.finish(frame.depth),
+        }
+        Ok(())
+    }
+
+    /// Looks at the moves of the open states until none has a move left: then every open state is done.
+    fn run<M: NextStates>(&mut self, m: &M) -> Result<(), OutOfMemory>
+        requires search { IsSearch (M.next m.now) (M.size m.now) (stand_of self.old) }
+        ensures search { OnOk result (IsSearch (M.next m.now) (M.size m.now) (stand_of self.new)) }
+        ensures frames { OnOk result ((stand_of self.new).frames ≡ []) }
+        ensures seen { OnOk result (StaysSeen (stand_of self.old) (stand_of self.new)) }
+    {
+        while let Some(frame) = self.frames.pop() {
+            self.step(m, frame)?;
+        }
+        Ok(())
+    }
+}
+
+/// The number of the part in a place; 0 for a state that isn't done.
+fn part_in(place: Place) -> u64
+    ensures { result ≡ part_in place }
+{
+    match place {
+        Place::Done(part) => part,
+        _ => 0,
+    }
+}
+
+/// Searches a whole graph: then every state is done.
+fn searched<M: NextStates>(alloc: Global, m: &M) -> Result<Search, OutOfMemory>
+    ensures search { IfOk result (λ s. IsSearch (M.next m.now) (M.size m.now) (stand_of s)) }
+    ensures done { IfOk result (λ s. IsAllDone (M.size m.now) (stand_of s)) }
+{
+    let count = m.states();
+    let mut search = Search::new(alloc, count)?;
+    for root in 0..count {
+        if let Place::Unseen = search.places[root as usize] {
+            search.open(root)?;
+            search.run(m)?;
+        }
+    }
+    Ok(search)
+}
+
+/// The numbers of the parts in a list of places.
+fn numbers_in(alloc: Global, places: &[Place]) -> Result<Vec<u64>, OutOfMemory>
+    ensures { IfOk result (λ v. v.items ≡ map part_in places.now) }
+{
+    let numbers = places.iter().map(|place| part_in(*place)).collect(alloc)?;
+    Ok(numbers)
+}
+
+/// The number of each state's part.
+fn part_numbers<M: NextStates>(alloc: Global, m: &M) -> Result<Vec<u64>, OutOfMemory>
+    ensures { IfOk result (λ v. IsNumbered (M.next m.now) (M.size m.now) v.items) }
+{
+    let search = searched(alloc, m)?;
+    numbers_in(alloc, &search.places)
+}
+
+/// Whether a state has a move on a letter to a state with the same number.
+fn has_inner_on<M: NextStates>(m: &M, numbers: &[u64], state: u64, letter: u32) -> bool
+    requires state_in { state < M.size m.now }
+    requires letter_in { letter < M.width m.now }
+    requires sizes { length numbers.now ≡ M.size m.now }
+    ensures { IsTrue result ↔ HasInnerOn (M.next m.now) numbers.now state letter }
+{
+    let own = numbers[state as usize];
+    for number in 0..m.count(state, letter) {
+        let target = m.target(state, letter, number);
+        if numbers[target as usize] == own {
+            return true;
+        }
+    }
+    false
+}
+
+/// Whether a state has a move to a state with the same number.
+fn has_inner<M: NextStates>(m: &M, numbers: &[u64], state: u64) -> bool
+    requires state_in { state < M.size m.now }
+    requires sizes { length numbers.now ≡ M.size m.now }
+    ensures { IsTrue result ↔ HasInner (M.next m.now) numbers.now state }
+{
+    let _states = m.states();
+    for letter in 0..m.letters() {
+        if has_inner_on(m, numbers, state, letter) {
+            return true;
+        }
+    }
+    false
+}
+
+/// For each state whether it has a move to a state with the same number.
+fn inner_marks<M: NextStates>(
+    alloc: Global,
+    m: &M,
+    numbers: &[u64],
+) -> Result<Vec<bool>, OutOfMemory>
+    requires { length numbers.now ≡ M.size m.now }
+    ensures { IfOk result (λ v. AreInner (M.next m.now) (M.size m.now) numbers.now v.items) }
+{
+    let mut marks = Vec::new(alloc);
+    for state in 0..m.states() {
+        marks.push(has_inner(m, numbers, state))?;
+    }
+    Ok(marks)
+}
+
+/// The parts of a graph: two states have one part exactly where each reaches the other.
+#[derive(Drop)]
+pub struct Parts {
+    numbers: Vec<u64>,
+    cycles: Vec<bool>,
+}
+
+impl Model for Parts {
+    ghost use Rattle.std.specs.Prelude.{◌≡◌, length};
+    ghost use Rattle.rl_graph.specs.Parts.{PartTable};
+
+    ghost Value = { PartTable };
+
+    ghost view = { λ p. record { numbers = p.numbers.items; cycles = p.cycles.items } };
+
+    ghost invariant = { λ p. length p.cycles.items ≡ length p.numbers.items };
+}
+
+impl Parts {
+    /// The number of a state's part, which is below the number of states. A part that is reached from another one has
+    /// the smaller number.
+    pub fn of(&self, state: u64) -> u64
+        requires { state < length self.now.numbers }
+        ensures { result ≡ number_of self.now state }
+    {
+        self.numbers[state as usize]
+    }
+
+    /// Whether a state reaches itself by at least one move.
+    pub fn on_cycle(&self, state: u64) -> bool
+        requires { state < length self.now.numbers }
+        ensures { result ≡ cycle_of self.now state }
+    {
+        self.cycles[state as usize]
+    }
+}
+
+/// The parts of a graph, in time and memory linear in its states and moves.
+///
+/// # Errors
+/// [`OutOfMemory`] where there was no memory for the search or the parts.
+pub fn parts_of<M: NextStates>(alloc: Global, m: &M) -> Result<Parts, OutOfMemory>
+    ensures { IfOk result (λ p. IsParts (M.next m.now) (M.size m.now) p) }
+{
+    let _states = m.states();
+    let numbers = part_numbers(alloc, m)?;
+    let cycles = inner_marks(alloc, m, &numbers)?;
+    Ok(Parts { numbers, cycles })
+}
+
+/// Takes the marks above a depth off, which joins their groups to the one that holds the depth.
+fn cut(marks: &mut Vec<u64>, depth: u64)
+    ensures { IsCut depth marks.old.items marks.new.items }
+{
+    while let Some(mark) = marks.last().copied() {
+        if mark <= depth {
+            break;
+        }
+        marks.pop();
+    }
+}
