@@ -1,23 +1,23 @@
 -- What a list of ranges holds, and what it means that the list is sorted.
-use Rattle.std.proofs.Common.{Bool, List, [], add-one, ap, ap₂, arith, drop, false, get_or, inl, inr, le_of_suc-le-suc, le_refl, le_trans, length, ltb, max, min, not, not-suc-le-zero, refl, set, subst, suc, sym, take, true, zero, ℕ, ◌&&◌, ◌++◌, ◌+◌, ◌-◌, ◌<◌, ◌||◌, ◌∙◌, ◌∷◌, ◌≡◌, ◌≤◌, ◌⊎◌}
-use Rattle.std.proofs.lemmas.Bool.{cases_lt, or_left, or_right}
+use Rattle.std.proofs.Common.{Bool, List, [], add-one, ap, ap₂, arith, drop, false, get_or, inl, inr, le_of_suc-le-suc, le_refl, le_trans, length, ltb, max, min, not, not-suc-le-zero, refl, set, subst, suc, suc-le-suc, sym, take, true, zero, zero-lt-suc, ℕ, ◌&&◌, ◌++◌, ◌+◌, ◌-◌, ◌<◌, ◌||◌, ◌∙◌, ◌∷◌, ◌≡◌, ◌≤◌, ◌⊎◌}
+use Rattle.std.proofs.lemmas.Bool.{cases_lt, or_from, or_left, or_right}
 use Rattle.std.proofs.lemmas.Bool.Decides.{nat_tests}
 use Rattle.std.proofs.lemmas.List.{drop_more, length-set, take_all, take_more, take_more_set}
-use Rattle.rl_ranges.specs.Building.{ComeInOrder, is_within, last_first_or, range_at}
-use Rattle.rl_ranges.specs.Codes.{Above, has}
+use Rattle.rl_ranges.specs.Building.{ComeInOrder, last_first_or, range_at}
+use Rattle.rl_ranges.specs.Codes.{Above, has, is_between}
 
 -- the test of a range, with what it tells
-pub within_tells : (a b c : ℕ) → ((is_within a b c ≡ true) × (a ≤ c) × (c ≤ b)) ⊎ ((is_within a b c ≡ false) × ((c < a) ⊎ (b < c)))
-unfolding is_within
+pub within_tells : (a b c : ℕ) → ((is_between a b c ≡ true) × (a ≤ c) × (c ≤ b)) ⊎ ((is_between a b c ≡ false) × ((c < a) ⊎ (b < c)))
+unfolding is_between
 within_tells a b c = grind (arith, nat_tests)
 
-pub within-true : (a b c : ℕ) → a ≤ c → c ≤ b → is_within a b c ≡ true
+pub within-true : (a b c : ℕ) → a ≤ c → c ≤ b → is_between a b c ≡ true
 within-true a b c low high = grind (arith, within_tells a b c)
 
-pub within-below : (a b c : ℕ) → c < a → is_within a b c ≡ false
+pub within-below : (a b c : ℕ) → c < a → is_between a b c ≡ false
 within-below a b c h = grind (arith, within_tells a b c)
 
-pub within-above : (a b c : ℕ) → b < c → is_within a b c ≡ false
+pub within-above : (a b c : ℕ) → b < c → is_between a b c ≡ false
 within-above a b c h = grind (arith, within_tells a b c)
 
 pub or_assoc : (x y z : Bool) → (x || (y || z)) ≡ ((x || y) || z)
@@ -32,24 +32,24 @@ pub has-nil : (c : ℕ) → has [] c ≡ false
 unfolding has
 has-nil c = refl
 
-pub has-cons : (r : ℕ × ℕ) (rs : List (ℕ × ℕ)) (c : ℕ) → has (r ∷ rs) c ≡ (is_within r.0 r.1 c || has rs c)
-unfolding has is_within
+pub has-cons : (r : ℕ × ℕ) (rs : List (ℕ × ℕ)) (c : ℕ) → has (r ∷ rs) c ≡ (is_between r.0 r.1 c || has rs c)
+unfolding has is_between
 has-cons r rs c = refl
 
 pub has-append : (xs ys : List (ℕ × ℕ)) (c : ℕ) → has (xs ++ ys) c ≡ (has xs c || has ys c)
-unfolding has is_within
+unfolding has is_between
 has-append [] ys c = refl
 has-append (x ∷ xs) ys c =
-    ap (λ b. is_within x.0 x.1 c || b) (has-append xs ys c) ∙ or_assoc (is_within x.0 x.1 c) (has xs c) (has ys c)
+    ap (λ b. is_between x.0 x.1 c || b) (has-append xs ys c) ∙ or_assoc (is_between x.0 x.1 c) (has xs c) (has ys c)
 
-pub has-push : (xs : List (ℕ × ℕ)) (r : ℕ × ℕ) (c : ℕ) → has (xs ++ r ∷ []) c ≡ (has xs c || is_within r.0 r.1 c)
+pub has-push : (xs : List (ℕ × ℕ)) (r : ℕ × ℕ) (c : ℕ) → has (xs ++ r ∷ []) c ≡ (has xs c || is_between r.0 r.1 c)
 has-push xs r c =
-    has-append xs (r ∷ []) c ∙ ap (λ b. has xs c || b) (has-cons r [] c ∙ ap (λ b. is_within r.0 r.1 c || b) (has-nil c) ∙ or-false (is_within r.0 r.1 c))
+    has-append xs (r ∷ []) c ∙ ap (λ b. has xs c || b) (has-cons r [] c ∙ ap (λ b. is_between r.0 r.1 c || b) (has-nil c) ∙ or-false (is_between r.0 r.1 c))
 
-pub has-more : (xs : List (ℕ × ℕ)) (i c : ℕ) → i < length xs → has (take (i + 1) xs) c ≡ (has (take i xs) c || is_within (range_at xs i).0 (range_at xs i).1 c)
+pub has-more : (xs : List (ℕ × ℕ)) (i c : ℕ) → i < length xs → has (take (i + 1) xs) c ≡ (has (take i xs) c || is_between (range_at xs i).0 (range_at xs i).1 c)
 has-more xs i c h = ap (λ l. has l c) (take_more xs i (0, 0) h) ∙ has-push (take i xs) (range_at xs i) c
 
-pub has-rest : (xs : List (ℕ × ℕ)) (i c : ℕ) → i < length xs → has (drop i xs) c ≡ (is_within (range_at xs i).0 (range_at xs i).1 c || has (drop (i + 1) xs) c)
+pub has-rest : (xs : List (ℕ × ℕ)) (i c : ℕ) → i < length xs → has (drop i xs) c ≡ (is_between (range_at xs i).0 (range_at xs i).1 c || has (drop (i + 1) xs) c)
 has-rest xs i c h = ap (λ l. has l c) (drop_more xs i (0, 0) h) ∙ has-cons (range_at xs i) (drop (i + 1) xs) c
 
 -- a sorted list holds no code below its start
@@ -124,7 +124,7 @@ ComeInOrder-from_Above n rs h = record {
   ];
 }
 
-pub has-at : (rs : List (ℕ × ℕ)) (k c : ℕ) → k < length rs → is_within (range_at rs k).0 (range_at rs k).1 c ≡ true → has rs c ≡ true
+pub has-at : (rs : List (ℕ × ℕ)) (k c : ℕ) → k < length rs → is_between (range_at rs k).0 (range_at rs k).1 c ≡ true → has rs c ≡ true
 has-at [] k c lt h = absurd (not-suc-le-zero lt)
 has-at (r ∷ rs) zero c lt h = has-cons r rs c ∙ or_left _ _ h
 has-at (r ∷ rs) (suc k) c lt h = has-cons r rs c ∙ or_right _ _ (has-at rs k c (le_of_suc-le-suc lt) h)
@@ -145,18 +145,18 @@ or_right_moves false false l m = refl
 
 -- of two ranges the one that ends first is passed; what they share goes to what is built
 pub and_left_passes : (a b e f c : ℕ) (r l m : Bool) → b ≤ f → (c < f + 2 → m ≡ false)
-    → (r || ((is_within a b c || l) && (is_within e f c || m))) ≡ ((r || is_within (max a e) (min b f) c) || (l && (is_within e f c || m)))
+    → (r || ((is_between a b c || l) && (is_between e f c || m))) ≡ ((r || is_between (max a e) (min b f) c) || (l && (is_between e f c || m)))
 and_left_passes a b e f c true l m le past = refl
 and_left_passes a b e f c false l m le past = grind (arith, within_tells a b c, within_tells e f c, within_tells (max a e) (min b f) c)
 
 pub and_right_passes : (a b e f c : ℕ) (r l m : Bool) → f ≤ b → (c < b + 2 → l ≡ false)
-    → (r || ((is_within a b c || l) && (is_within e f c || m))) ≡ ((r || is_within (max a e) (min b f) c) || ((is_within a b c || l) && m))
+    → (r || ((is_between a b c || l) && (is_between e f c || m))) ≡ ((r || is_between (max a e) (min b f) c) || ((is_between a b c || l) && m))
 and_right_passes a b e f c true l m le past = refl
 and_right_passes a b e f c false l m le past = grind (arith, within_tells a b c, within_tells e f c, within_tells (max a e) (min b f) c)
 
 -- one more range has been passed, and the gap in front of it was added
 pub gap_added : (next first last c : ℕ) (r t : Bool) → next ≤ first → first ≤ last → r ≡ (ltb c next && not t) → (t ≡ true → c < next)
-    → (r || (ltb next first && is_within next (first - 1) c)) ≡ (ltb c (last + 1) && not (t || is_within first last c))
+    → (r || (ltb next first && is_between next (first - 1) c)) ≡ (ltb c (last + 1) && not (t || is_between first last c))
 gap_added next first last c r true le filled is behind =
     grind (arith, nat_tests, within_tells next (first - 1) c, within_tells first last c, behind refl)
 gap_added next first last c r false le filled is behind =
@@ -164,28 +164,28 @@ gap_added next first last c r false le filled is behind =
 
 -- the gap behind the last range was added
 pub last_gap_added : (next count c : ℕ) (r t : Bool) → next ≤ count → r ≡ (ltb c next && not t) → (t ≡ true → c < next)
-    → (r || (ltb next count && is_within next (count - 1) c)) ≡ (ltb c count && not t)
+    → (r || (ltb next count && is_between next (count - 1) c)) ≡ (ltb c count && not t)
 last_gap_added next count c r true le is behind = grind (arith, nat_tests, within_tells next (count - 1) c, behind refl)
 last_gap_added next count c r false le is behind = grind (arith, nat_tests, within_tells next (count - 1) c)
 
 -- ---- the steps of a walk along two lists, where `built` gets one more range and becomes `new`
 
-pub left_moves : (left right built new : List (ℕ × ℕ)) (i j x : ℕ) → i < length left → has new x ≡ (has built x || is_within (range_at left i).0 (range_at left i).1 x)
+pub left_moves : (left right built new : List (ℕ × ℕ)) (i j x : ℕ) → i < length left → has new x ≡ (has built x || is_between (range_at left i).0 (range_at left i).1 x)
     → (has built x || (has (drop i left) x || has (drop j right) x)) ≡ (has new x || (has (drop (i + 1) left) x || has (drop j right) x))
 left_moves left right built new i j x lt is =
     ap (λ b. has built x || (b || has (drop j right) x)) (has-rest left i x lt)
-    ∙ or_left_moves (has built x) (is_within (range_at left i).0 (range_at left i).1 x) (has (drop (i + 1) left) x) (has (drop j right) x)
+    ∙ or_left_moves (has built x) (is_between (range_at left i).0 (range_at left i).1 x) (has (drop (i + 1) left) x) (has (drop j right) x)
     ∙ ap (λ b. b || (has (drop (i + 1) left) x || has (drop j right) x)) (sym is)
 
-pub right_moves : (left right built new : List (ℕ × ℕ)) (i j x : ℕ) → j < length right → has new x ≡ (has built x || is_within (range_at right j).0 (range_at right j).1 x)
+pub right_moves : (left right built new : List (ℕ × ℕ)) (i j x : ℕ) → j < length right → has new x ≡ (has built x || is_between (range_at right j).0 (range_at right j).1 x)
     → (has built x || (has (drop i left) x || has (drop j right) x)) ≡ (has new x || (has (drop i left) x || has (drop (j + 1) right) x))
 right_moves left right built new i j x lt is =
     ap (λ b. has built x || (has (drop i left) x || b)) (has-rest right j x lt)
-    ∙ or_right_moves (has built x) (is_within (range_at right j).0 (range_at right j).1 x) (has (drop i left) x) (has (drop (j + 1) right) x)
+    ∙ or_right_moves (has built x) (is_between (range_at right j).0 (range_at right j).1 x) (has (drop i left) x) (has (drop (j + 1) right) x)
     ∙ ap (λ b. b || (has (drop i left) x || has (drop (j + 1) right) x)) (sym is)
 
 pub left_passes : (left right built new : List (ℕ × ℕ)) (i j x : ℕ) → Above 0 right → i < length left → j < length right → (range_at left i).1 ≤ (range_at right j).1
-    → has new x ≡ (has built x || is_within (max (range_at left i).0 (range_at right j).0) (min (range_at left i).1 (range_at right j).1) x)
+    → has new x ≡ (has built x || is_between (max (range_at left i).0 (range_at right j).0) (min (range_at left i).1 (range_at right j).1) x)
     → (has built x || (has (drop i left) x && has (drop j right) x)) ≡ (has new x || (has (drop (i + 1) left) x && has (drop j right) x))
 left_passes left right built new i j x sorted i_in j_in le is =
     let a = range_at left i in
@@ -195,7 +195,7 @@ left_passes left right built new i j x sorted i_in j_in le is =
     ∙ ap₂ (λ r m. r || (has (drop (i + 1) left) x && m)) (sym is) (sym (has-rest right j x j_in))
 
 pub right_passes : (left right built new : List (ℕ × ℕ)) (i j x : ℕ) → Above 0 left → i < length left → j < length right → (range_at right j).1 ≤ (range_at left i).1
-    → has new x ≡ (has built x || is_within (max (range_at left i).0 (range_at right j).0) (min (range_at left i).1 (range_at right j).1) x)
+    → has new x ≡ (has built x || is_between (max (range_at left i).0 (range_at right j).0) (min (range_at left i).1 (range_at right j).1) x)
     → (has built x || (has (drop i left) x && has (drop j right) x)) ≡ (has new x || (has (drop i left) x && has (drop (j + 1) right) x))
 right_passes left right built new i j x sorted i_in j_in le is =
     let a = range_at left i in
@@ -205,8 +205,8 @@ right_passes left right built new i j x sorted i_in j_in le is =
     ∙ ap₂ (λ r m. r || (m && has (drop (j + 1) right) x)) (sym is) (sym (has-rest left i x i_in))
 
 -- nothing is added where the range would end before it begins
-pub within-empty : (first last x : ℕ) (b : Bool) → last < first → b ≡ (b || is_within first last x)
-within-empty first last x b lt = let none : is_within first last x ≡ false = grind (arith, within_tells first last x) in sym (ap (λ t. b || t) none ∙ or-false b)
+pub within-empty : (first last x : ℕ) (b : Bool) → last < first → b ≡ (b || is_between first last x)
+within-empty first last x b lt = let none : is_between first last x ≡ false = grind (arith, within_tells first last x) in sym (ap (λ t. b || t) none ∙ or-false b)
 
 -- the least code of a sorted list
 pub has-first : (n : ℕ) (rs : List (ℕ × ℕ)) (r : ℕ × ℕ) → Above n rs → 0 < length rs → get_or rs 0 r ≡ r → (has rs r.0 ≡ true) × ((c : ℕ) → c < r.0 → has rs c ≡ false)
@@ -234,3 +234,13 @@ and-true false = refl
 pub and_assoc : (x y z : Bool) → (x && (y && z)) ≡ ((x && y) && z)
 and_assoc true y z = refl
 and_assoc false y z = refl
+
+-- no range holds a code that lies below the first or above the last code of each
+pub has-outside : (rs : List (ℕ × ℕ)) (c : ℕ) → ((k : ℕ) → k < length rs → (c < (range_at rs k).0) ⊎ ((range_at rs k).1 < c)) → has rs c ≡ false
+has-outside [] c h = has-nil c
+has-outside (r ∷ rs) c h =
+    let here : is_between r.0 r.1 c ≡ false = elim (h zero (zero-lt-suc _)) [
+      | inl below ↦ within-below r.0 r.1 c below
+      | inr above ↦ within-above r.0 r.1 c above
+    ] in
+    has-cons r rs c ∙ or_from _ _ here (has-outside rs c (λ k lt. h (suc k) (suc-le-suc lt)))

@@ -1,9 +1,5 @@
 -- How a set is built from ranges that come in order.
-use Rattle.std.specs.Prelude.{ℕ, ◌≤◌, ◌<◌, Bool, ◌&&◌, nat_le, List, [], ◌∷◌, length, slice_index_or}
-
--- from the first code to the last
-unfoldable pub is_within : ℕ → ℕ → ℕ → Bool
-is_within first last code = nat_le first code && nat_le code last
+use Rattle.std.specs.Prelude.{ℕ, ◌≤◌, ◌<◌, List, [], ◌∷◌, length, slice_index_or}
 
 -- the first code of the last range, or `n` where there is no range
 unfoldable pub last_first_or : ℕ → List (ℕ × ℕ) → ℕ

@@ -1,9 +1,12 @@
 -- Sets of codes. A set is a list of ranges, each with its first and its last code; what counts of it is which codes it holds.
-use Rattle.std.specs.Prelude.{ℕ, ◌+◌, ◌<◌, ◌≤◌, List, [], ◌∷◌, Bool, ◌&&◌, IsTrue}
-use Rattle.std.specs.Prelude.{nat_le}
+use Rattle.std.specs.Prelude.{ℕ, ◌+◌, ◌<◌, ◌≤◌, List, [], ◌∷◌, Bool, ◌&&◌, IsTrue, nat_le}
 use Rattle.std.specs.List.{list_any}
 use Rattle.rl_ranges.specs.declared.universe.Universe.{Universe}
 use Rattle.rl_ranges.specs.Text.{code_count}
+
+-- whether the code lies from the first code to the last
+unfoldable pub is_between : ℕ → ℕ → ℕ → Bool
+is_between first last code = nat_le first code && nat_le code last
 
 -- whether some range holds the code
 unfoldable pub has : List (ℕ × ℕ) → ℕ → Bool

@@ -2,10 +2,13 @@
 
 ghost use Rattle.std.specs.Prelude.{◌≡◌, ℕ, ◌≤◌, ◌<◌, ◌&&◌, ◌||◌, not, true, false, nat_lt, List, [], IfOk, MatchOption, IsTrue};
 ghost use Rattle.rl_ranges.specs.Text.{code_count};
-ghost use Rattle.rl_ranges.specs.Codes.{has, Above, IsInside};
-ghost use Rattle.rl_ranges.specs.Building.{is_within};
+ghost use Rattle.rl_ranges.specs.Codes.{has, is_between, Above, IsInside};
+ghost use Rattle.rl_ranges.specs.Named.{is_named, goes_by_ascii};
+ghost use Rattle.rl_ranges.specs.Case.{IsCaseClosed};
 
-use crate::ranges::{both, either, gaps};
+use crate::case::kin;
+use crate::named::Named;
+use crate::ranges::{both, either, gaps, holds};
 use crate::universe::Universe;
 use rl_lists::OutOfMemory;
 use std::alloc::Global;
@@ -45,7 +48,7 @@ impl CodeSet {
     pub fn range(alloc: Global, first: u32, last: u32) -> Result<CodeSet, OutOfMemory>
         requires filled { first ≤ last }
         requires inside { last ≤ 0x10_FFFF }
-        ensures members { IfOk result (λ s. (c : ℕ) → has s c ≡ is_within first last c) }
+        ensures members { IfOk result (λ s. (c : ℕ) → has s c ≡ is_between first last c) }
         ensures inside { IfOk result (λ s. (u : Universe) → last < code_count u → IsInside u s) }
     {
         let ranges = Vec::from_slice(alloc, &[(first, last)])?;
@@ -58,6 +61,8 @@ impl CodeSet {
     /// [`OutOfMemory`] where there was no memory for the set.
     pub fn union(&self, other: &CodeSet) -> Result<CodeSet, OutOfMemory>
         ensures members { IfOk result (λ s. (c : ℕ) → has s c ≡ (has self.now c || has other.now c)) }
+        ensures inside { IfOk result (λ s. (u : Universe)
+            → IsInside u self.now → IsInside u other.now → IsInside u s) }
     {
         let ranges = either(*self.ranges.allocator(), &self.ranges, &other.ranges)?;
         Ok(CodeSet { ranges })
@@ -69,6 +74,8 @@ impl CodeSet {
     /// [`OutOfMemory`] where there was no memory for the set.
     pub fn meet(&self, other: &CodeSet) -> Result<CodeSet, OutOfMemory>
         ensures members { IfOk result (λ s. (c : ℕ) → has s c ≡ (has self.now c && has other.now c)) }
+        ensures inside_left { IfOk result (λ s. (u : Universe) → IsInside u self.now → IsInside u s) }
+        ensures inside_right { IfOk result (λ s. (u : Universe) → IsInside u other.now → IsInside u s) }
     {
         let ranges = both(*self.ranges.allocator(), &self.ranges, &other.ranges)?;
         Ok(CodeSet { ranges })
@@ -85,6 +92,40 @@ impl CodeSet {
         ensures inside { IfOk result (IsInside universe) }
     {
         let ranges = gaps(*self.ranges.allocator(), &self.ranges, universe.count())?;
+        Ok(CodeSet { ranges })
+    }
+
+    /// The named class: by ASCII under the flag and in bytes, else by Unicode.
+    ///
+    /// # Errors
+    /// [`OutOfMemory`] where there was no memory for the set.
+    pub fn named(
+        alloc: Global,
+        kind: Named,
+        ascii: bool,
+        universe: Universe,
+    ) -> Result<CodeSet, OutOfMemory>
+        ensures members { IfOk result (λ s. (c : ℕ)
+            → has s c ≡ is_named kind (goes_by_ascii ascii universe) c) }
+        ensures inside { IfOk result (IsInside universe) }
+    {
+        let ranges = Vec::from_slice(alloc, kind.ranges(universe.goes_by_ascii(ascii)))?;
+        Ok(CodeSet { ranges })
+    }
+
+    /// The codes that are of one kind with a code of the set, as the flag IGNORECASE takes them: by ASCII under the flag and
+    /// in bytes, else by Unicode.
+    ///
+    /// # Errors
+    /// [`OutOfMemory`] where there was no memory for the set.
+    pub fn case_closed(&self, ascii: bool, universe: Universe) -> Result<CodeSet, OutOfMemory>
+        requires { IsInside universe self.now }
+        ensures members { IfOk result (IsCaseClosed (goes_by_ascii ascii universe) self.now) }
+        ensures inside { IfOk result (IsInside universe) }
+    {
+        let alloc = *self.ranges.allocator();
+        let others = kin(alloc, &self.ranges, universe.goes_by_ascii(ascii))?;
+        let ranges = either(alloc, &self.ranges, &others)?;
         Ok(CodeSet { ranges })
     }
 
@@ -117,12 +158,9 @@ impl CodeSet {
     }
 
     /// Whether the set holds the code.
-    #[tactic(auto, unfolding(crate::specs::Codes::has))]
     pub fn contains(&self, code: u32) -> bool
         ensures { result ≡ has self.now code }
     {
-        self.ranges
-            .iter()
-            .any(|&(first, last)| first <= code && code <= last)
+        holds(&self.ranges, code)
     }
 }

@@ -1,11 +1,15 @@
 //! Sets of codes, the named classes and case folding of Python's `re`, and the letters of a list of sets.
 #![tactic(auto)]
 
+mod case;
 pub mod code_set;
 pub mod letters;
 pub mod named;
 mod ranges;
 mod stretches;
+mod tables;
+#[cfg(test)]
+mod tests;
 pub mod universe;
 
 pub use code_set::CodeSet;

@@ -1,8 +1,8 @@
 //! Sorted lists of ranges: how one is built from ranges that come in order, and the operations of sets on them.
 
 ghost use Rattle.std.specs.Prelude.{◌≡◌, ℕ, ◌+◌, ◌≤◌, ◌<◌, ◌||◌, ◌&&◌, not, true, nat_lt, OnOk, IfOk, length, drop};
-ghost use Rattle.rl_ranges.specs.Codes.{has, Above};
-ghost use Rattle.rl_ranges.specs.Building.{is_within, BeginsBy, ComeInOrder, range_at};
+ghost use Rattle.rl_ranges.specs.Codes.{has, is_between, Above};
+ghost use Rattle.rl_ranges.specs.Building.{BeginsBy, ComeInOrder, range_at};
 
 use rl_lists::OutOfMemory;
 use std::alloc::Global;
@@ -18,7 +18,7 @@ pub(crate) fn append(ranges: &mut Vec<(u32, u32)>, first: u32, last: u32) -> Res
     requires begins { BeginsBy ranges.old.items first }
     ensures sorted { OnOk result (Above 0 ranges.new.items) }
     ensures members { OnOk result ((c : ℕ)
-        → has ranges.new.items c ≡ (has ranges.old.items c || is_within first last c)) }
+        → has ranges.new.items c ≡ (has ranges.old.items c || is_between first last c)) }
     ensures begins { OnOk result (BeginsBy ranges.new.items first) }
 {
     let len = ranges.len();
@@ -56,6 +56,27 @@ pub(crate) fn append_from(
         append(ranges, first, last)?;
     }
     Ok(())
+}
+
+/// Whether some range of the sorted list holds the code, by binary search.
+pub(crate) fn holds(ranges: &[(u32, u32)], code: u32) -> bool
+    requires { Above 0 ranges.now }
+    ensures { result ≡ has ranges.now code }
+{
+    let mut low = 0;
+    let mut high = ranges.len();
+    while low < high {
+        let middle = low + (high - low) / 2;
+        let (first, last) = ranges[middle];
+        if code < first {
+            high = middle;
+        } else if code <= last {
+            return true;
+        } else {
+            low = middle + 1;
+        }
+    }
+    false
 }
 
 /// The codes that one of the two lists holds.

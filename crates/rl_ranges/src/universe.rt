@@ -13,6 +13,7 @@ pub enum Universe {
 
 impl Universe {
     ghost use Rattle.rl_ranges.specs.Text.{code_count};
+    ghost use Rattle.rl_ranges.specs.Named.{goes_by_ascii};
 
     /// How many codes there are; they are the numbers below it.
     pub fn count(self) -> u32
@@ -21,6 +22,16 @@ impl Universe {
         match self {
             Universe::Str => 0x11_0000,
             Universe::Bytes => 0x100,
+        }
+    }
+
+    /// Whether named classes and the rule of case go by ASCII: under the flag, and in bytes.
+    pub(crate) fn goes_by_ascii(self, ascii: bool) -> bool
+        ensures { result ≡ goes_by_ascii ascii self }
+    {
+        match self {
+            Universe::Str => ascii,
+            Universe::Bytes => true,
         }
     }
 }

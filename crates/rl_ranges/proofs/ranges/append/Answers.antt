@@ -1,13 +1,13 @@
 use Rattle.std.proofs.Common.{Bool, ap, arith, false, length, max, refl, subst, sym, true, ℕ, ◌-◌, ◌||◌, ◌∙◌, ◌≡◌, ◌≤◌}
 use Rattle.std.proofs.lemmas.List.{nil_from_length}
 use Rattle.rl_ranges.proofs.SetLemmas.{Above-parts, Above-push, free_from, free_from-nil, free_from-push, front_last, front_new, has-push, last_first_or-push, within_tells}
-use Rattle.rl_ranges.specs.Building.{is_within, last_first_or}
-use Rattle.rl_ranges.specs.Codes.{Above, has}
+use Rattle.rl_ranges.specs.Building.{last_first_or}
+use Rattle.rl_ranges.specs.Codes.{Above, has, is_between}
 use Rattle.rl_ranges.proofs.ranges.append.Goals.{else-len-gt0, then-len-gt0+else-saturating_sub-le1}
 use Rattle.rl_ranges.proofs.ranges.append.Goals as goal
 
 -- two ranges that touch hold what their hull holds
-hull : (b : Bool) (a e first last m c : ℕ) → a ≤ first → first - e ≤ 1 → a ≤ e → first ≤ last → m ≡ max e last → (b || is_within a m c) ≡ ((b || is_within a e c) || is_within first last c)
+hull : (b : Bool) (a e first last m c : ℕ) → a ≤ first → first - e ≤ 1 → a ≤ e → first ≤ last → m ≡ max e last → (b || is_between a m c) ≡ ((b || is_between a e c) || is_between first last c)
 hull true a e first last m c p q s t is = refl
 hull false a e first last m c p q s t is = grind (arith, within_tells a m c, within_tells a e c, within_tells first last c)
 
@@ -29,7 +29,7 @@ returns-then-saturating_sub-le1-clause-members c =
     let start = ap (last_first_or 0) old ∙ last_first_or-push 0 _ _ in
     λ x. ap (λ l. has l x) (front_new v.items _ _ len c.if-len-gt0.true) ∙ has-push _ _ x
     ∙ hull _ c.index.result.now.0 c.index.result.now.1 c.args.first c.args.last _ x (omega arith) (omega arith) parts.2 c.requires.filled c.max.ensures
-    ∙ ap (λ b. b || is_within c.args.first c.args.last x) (sym (ap (λ l. has l x) old ∙ has-push _ _ x))
+    ∙ ap (λ b. b || is_between c.args.first c.args.last x) (sym (ap (λ l. has l x) old ∙ has-push _ _ x))
 
 pub returns-then-saturating_sub-le1-clause-begins : goal.returns-then-saturating_sub-le1-clause-begins
 returns-then-saturating_sub-le1-clause-begins c =

@@ -1,8 +1,8 @@
 use Rattle.std.proofs.Common.{ap, arith, drop, length, sym, ◌+◌, ◌<◌, ◌||◌, ◌∙◌}
 use Rattle.std.proofs.lemmas.List.{drop_all}
 use Rattle.rl_ranges.proofs.SetLemmas.{has-nil, has-rest, or-false, or_assoc}
-use Rattle.rl_ranges.specs.Building.{is_within, range_at}
-use Rattle.rl_ranges.specs.Codes.{has}
+use Rattle.rl_ranges.specs.Building.{range_at}
+use Rattle.rl_ranges.specs.Codes.{has, is_between}
 use Rattle.rl_ranges.proofs.ranges.append_from.Goals as goal
 
 pub loop-i-preserved : goal.loop-i-preserved
@@ -16,7 +16,7 @@ loop-i-preserved c =
       same = λ h. absurd (omega arith);
       members = λ x. c.loop-i.invariant.members x
           ∙ ap (λ b. has c.loop-i.ranges.items x || b) (has-rest more i x i_in)
-          ∙ or_assoc (has c.loop-i.ranges.items x) (is_within (range_at more i).0 (range_at more i).1 x) (has (drop (i + 1) more) x)
+          ∙ or_assoc (has c.loop-i.ranges.items x) (is_between (range_at more i).0 (range_at more i).1 x) (has (drop (i + 1) more) x)
           ∙ ap (λ b. b || has (drop (i + 1) more) x) (sym (c.in_ok-append.ensures.members x));
     }
 

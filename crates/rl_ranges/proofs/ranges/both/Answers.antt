@@ -2,8 +2,8 @@ use Rattle.std.proofs.Common.{Global, Vec, ap, ap₂, arith, drop, false, length
 use Rattle.std.proofs.lemmas.Bool.{and_left, and_right}
 use Rattle.std.proofs.lemmas.List.{drop_all}
 use Rattle.rl_ranges.proofs.SetLemmas.{Above-at, Above-gap, has-nil, last_first_or-nil, left_passes, or-false, right_passes, within-empty}
-use Rattle.rl_ranges.specs.Building.{is_within, last_first_or, range_at}
-use Rattle.rl_ranges.specs.Codes.{Above, has}
+use Rattle.rl_ranges.specs.Building.{last_first_or, range_at}
+use Rattle.rl_ranges.specs.Codes.{Above, has, is_between}
 use Rattle.rl_ranges.proofs.ranges.both.Goals.{else-first-last, else-loop-i-test, then-first-last+in_ok-append, then-loop-i-test+else-j-right}
 use Rattle.rl_ranges.proofs.ranges.both.Goals as goal
 
@@ -44,7 +44,7 @@ loop-i-preserved-then-left-i c =
             | else-first-last w ↦ omega (arith, inv.begins i_in j_in, ap (λ (v : Vec (ℕ × ℕ) Global). last_first_or 0 v.items) w.ranges-is)
           ];
       members = λ x. inv.members x ∙ left_passes left right c.loop-i.ranges.items c.if-first-last.ranges.items i j x c.requires.right i_in j_in c.if-left-i.true (elim c.if-first-last.branch [
-        | then-first-last+in_ok-append w ↦ ap (λ (v : Vec (ℕ × ℕ) Global). has v.items x) w.ranges-is ∙ w.in_ok-append.ensures.members x ∙ ap₂ (λ m n. has c.loop-i.ranges.items x || is_within m n x) c.max-first.ensures c.min-last.ensures
+        | then-first-last+in_ok-append w ↦ ap (λ (v : Vec (ℕ × ℕ) Global). has v.items x) w.ranges-is ∙ w.in_ok-append.ensures.members x ∙ ap₂ (λ m n. has c.loop-i.ranges.items x || is_between m n x) c.max-first.ensures c.min-last.ensures
         | else-first-last w ↦ ap (λ (v : Vec (ℕ × ℕ) Global). has v.items x) w.ranges-is ∙ within-empty _ _ x _ (omega arith)
       ]);
     }
@@ -75,7 +75,7 @@ loop-i-preserved c =
             | else-first-last w ↦ omega (arith, inv.begins i_in j_in, ap (λ (v : Vec (ℕ × ℕ) Global). last_first_or 0 v.items) w.ranges-is)
           ];
       members = λ x. inv.members x ∙ right_passes left right c.loop-i.ranges.items c.if-first-last.ranges.items i j x c.requires.left i_in j_in (omega (arith, c.if-left-i.false)) (elim c.if-first-last.branch [
-        | then-first-last+in_ok-append w ↦ ap (λ (v : Vec (ℕ × ℕ) Global). has v.items x) w.ranges-is ∙ w.in_ok-append.ensures.members x ∙ ap₂ (λ m n. has c.loop-i.ranges.items x || is_within m n x) c.max-first.ensures c.min-last.ensures
+        | then-first-last+in_ok-append w ↦ ap (λ (v : Vec (ℕ × ℕ) Global). has v.items x) w.ranges-is ∙ w.in_ok-append.ensures.members x ∙ ap₂ (λ m n. has c.loop-i.ranges.items x || is_between m n x) c.max-first.ensures c.min-last.ensures
         | else-first-last w ↦ ap (λ (v : Vec (ℕ × ℕ) Global). has v.items x) w.ranges-is ∙ within-empty _ _ x _ (omega arith)
       ]);
     }

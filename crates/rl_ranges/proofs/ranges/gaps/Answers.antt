@@ -2,8 +2,8 @@ use Rattle.std.proofs.Common.{Global, Vec, ap, arith, inl, inr, length, ltb, not
 use Rattle.std.proofs.lemmas.Bool.{and_left, false≢true, le-ltb, lt-ltb, or_cases}
 use Rattle.std.proofs.lemmas.List.{take_all}
 use Rattle.rl_ranges.proofs.SetLemmas.{Above-at, Above-gap, gap_added, has-at, has-more, has-nil, last_first_or-nil, last_gap_added, or-false, within-true, within_tells}
-use Rattle.rl_ranges.specs.Building.{is_within, last_first_or, range_at}
-use Rattle.rl_ranges.specs.Codes.{Above, has}
+use Rattle.rl_ranges.specs.Building.{last_first_or, range_at}
+use Rattle.rl_ranges.specs.Codes.{Above, has, is_between}
 use Rattle.rl_ranges.proofs.ranges.gaps.Goals.{else-next-count, else-next-first, then-next-count+in_ok-append-2, then-next-first+in_ok-append}
 use Rattle.rl_ranges.proofs.ranges.gaps.Goals as goal
 
@@ -54,7 +54,7 @@ loop-first-preserved c =
       below = λ h. omega (arith, Above-gap 0 held i (i + 1) c.requires.held (omega arith) h);
       members = λ x. (elim c.if-next-first.branch [
         | then-next-first+in_ok-append w ↦ ap (λ (v : Vec (ℕ × ℕ) Global). has v.items x) w.ranges-is ∙ w.in_ok-append.ensures.members x
-            ∙ ap (λ b. has c.loop-first.ranges.items x || b) (sym (ap (λ b. b && is_within c.loop-first.next (r.0 - 1) x) (lt-ltb _ _ w.if-next-first.true)))
+            ∙ ap (λ b. has c.loop-first.ranges.items x || b) (sym (ap (λ b. b && is_between c.loop-first.next (r.0 - 1) x) (lt-ltb _ _ w.if-next-first.true)))
         | else-next-first w ↦ ap (λ (v : Vec (ℕ × ℕ) Global). has v.items x) w.ranges-is ∙ sym (ap (λ b. has c.loop-first.ranges.items x || b) (and_left _ _ (le-ltb _ _ w.if-next-first.false)) ∙ or-false _)
       ]) ∙ gap_added c.loop-first.next r.0 r.1 x (has c.loop-first.ranges.items x) (has (take i held) x) below filled.1 (inv.members x) (inv.behind x)
           ∙ ap (λ b. ltb x (r.1 + 1) && not b) (sym (has-more held i x i_in));
@@ -67,7 +67,7 @@ returns-clause-members c = λ x.
     let all = take_all _ held c.loop-first-test.false in
     (elim c.if-next-count.branch [
       | then-next-count+in_ok-append-2 w ↦ ap (λ (v : Vec (ℕ × ℕ) Global). has v.items x) w.ranges-is ∙ w.in_ok-append-2.ensures.members x
-          ∙ ap (λ b. has c.loop-first.ranges.items x || b) (sym (ap (λ b. b && is_within c.loop-first.next (c.args.count - 1) x) (lt-ltb _ _ w.if-next-count.true)))
+          ∙ ap (λ b. has c.loop-first.ranges.items x || b) (sym (ap (λ b. b && is_between c.loop-first.next (c.args.count - 1) x) (lt-ltb _ _ w.if-next-count.true)))
       | else-next-count w ↦ ap (λ (v : Vec (ℕ × ℕ) Global). has v.items x) w.ranges-is ∙ sym (ap (λ b. has c.loop-first.ranges.items x || b) (and_left _ _ (le-ltb _ _ w.if-next-count.false)) ∙ or-false _)
     ]) ∙ last_gap_added c.loop-first.next c.args.count x (has c.loop-first.ranges.items x) (has (take c.loop-first.first-index held) x) inv.next_in (inv.members x) (inv.behind x)
     ∙ ap (λ l. ltb x c.args.count && not (has l x)) all

@@ -3,8 +3,8 @@ use Rattle.std.proofs.lemmas.Bool.{cond_both, false≢true, le-ltb, lt-ltb, or_c
 use Rattle.std.proofs.lemmas.Bool.Decides.{nat_tests}
 use Rattle.std.specs.Prelude.{if◌then◌else◌}
 use Rattle.rl_ranges.proofs.SetLemmas.{Above-at, Above-gap, has-at, has-more, has-nil, last_first_or-push, within-true, within_tells}
-use Rattle.rl_ranges.specs.Building.{is_within, last_first_or, range_at}
-use Rattle.rl_ranges.specs.Codes.{has}
+use Rattle.rl_ranges.specs.Building.{last_first_or, range_at}
+use Rattle.rl_ranges.specs.Codes.{has, is_between}
 use Rattle.rl_ranges.specs.Letters.{letter_from}
 use Rattle.rl_ranges.specs.Numbering.{Covers, ValuesBelow}
 use Rattle.rl_ranges.proofs.stretches.edges.Goals.{else-last-count, then-last-count+in_ok-put-2}
@@ -62,7 +62,7 @@ put-requires-then-last-count-clause-begins c =
 
 -- the value behind a range, and in front of it
 after_range : (first last x old count : ℕ) (t : Bool) → first ≤ last → x < count → (t ≡ true → x < first) → old ≡ (if t then 1 else 0)
-    → (if (nat_lt (last + 1) count && nat_le (last + 1) x) then 0 else (if nat_le first x then 1 else old)) ≡ (if (t || is_within first last x) then 1 else 0)
+    → (if (nat_lt (last + 1) count && nat_le (last + 1) x) then 0 else (if nat_le first x then 1 else old)) ≡ (if (t || is_between first last x) then 1 else 0)
 after_range first last x old count true filled inside behind is =
     let before = behind refl in grind (arith, nat_tests, within_tells first last x)
 after_range first last x old count false filled inside behind is = grind (arith, nat_tests, within_tells first last x)
@@ -95,7 +95,7 @@ loop-first-preserved c =
       ];
       behind = λ x h more.
           let gap = Above-gap 0 held i (i + 1) c.requires.sorted (omega arith) more in
-          elim (or_cases (has (take i held) x) (is_within r.0 r.1 x) (sym (has-more held i x i_in) ∙ h)) [
+          elim (or_cases (has (take i held) x) (is_between r.0 r.1 x) (sym (has-more held i x i_in) ∙ h)) [
             | inl before ↦ let b = inv.behind x before i_in in omega arith
             | inr here ↦ grind (arith, within_tells r.0 r.1 x)
           ];
