@@ -1,6 +1,13 @@
 pub mod RowsLemmas
 pub mod AutomatonLemmas
 mod WorkedMoves
+pub mod GuardLemmas
+pub mod WidthLemmas
+pub mod AttemptLemmas
+pub mod EnterLemmas
+pub mod PlanLemmas
+pub mod InsideLemmas
+pub mod BuildLemmas
 pub mod ItemLemmas
 pub mod TraceLemmas
 pub mod MatchLemmas

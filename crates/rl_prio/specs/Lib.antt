@@ -5,3 +5,7 @@ pub mod Rows
 pub mod Automaton
 pub mod Walk
 pub mod StandsFor
+pub mod GuardSets
+pub mod Errors
+pub mod Attempts
+pub mod Plans

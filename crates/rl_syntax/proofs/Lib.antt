@@ -1,2 +1,8 @@
 pub mod RunLaws
+pub mod TreeSizes
+pub mod PartSizes
+pub mod TreeJoins
+pub mod PartJoins
+pub mod BodyOver
+pub mod SetTests
 mod Rows

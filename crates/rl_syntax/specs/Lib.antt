@@ -6,6 +6,7 @@ pub mod Cost
 pub mod PatTree
 pub mod IsPattern
 pub mod Lowering
+pub mod Counting
 pub mod Modes
 pub mod Family
 pub mod Pattern

@@ -4,22 +4,28 @@
 pub mod anchors;
 pub mod feature;
 pub mod laws;
+pub mod lowering;
 pub mod pat;
 pub mod pattern;
 pub mod re;
+pub mod sizes;
 pub mod span;
 pub mod verdict;
 
 pub use anchors::{AnchorKind, Guard, Trail};
 pub use feature::Feature;
+pub use lowering::lower;
 pub use pat::{Branch, Branches, Pat, Pats};
 pub use pattern::Pattern;
 pub use re::{Ending, LowerError, Lowered, Mode, Re};
 pub use rl_ranges::{
     Bytes, CodeSet, Codes, Items, Members, Named, OutOfMemory, Path, Places, Ranks, Universe, Word,
 };
+pub use sizes::size_after;
 pub use span::{Span, Spans};
 pub use verdict::{Family, Limit, Suggestion, Texts, Verdict};
 
+#[cfg(test)]
+mod lowering_tests;
 #[cfg(test)]
 mod tests;

@@ -1,0 +1,8 @@
+-- What the codes left make of the part is the count of the whole text.
+use Rattle.std.proofs.Common.{◌≡◌, drop}
+use Rattle.rl_pattern.specs.Codes.{least_of}
+use Rattle.rl_pattern.specs.Views.{part_rest}
+use Rattle.rl_pattern.proofs.count.count_of.Given as goal
+
+abbrev pub invariant-loop-code : goal.invariant-loop-code
+invariant-loop-code l = part_rest l.part (drop l.code-index l.text) ≡ least_of 0 l.text

@@ -1,0 +1,7 @@
+-- The letters' step is that of the head, in text or not.
+use Rattle.std.proofs.Common.{sym, ap, ◌∙◌}
+use Rattle.rl_pattern.specs.Machine.{head_step}
+use Rattle.rl_pattern.proofs.head.head_step.Goals as goal
+
+pub returns-in-LettersOn : goal.returns-in-LettersOn
+returns-in-LettersOn c = c.letters_next.ensures c.args.text ∙ sym (ap (λ h. head_step c.args.text h c.args.code) c.in-LettersOn.is)

@@ -1,0 +1,10 @@
+pub mod Tree
+pub mod Codes
+pub mod Grammar
+pub mod Machine
+pub mod Viable
+pub mod Found
+pub mod Views
+pub mod Answers
+pub mod Plain
+pub mod Parsed

@@ -1,0 +1,34 @@
+-- Which codes begin a spelled pattern, and where a group opens too deep.
+use Rattle.std.specs.Prelude.{◌≡◌, ℕ, suc, ◌<◌, ◌≤◌, Bool, true, List, ◌++◌, length, take}
+use Rattle.rl_pattern.specs.declared.flags.Flags.{Flags}
+use Rattle.rl_pattern.specs.Tree.{Kind, Node, Branch, Front, Whole}
+use Rattle.rl_pattern.specs.Codes.{inside, splits}
+use Rattle.rl_pattern.specs.Grammar.{At, Quest, Opening, Items, IsBranches, Fronts, outermost, Spells}
+
+-- some codes more make a spelled pattern of these
+abbrev pub Begins : Flags → Bool → List ℕ → Type 0
+Begins call text u = (rest : List ℕ) × (p : Whole) × Spells call text (u ++ rest) p
+
+-- n is the length of the longest prefix of the codes that begins a spelled pattern
+pub record Viable (call : Flags) (text : Bool) (w : List ℕ) (n : ℕ) : Type 0 where
+  pub within : n ≤ length w
+  pub begins : Begins call text (take n w)
+  pub longest : (m : ℕ) → n < m → m ≤ length w → ¬ Begins call text (take m w)
+
+module _ (text : Bool) (w : List ℕ) where
+  -- the first branches of a body from i on, the last of them open at j
+  pub data Part (kd : Kind) (fl : Flags) : ℕ → ℕ → Type 0 where
+    part_first : {i j : ℕ} {ps : List Node} → Items text w fl i j ps → Part kd fl i j
+    part_next : {i j k : ℕ} {bs : List Branch} {ps : List Node} → IsBranches text w kd fl i j bs → At text w j 124 → splits kd bs ≡ true → Items text w fl (suc j) k ps → Part kd fl i k
+
+  -- at k, between items, so many groups are open, the innermost of this kind and with these flags inside
+  pub data Open (call : Flags) : Kind → Flags → ℕ → ℕ → Type 0 where
+    none_open : {i k : ℕ} {fl : Flags} {gs : List Front} → Fronts text w call i fl gs → Part outermost fl i k → Open call outermost fl k 0
+    one_open : {j k l d : ℕ} {kd outer : Kind} {fl : Flags} → Open call outer fl k d → Opening text w k j kd → Part kd (inside kd fl) j l → Open call kd (inside kd fl) l (suc d)
+
+-- the code at p opens a group while 100 are open, by the codes up to p; a (?# and a (?P= open none
+pub record TooDeepAt (call : Flags) (text : Bool) (w : List ℕ) (p : ℕ) : Type 0 where
+  pub opens : At text w p 40
+  pub no_remark : ¬ (Quest text w p × At text w (suc (suc p)) 35)
+  pub no_reference : ¬ (Quest text w p × At text w (suc (suc p)) 80 × At text w (suc (suc (suc p))) 61)
+  pub deep : (kd : Kind) × (fl : Flags) × Open text (take (suc p) w) call kd fl p 100

@@ -1,0 +1,67 @@
+//! Counts in braces.
+
+ghost use Rattle.std.specs.Prelude.{◌≡◌};
+ghost use Rattle.rl_pattern.specs.Codes.{count_of};
+ghost use Rattle.rl_pattern.specs.Views.{part_next};
+
+use crate::escape::with_digit;
+use crate::lex::CountPart;
+use crate::tree::Count;
+
+/// The count with one code more, if it goes on.
+fn count_next(part: CountPart, code: u32) -> Option<CountPart>
+    ensures { result ≡ part_next part code }
+{
+    let digit = code.saturating_sub(48);
+    match part {
+        CountPart::Least(least) => {
+            if code == 44 {
+                Some(CountPart::Upper(least))
+            } else {
+                Some(CountPart::Least(with_digit(10, least, digit)))
+            }
+        }
+        CountPart::Upper(least) => {
+            if code == 44 {
+                None
+            } else {
+                Some(CountPart::Most(least, with_digit(10, 0, digit)))
+            }
+        }
+        CountPart::Most(least, most) => {
+            if code == 44 {
+                None
+            } else {
+                Some(CountPart::Most(least, with_digit(10, most, digit)))
+            }
+        }
+    }
+}
+
+/// The count that a text of digits and commas spells between braces, if it does.
+#[tactic(auto, unfolding(crate::specs::Codes::count_of))]
+pub(crate) fn count_of(text: &[u32]) -> Option<Count>
+    ensures { result ≡ count_of text.now }
+{
+    if text.is_empty() {
+        return None;
+    }
+    let mut part = CountPart::Least(0);
+    for code in text {
+        match count_next(part, *code) {
+            None => return None,
+            Some(next) => part = next,
+        }
+    }
+    match part {
+        CountPart::Least(least) => Some(Count {
+            least,
+            most: Some(least),
+        }),
+        CountPart::Upper(least) => Some(Count { least, most: None }),
+        CountPart::Most(least, most) => Some(Count {
+            least,
+            most: Some(most),
+        }),
+    }
+}

@@ -1,0 +1,161 @@
+//! The reader within an escape.
+
+ghost use Rattle.std.specs.Prelude.{◌≡◌, ℕ};
+ghost use Rattle.rl_pattern.specs.Codes.{with_digit, code_of, octal_code, hex_code, is_kind};
+ghost use Rattle.rl_pattern.specs.Machine.{escape_first, escape_next, escape_rest, hex_next, octal_next, low_next, high_next, two_next};
+
+use crate::codes::{hex, numeral};
+use crate::lex::{Answer, InEscape, Numeral, Slashed};
+use crate::tree::Escaped;
+
+/// A number in a base, and one digit more.
+pub(crate) fn with_digit(base: u32, number: u32, digit: u32) -> u32
+    ensures { result ≡ with_digit base number digit }
+{
+    number.saturating_mul(base).saturating_add(digit)
+}
+
+/// A number as a code, which is at most the greatest.
+fn code_of(greatest: u32, number: u32) -> Escaped
+    ensures { result ≡ code_of greatest number }
+{
+    if number <= greatest {
+        Escaped::Code(number)
+    } else {
+        Escaped::TooLarge
+    }
+}
+
+/// The code of an octal number.
+fn octal_code(number: u32) -> Escaped
+    ensures { result ≡ octal_code number }
+{
+    code_of(255, number)
+}
+
+/// The code of a number in hexadecimal digits.
+fn hex_code(number: u32) -> Escaped
+    ensures { result ≡ hex_code number }
+{
+    code_of(0x10FFFF, number)
+}
+
+/// Whether it is a named class.
+pub(crate) fn is_kind(escaped: Escaped) -> bool
+    ensures { result ≡ is_kind escaped }
+{
+    match escaped {
+        Escaped::Kind(_, _) => true,
+        Escaped::Code(_) | Escaped::TooLarge | Escaped::ByName | Escaped::Reference => false,
+    }
+}
+
+/// The code behind the backslash.
+pub(crate) fn escape_first(slashed: Slashed) -> Answer<InEscape, Escaped>
+    ensures { result ≡ escape_first slashed }
+{
+    match slashed {
+        Slashed::Single(code) => Answer::Ends(Escaped::Code(code)),
+        Slashed::Kinds(named, negated) => Answer::Ends(Escaped::Kind(named, negated)),
+        Slashed::Hexes(count) => Answer::Goes(InEscape::InHex(count, 0)),
+        Slashed::Naming => Answer::Goes(InEscape::NameBrace),
+        Slashed::Octal(digit) => Answer::Goes(InEscape::InOctal(2, digit)),
+        Slashed::Low(digit) => Answer::Goes(InEscape::AfterLow(digit)),
+        Slashed::High => Answer::Goes(InEscape::AfterHigh),
+        Slashed::Edges(_) | Slashed::NoEscape => Answer::Stops,
+    }
+}
+
+/// A digit after hexadecimal digits, of which so many are still to come.
+fn hex_next(still: u32, value: u32, digit: Option<u32>) -> Answer<InEscape, Escaped>
+    ensures { result ≡ hex_next still value digit }
+{
+    match digit {
+        None => Answer::Stops,
+        Some(digit) => {
+            let value = with_digit(16, value, digit);
+            if still == 1 {
+                Answer::Ends(hex_code(value))
+            } else {
+                Answer::Goes(InEscape::InHex(still.saturating_sub(1), value))
+            }
+        }
+    }
+}
+
+/// A code after octal digits, of which so many may still come.
+fn octal_next(still: u32, value: u32, next: Numeral) -> Answer<InEscape, Escaped>
+    ensures { result ≡ octal_next still value next }
+{
+    match next {
+        Numeral::LowDigit(digit) => {
+            let value = with_digit(8, value, digit);
+            if still == 1 {
+                Answer::Ends(octal_code(value))
+            } else {
+                Answer::Goes(InEscape::InOctal(still.saturating_sub(1), value))
+            }
+        }
+        Numeral::HighDigit | Numeral::NoDigit => Answer::Stops,
+    }
+}
+
+/// The next code of an escape.
+pub(crate) fn escape_next(within: InEscape, code: u32) -> Answer<InEscape, Escaped>
+    ensures { result ≡ escape_next within code }
+{
+    match within {
+        InEscape::InHex(still, value) => hex_next(still, value, hex(code)),
+        InEscape::NameBrace => {
+            if code == 123 {
+                Answer::Goes(InEscape::NameBegins)
+            } else {
+                Answer::Stops
+            }
+        }
+        InEscape::NameBegins => {
+            if code == 125 {
+                Answer::Stops
+            } else {
+                Answer::Goes(InEscape::NameGoes)
+            }
+        }
+        InEscape::NameGoes => {
+            if code == 125 {
+                Answer::Ends(Escaped::ByName)
+            } else {
+                Answer::Goes(InEscape::NameGoes)
+            }
+        }
+        InEscape::InOctal(still, value) => octal_next(still, value, numeral(code)),
+        InEscape::AfterLow(value) => match numeral(code) {
+            Numeral::LowDigit(digit) => {
+                Answer::Goes(InEscape::AfterTwo(with_digit(8, value, digit)))
+            }
+            Numeral::HighDigit => Answer::Ends(Escaped::Reference),
+            Numeral::NoDigit => Answer::Stops,
+        },
+        InEscape::AfterHigh => match numeral(code) {
+            Numeral::LowDigit(_) | Numeral::HighDigit => Answer::Ends(Escaped::Reference),
+            Numeral::NoDigit => Answer::Stops,
+        },
+        InEscape::AfterTwo(value) => match numeral(code) {
+            Numeral::LowDigit(digit) => Answer::Ends(octal_code(with_digit(8, value, digit))),
+            Numeral::HighDigit | Numeral::NoDigit => Answer::Stops,
+        },
+    }
+}
+
+/// What an escape is where the next code doesn't go on with it.
+pub(crate) fn escape_rest(within: InEscape) -> Option<Escaped>
+    ensures { result ≡ escape_rest within }
+{
+    match within {
+        InEscape::InHex(_, _) | InEscape::NameBrace | InEscape::NameBegins | InEscape::NameGoes =>
+            None,
+        InEscape::InOctal(_, value) => Some(octal_code(value)),
+        InEscape::AfterLow(_) | InEscape::AfterHigh | InEscape::AfterTwo(_) => {
+            Some(Escaped::Reference)
+        }
+    }
+}

@@ -1,0 +1,308 @@
+//! What is refused in a tree: the first fault by its place, and of two at one place by the order of features.
+
+ghost use Rattle.std.specs.Prelude.{◌≡◌, ℕ, Bool, List, map, ◌||◌, ◌&&◌};
+ghost use Rattle.rl_pattern.specs.Views.{node_of, branch_of};
+ghost use Rattle.rl_pattern.specs.Tree as t;
+ghost use Rattle.rl_pattern.specs.Found as f;
+
+use crate::flags::{Flags, joined};
+use crate::tree::{Branch, Count, Escaped, Front, Greed, Kind, Leaf, Mark, Member, Node};
+use rl_syntax::{Feature, Span};
+
+/// A feature at a place that is refused.
+#[derive(Clone, Copy)]
+pub(crate) struct Fault {
+    /// The place.
+    pub(crate) place: u32,
+    /// The feature.
+    pub(crate) what: Feature,
+}
+
+/// The place of a feature in the order of features.
+fn rank(what: Feature) -> u32
+    ensures { result ≡ f.rank what }
+{
+    match what {
+        Feature::Locale => 0,
+        Feature::FlagClash => 1,
+        Feature::DuplicateName => 2,
+        Feature::CodeTooLarge => 3,
+        Feature::ReversedRange => 4,
+        Feature::RepeatTooLarge => 5,
+        Feature::RepeatOrder => 6,
+        Feature::Possessive => 7,
+        Feature::Backreference => 8,
+        Feature::Lookaround => 9,
+        Feature::Conditional => 10,
+        Feature::Atomic => 11,
+        Feature::NamedEscape => 12,
+        Feature::InnerAnchor => 13,
+    }
+}
+
+/// Whether the first fault comes first.
+fn comes_first(first: Fault, second: Fault) -> bool
+    ensures { result ≡ f.comes_first first second }
+{
+    first.place < second.place
+        || first.place == second.place && rank(first.what) <= rank(second.what)
+}
+
+/// The first of two faults, if there is one.
+pub(crate) fn earlier(first: Option<Fault>, second: Option<Fault>) -> Option<Fault>
+    ensures { result ≡ f.earlier first second }
+{
+    match first {
+        None => second,
+        Some(a) => match second {
+            None => Some(a),
+            Some(b) => { if comes_first(a, b) { Some(a) } else { Some(b) } }
+        },
+    }
+}
+
+/// A fault where there is one.
+fn fault_if(found: bool, place: u32, what: Feature) -> Option<Fault>
+    ensures { result ≡ f.first_fault (f.fault_if found place what) }
+{
+    if found {
+        Some(Fault { place, what })
+    } else {
+        None
+    }
+}
+
+/// The fault of a code or escape at a place.
+fn escaped_fault(place: u32, escaped: Escaped) -> Option<Fault>
+    ensures { result ≡ f.first_fault (f.escaped_faults place escaped) }
+{
+    match escaped {
+        Escaped::Code(_) | Escaped::Kind(_, _) => None,
+        Escaped::TooLarge => Some(Fault {
+            place,
+            what: Feature::CodeTooLarge,
+        }),
+        Escaped::ByName => Some(Fault {
+            place,
+            what: Feature::NamedEscape,
+        }),
+        Escaped::Reference => Some(Fault {
+            place,
+            what: Feature::Backreference,
+        }),
+    }
+}
+
+/// Whether a range has its greater code first.
+fn reversed(first: Escaped, last: Escaped) -> bool
+    ensures { result ≡ f.reversed first last }
+{
+    match first {
+        Escaped::Code(c) => match last {
+            Escaped::Code(d) => d < c,
+            Escaped::TooLarge | Escaped::ByName | Escaped::Kind(_, _) | Escaped::Reference => {
+                false
+            }
+        },
+        Escaped::TooLarge | Escaped::ByName | Escaped::Kind(_, _) | Escaped::Reference => false,
+    }
+}
+
+/// The first fault of a member of a class.
+#[tactic(auto, using(crate::proofs::FirstFault::first_of_joined))]
+fn member_fault(member: Member) -> Option<Fault>
+    ensures { result ≡ f.first_fault (f.member_faults member) }
+{
+    match member {
+        Member::One(span, side) => escaped_fault(span.from, side),
+        Member::Range(span, first, last) => {
+            let turned = fault_if(reversed(first, last), span.from, Feature::ReversedRange);
+            let behind = earlier(escaped_fault(span.from, last), turned);
+            earlier(escaped_fault(span.from, first), behind)
+        }
+    }
+}
+
+/// The first fault of the members of a class.
+fn members_fault(members: &[Member]) -> Option<Fault>
+    ensures { result ≡ f.first_fault (f.members_faults members.now) }
+{
+    let mut best = None;
+    for member in members {
+        best = earlier(best, member_fault(*member));
+    }
+    best
+}
+
+/// The first fault of a node for one code.
+fn leaf_fault(span: Span, leaf: &Leaf) -> Option<Fault>
+    ensures { result ≡ f.first_fault (f.leaf_faults span leaf.now) }
+{
+    match leaf {
+        Leaf::Any => None,
+        Leaf::Glyph(escaped) => escaped_fault(span.from, *escaped),
+        Leaf::Members(_, members) => members_fault(members.as_slice()),
+    }
+}
+
+/// The fault of an anchor or a boundary.
+fn mark_fault(span: Span, flags: Flags, mark: Mark) -> Option<Fault>
+    ensures { result ≡ f.first_fault (f.mark_faults span flags mark) }
+{
+    match mark {
+        Mark::Dollar => fault_if(!flags.multiline, span.from, Feature::InnerAnchor),
+        Mark::Caret | Mark::TextStart | Mark::TextEnd | Mark::Boundary(_) => None,
+    }
+}
+
+/// The first fault of a quantifier at a place.
+#[tactic(auto, using(crate::proofs::FirstFault::first_of_joined))]
+fn count_fault(place: u32, count: Count, greed: Greed) -> Option<Fault>
+    ensures { result ≡ f.first_fault (f.count_faults place count greed) }
+{
+    let is_most = match count.most {
+        None => false,
+        Some(most) => most == u32::MAX,
+    };
+    let below_least = match count.most {
+        None => false,
+        Some(most) => most < count.least,
+    };
+    let possessive = match greed {
+        Greed::Greedy | Greed::Lazy => false,
+        Greed::Possessive => true,
+    };
+    let too_large = fault_if(
+        count.least == u32::MAX || is_most,
+        place,
+        Feature::RepeatTooLarge,
+    );
+    let order = fault_if(below_least, place, Feature::RepeatOrder);
+    let kept = fault_if(possessive, place, Feature::Possessive);
+    earlier(too_large, earlier(order, kept))
+}
+
+/// Whether letters stand on both sides of a `-`.
+fn overlap(on: Flags, off: Flags) -> bool
+    ensures { result ≡ f.overlap on off }
+{
+    on.ignore_case && off.ignore_case
+        || on.multiline && off.multiline
+        || on.dot_all && off.dot_all
+        || on.verbose && off.verbose
+}
+
+/// The first fault of a group's head at a place, in text or not, apart from its name.
+#[tactic(auto, using(crate::proofs::FirstFault::first_of_joined))]
+fn kind_fault(text: bool, place: u32, kind: &Kind) -> Option<Fault>
+    ensures { result ≡ f.first_fault (f.kind_faults text place kind.now) }
+{
+    match kind {
+        Kind::Capturing | Kind::Named(_) => None,
+        Kind::Scoped(on, off) => {
+            let locale = fault_if(on.locale, place, Feature::Locale);
+            let clash = on.unicode && (on.ascii || !text) || overlap(*on, *off);
+            earlier(locale, fault_if(clash, place, Feature::FlagClash))
+        }
+        Kind::Lookaround => Some(Fault {
+            place,
+            what: Feature::Lookaround,
+        }),
+        Kind::Atomic => Some(Fault {
+            place,
+            what: Feature::Atomic,
+        }),
+        Kind::Conditional => Some(Fault {
+            place,
+            what: Feature::Conditional,
+        }),
+    }
+}
+
+/// The first fault of a node, in text or not, apart from names that stand twice.
+#[cycle(node_fault)]
+#[tactic(auto, using(crate::proofs::FirstFault::first_of_joined))]
+pub(crate) fn node_fault(text: bool, node: &Node) -> Option<Fault>
+    ensures { result ≡ f.first_fault (f.node_faults text (node_of node.now)) }
+{
+    match node {
+        Node::Leaf(span, _, leaf) => leaf_fault(*span, leaf),
+        Node::Mark(span, flags, mark) => mark_fault(*span, *flags, *mark),
+        Node::Repeat(_, mark, count, greed, body) => {
+            let own = count_fault(mark.from, *count, *greed);
+            earlier(own, node_fault(text, body))
+        }
+        Node::Group(span, kind, body) => {
+            let own = kind_fault(text, span.from, kind);
+            earlier(own, node_fault(text, body))
+        }
+        Node::Nothing(_) => None,
+        Node::Seq(_, items) => nodes_fault(text, items.as_slice()),
+        Node::Choice(_, branches) => branches_fault(text, branches.as_slice()),
+    }
+}
+
+/// The first fault of nodes one after another.
+#[cycle(node_fault)]
+fn nodes_fault(text: bool, nodes: &[Node]) -> Option<Fault>
+    ensures { result ≡ f.first_fault (f.nodes_faults text (t.nodes (map node_of nodes.now))) }
+{
+    let mut best = None;
+    for node in nodes {
+        best = earlier(best, node_fault(text, node));
+    }
+    best
+}
+
+/// The first fault of branches.
+#[cycle(node_fault)]
+fn branches_fault(text: bool, branches: &[Branch]) -> Option<Fault>
+    ensures { result ≡ f.first_fault (f.branches_faults text (t.branches (map branch_of branches.now))) }
+{
+    let mut best = None;
+    for branch in branches {
+        best = earlier(best, node_fault(text, &branch.body));
+    }
+    best
+}
+
+/// The first fault of a front flag group under the flags before it, in text or not.
+#[tactic(auto, using(crate::proofs::FirstFault::first_of_joined))]
+fn front_fault(text: bool, flags: Flags, front: Front) -> Option<Fault>
+    ensures { result ≡ f.first_fault (f.front_own text flags front) }
+{
+    let letters = front.letters;
+    let locale = fault_if(letters.locale, front.place.from, Feature::Locale);
+    let clash = letters.ascii && (flags.unicode || letters.unicode)
+        || letters.unicode && (flags.ascii || !text);
+    earlier(
+        locale,
+        fault_if(clash, front.place.from, Feature::FlagClash),
+    )
+}
+
+/// The first fault of front flag groups under the call's flags, in text or not.
+pub(crate) fn fronts_fault(text: bool, call: Flags, fronts: &[Front]) -> Option<Fault>
+    ensures { result ≡ f.first_fault (f.front_faults text call fronts.now) }
+{
+    let mut best = None;
+    let mut flags = call;
+    for front in fronts {
+        best = earlier(best, front_fault(text, flags, *front));
+        flags = joined(flags, front.letters);
+    }
+    best
+}
+
+/// What the call's own flags are refused for, in text or not.
+pub(crate) fn refused_flags(flags: Flags, text: bool) -> Option<Feature>
+    ensures { result ≡ f.refused_flags flags text }
+{
+    if flags.locale {
+        Some(Feature::Locale)
+    } else if flags.unicode && (flags.ascii || !text) {
+        Some(Feature::FlagClash)
+    } else {
+        None
+    }
+}

@@ -1,0 +1,101 @@
+//! The flags of a pattern.
+
+ghost use Rattle.std.specs.Prelude.{◌≡◌, ◌&&◌, ◌||◌, not};
+ghost use Rattle.rl_pattern.specs.Codes.{no_flags, with_letter, joined, scoped_flags};
+
+/// The flags of a pattern, each by its letter in the Python `re` manual: `i m s x a u L`.
+#[derive(Clone, Copy, Debug, PartialEq, Eq)]
+pub struct Flags {
+    /// `i`: single codes and ranges hold every code of their kind.
+    pub ignore_case: bool,
+    /// `m`: `^` and `$` hold at the lines' ends too.
+    pub multiline: bool,
+    /// `s`: `.` holds the line feed too.
+    pub dot_all: bool,
+    /// `x`: white space and `#` comments between items are passed over.
+    pub verbose: bool,
+    /// `a`: the named classes and the boundary are those of ASCII.
+    pub ascii: bool,
+    /// `u`: the named classes and the boundary are those of Unicode, as they are in text anyway.
+    pub unicode: bool,
+    /// `L`: the locale decides, which no pattern here allows.
+    pub locale: bool,
+}
+
+/// No flag.
+pub(crate) fn no_flags() -> Flags
+    ensures { result ≡ no_flags }
+{
+    Flags {
+        ignore_case: false,
+        multiline: false,
+        dot_all: false,
+        verbose: false,
+        ascii: false,
+        unicode: false,
+        locale: false,
+    }
+}
+
+/// These letters and one more.
+#[tactic(auto, unfolding(crate::specs::Codes::with_letter))]
+pub(crate) fn with_letter(letters: Flags, code: u32) -> Flags
+    ensures { result ≡ with_letter letters code }
+{
+    Flags {
+        ignore_case: letters.ignore_case || code == 105,
+        multiline: letters.multiline || code == 109,
+        dot_all: letters.dot_all || code == 115,
+        verbose: letters.verbose || code == 120,
+        ascii: letters.ascii || code == 97,
+        unicode: letters.unicode || code == 117,
+        locale: letters.locale || code == 76,
+    }
+}
+
+/// The flags after a front flag group.
+#[tactic(auto, unfolding(crate::specs::Codes::joined))]
+pub(crate) fn joined(flags: Flags, letters: Flags) -> Flags
+    ensures { result ≡ joined flags letters }
+{
+    Flags {
+        ignore_case: flags.ignore_case || letters.ignore_case,
+        multiline: flags.multiline || letters.multiline,
+        dot_all: flags.dot_all || letters.dot_all,
+        verbose: flags.verbose || letters.verbose,
+        ascii: flags.ascii || letters.ascii,
+        unicode: flags.unicode || letters.unicode,
+        locale: flags.locale || letters.locale,
+    }
+}
+
+/// A flag in a group that may turn it on or off.
+fn turned(off: bool, on: bool, flag: bool) -> bool
+    ensures { result ≡ (not off && (on || flag)) }
+{
+    !off && (on || flag)
+}
+
+/// A flag in a group that may turn it on, or turn on another that excludes it.
+fn turned_by(on: bool, flag: bool, other: bool) -> bool
+    ensures { result ≡ (on || (flag && not other)) }
+{
+    on || flag && !other
+}
+
+/// The flags in a group with letters before and after its `-`. A letter on both sides is off, and ASCII and UNICODE turn one
+/// another off.
+#[tactic(auto, unfolding(crate::specs::Codes::scoped_flags))]
+pub(crate) fn scoped_flags(on: Flags, off: Flags, flags: Flags) -> Flags
+    ensures { result ≡ scoped_flags on off flags }
+{
+    Flags {
+        ignore_case: turned(off.ignore_case, on.ignore_case, flags.ignore_case),
+        multiline: turned(off.multiline, on.multiline, flags.multiline),
+        dot_all: turned(off.dot_all, on.dot_all, flags.dot_all),
+        verbose: turned(off.verbose, on.verbose, flags.verbose),
+        ascii: turned_by(on.ascii, flags.ascii, on.unicode),
+        unicode: turned_by(on.unicode, flags.unicode, on.ascii),
+        locale: on.locale || flags.locale,
+    }
+}

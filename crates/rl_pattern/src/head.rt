@@ -1,0 +1,193 @@
+//! The reader within the head of a group.
+
+ghost use Rattle.std.specs.Prelude.{◌≡◌, ℕ, Bool, if◌then◌else◌, nat_eq, IfOk};
+ghost use Rattle.rl_pattern.specs.Machine.{head_step, quest_next, behind_next, behind_paren};
+
+use crate::codes::{begins_name, goes_in_name, headed, is_digit, off_letter, on_letter};
+use crate::flags::{Flags, no_flags, with_letter};
+use crate::lex::{Answer, Begun, Headed, InHead};
+use crate::tree::Kind;
+use rl_lists::{Items, OutOfMemory};
+use std::alloc::Global;
+
+type HeadAnswer = Answer<InHead, Begun>;
+
+/// Whether nothing of the head was read but its parenthesis.
+pub(crate) fn behind_paren(head: &InHead) -> bool
+    ensures { result ≡ behind_paren head.now }
+{
+    match head {
+        InHead::Paren => true,
+        InHead::Quest
+        | InHead::AfterP
+        | InHead::AfterLess
+        | InHead::GroupName
+        | InHead::GroupNameGoes(_)
+        | InHead::ReferenceName
+        | InHead::ReferenceNameGoes
+        | InHead::Asks
+        | InHead::AsksDigits
+        | InHead::AsksNameGoes
+        | InHead::LettersOn(_)
+        | InHead::LettersDash(_)
+        | InHead::LettersOff(_, _) => false,
+    }
+}
+
+/// The code behind `(?`.
+fn quest_next(next: Headed, code: u32) -> HeadAnswer
+    ensures { result ≡ quest_next next code }
+{
+    match next {
+        Headed::Letter => Answer::Goes(InHead::LettersOn(with_letter(no_flags(), code))),
+        Headed::Colon => Answer::Ends(Begun::BeginsGroup(Kind::Scoped(no_flags(), no_flags()))),
+        Headed::Minus => Answer::Goes(InHead::LettersDash(no_flags())),
+        Headed::LetterP => Answer::Goes(InHead::AfterP),
+        Headed::Sharps => Answer::Ends(Begun::BeginsRemark),
+        Headed::Looks => Answer::Ends(Begun::BeginsGroup(Kind::Lookaround)),
+        Headed::Less => Answer::Goes(InHead::AfterLess),
+        Headed::Greater => Answer::Ends(Begun::BeginsGroup(Kind::Atomic)),
+        Headed::Condition => Answer::Goes(InHead::Asks),
+        Headed::NoHead => Answer::Stops,
+    }
+}
+
+/// The code behind `(?<`.
+fn behind_next(next: Headed) -> HeadAnswer
+    ensures { result ≡ behind_next next }
+{
+    match next {
+        Headed::Looks => Answer::Ends(Begun::BeginsGroup(Kind::Lookaround)),
+        Headed::Letter
+        | Headed::Colon
+        | Headed::Minus
+        | Headed::LetterP
+        | Headed::Sharps
+        | Headed::Less
+        | Headed::Greater
+        | Headed::Condition
+        | Headed::NoHead => Answer::Stops,
+    }
+}
+
+/// The code behind letters of flags.
+fn letters_next(letters: Flags, code: u32) -> HeadAnswer
+    ensures { (text : Bool) → result ≡ head_step text (InHead.LettersOn letters) code }
+{
+    if code == 58 {
+        return Answer::Ends(Begun::BeginsGroup(Kind::Scoped(letters, no_flags())));
+    }
+    if code == 41 {
+        return Answer::Ends(Begun::IsFront(letters));
+    }
+    if code == 45 {
+        return Answer::Goes(InHead::LettersDash(letters));
+    }
+    if on_letter(code) {
+        Answer::Goes(InHead::LettersOn(with_letter(letters, code)))
+    } else {
+        Answer::Stops
+    }
+}
+
+/// One answer or the other.
+fn goes_if(goes: bool, head: InHead) -> HeadAnswer
+    ensures { result ≡ (if goes then Answer.Goes head else Answer.Stops) }
+{
+    if goes {
+        Answer::Goes(head)
+    } else {
+        Answer::Stops
+    }
+}
+
+/// A code within a group's name, in text or not.
+fn group_name_next(text: bool, mut name: Items<u32>, code: u32) -> Result<HeadAnswer, OutOfMemory>
+    ensures { IfOk result (λ answer. answer ≡ head_step text (InHead.GroupNameGoes name) code) }
+{
+    if code == 62 {
+        return Ok(Answer::Ends(Begun::BeginsGroup(Kind::Named(name))));
+    }
+    if goes_in_name(text, code) {
+        name.push(code)?;
+        Ok(Answer::Goes(InHead::GroupNameGoes(name)))
+    } else {
+        Ok(Answer::Stops)
+    }
+}
+
+/// A code within what a conditional asks for.
+fn asks_next(code: u32, goes: bool, head: InHead) -> HeadAnswer
+    ensures { result ≡ (if nat_eq code 41 then Answer.Ends (Begun.BeginsGroup Kind.Conditional) else (if goes then Answer.Goes head else Answer.Stops)) }
+{
+    if code == 41 {
+        Answer::Ends(Begun::BeginsGroup(Kind::Conditional))
+    } else {
+        goes_if(goes, head)
+    }
+}
+
+/// The next code of a head, in text or not.
+pub(crate) fn head_step(
+    alloc: Global,
+    text: bool,
+    head: InHead,
+    code: u32,
+) -> Result<HeadAnswer, OutOfMemory>
+    ensures { IfOk result (λ answer. answer ≡ head_step text head code) }
+{
+    match head {
+        InHead::Paren => Ok(goes_if(code == 63, InHead::Quest)),
+        InHead::Quest => Ok(quest_next(headed(code), code)),
+        InHead::AfterP => {
+            if code == 60 {
+                Ok(Answer::Goes(InHead::GroupName))
+            } else {
+                Ok(goes_if(code == 61, InHead::ReferenceName))
+            }
+        }
+        InHead::AfterLess => Ok(behind_next(headed(code))),
+        InHead::GroupName => {
+            if begins_name(text, code) {
+                let mut name = Items::new(alloc);
+                name.push(code)?;
+                Ok(Answer::Goes(InHead::GroupNameGoes(name)))
+            } else {
+                Ok(Answer::Stops)
+            }
+        }
+        InHead::GroupNameGoes(name) => group_name_next(text, name, code),
+        InHead::ReferenceName => Ok(goes_if(begins_name(text, code), InHead::ReferenceNameGoes)),
+        InHead::ReferenceNameGoes => {
+            if code == 41 {
+                Ok(Answer::Ends(Begun::IsReference))
+            } else {
+                Ok(goes_if(goes_in_name(text, code), InHead::ReferenceNameGoes))
+            }
+        }
+        InHead::Asks => {
+            if is_digit(code) {
+                Ok(Answer::Goes(InHead::AsksDigits))
+            } else {
+                Ok(goes_if(begins_name(text, code), InHead::AsksNameGoes))
+            }
+        }
+        InHead::AsksDigits => Ok(asks_next(code, is_digit(code), InHead::AsksDigits)),
+        InHead::AsksNameGoes => Ok(asks_next(code, goes_in_name(text, code), InHead::AsksNameGoes)),
+        InHead::LettersOn(letters) => Ok(letters_next(letters, code)),
+        InHead::LettersDash(letters) => Ok(goes_if(
+            off_letter(code),
+            InHead::LettersOff(letters, with_letter(no_flags(), code)),
+        )),
+        InHead::LettersOff(letters, off) => {
+            if code == 58 {
+                Ok(Answer::Ends(Begun::BeginsGroup(Kind::Scoped(letters, off))))
+            } else {
+                Ok(goes_if(
+                    off_letter(code),
+                    InHead::LettersOff(letters, with_letter(off, code)),
+                ))
+            }
+        }
+    }
+}

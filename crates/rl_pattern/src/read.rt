@@ -1,0 +1,141 @@
+//! The reader of whole patterns.
+
+ghost use Rattle.std.specs.Prelude.{◌≡◌, ℕ, ◌<◌, ◌≤◌, ◌^◌, ◌-◌, ◌+◌, suc, length, slice_get, IfOk, option_map};
+ghost use Rattle.rl_pattern.specs.Views.{lex_of, state_of, FitsAt};
+ghost use Rattle.rl_pattern.specs.Machine.{step_at, finish_at};
+ghost use Rattle.rl_pattern.specs.Answers.{Answered, Went, Ended, is_code, opens_none, at_paren, is_too_deep};
+
+use crate::ends::{finish, start};
+use crate::flags::Flags;
+use crate::head::behind_paren;
+use crate::state::{Lex, State};
+use crate::step::step;
+use crate::tree::Whole;
+use rl_lists::OutOfMemory;
+use std::alloc::Global;
+
+/// Why codes give no tree.
+#[derive(Clone, Copy, Debug, PartialEq, Eq)]
+pub(crate) enum ReadError {
+    /// No pattern is spelled. The number is the length of the longest prefix that begins one.
+    Syntax(u32),
+    /// The code at this place opens a group while 100 are open.
+    TooDeep(u32),
+    /// Memory was refused.
+    OutOfMemory,
+}
+
+impl From<OutOfMemory> for ReadError {
+    ghost use Rattle.rl_pattern.specs.declared.read.ReadError.TheVariants as error;
+
+    ghost from_gives = { λ _ e. e ≡ error.OutOfMemory };
+
+    fn from(_: OutOfMemory) -> Self {
+        ReadError::OutOfMemory
+    }
+}
+
+/// Whether this code is at the place.
+fn is_code(codes: &[u32], place: usize, code: u32) -> bool
+    ensures { result ≡ is_code (slice_get codes.now place) code }
+{
+    match codes.get(place) {
+        None => false,
+        Some(found) => *found == code,
+    }
+}
+
+/// Whether the codes behind a parenthesis at `place` begin no group: a comment, or a reference to a name.
+fn opens_none(codes: &[u32], place: usize) -> bool
+    requires { place < 2 ^ 32 }
+    ensures { result ≡ opens_none codes.now place }
+{
+    is_code(codes, place + 1, 63)
+        && (is_code(codes, place + 2, 35)
+            || is_code(codes, place + 2, 80) && is_code(codes, place + 3, 61))
+}
+
+/// Whether the reader stands behind a parenthesis.
+fn at_paren(lex: &Lex) -> bool
+    ensures { result ≡ at_paren (lex_of lex.now) }
+{
+    match lex {
+        Lex::InHead(_, head) => behind_paren(head),
+        Lex::Between
+        | Lex::Line
+        | Lex::Remark
+        | Lex::InBraces(_, _)
+        | Lex::Counted(_, _, _, _)
+        | Lex::AtSlash(_)
+        | Lex::InEscape(_, _)
+        | Lex::SetOpen(_)
+        | Lex::InClass(_, _, _) => false,
+    }
+}
+
+/// Whether a group opens at `place` while 100 are open, by the state behind its parenthesis.
+fn is_too_deep(state: &State, codes: &[u32], place: u32) -> bool
+    ensures { result ≡ is_too_deep (state_of state.now) codes.now place }
+{
+    at_paren(&state.lex) && state.base.below.len() == 100 && !opens_none(codes, place as usize)
+}
+
+/// The state with the code at `place`.
+fn one_code(
+    alloc: Global,
+    codes: &[u32],
+    text: bool,
+    place: u32,
+    state: State,
+    code: u32,
+) -> Result<State, ReadError>
+    requires room { place < 2 ^ 32 - 1 }
+    requires fits { FitsAt (state_of state).lex place }
+    ensures { Went codes.now place (step_at text place (state_of state) code) result }
+{
+    match step(alloc, text, place, state, code)? {
+        None => Err(ReadError::Syntax(place)),
+        Some(next) => {
+            if is_too_deep(&next, codes, place) {
+                Err(ReadError::TooDeep(place))
+            } else {
+                Ok(next)
+            }
+        }
+    }
+}
+
+/// The tree where the codes end at `place`.
+fn at_end(alloc: Global, state: State, place: u32) -> Result<Whole, ReadError>
+    requires room { place < 2 ^ 32 - 1 }
+    requires fits { FitsAt (state_of state).lex place }
+    ensures { Ended place (finish_at place (state_of state)) result }
+{
+    match finish(alloc, state, place)? {
+        Some(whole) => Ok(whole),
+        None => Err(ReadError::Syntax(place)),
+    }
+}
+
+/// The tree that the codes spell under the flags, in text or in bytes.
+///
+/// # Errors
+/// [`ReadError::TooDeep`] with the first place at which a group opens while 100 are open, [`ReadError::Syntax`] with the
+/// length of the longest prefix that begins a spelled pattern where none is spelled, and [`ReadError::OutOfMemory`].
+pub(crate) fn read(
+    alloc: Global,
+    codes: &[u32],
+    flags: Flags,
+    text: bool,
+) -> Result<Whole, ReadError>
+    requires { length codes.now ≤ 10000 }
+    ensures { Answered flags text codes.now result }
+{
+    let mut state = start(alloc, flags);
+    let mut place = 0;
+    for code in codes {
+        state = one_code(alloc, codes, text, place, state, *code)?;
+        place += 1;
+    }
+    at_end(alloc, state, place)
+}

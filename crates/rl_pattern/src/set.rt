@@ -1,0 +1,228 @@
+//! The reader within a class.
+
+ghost use Rattle.std.specs.Prelude.{◌≡◌, ℕ, ◌<◌, ◌^◌, ◌-◌, IfOk};
+ghost use Rattle.rl_pattern.specs.Machine.{with_one, side_first, member_first, side_next, escape_in_set, escape_set_next, range_ends, escape_in_dash, escape_dash_next, dash_next, set_step, in_set};
+
+use crate::codes::slashed;
+use crate::escape::{escape_first, escape_next, escape_rest, is_kind};
+use crate::lex::{Answer, InEscape, InSet, Set};
+use crate::tree::{Escaped, Member};
+use rl_lists::{Items, OutOfMemory};
+use rl_syntax::Span;
+
+type SetAnswer = Answer<Set, Items<Member>>;
+
+/// The members with one side more, which is a member by itself.
+fn with_one(
+    mut before: Items<Member>,
+    from: u32,
+    upto: u32,
+    side: Escaped,
+) -> Result<Items<Member>, OutOfMemory>
+    ensures { IfOk result (λ members. members ≡ with_one before from upto side) }
+{
+    before.push(Member::One(Span { from, upto }, side))?;
+    Ok(before)
+}
+
+/// The class goes on.
+fn in_set(before: Items<Member>, part: InSet) -> SetAnswer
+    ensures { result ≡ in_set before part }
+{
+    Answer::Goes(Set { before, part })
+}
+
+/// A code that begins a member.
+fn side_first(i: u32, before: Items<Member>, code: u32) -> SetAnswer
+    ensures { result ≡ side_first i before code }
+{
+    if code == 92 {
+        in_set(before, InSet::SetSlash(i))
+    } else {
+        in_set(before, InSet::SetSide(i, Escaped::Code(code)))
+    }
+}
+
+/// A code that begins a further member, or the end.
+fn member_first(i: u32, before: Items<Member>, code: u32) -> SetAnswer
+    ensures { result ≡ member_first i before code }
+{
+    if code == 93 {
+        Answer::Ends(before)
+    } else {
+        side_first(i, before, code)
+    }
+}
+
+/// A code after a side.
+fn side_next(
+    i: u32,
+    before: Items<Member>,
+    from: u32,
+    side: Escaped,
+    code: u32,
+) -> Result<SetAnswer, OutOfMemory>
+    ensures { IfOk result (λ answer. answer ≡ side_next i before from side code) }
+{
+    if code == 45 {
+        return Ok(in_set(before, InSet::SetDash(from, i, side)));
+    }
+    Ok(member_first(i, with_one(before, from, i, side)?, code))
+}
+
+/// A range that ends at `upto`.
+fn range_ends(
+    upto: u32,
+    mut before: Items<Member>,
+    from: u32,
+    first: Escaped,
+    last: Escaped,
+) -> Result<SetAnswer, OutOfMemory>
+    ensures { IfOk result (λ answer. answer ≡ range_ends upto before from first last) }
+{
+    if is_kind(last) {
+        return Ok(Answer::Stops);
+    }
+    before.push(Member::Range(Span { from, upto }, first, last))?;
+    Ok(in_set(before, InSet::SetNext))
+}
+
+/// The code behind a backslash that begins a member.
+fn escape_in_set(before: Items<Member>, from: u32, answer: Answer<InEscape, Escaped>) -> SetAnswer
+    ensures { result ≡ escape_in_set before from answer }
+{
+    match answer {
+        Answer::Stops => Answer::Stops,
+        Answer::Goes(within) => in_set(before, InSet::SetEscape(from, within)),
+        Answer::Ends(side) => in_set(before, InSet::SetSide(from, side)),
+    }
+}
+
+/// A code within an escape that began a member.
+fn escape_set_next(
+    i: u32,
+    before: Items<Member>,
+    from: u32,
+    answer: Answer<InEscape, Escaped>,
+    rest: Option<Escaped>,
+    code: u32,
+) -> Result<SetAnswer, OutOfMemory>
+    ensures { IfOk result (λ found. found ≡ escape_set_next i before from answer rest code) }
+{
+    match answer {
+        Answer::Stops => match rest {
+            None => Ok(Answer::Stops),
+            Some(side) => side_next(i, before, from, side, code),
+        },
+        Answer::Goes(within) => Ok(in_set(before, InSet::SetEscape(from, within))),
+        Answer::Ends(side) => Ok(in_set(before, InSet::SetSide(from, side))),
+    }
+}
+
+/// The code behind a backslash after a `-`.
+fn escape_in_dash(
+    i: u32,
+    before: Items<Member>,
+    from: u32,
+    first: Escaped,
+    answer: Answer<InEscape, Escaped>,
+) -> Result<SetAnswer, OutOfMemory>
+    requires { i < 2 ^ 32 - 1 }
+    ensures { IfOk result (λ found. found ≡ escape_in_dash i before from first answer) }
+{
+    match answer {
+        Answer::Stops => Ok(Answer::Stops),
+        Answer::Goes(within) => Ok(in_set(before, InSet::DashEscape(from, first, within))),
+        Answer::Ends(last) => range_ends(i + 1, before, from, first, last),
+    }
+}
+
+/// A code within an escape after a `-`.
+fn escape_dash_next(
+    i: u32,
+    mut before: Items<Member>,
+    from: u32,
+    first: Escaped,
+    answer: Answer<InEscape, Escaped>,
+    rest: Option<Escaped>,
+    code: u32,
+) -> Result<SetAnswer, OutOfMemory>
+    requires { i < 2 ^ 32 - 1 }
+    ensures { IfOk result (λ found. found ≡ escape_dash_next i before from first answer rest code) }
+{
+    match answer {
+        Answer::Stops => match rest {
+            None => Ok(Answer::Stops),
+            Some(last) => {
+                if is_kind(last) {
+                    return Ok(Answer::Stops);
+                }
+                before.push(Member::Range(Span { from, upto: i }, first, last))?;
+                Ok(member_first(i, before, code))
+            }
+        },
+        Answer::Goes(within) => Ok(in_set(before, InSet::DashEscape(from, first, within))),
+        Answer::Ends(last) => range_ends(i + 1, before, from, first, last),
+    }
+}
+
+/// A code after a side and a `-` at `dash`.
+fn dash_next(
+    i: u32,
+    mut before: Items<Member>,
+    from: u32,
+    dash: u32,
+    first: Escaped,
+    code: u32,
+) -> Result<SetAnswer, OutOfMemory>
+    requires { i < 2 ^ 32 - 1 }
+    ensures { IfOk result (λ found. found ≡ dash_next i before from dash first code) }
+{
+    if code == 93 {
+        let before = with_one(before, from, dash, first)?;
+        return Ok(Answer::Ends(with_one(before, dash, i, Escaped::Code(45))?));
+    }
+    if is_kind(first) {
+        return Ok(Answer::Stops);
+    }
+    if code == 92 {
+        return Ok(in_set(before, InSet::DashSlash(from, first)));
+    }
+    before.push(Member::Range(Span { from, upto: i + 1 }, first, Escaped::Code(code)))?;
+    Ok(in_set(before, InSet::SetNext))
+}
+
+/// The code at `i` of a class, in text or not.
+pub(crate) fn set_step(
+    text: bool,
+    i: u32,
+    before: Items<Member>,
+    part: InSet,
+    code: u32,
+) -> Result<SetAnswer, OutOfMemory>
+    requires { i < 2 ^ 32 - 1 }
+    ensures { IfOk result (λ found. found ≡ set_step text i before part code) }
+{
+    match part {
+        InSet::SetFirst => Ok(side_first(i, before, code)),
+        InSet::SetNext => Ok(member_first(i, before, code)),
+        InSet::SetSlash(from) => {
+            let answer = escape_first(slashed(text, true, code));
+            Ok(escape_in_set(before, from, answer))
+        }
+        InSet::SetEscape(from, within) => {
+            let answer = escape_next(within, code);
+            escape_set_next(i, before, from, answer, escape_rest(within), code)
+        }
+        InSet::SetSide(from, side) => side_next(i, before, from, side, code),
+        InSet::SetDash(from, dash, first) => dash_next(i, before, from, dash, first, code),
+        InSet::DashSlash(from, first) => {
+            let answer = escape_first(slashed(text, true, code));
+            escape_in_dash(i, before, from, first, answer)
+        }
+        InSet::DashEscape(from, first, within) => {
+            let answer = escape_next(within, code);
+            escape_dash_next(i, before, from, first, answer, escape_rest(within), code)
+        }
+    }
+}

@@ -1,0 +1,380 @@
+//! The reader of patterns, one code at a time.
+
+ghost use Rattle.std.specs.Prelude.{◌≡◌, ℕ, ◌<◌, ◌^◌, ◌-◌, ◌+◌, suc, length, IfOk, option_map};
+ghost use Rattle.rl_pattern.specs.Views.{node_of, base_of, lex_of, state_of, FitsAt};
+ghost use Rattle.rl_pattern.specs.Codes.{sign, counts};
+ghost use Rattle.rl_pattern.specs.Machine as m;
+ghost use Rattle.rl_pattern.specs.Tree as t;
+
+use crate::base::{
+    close, count_last, no_count, open_group, put_code, put_front, put_item, put_leaf, put_repeat,
+    split,
+};
+use crate::codes::{counts, sign, slashed};
+use crate::count::count_of;
+use crate::escape::{escape_first, escape_next, escape_rest};
+use crate::head::{behind_paren, head_step};
+use crate::lex::{Answer, Begun, InEscape, InHead, InSet, Set, Sign, Slashed};
+use crate::set::set_step;
+use crate::state::{Base, Lex, State};
+use crate::tree::{Count, Escaped, Greed, Kind, Leaf, Mark, Member, Node};
+use rl_lists::{Items, OutOfMemory};
+use rl_syntax::Span;
+use std::alloc::Global;
+
+/// The state in the middle of something.
+fn at(base: Base, lex: Lex) -> State
+    ensures { state_of result ≡ m.at (base_of base) (lex_of lex) }
+{
+    State { base, lex }
+}
+
+/// The state between items.
+fn between(base: Base) -> Option<State>
+    ensures { option_map state_of result ≡ Some (m.at (base_of base) m.between) }
+{
+    Some(State {
+        base,
+        lex: Lex::Between,
+    })
+}
+
+/// A code that may be passed over.
+fn pass_or_put(base: Base, i: u32, code: u32, lex: Lex) -> Result<Option<State>, OutOfMemory>
+    requires { i < 2 ^ 32 - 1 }
+    ensures { IfOk result (λ found. option_map state_of found ≡ m.pass_or_put (base_of base) i code (lex_of lex)) }
+{
+    if base.top.flags.verbose {
+        return Ok(Some(at(base, lex)));
+    }
+    Ok(between(put_code(base, i, code)?))
+}
+
+/// A mark from `from` up to `upto`.
+fn put_mark(base: Base, from: u32, upto: u32, mark: Mark) -> Result<Option<State>, OutOfMemory>
+    ensures { IfOk result (λ found. option_map state_of found ≡ Some (m.at (m.put_item (base_of base) (t.mark (t.span from upto) (base_of base).top.flags mark)) m.between)) }
+{
+    let flags = base.top.flags;
+    let item = Node::Mark(Span { from, upto }, flags, mark);
+    Ok(between(put_item(base, item)?))
+}
+
+/// The code at `i`, between items.
+#[tactic(auto, unfolding(crate::specs::Machine::go_on))]
+fn go_on(alloc: Global, i: u32, base: Base, code: u32) -> Result<Option<State>, OutOfMemory>
+    requires { i < 2 ^ 32 - 1 }
+    ensures { IfOk result (λ found. option_map state_of found ≡ m.go_on i (base_of base) code) }
+{
+    match sign(code) {
+        Sign::Left => Ok(Some(at(base, Lex::InHead(i, InHead::Paren)))),
+        Sign::Right => close(alloc, base, i),
+        Sign::Bar => split(alloc, base, i),
+        Sign::Brace => Ok(Some(at(base, Lex::InBraces(i, Items::new(alloc))))),
+        Sign::Slash => Ok(Some(at(base, Lex::AtSlash(i)))),
+        Sign::Dot => Ok(between(put_leaf(base, i, i + 1, Leaf::Any)?)),
+        Sign::Bracket => Ok(Some(at(base, Lex::SetOpen(i)))),
+        Sign::Times(count) => Ok(count_last(base, i, count)),
+        Sign::Edge(mark) => put_mark(base, i, i + 1, mark),
+        Sign::Blank => pass_or_put(base, i, code, Lex::Between),
+        Sign::Sharp => pass_or_put(base, i, code, Lex::Line),
+        Sign::Plain => Ok(between(put_code(base, i, code)?)),
+    }
+}
+
+/// The `}` at `i` of a brace at `from`.
+fn end_braces(
+    i: u32,
+    base: Base,
+    from: u32,
+    text: &[u32],
+    count: Option<Count>,
+) -> Result<Option<State>, OutOfMemory>
+    requires room { i < 2 ^ 32 - 1 }
+    requires fits { i ≡ suc from + length text.now }
+    ensures { IfOk result (λ found. option_map state_of found ≡ m.end_braces i (base_of base) from text.now count) }
+{
+    match count {
+        None => {
+            let base = no_count(base, from, text)?;
+            Ok(between(put_code(base, i, 125)?))
+        }
+        Some(count) => Ok(count_last(base, from, count)),
+    }
+}
+
+/// The code at `i` after a brace at `from` and text.
+fn braces_step(
+    alloc: Global,
+    i: u32,
+    base: Base,
+    from: u32,
+    mut text: Items<u32>,
+    code: u32,
+) -> Result<Option<State>, OutOfMemory>
+    requires room { i < 2 ^ 32 - 1 }
+    requires fits { i ≡ suc from + length text }
+    ensures { IfOk result (λ found. option_map state_of found ≡ m.braces_step i (base_of base) from text code) }
+{
+    if code == 125 {
+        let count = count_of(text.as_slice());
+        return end_braces(i, base, from, text.as_slice(), count);
+    }
+    if counts(code) {
+        text.push(code)?;
+        return Ok(Some(at(base, Lex::InBraces(from, text))));
+    }
+    let base = no_count(base, from, text.as_slice())?;
+    go_on(alloc, i, base, code)
+}
+
+/// The code at `i` after the quantifier from `mark` for the atom from `from`.
+fn counted_step(
+    alloc: Global,
+    i: u32,
+    base: Base,
+    from: u32,
+    atom: Node,
+    mark: u32,
+    count: Count,
+    code: u32,
+) -> Result<Option<State>, OutOfMemory>
+    requires { i < 2 ^ 32 - 1 }
+    ensures { IfOk result (λ found. option_map state_of found ≡ m.counted_step i (base_of base) from (node_of atom) mark count code) }
+{
+    let longer = Span {
+        from: mark,
+        upto: i + 1,
+    };
+    if code == 63 {
+        let base = put_repeat(alloc, base, from, atom, longer, count, Greed::Lazy)?;
+        return Ok(between(base));
+    }
+    if code == 43 {
+        let base = put_repeat(alloc, base, from, atom, longer, count, Greed::Possessive)?;
+        return Ok(between(base));
+    }
+    let span = Span {
+        from: mark,
+        upto: i,
+    };
+    let base = put_repeat(alloc, base, from, atom, span, count, Greed::Greedy)?;
+    go_on(alloc, i, base, code)
+}
+
+/// The code at `i` behind a backslash at `from`, by what begins there.
+fn escape_begins(
+    i: u32,
+    base: Base,
+    from: u32,
+    answer: Answer<InEscape, Escaped>,
+) -> Result<Option<State>, OutOfMemory>
+    requires { i < 2 ^ 32 - 1 }
+    ensures { IfOk result (λ found. option_map state_of found ≡ m.escape_begins i (base_of base) from answer) }
+{
+    match answer {
+        Answer::Stops => Ok(None),
+        Answer::Goes(within) => Ok(Some(at(base, Lex::InEscape(from, within)))),
+        Answer::Ends(escaped) => Ok(between(put_leaf(base, from, i + 1, Leaf::Glyph(escaped))?)),
+    }
+}
+
+/// The code at `i` behind a backslash at `from`.
+fn slash_step(i: u32, base: Base, from: u32, slashed: Slashed) -> Result<Option<State>, OutOfMemory>
+    requires { i < 2 ^ 32 - 1 }
+    ensures { IfOk result (λ found. option_map state_of found ≡ m.slash_step i (base_of base) from slashed) }
+{
+    match slashed {
+        Slashed::Edges(mark) => put_mark(base, from, i + 1, mark),
+        Slashed::NoEscape => Ok(None),
+        Slashed::Single(code) => {
+            escape_begins(i, base, from, escape_first(Slashed::Single(code)))
+        }
+        Slashed::Kinds(named, negated) => {
+            escape_begins(i, base, from, escape_first(Slashed::Kinds(named, negated)))
+        }
+        Slashed::Hexes(count) => escape_begins(i, base, from, escape_first(Slashed::Hexes(count))),
+        Slashed::Naming => escape_begins(i, base, from, escape_first(Slashed::Naming)),
+        Slashed::Octal(digit) => escape_begins(i, base, from, escape_first(Slashed::Octal(digit))),
+        Slashed::Low(digit) => escape_begins(i, base, from, escape_first(Slashed::Low(digit))),
+        Slashed::High => escape_begins(i, base, from, escape_first(Slashed::High)),
+    }
+}
+
+/// The code at `i` of an escape from `from`, which may have ended before it.
+fn escape_step(
+    alloc: Global,
+    i: u32,
+    base: Base,
+    from: u32,
+    answer: Answer<InEscape, Escaped>,
+    rest: Option<Escaped>,
+    code: u32,
+) -> Result<Option<State>, OutOfMemory>
+    requires { i < 2 ^ 32 - 1 }
+    ensures { IfOk result (λ found. option_map state_of found ≡ m.escape_step i (base_of base) from answer rest code) }
+{
+    match answer {
+        Answer::Stops => match rest {
+            None => Ok(None),
+            Some(escaped) => {
+                let base = put_leaf(base, from, i, Leaf::Glyph(escaped))?;
+                go_on(alloc, i, base, code)
+            }
+        },
+        Answer::Goes(within) => Ok(Some(at(base, Lex::InEscape(from, within)))),
+        Answer::Ends(escaped) => Ok(between(put_leaf(base, from, i + 1, Leaf::Glyph(escaped))?)),
+    }
+}
+
+/// A head from `from` up to `upto`, by what it begins.
+fn begin(
+    alloc: Global,
+    base: Base,
+    from: u32,
+    upto: u32,
+    begun: Begun,
+) -> Result<Option<State>, OutOfMemory>
+    ensures { IfOk result (λ found. option_map state_of found ≡ m.begin (base_of base) from upto begun) }
+{
+    match begun {
+        Begun::BeginsGroup(kind) => Ok(between(open_group(alloc, base, from, upto, kind)?)),
+        Begun::BeginsRemark => Ok(Some(at(base, Lex::Remark))),
+        Begun::IsReference => {
+            let leaf = Leaf::Glyph(Escaped::Reference);
+            Ok(between(put_leaf(base, from, upto, leaf)?))
+        }
+        Begun::IsFront(letters) => put_front(base, from, upto, letters),
+    }
+}
+
+/// The code at `i` that doesn't go on with a head from `from`.
+fn head_stops(
+    alloc: Global,
+    i: u32,
+    base: Base,
+    from: u32,
+    opens: bool,
+    code: u32,
+) -> Result<Option<State>, OutOfMemory>
+    requires { i < 2 ^ 32 - 1 }
+    ensures { IfOk result (λ found. option_map state_of found ≡ m.head_stops i (base_of base) from opens code) }
+{
+    if !opens {
+        return Ok(None);
+    }
+    let base = open_group(alloc, base, from, i, Kind::Capturing)?;
+    go_on(alloc, i, base, code)
+}
+
+/// The code at `i` of a head from `from`.
+fn in_head_step(
+    alloc: Global,
+    text: bool,
+    i: u32,
+    base: Base,
+    from: u32,
+    head: InHead,
+    code: u32,
+) -> Result<Option<State>, OutOfMemory>
+    requires { i < 2 ^ 32 - 1 }
+    ensures { IfOk result (λ found. option_map state_of found ≡ m.head_answer i (base_of base) from head (m.head_step text head code) code) }
+{
+    let opens = behind_paren(&head);
+    match head_step(alloc, text, head, code)? {
+        Answer::Stops => head_stops(alloc, i, base, from, opens, code),
+        Answer::Goes(head) => Ok(Some(at(base, Lex::InHead(from, head)))),
+        Answer::Ends(begun) => begin(alloc, base, from, i + 1, begun),
+    }
+}
+
+/// The code at `i` of a class from `from`, by what it is to the class.
+fn set_answer(
+    i: u32,
+    base: Base,
+    from: u32,
+    inverse: bool,
+    answer: Answer<Set, Items<Member>>,
+) -> Result<Option<State>, OutOfMemory>
+    requires { i < 2 ^ 32 - 1 }
+    ensures { IfOk result (λ found. option_map state_of found ≡ m.set_answer i (base_of base) from inverse answer) }
+{
+    match answer {
+        Answer::Stops => Ok(None),
+        Answer::Goes(set) => Ok(Some(at(base, Lex::InClass(from, inverse, set)))),
+        Answer::Ends(members) => {
+            let leaf = Leaf::Members(inverse, members);
+            Ok(between(put_leaf(base, from, i + 1, leaf)?))
+        }
+    }
+}
+
+/// The code at `i` behind a bracket at `from`.
+fn set_opens(
+    alloc: Global,
+    text: bool,
+    i: u32,
+    base: Base,
+    from: u32,
+    code: u32,
+) -> Result<Option<State>, OutOfMemory>
+    requires { i < 2 ^ 32 - 1 }
+    ensures { IfOk result (λ found. option_map state_of found ≡ m.set_opens text i (base_of base) from code) }
+{
+    if code == 94 {
+        let set = Set {
+            before: Items::new(alloc),
+            part: InSet::SetFirst,
+        };
+        return Ok(Some(at(base, Lex::InClass(from, true, set))));
+    }
+    let answer = set_step(text, i, Items::new(alloc), InSet::SetFirst, code)?;
+    set_answer(i, base, from, false, answer)
+}
+
+/// The state with the code at `i`, in text or not, if a pattern goes on so.
+pub(crate) fn step(
+    alloc: Global,
+    text: bool,
+    i: u32,
+    state: State,
+    code: u32,
+) -> Result<Option<State>, OutOfMemory>
+    requires room { i < 2 ^ 32 - 1 }
+    requires fits { FitsAt (state_of state).lex i }
+    ensures { IfOk result (λ found. option_map state_of found ≡ m.step_at text i (state_of state) code) }
+{
+    let State { base, lex } = state;
+    match lex {
+        Lex::Between => go_on(alloc, i, base, code),
+        Lex::Line => {
+            if code == 10 {
+                Ok(between(base))
+            } else {
+                Ok(Some(at(base, Lex::Line)))
+            }
+        }
+        Lex::Remark => {
+            if code == 41 {
+                Ok(between(base))
+            } else {
+                Ok(Some(at(base, Lex::Remark)))
+            }
+        }
+        Lex::InBraces(from, text) => braces_step(alloc, i, base, from, text, code),
+        Lex::Counted(from, atom, mark, count) => {
+            counted_step(alloc, i, base, from, atom, mark, count, code)
+        }
+        Lex::AtSlash(from) => slash_step(i, base, from, slashed(text, false, code)),
+        Lex::InEscape(from, within) => {
+            let answer = escape_next(within, code);
+            escape_step(alloc, i, base, from, answer, escape_rest(within), code)
+        }
+        Lex::InHead(from, head) => in_head_step(alloc, text, i, base, from, head, code),
+        Lex::SetOpen(from) => set_opens(alloc, text, i, base, from, code),
+        Lex::InClass(from, inverse, set) => {
+            let Set { before, part } = set;
+            let answer = set_step(text, i, before, part, code)?;
+            set_answer(i, base, from, inverse, answer)
+        }
+    }
+}

@@ -1,0 +1,269 @@
+-- Lemmas on the lists of a tree as the program makes them: part by part, with the guards of an item as a set.
+use Rattle.std.proofs.Common.{◌≡◌, ℕ, suc, ◌+◌, ◌-◌, ◌<◌, ◌≤◌, ◌⊎◌, inl, inr, Bool, true, false, List, [], ◌∷◌, ◌++◌, length, map, get_or, refl, sym, ap, ap₂, subst, ◌∙◌, append_assoc, arith, length-append}
+use Rattle.std.proofs.lemmas.Bool.{cases_lt}
+use Rattle.std.proofs.lemmas.List.{append-nil, length-map, map-append, ext_get_or, get_or-append_right, get_or_append_left, get_or-map}
+use Rattle.rl_syntax.specs.declared.anchors.Guard.{Guard}
+use Rattle.rl_syntax.specs.Tree.{Tree, empty, one, guard, both, either, many, places}
+use Rattle.rl_syntax.specs.Run.{one_more}
+use Rattle.rl_prio.specs.Items.{Item, test_at, pass, guarded, all_guarded, replaced, first}
+use Rattle.rl_prio.specs.GuardSets.{no_guards, only, joined, guard_set}
+use Rattle.rl_prio.specs.Attempts.{attempt, attempts, behind, onward, ends_replaced, followed, lists_of, widest, width_of, AreReplaced, AreEntered, AreShort, IsTooWide}
+use Rattle.rl_prio.specs.declared.build.attempts.Attempt.{Attempt}
+use Rattle.rl_prio.specs.declared.build.attempts.Attempt.TheVariants.{Test, End}
+use Rattle.rl_prio.proofs.GuardLemmas.{guard_set-append, joined-none, only-joined}
+use Rattle.rl_prio.proofs.WidthLemmas.{widest-within, widest-at, widest-all, widest-left, length-lists_of, length-followed, get_or-followed, width-both_left, width-both_right, width-either_left, width-either_right, width-many}
+
+-- ---- items as attempts
+
+attempt-guarded : (gs : List Guard) (m : Item) → attempt (guarded gs m) ≡ behind (guard_set gs) (attempt m)
+attempt-guarded gs (test_at hs p) = ap (λ x. Test x p) (guard_set-append gs hs)
+attempt-guarded gs (pass hs) = ap End (guard_set-append gs hs)
+
+attempts-guarded : (gs : List Guard) (l : List Item) → attempts (all_guarded gs l) ≡ map (behind (guard_set gs)) (attempts l)
+attempts-guarded gs [] = refl
+attempts-guarded gs (m ∷ l) = ap₂ (λ x y. x ∷ y) (attempt-guarded gs m) (attempts-guarded gs l)
+
+pub attempts-replaced : (l m : List Item) → attempts (replaced l m) ≡ ends_replaced (attempts l) (attempts m)
+attempts-replaced [] m = refl
+attempts-replaced (test_at gs p ∷ l) m = ap (λ x. Test (guard_set gs) p ∷ x) (attempts-replaced l m)
+attempts-replaced (pass gs ∷ l) m =
+    map-append attempt (all_guarded gs m) (replaced l m) ∙ ap₂ (λ x y. x ++ y) (attempts-guarded gs m) (attempts-replaced l m)
+
+attempts-followed : (ls : List (List Item)) (m : List Item) → map attempts (followed ls m) ≡ map (λ l. ends_replaced l (attempts m)) (map attempts ls)
+attempts-followed [] m = refl
+attempts-followed (l ∷ ls) m = ap₂ (λ x y. x ∷ y) (attempts-replaced l m) (attempts-followed ls m)
+
+attempts-one_more : (greedy : Bool) (l : List Item) → attempts (one_more greedy (pass []) l) ≡ one_more greedy (End no_guards) (attempts l)
+attempts-one_more true l = map-append attempt l (pass [] ∷ [])
+attempts-one_more false l = refl
+
+behind-none_one : (a : Attempt) → behind no_guards a ≡ a
+behind-none_one (Test gs p) = ap (λ x. Test x p) (joined-none gs)
+behind-none_one (End gs) = ap End (joined-none gs)
+
+pub behind-none : (l : List Attempt) → map (behind no_guards) l ≡ l
+behind-none [] = refl
+behind-none (a ∷ l) = ap₂ (λ x y. x ∷ y) (behind-none_one a) (behind-none l)
+
+pub length-attempts : (l : List Item) → length (attempts l) ≡ length l
+length-attempts l = length-map l attempt
+
+-- ---- replaced lists, part by part
+
+pub replaced_parts : (further : List Attempt) (xs ys zs old new : List (List Attempt)) (from to : ℕ) → AreReplaced further from to old new
+    → old ≡ (xs ++ ys) ++ zs → from ≡ length xs → to ≡ length xs + length ys → new ≡ (xs ++ map (λ l. ends_replaced l further) ys) ++ zs
+replaced_parts further xs ys zs old new from to r is from_is to_is =
+    let f : List Attempt → List Attempt = λ l. ends_replaced l further in
+    let size_old : length old ≡ length xs + length ys + length zs = omega (arith, ap length is, length-append (xs ++ ys) zs, length-append xs ys) in
+    let size_ys : length (map f ys) ≡ length ys = length-map ys f in
+    let size_front : length (xs ++ map f ys) ≡ to = omega (arith, length-append xs (map f ys)) in
+    let size_old_front : length (xs ++ ys) ≡ to = omega (arith, length-append xs ys) in
+    ext_get_or [] new ((xs ++ map f ys) ++ zs)
+    (omega (arith, r.same_count, length-append (xs ++ map f ys) zs))
+    (λ i lt. elim (cases_lt i to) [
+      | inr le ↦
+          r.outside i (inr le) ∙ ap (λ l. get_or l i []) is
+          ∙ get_or-append_right (xs ++ ys) zs to i [] size_old_front le
+          ∙ sym (get_or-append_right (xs ++ map f ys) zs to i [] size_front le)
+      | inl below ↦
+          let in_front : i < length (xs ++ map f ys) = omega arith in
+          let in_old : i < length (xs ++ ys) = omega arith in
+          let old_is : get_or old i [] ≡ get_or (xs ++ ys) i [] = ap (λ l. get_or l i []) is ∙ get_or_append_left (xs ++ ys) zs [] i in_old in
+          elim (cases_lt i from) [
+            | inl early ↦
+                let here : i < length xs = omega arith in
+                r.outside i (inl early) ∙ old_is ∙ get_or_append_left xs ys [] i here
+                ∙ sym (get_or_append_left (xs ++ map f ys) zs [] i in_front ∙ get_or_append_left xs (map f ys) [] i here)
+            | inr late ↦
+                let here : i - from < length ys = omega arith in
+                r.inside i late below ∙ ap f (old_is ∙ get_or-append_right xs ys from i [] (sym from_is) late)
+                ∙ sym (get_or-map f ys (i - from) [] [] here)
+                ∙ sym (get_or_append_left (xs ++ map f ys) zs [] i in_front ∙ get_or-append_right xs (map f ys) from i [] (sym from_is) late)
+          ]
+    ])
+
+-- lists of 256 items at most
+short_part : (ls : List (List Item)) (old zs new : List (List Attempt)) (to : ℕ) → new ≡ (old ++ map attempts ls) ++ zs → to ≡ length old + length ls
+    → AreShort (length old) to new → widest ls ≤ 256
+short_part ls old zs new to is to_is short =
+    widest-all ls 256 (λ k lt.
+    let size : length (map attempts ls) ≡ length ls = length-map ls attempts in
+    let in_front : length old + k < length (old ++ map attempts ls) = omega (arith, length-append old (map attempts ls)) in
+    let back : (length old + k) - length old ≡ k = omega arith in
+    let at : get_or new (length old + k) [] ≡ attempts (get_or ls k []) =
+    ap (λ l. get_or l (length old + k) []) is
+    ∙ get_or_append_left (old ++ map attempts ls) zs [] (length old + k) in_front
+    ∙ get_or-append_right old (map attempts ls) (length old) (length old + k) [] refl (omega arith)
+    ∙ ap (λ j. get_or (map attempts ls) j []) back
+    ∙ get_or-map attempts ls k [] [] lt in
+    omega (arith, ap length at, length-attempts (get_or ls k []), short (length old + k) (omega arith) (omega arith)))
+
+-- a list that would be longer
+wide_part : (ls : List (List Item)) (m : List Item) (old zs lists : List (List Attempt)) (k : ℕ) → lists ≡ (old ++ map attempts ls) ++ zs
+    → length old ≤ k → k < length old + length ls → 256 < length (ends_replaced (get_or lists k []) (attempts m)) → 256 < widest (followed ls m)
+wide_part ls m old zs lists k is from to over =
+    let size : length (map attempts ls) ≡ length ls = length-map ls attempts in
+    let in_front : k < length (old ++ map attempts ls) = omega (arith, length-append old (map attempts ls)) in
+    let here : k - length old < length ls = omega arith in
+    let at : get_or lists k [] ≡ attempts (get_or ls (k - length old) []) =
+    ap (λ l. get_or l k []) is
+    ∙ get_or_append_left (old ++ map attempts ls) zs [] k in_front
+    ∙ get_or-append_right old (map attempts ls) (length old) k [] refl from
+    ∙ get_or-map attempts ls (k - length old) [] [] here in
+    let same : ends_replaced (get_or lists k []) (attempts m) ≡ attempts (get_or (followed ls m) (k - length old) []) =
+    ap (λ l. ends_replaced l (attempts m)) at ∙ sym (attempts-replaced (get_or ls (k - length old) []) m)
+    ∙ ap attempts (sym (get_or-followed ls m (k - length old) here)) in
+    omega (
+      arith,
+      ap length same,
+      length-attempts (get_or (followed ls m) (k - length old) []),
+      widest-at (followed ls m) (k - length old) (omega (arith, length-followed ls m)),
+    )
+
+-- ---- the lists of a tree from those of its parts
+
+module _ (e : Tree) (old mid : List (List Attempt)) (l1 : List Attempt) (h : AreEntered e old mid l1) where
+  size_after : length mid ≡ length old + places e
+  size_after =
+      omega (arith, ap length h.lists, length-append old (map attempts (lists_of e (length old))), length-map (lists_of e (length old)) attempts, length-lists_of e (length old))
+
+  size_lists : length mid ≡ length old + length (lists_of e (length old))
+  size_lists = omega (arith, size_after, length-lists_of e (length old))
+
+  module _ (f : Tree) (mid2 : List (List Attempt)) (l2 : List Attempt) (k : AreEntered f mid mid2 l2) where
+    further_is : l2 ≡ attempts (first f (length old + places e))
+    further_is = k.entering ∙ ap (λ b. attempts (first f b)) size_after
+
+    parts_are : mid2 ≡ (old ++ map attempts (lists_of e (length old))) ++ map attempts (lists_of f (length old + places e))
+    parts_are = k.lists ∙ ap₂ (λ x b. x ++ map attempts (lists_of f b)) h.lists size_after
+
+    short_second : widest (lists_of f (length old + places e)) ≤ 256
+    short_second = let s = subst (λ b. width_of f b ≤ 256) size_after k.short in omega (arith, s)
+
+    list_is : ends_replaced l1 l2 ≡ attempts (first (both e f) (length old))
+    list_is = ap₂ ends_replaced h.entering further_is ∙ sym (attempts-replaced (first e (length old)) (first f (length old + places e)))
+
+    pub entered-both : (new : List (List Attempt)) (list : List Attempt) → list ≡ ends_replaced l1 l2 → length list ≤ 256
+        → AreReplaced l2 (length old) (length mid) mid2 new → AreShort (length old) (length mid) new → AreEntered (both e f) old new list
+    entered-both new list is short r shorts =
+        let b = length old in
+        let m = first f (b + places e) in
+        let ls = lists_of e b in
+        let zs = map attempts (lists_of f (b + places e)) in
+        let all : list ≡ attempts (first (both e f) b) = is ∙ list_is in
+        let size : length mid ≡ b + length (map attempts ls) = omega (arith, size_lists, length-map ls attempts) in
+        let new_is : new ≡ (old ++ map attempts (followed ls m)) ++ zs =
+        replaced_parts l2 old (map attempts ls) zs mid2 new b (length mid) r parts_are refl size
+        ∙ ap (λ x. (old ++ x) ++ zs) (ap (λ x. map (λ l. ends_replaced l x) (map attempts ls)) further_is ∙ sym (attempts-followed ls m)) in
+        record {
+          entering = all;
+          lists = new_is ∙ append_assoc old (map attempts (followed ls m)) zs ∙ ap (λ x. old ++ x) (sym (map-append attempts (followed ls m) (lists_of f (b + places e))));
+          short =
+              let first_short : length (first (both e f) b) ≤ 256 = omega (arith, ap length all, length-attempts (first (both e f) b)) in
+              let front_short : widest (followed ls m) ≤ 256 =
+              short_part (followed ls m) old zs new (length mid) new_is (omega (arith, size_lists, length-followed ls m)) shorts in
+              omega (arith, first_short, widest-within (followed ls m) (lists_of f (b + places e)) 256 front_short short_second);
+        }
+
+    pub wide-both : IsTooWide l1 l2 (length old) (length mid) mid2 → 256 < width_of (both e f) (length old)
+    wide-both (inl over) = omega (arith, ap length list_is, length-attempts (first (both e f) (length old)))
+    wide-both (inr w) =
+        let b = length old in
+        let m = first f (b + places e) in
+        let ls = lists_of e b in
+        let over = subst (λ x. 256 < length (ends_replaced (get_or mid2 w.0 []) x)) further_is w.3 in
+        let wide : 256 < widest (followed ls m) =
+        wide_part ls m old (map attempts (lists_of f (b + places e))) mid2 w.0 parts_are w.1 (omega (arith, w.2, size_lists)) over in
+        omega (arith, wide, widest-left (followed ls m) (lists_of f (b + places e)))
+
+    pub entered-either : (list : List Attempt) → list ≡ l1 ++ l2 → length list ≤ 256 → AreEntered (either e f) old mid2 list
+    entered-either list is short =
+        let b = length old in
+        let all : list ≡ attempts (first (either e f) b) =
+        is ∙ ap₂ (λ x y. x ++ y) h.entering further_is ∙ sym (map-append attempt (first e b) (first f (b + places e))) in
+        record {
+          entering = all;
+          lists = parts_are ∙ append_assoc old (map attempts (lists_of e b)) (map attempts (lists_of f (b + places e)))
+              ∙ ap (λ x. old ++ x) (sym (map-append attempts (lists_of e b) (lists_of f (b + places e))));
+          short =
+              let first_short : length (first (either e f) b) ≤ 256 = omega (arith, ap length all, length-attempts (first (either e f) b)) in
+              let front_short : widest (lists_of e b) ≤ 256 = omega (arith, h.short) in
+              omega (arith, first_short, widest-within (lists_of e b) (lists_of f (b + places e)) 256 front_short short_second);
+        }
+
+    pub wide-either : 256 < length (l1 ++ l2) → 256 < width_of (either e f) (length old)
+    wide-either over =
+        let b = length old in
+        let all : l1 ++ l2 ≡ attempts (first (either e f) b) =
+        ap₂ (λ x y. x ++ y) h.entering further_is ∙ sym (map-append attempt (first e b) (first f (b + places e))) in
+        omega (arith, ap length all, length-attempts (first (either e f) b))
+
+  pub wide-both_right : (f : Tree) → 256 < width_of f (length mid) → 256 < width_of (both e f) (length old)
+  wide-both_right f over = omega (arith, subst (λ b. 256 < width_of f b) size_after over, width-both_right e f (length old))
+
+  pub wide-either_right : (f : Tree) → 256 < width_of f (length mid) → 256 < width_of (either e f) (length old)
+  wide-either_right f over = omega (arith, subst (λ b. 256 < width_of f b) size_after over, width-either_right e f (length old))
+
+  module _ (greedy : Bool) where
+    more_is : one_more greedy (End no_guards) l1 ≡ attempts (first (many e greedy) (length old))
+    more_is = ap (one_more greedy (End no_guards)) h.entering ∙ sym (attempts-one_more greedy (first e (length old)))
+
+    part_is : mid ≡ (old ++ map attempts (lists_of e (length old))) ++ []
+    part_is = h.lists ∙ sym (append-nil (old ++ map attempts (lists_of e (length old))))
+
+    pub entered-many : (new : List (List Attempt)) (list : List Attempt) → list ≡ one_more greedy (End no_guards) l1 → length list ≤ 256
+        → AreReplaced (one_more greedy (End no_guards) l1) (length old) (length mid) mid new → AreShort (length old) (length mid) new → AreEntered (many e greedy) old new list
+    entered-many new list is short r shorts =
+        let b = length old in
+        let m = first (many e greedy) b in
+        let ls = lists_of e b in
+        let all : list ≡ attempts m = is ∙ more_is in
+        let size : length mid ≡ b + length (map attempts ls) = omega (arith, size_lists, length-map ls attempts) in
+        let new_is : new ≡ (old ++ map attempts (followed ls m)) ++ [] =
+        replaced_parts (one_more greedy (End no_guards) l1) old (map attempts ls) [] mid new b (length mid) r part_is refl size
+        ∙ ap (λ x. (old ++ x) ++ []) (ap (λ x. map (λ l. ends_replaced l x) (map attempts ls)) more_is ∙ sym (attempts-followed ls m)) in
+        record {
+          entering = all;
+          lists = new_is ∙ append-nil (old ++ map attempts (followed ls m));
+          short =
+              let first_short : length m ≤ 256 = omega (arith, ap length all, length-attempts m) in
+              let front_short : widest (followed ls m) ≤ 256 =
+              short_part (followed ls m) old [] new (length mid) new_is (omega (arith, size_lists, length-followed ls m)) shorts in
+              omega (arith, first_short, front_short);
+        }
+
+    pub wide-many : (256 < length (one_more greedy (End no_guards) l1)) ⊎ IsTooWide [] (one_more greedy (End no_guards) l1) (length old) (length mid) mid
+        → 256 < width_of (many e greedy) (length old)
+    wide-many (inl over) = omega (arith, ap length more_is, length-attempts (first (many e greedy) (length old)))
+    wide-many (inr (inl over)) = absurd (omega arith)
+    wide-many (inr (inr w)) =
+        let b = length old in
+        let m = first (many e greedy) b in
+        let ls = lists_of e b in
+        let over = subst (λ x. 256 < length (ends_replaced (get_or mid w.0 []) x)) more_is w.3 in
+        let wide : 256 < widest (followed ls m) = wide_part ls m old [] mid w.0 part_is w.1 (omega (arith, w.2, size_lists)) over in
+        omega (arith, wide)
+
+pub wide-both_left : (e f : Tree) (b : ℕ) → 256 < width_of e b → 256 < width_of (both e f) b
+wide-both_left e f b over = omega (arith, width-both_left e f b)
+
+pub wide-either_left : (e f : Tree) (b : ℕ) → 256 < width_of e b → 256 < width_of (either e f) b
+wide-either_left e f b over = omega (arith, width-either_left e f b)
+
+pub wide-many_body : (e : Tree) (greedy : Bool) (b : ℕ) → 256 < width_of e b → 256 < width_of (many e greedy) b
+wide-many_body e greedy b over = omega (arith, width-many e greedy b)
+
+pub entered-guard : (g : Guard) (old : List (List Attempt)) (list : List Attempt) → list ≡ End (only g) ∷ [] → AreEntered (guard g) old old list
+entered-guard g old list is = record {
+  entering = is ∙ ap (λ x. End x ∷ []) (sym (only-joined g));
+  lists = sym (append-nil old);
+  short = omega arith;
+}
+
+-- what holds of lists and places holds of equal ones
+pub moved_to : (P : List Attempt → List Attempt → ℕ → ℕ → Type 0) {s1 l1 s2 l2 : List Attempt} {i a j b : ℕ} → s1 ≡ l1 → s2 ≡ l2 → i ≡ a → j ≡ b → P s1 s2 i j → P l1 l2 a b
+moved_to P {s1 = s1} {l1 = l1} {s2 = s2} {l2 = l2} {i = i} {a = a} {j = j} {b = b} p q r s h =
+    subst (λ x. P l1 l2 a x) s (subst (λ x. P l1 l2 x j) r (subst (λ x. P l1 x i j) q (subst (λ x. P x s2 i j) p h)))
+
+pub entered-short : (t : Tree) (old new : List (List Attempt)) (list : List Attempt) → AreEntered t old new list → length list ≤ 256
+entered-short t old new list h = omega (arith, h.short, ap length h.entering, length-attempts (first t (length old)))

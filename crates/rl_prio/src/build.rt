@@ -1,0 +1,154 @@
+//! How the automaton of a tree is built.
+
+ghost use Rattle.std.specs.Prelude.{◌≡◌, ℕ, ◌<◌, ◌≤◌, ◌++◌, [], true, All, IfOk, IfErr, OnOk, length, map};
+ghost use Rattle.rl_ranges.specs.Codes.{has, IsInside};
+ghost use Rattle.rl_ranges.specs.Letters.{IsLetters, alike, classes};
+ghost use Rattle.rl_ranges.specs.Text.{code_count};
+ghost use Rattle.rl_syntax.specs.Tree.{tree_of, size, guard_sets, IsOver};
+ghost use Rattle.rl_prio.specs.Items.{longest};
+ghost use Rattle.rl_prio.specs.Letters.{all_sets, letters};
+
+mod attempts;
+mod codes;
+mod guards;
+mod lists;
+mod plan;
+mod sets;
+
+use crate::build::attempts::ListError;
+use crate::build::plan::Plan;
+use crate::build::sets::{add_guard_sets, add_sets};
+use crate::error::PrioError;
+use crate::prio::Prio;
+use rl_lists::OutOfMemory;
+use rl_ranges::{CodeSet, Letters, LettersError, Universe};
+use rl_syntax::{Ending, Re};
+use std::alloc::Global;
+
+impl From<LettersError> for PrioError {
+    ghost use Rattle.std.specs.Prelude.{◌≡◌};
+    ghost use Rattle.rl_prio.specs.Errors.{letters_error};
+
+    ghost from_gives = { λ x e. e ≡ letters_error x };
+
+    fn from(error: LettersError) -> Self {
+        match error {
+            LettersError::TooMany => PrioError::Letters,
+            LettersError::OutOfMemory => PrioError::OutOfMemory,
+        }
+    }
+}
+
+impl From<ListError> for PrioError {
+    ghost use Rattle.std.specs.Prelude.{◌≡◌};
+    ghost use Rattle.rl_prio.specs.Errors.{list_error};
+
+    ghost from_gives = { λ x e. e ≡ list_error x };
+
+    fn from(error: ListError) -> Self {
+        match error {
+            ListError::TooLong => PrioError::Moves,
+            ListError::OutOfMemory => PrioError::OutOfMemory,
+        }
+    }
+}
+
+/// Adds the sets that tell the codes of a tree apart: the tree's own, and those that its guards name.
+///
+/// # Errors
+/// [`OutOfMemory`] where there was no memory for them.
+pub fn add_letter_sets(alloc: Global, tree: &Re, sets: &mut Vec<CodeSet>) -> Result<(), OutOfMemory>
+    ensures sets { OnOk result
+        (map has sets.new.items ≡ map has sets.old.items ++ all_sets (tree_of tree.now)) }
+    ensures inside { OnOk result ((u : Universe) → IsOver u (tree_of tree.now)
+        → All (IsInside u) sets.old.items → All (IsInside u) sets.new.items) }
+{
+    add_sets(tree, sets)?;
+    add_guard_sets(alloc, tree, sets)?;
+    Ok(())
+}
+
+/// The kinds of a tree: the letters of the sets that its guards name. There are at most four.
+///
+/// # Errors
+/// [`OutOfMemory`] where there was no memory for them.
+fn kinds(alloc: Global, tree: &Re, universe: Universe) -> Result<Letters, OutOfMemory>
+    requires { IsOver universe (tree_of tree.now) }
+    ensures { IfOk result
+        (λ table. IsLetters table (guard_sets (tree_of tree.now)) (code_count universe)) }
+{
+    let mut sets = Vec::new(alloc);
+    add_guard_sets(alloc, tree, &mut sets)?;
+    match Letters::of(alloc, &sets, universe) {
+        Ok(kinds) => Ok(kinds),
+        Err(LettersError::OutOfMemory) => Err(OutOfMemory),
+        Err(LettersError::TooMany) => unreachable!(),
+    }
+}
+
+impl Prio {
+    ghost use Rattle.rl_prio.specs.StandsFor.{StandsFor, StandsOver};
+
+    /// The automaton of a tree and an ending, over the letters of the universe that the tree's sets tell apart.
+    ///
+    /// # Errors
+    /// [`PrioError::Letters`] exactly where there are more than 128 letters, [`PrioError::Moves`] exactly where there are no
+    /// more and a list of items has more than 256, [`PrioError::OutOfMemory`] where there was no memory for the automaton.
+    pub fn build(
+        alloc: Global,
+        tree: &Re,
+        ending: Ending,
+        universe: Universe,
+    ) -> Result<Prio, PrioError>
+        requires small { size (tree_of tree.now) ≤ 4000 }
+        requires inside { IsOver universe (tree_of tree.now) }
+        ensures ok { IfOk result (λ a. StandsFor a (tree_of tree.now) ending) }
+        ensures codes { IfOk result (λ a. a.table.codes ≡ code_count universe) }
+        ensures within { OnOk result
+            ((length (letters (tree_of tree.now) (code_count universe)) ≤ 128) × (longest (tree_of tree.now) ≤ 256)) }
+        ensures letters { IfErr result (λ e. e ≡ PrioError.Letters
+            → 128 < length (letters (tree_of tree.now) (code_count universe))) }
+        ensures moves { IfErr result (λ e. e ≡ PrioError.Moves
+            → (length (letters (tree_of tree.now) (code_count universe)) ≤ 128) × (256 < longest (tree_of tree.now))) }
+    {
+        let mut sets = Vec::new(alloc);
+        add_letter_sets(alloc, tree, &mut sets)?;
+        Prio::build_over(alloc, tree, ending, universe, &sets)
+    }
+
+    /// The automaton of a tree and an ending, over the letters of the universe that given sets tell apart. They tell apart at
+    /// least what the sets of the tree and those that its guards name do.
+    ///
+    /// # Errors
+    /// [`PrioError::Letters`] exactly where there are more than 128 letters, [`PrioError::Moves`] exactly where there are no
+    /// more and a list of items has more than 256, [`PrioError::OutOfMemory`] where there was no memory for the automaton.
+    pub fn build_over(
+        alloc: Global,
+        tree: &Re,
+        ending: Ending,
+        universe: Universe,
+        sets: &Vec<CodeSet>,
+    ) -> Result<Prio, PrioError>
+        requires small { size (tree_of tree.now) ≤ 4000 }
+        requires inside { IsOver universe (tree_of tree.now) }
+        requires sets_inside { All (IsInside universe) sets.now.items }
+        requires finer { (c d : ℕ) → alike (map has sets.now.items) c d ≡ true
+            → alike (all_sets (tree_of tree.now)) c d ≡ true }
+        ensures ok { IfOk result
+            (λ a. StandsOver a (tree_of tree.now) ending (map has sets.now.items)) }
+        ensures codes { IfOk result (λ a. a.table.codes ≡ code_count universe) }
+        ensures within { OnOk result
+            ((length (classes (map has sets.now.items) (code_count universe)) ≤ 128) × (longest (tree_of tree.now) ≤ 256)) }
+        ensures letters { IfErr result (λ e. e ≡ PrioError.Letters
+            → 128 < length (classes (map has sets.now.items) (code_count universe))) }
+        ensures moves { IfErr result (λ e. e ≡ PrioError.Moves
+            → (length (classes (map has sets.now.items) (code_count universe)) ≤ 128) × (256 < longest (tree_of tree.now))) }
+    {
+        let letters = Letters::of(alloc, sets, universe)?;
+        let kinds = kinds(alloc, tree, universe)?;
+        let plan = Plan::new(alloc, tree, &letters, &kinds, ending)?;
+        let rows = plan.rows(alloc)?;
+        let states = plan.states() as u32;
+        Ok(Prio::from_parts(letters, states, rows))
+    }
+}

@@ -1,0 +1,172 @@
+//! Lists of attempts.
+
+ghost use Rattle.std.specs.Prelude.{◌≡◌, ℕ, ◌<◌, ◌≤◌, ◌+◌, ◌++◌, ◌∷◌, [], List, map, length, IfOk, IfErr, OnOk, slice_index_or};
+ghost use Rattle.rl_prio.specs.Attempts.{behind, onward, ends_replaced, AreReplaced, AreShort};
+
+use crate::build::guards::Guards;
+use rl_lists::{Items, OutOfMemory};
+use std::alloc::Global;
+
+/// How many items there may be in a list.
+const MAX_ITEMS: usize = 256;
+
+/// Why there is no list.
+#[derive(Clone, Copy, Debug, PartialEq, Eq)]
+pub(crate) enum ListError {
+    /// It would have more than 256 items.
+    TooLong,
+    /// Memory was refused.
+    OutOfMemory,
+}
+
+impl From<OutOfMemory> for ListError {
+    ghost use Rattle.std.specs.Prelude.{◌≡◌};
+    ghost use Rattle.rl_prio.specs.declared.build.attempts.ListError.TheVariants as error;
+
+    ghost from_gives = { λ _ e. e ≡ error.OutOfMemory };
+
+    fn from(_: OutOfMemory) -> Self {
+        ListError::OutOfMemory
+    }
+}
+
+/// What is tried: after guards the test of a place, or the end.
+#[derive(Clone, Copy)]
+pub(crate) enum Attempt {
+    /// The test of a place.
+    Test(Guards, usize),
+    /// The end.
+    End(Guards),
+}
+
+/// A list of attempts, in the order in which they are made.
+pub(crate) type AttemptList = Items<Attempt>;
+
+impl Attempt {
+    /// The attempt with more guards in front.
+    pub(crate) fn behind(self, guards: Guards) -> Attempt
+        ensures { result ≡ behind guards self }
+    {
+        match self {
+            Attempt::Test(own, place) => Attempt::Test(guards.join(own), place),
+            Attempt::End(own) => Attempt::End(guards.join(own)),
+        }
+    }
+}
+
+/// The list of one attempt.
+///
+/// # Errors
+/// [`OutOfMemory`] where there was no memory for it.
+pub(crate) fn single(alloc: Global, attempt: Attempt) -> Result<AttemptList, OutOfMemory>
+    ensures { IfOk result (λ l. l ≡ attempt ∷ []) }
+{
+    Items::from_slice(alloc, &[attempt])
+}
+
+/// Puts an attempt behind the last one.
+///
+/// # Errors
+/// [`ListError::TooLong`] exactly where the list is full, [`ListError::OutOfMemory`] where there was no memory for it.
+fn put(list: &mut AttemptList, attempt: Attempt) -> Result<(), ListError>
+    ensures put { OnOk result (list.new ≡ list.old ++ attempt ∷ []) }
+    ensures short { OnOk result (length list.new ≤ 256) }
+    ensures moves { IfErr result (λ e. e ≡ ListError.TooLong → 256 ≤ length list.old) }
+{
+    if list.len() >= MAX_ITEMS {
+        return Err(ListError::TooLong);
+    }
+    list.push(attempt)?;
+    Ok(())
+}
+
+/// Puts further attempts behind the last one, each with the guards in front.
+///
+/// # Errors
+/// [`ListError::TooLong`] exactly where there would be more than 256, [`ListError::OutOfMemory`] where there was no memory for
+/// them.
+pub(crate) fn put_behind(
+    list: &mut AttemptList,
+    guards: Guards,
+    further: &[Attempt],
+) -> Result<(), ListError>
+    ensures put { OnOk result (list.new ≡ list.old ++ map (behind guards) further.now) }
+    ensures short { OnOk result (length list.old ≤ 256 → length list.new ≤ 256) }
+    ensures moves { IfErr result (λ e. e ≡ ListError.TooLong
+        → 256 < length list.old + length further.now) }
+{
+    for attempt in further {
+        put(list, attempt.behind(guards))?;
+    }
+    Ok(())
+}
+
+/// Puts an attempt behind the last one, an end replaced by further attempts.
+///
+/// # Errors
+/// [`ListError::TooLong`] exactly where there would be more than 256, [`ListError::OutOfMemory`] where there was no memory for
+/// them.
+fn put_onward(
+    list: &mut AttemptList,
+    attempt: Attempt,
+    further: &[Attempt],
+) -> Result<(), ListError>
+    ensures put { OnOk result (list.new ≡ list.old ++ onward further.now attempt) }
+    ensures short { OnOk result (length list.old ≤ 256 → length list.new ≤ 256) }
+    ensures moves { IfErr result (λ e. e ≡ ListError.TooLong
+        → 256 < length list.old + length (onward further.now attempt)) }
+{
+    match attempt {
+        Attempt::Test(_, _) => put(list, attempt),
+        Attempt::End(guards) => put_behind(list, guards, further),
+    }
+}
+
+/// The attempts with each end replaced by further ones.
+///
+/// # Errors
+/// [`ListError::TooLong`] exactly where there would be more than 256, [`ListError::OutOfMemory`] where there was no memory for
+/// them.
+#[tactic(auto, using(crate::proofs::AttemptLemmas::onward_front, crate::proofs::AttemptLemmas::onward_more))]
+pub(crate) fn with_ends_replaced(
+    alloc: Global,
+    attempts: &[Attempt],
+    further: &[Attempt],
+) -> Result<AttemptList, ListError>
+    ensures ok { IfOk result (λ l. l ≡ ends_replaced attempts.now further.now) }
+    ensures short { IfOk result (λ l. length l ≤ 256) }
+    ensures moves { IfErr result (λ e. e ≡ ListError.TooLong
+        → 256 < length (ends_replaced attempts.now further.now)) }
+{
+    let mut list = Items::new(alloc);
+    for attempt in attempts {
+        put_onward(&mut list, *attempt, further)?;
+    }
+    Ok(list)
+}
+
+/// Replaces each end in the lists from one place to another.
+///
+/// # Errors
+/// [`ListError::TooLong`] only where a list would have more than 256 attempts, [`ListError::OutOfMemory`] where there was no
+/// memory for them.
+pub(crate) fn replace_ends(
+    alloc: Global,
+    lists: &mut Vec<AttemptList>,
+    from: usize,
+    to: usize,
+    further: &[Attempt],
+) -> Result<(), ListError>
+    requires in_order { from ≤ to }
+    requires in_lists { to ≤ length lists.old.items }
+    ensures ok { OnOk result (AreReplaced further.now from to lists.old.items lists.new.items) }
+    ensures short { OnOk result (AreShort from to lists.new.items) }
+    ensures moves { IfErr result (λ e. e ≡ ListError.TooLong → (k : ℕ) × (from ≤ k) × (k < to)
+        × (256 < length (ends_replaced (slice_index_or lists.old.items k []) further.now))) }
+{
+    for place in from..to {
+        let list = with_ends_replaced(alloc, lists[place].as_slice(), further)?;
+        lists[place] = list;
+    }
+    Ok(())
+}

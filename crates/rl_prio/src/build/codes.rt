@@ -1,0 +1,151 @@
+//! What the codes that stand for letters show.
+
+ghost use Rattle.std.specs.Prelude.{◌≡◌, ℕ, ◌<◌, ◌++◌, ◌∷◌, [], true, false, None, Some, All, map, OnOk, IfOk};
+ghost use Rattle.rl_ranges.specs.Codes.{has};
+ghost use Rattle.rl_ranges.specs.Letters.{letter_at};
+ghost use Rattle.rl_syntax.specs.Guards.{is_word};
+ghost use Rattle.rl_syntax.specs.Tree.{tree_of, sets_in};
+ghost use Rattle.rl_prio.specs.GuardSets.{shown};
+
+use crate::build::guards::{Shown, Words};
+use rl_lists::{Items, OutOfMemory};
+use rl_ranges::{CodeSet, Letters};
+use rl_syntax::Re;
+use std::alloc::Global;
+
+/// The codes that stand for the letters, in order.
+///
+/// # Errors
+/// [`OutOfMemory`] where there was no memory for them.
+pub(crate) fn samples(alloc: Global, letters: &Letters) -> Result<Vec<u32>, OutOfMemory>
+    ensures { IfOk result (λ codes. codes.items ≡ letters.now.samples) }
+{
+    let mut codes = Vec::new(alloc);
+    for letter in 0..letters.count() {
+        codes.push(letters.sample(letter))?;
+    }
+    Ok(codes)
+}
+
+/// The kind of each code.
+///
+/// # Errors
+/// [`OutOfMemory`] where there was no memory for them.
+pub(crate) fn kinds_of(
+    alloc: Global,
+    kinds: &Letters,
+    codes: &[u32],
+) -> Result<Vec<u32>, OutOfMemory>
+    requires { All (λ c. c < kinds.now.codes) codes.now }
+    ensures { IfOk result (λ list. list.items ≡ map (letter_at kinds.now) codes.now) }
+{
+    let mut list = Vec::new(alloc);
+    for code in codes {
+        list.push(kinds.letter_of(*code))?;
+    }
+    Ok(list)
+}
+
+/// Whether the set holds each code.
+///
+/// # Errors
+/// [`OutOfMemory`] where there was no memory for the answers.
+fn members_of(alloc: Global, set: &CodeSet, codes: &[u32]) -> Result<Items<bool>, OutOfMemory>
+    ensures { IfOk result (λ list. list ≡ map (has set.now) codes.now) }
+{
+    let mut list = Items::new(alloc);
+    for code in codes {
+        list.push(set.contains(*code))?;
+    }
+    Ok(list)
+}
+
+/// Puts a list behind the last one.
+///
+/// # Errors
+/// [`OutOfMemory`] where there was no memory for it.
+fn put(lists: &mut Vec<Items<bool>>, list: Items<bool>) -> Result<(), OutOfMemory>
+    ensures { OnOk result (lists.new.items ≡ lists.old.items ++ list ∷ []) }
+{
+    lists.push(list)?;
+    Ok(())
+}
+
+/// Adds for each set of a tree, from left to right, whether it holds each code.
+///
+/// # Errors
+/// [`OutOfMemory`] where there was no memory for the answers.
+pub(crate) fn add_members(
+    alloc: Global,
+    tree: &Re,
+    codes: &[u32],
+    members: &mut Vec<Items<bool>>,
+) -> Result<(), OutOfMemory>
+    ensures { OnOk result (members.new.items
+        ≡ members.old.items ++ map (λ set. map set codes.now) (sets_in (tree_of tree.now))) }
+{
+    match tree {
+        Re::Empty | Re::Guard(_) => Ok(()),
+        Re::One(set) => put(members, members_of(alloc, set, codes)?),
+        Re::Both(first, second) | Re::Either(first, second) => {
+            add_members(alloc, first, codes, members)?;
+            add_members(alloc, second, codes, members)
+        }
+        Re::Many(body, _) => add_members(alloc, body, codes, members),
+    }
+}
+
+/// Adds what each code shows.
+///
+/// # Errors
+/// [`OutOfMemory`] where there was no memory for it.
+fn add_shown(words: &Words, codes: &[u32], list: &mut Vec<Shown>) -> Result<(), OutOfMemory>
+    requires all { (c : ℕ) → has words.now.all c ≡ is_word false c }
+    requires ascii { (c : ℕ) → has words.now.ascii c ≡ is_word true c }
+    ensures { OnOk result
+        (list.new.items ≡ list.old.items ++ map (λ c. shown (Some c)) codes.now) }
+{
+    for code in codes {
+        list.push(words.shown(*code))?;
+    }
+    Ok(())
+}
+
+/// What is shown before the start, and by each code.
+///
+/// # Errors
+/// [`OutOfMemory`] where there was no memory for it.
+pub(crate) fn shown_before(
+    alloc: Global,
+    words: &Words,
+    codes: &[u32],
+) -> Result<Vec<Shown>, OutOfMemory>
+    requires all { (c : ℕ) → has words.now.all c ≡ is_word false c }
+    requires ascii { (c : ℕ) → has words.now.ascii c ≡ is_word true c }
+    ensures { IfOk result
+        (λ list. list.items ≡ shown None ∷ map (λ c. shown (Some c)) codes.now) }
+{
+    let mut list = Vec::from_slice(alloc, &[Shown::nothing()])?;
+    add_shown(words, codes, &mut list)?;
+    Ok(list)
+}
+
+/// What is shown by each code, and by the end letter.
+///
+/// # Errors
+/// [`OutOfMemory`] where there was no memory for it.
+pub(crate) fn shown_next(
+    alloc: Global,
+    words: &Words,
+    codes: &[u32],
+) -> Result<Vec<Shown>, OutOfMemory>
+    requires all { (c : ℕ) → has words.now.all c ≡ is_word false c }
+    requires ascii { (c : ℕ) → has words.now.ascii c ≡ is_word true c }
+    ensures { IfOk result
+        (λ list. list.items ≡ map (λ c. shown (Some c)) codes.now ++ shown None ∷ []) }
+{
+    let mut list = Vec::new(alloc);
+    add_shown(words, codes, &mut list)?;
+    list.push(Shown::nothing())?;
+    Ok(list)
+}

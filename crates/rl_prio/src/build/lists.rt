@@ -1,0 +1,164 @@
+//! The item lists of a tree.
+
+ghost use Rattle.std.specs.Prelude.{◌≡◌, ℕ, ◌<◌, ◌≤◌, ◌+◌, ◌++◌, ◌⊎◌, ◌∷◌, [], List, length, IfOk, IfErr, OnOk};
+ghost use Rattle.rl_syntax.specs.Tree.{tree_of};
+ghost use Rattle.rl_syntax.specs.Run.{one_more};
+ghost use Rattle.rl_prio.specs.GuardSets.{no_guards};
+ghost use Rattle.rl_prio.specs.Attempts.{ends_replaced, width_of, AreReplaced, AreEntered, AreShort, IsTooWide};
+
+use crate::build::attempts::{
+    Attempt, AttemptList, ListError, put_behind, replace_ends, single, with_ends_replaced,
+};
+use crate::build::guards::Guards;
+use rl_lists::OutOfMemory;
+use rl_syntax::Re;
+use std::alloc::Global;
+
+/// Puts the list of an end behind the last list.
+///
+/// # Errors
+/// [`OutOfMemory`] where there was no memory for it.
+fn put_end(alloc: Global, lists: &mut Vec<AttemptList>) -> Result<(), OutOfMemory>
+    ensures { OnOk result
+        (lists.new.items ≡ lists.old.items ++ (Attempt.End no_guards ∷ []) ∷ []) }
+{
+    let list = single(alloc, Attempt::End(Guards::none()))?;
+    lists.push(list)?;
+    Ok(())
+}
+
+/// The attempts of the one list and then those of the other.
+///
+/// # Errors
+/// [`ListError::TooLong`] exactly where there would be more than 256, [`ListError::OutOfMemory`] where there was no memory for
+/// them.
+fn alternatives(list: AttemptList, others: &[Attempt]) -> Result<AttemptList, ListError>
+    ensures ok { IfOk result (λ l. l ≡ list ++ others.now) }
+    ensures short { IfOk result (λ l. length list ≤ 256 → length l ≤ 256) }
+    ensures moves { IfErr result (λ e. e ≡ ListError.TooLong
+        → 256 < length (list ++ others.now)) }
+{
+    let mut all = list;
+    put_behind(&mut all, Guards::none(), others)?;
+    Ok(all)
+}
+
+/// The attempts with one end more: behind the last one where the flag is true, and in front where it is false.
+///
+/// # Errors
+/// [`ListError::TooLong`] exactly where there would be more than 256, [`ListError::OutOfMemory`] where there was no memory for
+/// them.
+fn with_one_more(alloc: Global, list: AttemptList, greedy: bool) -> Result<AttemptList, ListError>
+    ensures ok { IfOk result (λ l. l ≡ one_more greedy (Attempt.End no_guards) list) }
+    ensures short { IfOk result (λ l. length list ≤ 256 → length l ≤ 256) }
+    ensures moves { IfErr result (λ e. e ≡ ListError.TooLong
+        → 256 < length (one_more greedy (Attempt.End no_guards) list)) }
+{
+    let end = single(alloc, Attempt::End(Guards::none()))?;
+    if greedy {
+        alternatives(list, end.as_slice())
+    } else {
+        alternatives(end, list.as_slice())
+    }
+}
+
+/// The attempts of a tree that is followed by another, and in the lists from one place to another each end replaced by the
+/// attempts of that other tree.
+///
+/// # Errors
+/// [`ListError::TooLong`] only where a list would have more than 256 attempts, [`ListError::OutOfMemory`] where there was no
+/// memory for them.
+fn in_turn(
+    alloc: Global,
+    lists: &mut Vec<AttemptList>,
+    from: usize,
+    to: usize,
+    list: &[Attempt],
+    further: &[Attempt],
+) -> Result<AttemptList, ListError>
+    requires in_order { from ≤ to }
+    requires in_lists { to ≤ length lists.old.items }
+    ensures list { IfOk result (λ l. l ≡ ends_replaced list.now further.now) }
+    ensures list_short { IfOk result (λ l. length l ≤ 256) }
+    ensures lists { OnOk result (AreReplaced further.now from to lists.old.items lists.new.items) }
+    ensures lists_short { OnOk result (AreShort from to lists.new.items) }
+    ensures moves { IfErr result (λ e. e ≡ ListError.TooLong
+        → IsTooWide list.now further.now from to lists.old.items) }
+{
+    replace_ends(alloc, lists, from, to, further)?;
+    with_ends_replaced(alloc, list, further)
+}
+
+/// The attempts of a tree that is repeated, and in the lists from a place on each end replaced by them.
+///
+/// # Errors
+/// [`ListError::TooLong`] only where a list would have more than 256 attempts, [`ListError::OutOfMemory`] where there was no
+/// memory for them.
+fn repeated(
+    alloc: Global,
+    lists: &mut Vec<AttemptList>,
+    from: usize,
+    list: AttemptList,
+    greedy: bool,
+) -> Result<AttemptList, ListError>
+    requires in_lists { from ≤ length lists.old.items }
+    requires short { length list ≤ 256 }
+    ensures list { IfOk result (λ l. l ≡ one_more greedy (Attempt.End no_guards) list) }
+    ensures list_short { IfOk result (λ l. length l ≤ 256) }
+    ensures lists { OnOk result (AreReplaced (one_more greedy (Attempt.End no_guards) list)
+        from (length lists.old.items) lists.old.items lists.new.items) }
+    ensures lists_short { OnOk result (AreShort from (length lists.old.items) lists.new.items) }
+    ensures moves { IfErr result (λ e. e ≡ ListError.TooLong
+        → (256 < length (one_more greedy (Attempt.End no_guards) list))
+        ⊎ IsTooWide [] (one_more greedy (Attempt.End no_guards) list) from (length lists.old.items) lists.old.items) }
+{
+    let all = with_one_more(alloc, list, greedy)?;
+    let to = lists.len();
+    replace_ends(alloc, lists, from, to, all.as_slice())?;
+    Ok(all)
+}
+
+/// Adds the list of each place of the tree, and gives that of entering it.
+///
+/// # Errors
+/// [`ListError::TooLong`] exactly where a list would have more than 256 attempts, [`ListError::OutOfMemory`] where there was no
+/// memory for them.
+pub(crate) fn enter(
+    alloc: Global,
+    tree: &Re,
+    lists: &mut Vec<AttemptList>,
+) -> Result<AttemptList, ListError>
+    ensures ok { IfOk result (λ l. AreEntered (tree_of tree.now) lists.old.items lists.new.items l) }
+    ensures moves { IfErr result (λ e. e ≡ ListError.TooLong
+        → 256 < width_of (tree_of tree.now) (length lists.old.items)) }
+{
+    match tree {
+        Re::Empty => Ok(single(alloc, Attempt::End(Guards::none()))?),
+        Re::One(_) => {
+            let place = lists.len();
+            put_end(alloc, lists)?;
+            Ok(single(alloc, Attempt::Test(Guards::none(), place))?)
+        }
+        Re::Guard(guard) => Ok(single(alloc, Attempt::End(Guards::only(*guard)))?),
+        Re::Both(first, second) => {
+            let from = lists.len();
+            let list = enter(alloc, first, lists)?;
+            let to = lists.len();
+            let further = enter(alloc, second, lists)?;
+            let all = in_turn(alloc, lists, from, to, list.as_slice(), further.as_slice())?;
+            Ok(all)
+        }
+        Re::Either(first, second) => {
+            let list = enter(alloc, first, lists)?;
+            let others = enter(alloc, second, lists)?;
+            let all = alternatives(list, others.as_slice())?;
+            Ok(all)
+        }
+        Re::Many(body, greedy) => {
+            let from = lists.len();
+            let list = enter(alloc, body, lists)?;
+            let all = repeated(alloc, lists, from, list, *greedy)?;
+            Ok(all)
+        }
+    }
+}

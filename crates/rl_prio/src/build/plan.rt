@@ -1,0 +1,259 @@
+//! What the rows of an automaton are made of.
+
+ghost use Rattle.std.specs.Prelude.{◌≡◌, ℕ, suc, ◌+◌, ◌*◌, ◌-◌, ◌<◌, ◌≤◌, ◌++◌, [], None, Some, All, length, map, OnOk, IfOk, IfErr, slice_index_or};
+ghost use Rattle.rl_syntax.specs.Tree.{tree_of, sets_in};
+ghost use Rattle.rl_ranges.specs.Codes.{has};
+ghost use Rattle.rl_ranges.specs.Letters.{letter_at};
+ghost use Rattle.rl_prio.specs.GuardSets.{shown, holding};
+ghost use Rattle.rl_prio.specs.Attempts.{width_of};
+ghost use Rattle.rl_prio.specs.Plans.{plan_letters, plan_kinds, plan_places, plan_states, holds_at, test_goes, may_end, end_goes, move_of, moves_of, attempts_at, before_at, row_at, IsPlaced, IsSound, AreRows, IsPlan};
+
+use crate::build::attempts::{Attempt, AttemptList, ListError};
+use crate::build::codes::{add_members, kinds_of, samples, shown_before, shown_next};
+use crate::build::guards::{Guards, Shown, Words};
+use crate::build::lists::enter;
+use crate::rows::RowTable;
+use rl_lists::{Items, OutOfMemory};
+use rl_ranges::Letters;
+use rl_syntax::{Ending, Re};
+use std::alloc::Global;
+
+/// What the rows of an automaton are made of: the attempts of the start and those once each place has succeeded, for each
+/// place whether its set holds each letter, the kind of each letter, what is shown before the start and by each kind, what is
+/// shown by each letter and the end letter, and where a match may end.
+#[derive(Drop)]
+pub(crate) struct Plan {
+    first: AttemptList,
+    after: Vec<AttemptList>,
+    members: Vec<Items<bool>>,
+    kinds_of: Vec<u32>,
+    before: Vec<Shown>,
+    next: Vec<Shown>,
+    ending: Ending,
+}
+
+impl Plan {
+    /// The plan of a tree and an ending, over letters and kinds.
+    ///
+    /// # Errors
+    /// [`ListError::TooLong`] exactly where a list of items would have more than 256, [`ListError::OutOfMemory`] where there
+    /// was no memory for the plan.
+    pub(crate) fn new(
+        alloc: Global,
+        tree: &Re,
+        letters: &Letters,
+        kinds: &Letters,
+        ending: Ending,
+    ) -> Result<Plan, ListError>
+        requires { All (λ c. c < kinds.now.codes) letters.now.samples }
+        ensures ok { IfOk result (λ p. IsPlan p (tree_of tree.now) letters.now kinds.now ending) }
+        ensures short { OnOk result (width_of (tree_of tree.now) 0 ≤ 256) }
+        ensures too_long { IfErr result (λ e. e ≡ ListError.TooLong
+            → 256 < width_of (tree_of tree.now) 0) }
+    {
+        let mut after = Vec::new(alloc);
+        let first = enter(alloc, tree, &mut after)?;
+        let letter_codes = samples(alloc, letters)?;
+        let kind_codes = samples(alloc, kinds)?;
+        let kinds_of = kinds_of(alloc, kinds, &letter_codes)?;
+        let mut members = Vec::new(alloc);
+        add_members(alloc, tree, &letter_codes, &mut members)?;
+        let words = Words::new(alloc)?;
+        let before = shown_before(alloc, &words, &kind_codes)?;
+        let next = shown_next(alloc, &words, &letter_codes)?;
+        Ok(Plan {
+            first,
+            after,
+            members,
+            kinds_of,
+            before,
+            next,
+            ending,
+        })
+    }
+
+    /// How many states there are.
+    pub(crate) fn states(&self) -> usize
+        requires { IsSound self.now }
+        ensures value { result ≡ plan_states self.now }
+        ensures small { result ≤ 512003 }
+    {
+        self.place_states() + 3
+    }
+
+    /// How many kinds there are.
+    fn kinds(&self) -> usize
+        requires { IsSound self.now }
+        ensures value { result ≡ plan_kinds self.now }
+        ensures some { 1 ≤ result }
+        ensures few { result ≤ 128 }
+    {
+        self.before.len() - 1
+    }
+
+    /// How many states of places there are.
+    fn place_states(&self) -> usize
+        requires { IsSound self.now }
+        ensures value { result ≡ plan_places self.now }
+        ensures small { result ≤ 512000 }
+    {
+        self.after.len() * self.kinds()
+    }
+
+    /// The attempts of a state.
+    fn attempts(&self, state: usize) -> &[Attempt]
+        requires { IsSound self.now }
+        ensures value { result.now ≡ attempts_at self.now state }
+        ensures placed { All (IsPlaced (length self.now.after.items)) result.now }
+    {
+        if state == 0 {
+            return self.first.as_slice();
+        }
+        if state - 1 < self.place_states() {
+            self.after[(state - 1) / self.kinds()].as_slice()
+        } else {
+            &[]
+        }
+    }
+
+    /// What is shown before a state.
+    fn shown_before(&self, state: usize) -> Shown
+        requires { IsSound self.now }
+        ensures { result ≡ before_at self.now state }
+    {
+        if state == 0 {
+            self.before[0]
+        } else {
+            self.before[1 + (state - 1) % self.kinds()]
+        }
+    }
+
+    /// Whether the set of a place holds a letter. It doesn't hold the end letter.
+    fn holds(&self, place: usize, letter: usize) -> bool
+        requires sound { IsSound self.now }
+        requires place_in { place < length self.now.after.items }
+        ensures { result ≡ holds_at self.now place letter }
+    {
+        letter < self.kinds_of.len() && self.members[place].as_slice()[letter]
+    }
+
+    /// Where the test of a place goes on a letter.
+    fn test_target(&self, place: usize, letter: usize) -> u32
+        requires sound { IsSound self.now }
+        requires place_in { place < length self.now.after.items }
+        ensures { result ≡ test_goes self.now place letter }
+    {
+        if self.holds(place, letter) {
+            let kind = self.kinds_of[letter] as usize;
+            (1 + place * self.kinds() + kind) as u32
+        } else {
+            (self.place_states() + 2) as u32
+        }
+    }
+
+    /// Whether a match may end before a letter.
+    fn may_end(&self, letter: usize) -> bool
+        ensures { result ≡ may_end self.now.ending letter (plan_letters self.now) }
+    {
+        match self.ending {
+            Ending::AtEnd => letter == self.kinds_of.len(),
+            Ending::Anywhere => true,
+        }
+    }
+
+    /// Where an end goes on a letter.
+    fn end_target(&self, letter: usize) -> u32
+        requires { IsSound self.now }
+        ensures { result ≡ end_goes self.now letter }
+    {
+        if self.may_end(letter) {
+            (self.place_states() + 1) as u32
+        } else {
+            (self.place_states() + 2) as u32
+        }
+    }
+
+    /// Puts the move of an attempt on a letter into the open row, where its guards are among those that hold.
+    ///
+    /// # Errors
+    /// [`OutOfMemory`] where there was no memory for it.
+    fn put_move(
+        &self,
+        rows: &mut RowTable,
+        held: Guards,
+        letter: usize,
+        attempt: Attempt,
+    ) -> Result<(), OutOfMemory>
+        requires sound { IsSound self.now }
+        requires placed { IsPlaced (length self.now.after.items) attempt }
+        ensures { OnOk result (rows.new
+            ≡ record rows.old { open_row = rows.old.open_row ++ move_of self.now held letter attempt }) }
+    {
+        match attempt {
+            Attempt::Test(guards, place) => {
+                if guards.are_met(held) {
+                    rows.put(self.test_target(place, letter))?;
+                }
+            }
+            Attempt::End(guards) => {
+                if guards.are_met(held) {
+                    rows.put(self.end_target(letter))?;
+                }
+            }
+        }
+        Ok(())
+    }
+
+    /// Puts the moves of attempts on a letter into the open row.
+    ///
+    /// # Errors
+    /// [`OutOfMemory`] where there was no memory for them.
+    fn put_each(
+        &self,
+        rows: &mut RowTable,
+        held: Guards,
+        letter: usize,
+        attempts: &[Attempt],
+    ) -> Result<(), OutOfMemory>
+        requires sound { IsSound self.now }
+        requires placed { All (IsPlaced (length self.now.after.items)) attempts.now }
+        ensures { OnOk result (rows.new
+            ≡ record rows.old { open_row = rows.old.open_row ++ moves_of self.now held letter attempts.now }) }
+    {
+        for attempt in attempts {
+            self.put_move(rows, held, letter, *attempt)?;
+        }
+        Ok(())
+    }
+
+    /// Puts the moves of a state on a letter into the open row.
+    ///
+    /// # Errors
+    /// [`OutOfMemory`] where there was no memory for them.
+    fn put_moves(&self, rows: &mut RowTable, state: usize, letter: usize) -> Result<(), OutOfMemory>
+        requires sound { IsSound self.now }
+        requires letter_in { letter ≤ plan_letters self.now }
+        ensures { OnOk result (rows.new
+            ≡ record rows.old { open_row = rows.old.open_row ++ row_at self.now state letter }) }
+    {
+        let held = Guards::holding(self.shown_before(state), self.next[letter]);
+        self.put_each(rows, held, letter, self.attempts(state))
+    }
+
+    /// The rows, state by state and letter by letter, the end letter last.
+    ///
+    /// # Errors
+    /// [`OutOfMemory`] where there was no memory for them.
+    pub(crate) fn rows(&self, alloc: Global) -> Result<RowTable, OutOfMemory>
+        requires { IsSound self.now }
+        ensures { IfOk result (λ r. AreRows self.now r.rows) }
+    {
+        let width = self.next.len();
+        let mut rows = RowTable::new(alloc);
+        for i in 0..self.states() * width {
+            self.put_moves(&mut rows, i / width, i % width)?;
+            rows.close()?;
+        }
+        Ok(rows)
+    }
+}

@@ -1,0 +1,99 @@
+//! The sets that tell the codes of a tree apart.
+
+ghost use Rattle.std.specs.Prelude.{◌≡◌, ◌++◌, ◌∷◌, [], map, OnOk, IfOk};
+ghost use Rattle.rl_ranges.specs.Codes.{has};
+ghost use Rattle.rl_syntax.specs.Guards.{sets_named, is_word, is_line_feed};
+ghost use Rattle.rl_syntax.specs.Tree.{tree_of, sets_in, guard_sets};
+
+use rl_lists::OutOfMemory;
+use rl_ranges::{CodeSet, Named, Universe};
+use rl_syntax::{Guard, Re};
+use std::alloc::Global;
+
+/// Adds the sets of a tree, from left to right.
+///
+/// # Errors
+/// [`OutOfMemory`] where there was no memory for them.
+pub(crate) fn add_sets(tree: &Re, sets: &mut Vec<CodeSet>) -> Result<(), OutOfMemory>
+    ensures { OnOk result
+        (map has sets.new.items ≡ map has sets.old.items ++ sets_in (tree_of tree.now)) }
+{
+    match tree {
+        Re::Empty | Re::Guard(_) => Ok(()),
+        Re::One(set) => put(sets, set.copy()?),
+        Re::Both(first, second) | Re::Either(first, second) => {
+            add_sets(first, sets)?;
+            add_sets(second, sets)
+        }
+        Re::Many(body, _) => add_sets(body, sets),
+    }
+}
+
+/// Adds the sets that the guards of a tree name, from left to right.
+///
+/// # Errors
+/// [`OutOfMemory`] where there was no memory for them.
+pub(crate) fn add_guard_sets(
+    alloc: Global,
+    tree: &Re,
+    sets: &mut Vec<CodeSet>,
+) -> Result<(), OutOfMemory>
+    ensures { OnOk result
+        (map has sets.new.items ≡ map has sets.old.items ++ guard_sets (tree_of tree.now)) }
+{
+    match tree {
+        Re::Empty | Re::One(_) => Ok(()),
+        Re::Guard(guard) => add_named(alloc, *guard, sets),
+        Re::Both(first, second) | Re::Either(first, second) => {
+            add_guard_sets(alloc, first, sets)?;
+            add_guard_sets(alloc, second, sets)
+        }
+        Re::Many(body, _) => add_guard_sets(alloc, body, sets),
+    }
+}
+
+/// Adds the set that a guard names, if it names one.
+///
+/// # Errors
+/// [`OutOfMemory`] where there was no memory for it.
+fn add_named(alloc: Global, guard: Guard, sets: &mut Vec<CodeSet>) -> Result<(), OutOfMemory>
+    ensures { OnOk result
+        (map has sets.new.items ≡ map has sets.old.items ++ sets_named guard) }
+{
+    match guard {
+        Guard::Start | Guard::TextEnd => Ok(()),
+        Guard::LineStart | Guard::LineEnd => put(sets, line_feeds(alloc)?),
+        Guard::Word(ascii) | Guard::NotWord(ascii) => put(sets, words(alloc, ascii)?),
+    }
+}
+
+/// Puts a set behind the last one.
+///
+/// # Errors
+/// [`OutOfMemory`] where there was no memory for it.
+fn put(sets: &mut Vec<CodeSet>, set: CodeSet) -> Result<(), OutOfMemory>
+    ensures { OnOk result (map has sets.new.items ≡ map has sets.old.items ++ has set ∷ []) }
+{
+    sets.push(set)?;
+    Ok(())
+}
+
+/// The set of the line feed.
+///
+/// # Errors
+/// [`OutOfMemory`] where there was no memory for it.
+fn line_feeds(alloc: Global) -> Result<CodeSet, OutOfMemory>
+    ensures { IfOk result (λ set. has set ≡ is_line_feed) }
+{
+    CodeSet::range(alloc, 10, 10)
+}
+
+/// The set of the codes of words, the ASCII ones or all.
+///
+/// # Errors
+/// [`OutOfMemory`] where there was no memory for it.
+pub(crate) fn words(alloc: Global, ascii: bool) -> Result<CodeSet, OutOfMemory>
+    ensures { IfOk result (λ set. has set ≡ is_word ascii) }
+{
+    CodeSet::named(alloc, Named::Word, ascii, Universe::Str)
+}

@@ -1,0 +1,43 @@
+-- Trees joined one by one, from the last one on.
+use Rattle.std.proofs.Common.{◌≡◌, ℕ, zero, suc, ◌-◌, Bool, List, [], ◌∷◌, ◌++◌, Option, None, Some, replicate, ◌+◌, add-one, refl, sym, ap, ◌∙◌}
+use Rattle.rl_syntax.specs.Tree.{Tree, both, either}
+use Rattle.rl_syntax.specs.Lowering.{in_turn, one_of, options, tail_of}
+
+pub in_turn-last : (ts : List Tree) (t : Tree) (us : List Tree) → in_turn (ts ++ in_turn (t ∷ us) ∷ []) ≡ in_turn (ts ++ t ∷ us)
+in_turn-last [] t us = refl
+in_turn-last (s ∷ []) t us = refl
+in_turn-last (s ∷ r ∷ ts) t us = ap (both s) (in_turn-last (r ∷ ts) t us)
+
+pub one_of-last : (ts : List Tree) (t : Tree) (us : List Tree) → one_of (ts ++ one_of (t ∷ us) ∷ []) ≡ one_of (ts ++ t ∷ us)
+one_of-last [] t us = refl
+one_of-last (s ∷ []) t us = refl
+one_of-last (s ∷ r ∷ ts) t us = ap (either s) (one_of-last (r ∷ ts) t us)
+
+-- the trees as one tree, where there is one
+abbrev pub joined : List Tree → List Tree
+joined [] = []
+joined (t ∷ ts) = in_turn (t ∷ ts) ∷ []
+
+pub in_turn-joined : (ts : List Tree) → in_turn (joined ts) ≡ in_turn ts
+in_turn-joined [] = refl
+in_turn-joined (t ∷ ts) = refl
+
+pub joined-cons : (t : Tree) (ts : List Tree) → in_turn (t ∷ joined ts) ∷ [] ≡ joined (t ∷ ts)
+joined-cons t [] = refl
+joined-cons t (u ∷ us) = refl
+
+joined-options : (greedy : Bool) (t : Tree) (k : ℕ) → joined (options greedy t k) ≡ options greedy t k
+joined-options greedy t zero = refl
+joined-options greedy t (suc k) = refl
+
+pub joined-tail : (greedy : Bool) (t : Tree) (least : ℕ) (most : Option ℕ) → joined (tail_of greedy t least most) ≡ tail_of greedy t least most
+joined-tail greedy t least None = refl
+joined-tail greedy t least (Some most) = joined-options greedy t (most - least)
+
+-- one more copy in front
+pub joined-copy : (n : ℕ) (t r : Tree) (us tail : List Tree) → us ≡ joined (replicate n t ++ tail) → r ≡ in_turn (t ∷ us) → r ∷ [] ≡ joined (replicate (n + 1) t ++ tail)
+joined-copy n t r us tail e f =
+    ap (λ x. x ∷ []) f
+    ∙ ap (λ x. in_turn (t ∷ x) ∷ []) e
+    ∙ joined-cons t (replicate n t ++ tail)
+    ∙ ap (λ m. joined (replicate m t ++ tail)) (sym (add-one n))

@@ -1,0 +1,246 @@
+//! Lowering: from a pattern in a mode to its tree.
+
+ghost use Rattle.std.specs.Prelude.{◌≡◌, ℕ, ◌<◌, ◌≤◌, false, ◌∷◌, map, IfOk, IfErr};
+ghost use Rattle.rl_syntax.specs.declared.re.LowerError.TheVariants as error;
+ghost use Rattle.rl_syntax.specs.PatTree.{pat_of, items_of, branches_of};
+ghost use Rattle.rl_syntax.specs.Tree.{tree_of, size, IsOver};
+ghost use Rattle.rl_syntax.specs.Lowering.{in_turn, one_of, option_of, options, times, guard_of, lowered, items_lowered, branches_lowered};
+ghost use Rattle.rl_syntax.specs.Lowering.{boundary_guard as guard_of_boundary};
+ghost use Rattle.rl_syntax.specs.Counting.{branch_tree, held};
+ghost use Rattle.rl_syntax.specs.Modes.{trailed, sought, wrapped, ending_of};
+ghost use Rattle.rl_syntax.specs.Pattern.{pattern_tree, pattern_ending, is_anchored, trail_of, universe_of};
+
+use crate::anchors::{AnchorKind, Guard, Trail};
+use crate::pat::{Branch, Pat};
+use crate::pattern::Pattern;
+use crate::re::{Ending, LowerError, Lowered, Mode, Re};
+use crate::sizes::size_after;
+use rl_lists::OutOfMemory;
+use rl_ranges::{CodeSet, Universe};
+use std::alloc::Global;
+
+/// The most nodes that a tree has.
+const MOST_NODES: u64 = 4_000;
+
+/// The pattern's tree in the mode, and where a match may end.
+///
+/// # Errors
+/// [`LowerError::TooLarge`] where the tree would have more than 4,000 nodes, which is found before any of it is built;
+/// [`LowerError::OutOfMemory`] where there was no memory for it.
+pub fn lower(alloc: Global, p: &Pattern, mode: Mode) -> Result<Lowered, LowerError>
+    ensures tree { IfOk result (λ l. tree_of l.tree ≡ pattern_tree p.now mode) }
+    ensures ending { IfOk result (λ l. l.ending ≡ pattern_ending p.now mode) }
+    ensures small { IfOk result (λ l. size (tree_of l.tree) ≤ 4000) }
+    ensures over { IfOk result (λ l. IsOver (universe_of p.now) (tree_of l.tree)) }
+    ensures too_large { IfErr result (λ e. e ≡ error.TooLarge → 4000 < size (pattern_tree p.now mode)) }
+{
+    if size_after(p, mode) > MOST_NODES {
+        return Err(LowerError::TooLarge);
+    }
+    let tree = tree_in_mode(alloc, p, mode)?;
+    let ending = ending_in_mode(mode, p.trailing());
+    Ok(Lowered { tree, ending })
+}
+
+/// The pattern's tree in the mode, however large.
+fn tree_in_mode(alloc: Global, p: &Pattern, mode: Mode) -> Result<Re, OutOfMemory>
+    ensures { IfOk result (λ re. tree_of re ≡ pattern_tree p.now mode) }
+{
+    let body = lower_part(alloc, p.body())?;
+    match mode {
+        Mode::Fullmatch => Ok(body),
+        Mode::Match => with_trail(alloc, p.trailing(), body),
+        Mode::Search => {
+            let trailed = with_trail(alloc, p.trailing(), body)?;
+            if p.leading() {
+                Ok(trailed)
+            } else {
+                after_any(alloc, p.universe(), trailed)
+            }
+        }
+    }
+}
+
+/// Where a match may end in the mode.
+fn ending_in_mode(mode: Mode, trailing: Trail) -> Ending
+    ensures { result ≡ ending_of mode trailing }
+{
+    match (mode, trailing) {
+        (Mode::Match | Mode::Search, Trail::None) => Ending::Anywhere,
+        _ => Ending::AtEnd,
+    }
+}
+
+/// The tree with what the trailing anchor lets stand after it: a last line feed where it is `$` alone.
+fn with_trail(alloc: Global, trailing: Trail, tree: Re) -> Result<Re, OutOfMemory>
+    ensures { IfOk result (λ re. tree_of re ≡ trailed trailing (tree_of tree)) }
+{
+    match trailing {
+        Trail::None | Trail::End => Ok(tree),
+        Trail::Dollar => {
+            let line_feed = Re::One(CodeSet::range(alloc, 10, 10)?);
+            let last = Re::either(alloc, Re::Empty, line_feed)?;
+            Re::both(alloc, tree, last)
+        }
+    }
+}
+
+/// The tree after any codes of the universe, as few as it can.
+fn after_any(alloc: Global, universe: Universe, tree: Re) -> Result<Re, OutOfMemory>
+    ensures { IfOk result (λ re. tree_of re ≡ sought universe false (tree_of tree)) }
+{
+    let any = Re::One(CodeSet::range(alloc, 0, universe.count() - 1)?);
+    let passed = Re::many(alloc, any, false)?;
+    Re::both(alloc, passed, tree)
+}
+
+/// The tree of a part of a pattern.
+#[cycle(lowering)]
+fn lower_part(alloc: Global, part: &Pat) -> Result<Re, OutOfMemory>
+    ensures { IfOk result (λ re. tree_of re ≡ lowered (pat_of part.now)) }
+{
+    match part {
+        Pat::Nothing { .. } | Pat::Outside { .. } => Ok(Re::Empty),
+        Pat::Class { set, .. } => Ok(Re::One(set.copy()?)),
+        Pat::Seq { items, .. } => lower_items(alloc, items.as_slice()),
+        Pat::Choice { branches, .. } => lower_branches(alloc, branches.as_slice()),
+        Pat::Repeat {
+            min,
+            max,
+            greedy,
+            body,
+            ..
+        } => lower_repeat(alloc, body, *min, *max, *greedy),
+        Pat::Group { body, .. } => lower_part(alloc, body),
+        Pat::Anchor {
+            kind,
+            multiline,
+            ..
+        } => Ok(Re::Guard(anchor_guard(*kind, *multiline))),
+        Pat::Boundary { negated, ascii, .. } => { Ok(Re::Guard(boundary_guard(*negated, *ascii))) }
+    }
+}
+
+/// The tree of items one after another.
+#[cycle(lowering)]
+fn lower_items(alloc: Global, items: &[Pat]) -> Result<Re, OutOfMemory>
+    ensures { IfOk result (λ re. tree_of re ≡ in_turn (items_lowered (items_of (map pat_of items.now)))) }
+{
+    let mut rest = None;
+    for item in items.iter().rev() {
+        let first = lower_part(alloc, item)?;
+        rest = Some(followed(alloc, first, rest)?);
+    }
+    Ok(rest.unwrap_or(Re::Empty))
+}
+
+/// The tree of one of several branches.
+#[cycle(lowering)]
+fn lower_branches(alloc: Global, branches: &[Branch]) -> Result<Re, OutOfMemory>
+    ensures { IfOk result (λ re. tree_of re ≡ one_of (branches_lowered (branches_of (map branch_tree branches.now)))) }
+{
+    let mut rest = None;
+    for branch in branches.iter().rev() {
+        let first = lower_part(alloc, &branch.body)?;
+        rest = Some(preferred(alloc, first, rest)?);
+    }
+    Ok(rest.unwrap_or(Re::Empty))
+}
+
+/// The tree of a part repeated. The part is lowered anew for each copy.
+#[cycle(lowering)]
+fn lower_repeat(
+    alloc: Global,
+    body: &Pat,
+    min: u32,
+    max: Option<u32>,
+    greedy: bool,
+) -> Result<Re, OutOfMemory>
+    ensures { IfOk result (λ re. tree_of re ≡ times min max greedy (lowered (pat_of body.now))) }
+{
+    let mut rest = match max {
+        None => {
+            let copy = lower_part(alloc, body)?;
+            Some(Re::many(alloc, copy, greedy)?)
+        }
+        Some(max) => lower_options(alloc, body, max.saturating_sub(min), greedy)?,
+    };
+    for _ in 0..min {
+        let copy = lower_part(alloc, body)?;
+        rest = Some(followed(alloc, copy, rest)?);
+    }
+    Ok(rest.unwrap_or(Re::Empty))
+}
+
+/// The tree of up to so many copies of a part, each of which is left out only with those after it. There is none of no copy.
+#[cycle(lowering)]
+fn lower_options(
+    alloc: Global,
+    body: &Pat,
+    count: u32,
+    greedy: bool,
+) -> Result<Option<Re>, OutOfMemory>
+    ensures { IfOk result (λ o. held o ≡ options greedy (lowered (pat_of body.now)) count) }
+{
+    let mut rest = None;
+    for _ in 0..count {
+        let copy = lower_part(alloc, body)?;
+        let copies = followed(alloc, copy, rest)?;
+        rest = Some(optional(alloc, copies, greedy)?);
+    }
+    Ok(rest)
+}
+
+/// The tree, and what follows it if something does.
+fn followed(alloc: Global, first: Re, rest: Option<Re>) -> Result<Re, OutOfMemory>
+    ensures { IfOk result (λ re. tree_of re ≡ in_turn (tree_of first ∷ held rest)) }
+{
+    match rest {
+        None => Ok(first),
+        Some(rest) => Re::both(alloc, first, rest),
+    }
+}
+
+/// The tree, or the other if there is one.
+fn preferred(alloc: Global, first: Re, rest: Option<Re>) -> Result<Re, OutOfMemory>
+    ensures { IfOk result (λ re. tree_of re ≡ one_of (tree_of first ∷ held rest)) }
+{
+    match rest {
+        None => Ok(first),
+        Some(rest) => Re::either(alloc, first, rest),
+    }
+}
+
+/// The tree or nothing; a greedy one tries the tree first.
+fn optional(alloc: Global, tree: Re, greedy: bool) -> Result<Re, OutOfMemory>
+    ensures { IfOk result (λ re. tree_of re ≡ option_of greedy (tree_of tree)) }
+{
+    if greedy {
+        Re::either(alloc, tree, Re::Empty)
+    } else {
+        Re::either(alloc, Re::Empty, tree)
+    }
+}
+
+/// The guard of an anchor that stands in a body.
+fn anchor_guard(kind: AnchorKind, multiline: bool) -> Guard
+    ensures { result ≡ guard_of kind multiline }
+{
+    match kind {
+        AnchorKind::Caret if multiline => Guard::LineStart,
+        AnchorKind::Caret | AnchorKind::TextStart => Guard::Start,
+        AnchorKind::Dollar => Guard::LineEnd,
+        AnchorKind::TextEnd => Guard::TextEnd,
+    }
+}
+
+/// The guard of a boundary.
+fn boundary_guard(negated: bool, ascii: bool) -> Guard
+    ensures { result ≡ guard_of_boundary negated ascii }
+{
+    if negated {
+        Guard::NotWord(ascii)
+    } else {
+        Guard::Word(ascii)
+    }
+}
