@@ -1,0 +1,9 @@
+pub mod FirstSums
+pub mod Pigeons
+pub mod Leaving
+pub mod FiveTimes
+pub mod Levels
+pub mod WithoutSplit
+pub mod SplitLaws
+pub mod RankPaths
+pub mod FallingLaws

@@ -1,0 +1,2 @@
+pub mod Leavers
+pub mod FallingNumbers

@@ -1,0 +1,3 @@
+pub mod ForkLaws
+pub mod SearchLaws
+pub mod SplitLaws

@@ -1,0 +1,84 @@
+-- What the search for a fork in the product of two copies of a graph with `n` states finds. The pair of the states `p`
+-- and `q` is the state `p * n + q` of the product.
+use Rattle.std.specs.Prelude.{◌≡◌, ℕ, ◌+◌, ◌*◌, ◌<◌, List, [], ◌∷◌, ◌++◌, length, slice_get, slice_index, drop, Some}
+use Rattle.rl_graph.specs.Paths.{Reaches, IsPath}
+use Rattle.rl_graph.specs.Graph.{Graph, edges_of}
+use Rattle.rl_graph.specs.Product.{pair_moves}
+use Rattle.rl_graph.specs.Parts.{PartTable, number_of}
+use Rattle.rl_expo.specs.declared.forks.Fork.{Fork}
+use Rattle.rl_expo.specs.declared.twins.TwinPaths.{TwinPaths}
+
+-- the pair of the targets of two moves of a row
+abbrev pub pair_at : ℕ → List ℕ → ℕ → ℕ → ℕ
+pair_at n row i j = slice_index row i * n + slice_index row j
+
+-- that pair lies in the part `own`
+abbrev pub Meets : PartTable → ℕ → ℕ → List ℕ → ℕ → ℕ → Type 0
+Meets p n own row i j = number_of p (pair_at n row i j) ≡ own
+
+-- the part of the pair of a state with itself
+abbrev pub own_part : Graph → PartTable → ℕ → ℕ
+own_part g p r = number_of p (r * g.states + r)
+
+-- two moves of a state on a letter, the smaller number first
+pub record AreMoves (g : Graph) (f : Fork) : Type 0 where
+  pub state_in : f.state < g.states
+  pub letter_in : f.letter < g.letters
+  pub order : f.first < f.second
+  pub number_in : f.second < length (edges_of g f.state f.letter)
+
+-- the pair of the targets of the two moves
+abbrev pub targets_of : Graph → Fork → ℕ
+targets_of g f = pair_at g.states (edges_of g f.state f.letter) f.first f.second
+
+-- the pair of the targets lies in the part of the state's own pair
+abbrev pub IsInPart : Graph → PartTable → Fork → Type 0
+IsInPart g p f = number_of p (targets_of g f) ≡ own_part g p f.state
+
+-- no two moves of a state on a letter have their targets in the part of the state's own pair
+abbrev pub NoneMeets : Graph → PartTable → ℕ → ℕ → Type 0
+NoneMeets g p r l =
+    (i j : ℕ) → i < j → j < length (edges_of g r l) → Meets p g.states (own_part g p r) (edges_of g r l) i j → ⊥
+
+-- the pair of the targets leads back to the state's own pair
+abbrev pub LeadsBack : Graph → Fork → Type 0
+LeadsBack g f = Reaches (pair_moves (edges_of g) g.states) (targets_of g f) (f.state * g.states + f.state)
+
+-- a move of the product from the pair of `one` and `other`: its two moves and their targets
+pub record AreSides (next : ℕ → ℕ → List ℕ) (n one other l number i j x y : ℕ) : Type 0 where
+  pub one_in : x < n
+  pub other_in : y < n
+  pub one_move : slice_get (next one l) i ≡ Some x
+  pub other_move : slice_get (next other l) j ≡ Some y
+  pub both : slice_get (pair_moves next n (one * n + other) l) number ≡ Some (x * n + y)
+
+-- one more letter of the word, and one more move of each path
+pub record IsLonger (l i j : ℕ) (old new : TwinPaths) : Type 0 where
+  pub state : new.state ≡ old.state
+  pub word : new.word ≡ old.word ++ l ∷ []
+  pub first : new.first ≡ old.first ++ i ∷ []
+  pub second : new.second ≡ old.second ++ j ∷ []
+
+-- the two paths begin with the moves `i` and `j` and have come to `one` and `other`; the rest of a path of the product
+-- from its place `k` on leads on from there to the pair of the state with itself
+pub record IsOnWay (next : ℕ → ℕ → List ℕ) (n i j : ℕ) (moves word : List ℕ) (k one other : ℕ) (t : TwinPaths) : Type 0 where
+  pub home : t.state < n
+  pub one_in : one < n
+  pub other_in : other < n
+  pub one_way : IsPath next t.state one t.first t.word
+  pub other_way : IsPath next t.state other t.second t.word
+  pub first : (u : List ℕ) × (t.first ≡ i ∷ u)
+  pub second : (u : List ℕ) × (t.second ≡ j ∷ u)
+  pub rest : IsPath (pair_moves next n) (one * n + other) (t.state * n + t.state) (drop k moves) (drop k word)
+
+-- a move of a row stays in the component `own`
+abbrev pub Stays : PartTable → ℕ → List ℕ → ℕ → Type 0
+Stays p own row i = number_of p (slice_index row i) ≡ own
+
+-- no two moves of a row among the first `k` stay in the component `own`
+abbrev pub NoTwoStay : PartTable → ℕ → List ℕ → ℕ → Type 0
+NoTwoStay p own row k = (i j : ℕ) → i < j → j < k → Stays p own row i → Stays p own row j → ⊥
+
+-- no two moves of a state on a letter stay in the state's component
+abbrev pub NoneStay : Graph → PartTable → ℕ → ℕ → Type 0
+NoneStay g p r l = NoTwoStay p (number_of p r) (edges_of g r l) (length (edges_of g r l))

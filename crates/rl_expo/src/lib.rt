@@ -1,0 +1,11 @@
+//! Twins of a multigraph: two different paths from a state back to it on one word.
+#![tactic(auto)]
+
+mod forks;
+mod stays;
+mod twins;
+
+pub use twins::{TwinPaths, twin};
+
+#[cfg(test)]
+mod tests;

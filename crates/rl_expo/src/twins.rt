@@ -1,0 +1,167 @@
+//! Twins, by the parts of the product of two copies of a graph.
+
+ghost use Rattle.std.specs.Prelude.{◌≡◌, ℕ, ◌+◌, ◌*◌, ◌<◌, List, [], length, All, IfOk, OnOk, IfSome, IfNone};
+ghost use Rattle.rl_graph.specs.Graph.{edges_of};
+ghost use Rattle.rl_graph.specs.Paths.{IsPath};
+ghost use Rattle.rl_graph.specs.Product.{pair_moves};
+ghost use Rattle.rl_graph.specs.Twins.{IsTwin, HasNoTwin};
+ghost use Rattle.rl_expo.specs.Search.{AreMoves, LeadsBack, AreSides, IsLonger, targets_of};
+
+use crate::forks::{Fork, fork_in};
+use crate::stays::has_inner_moves;
+use rl_graph::{FoundPath, Multigraph, Twice, parts_of, path_between};
+use rl_lists::{Items, OutOfMemory, Path, Word};
+use std::alloc::Global;
+
+/// A twin: a state, a word, and two different paths from the state back to it along the word, each as the numbers of
+/// its moves. Parallel moves are different moves.
+#[derive(Drop)]
+pub struct TwinPaths {
+    /// The state.
+    pub state: u32,
+    /// The letters of the word.
+    pub word: Word,
+    /// One path.
+    pub first: Path,
+    /// Another path.
+    pub second: Path,
+}
+
+impl TwinPaths {
+    /// Two paths of no move yet.
+    fn new(alloc: Global, state: u32) -> TwinPaths
+        ensures state { result.state ≡ state }
+        ensures word { result.word ≡ [] }
+        ensures first { result.first ≡ [] }
+        ensures second { result.second ≡ [] }
+    {
+        TwinPaths {
+            state,
+            word: Items::new(alloc),
+            first: Items::new(alloc),
+            second: Items::new(alloc),
+        }
+    }
+
+    /// Puts a letter and a move of each path behind the others.
+    fn push(&mut self, letter: u32, first: u32, second: u32) -> Result<(), OutOfMemory>
+        ensures { OnOk result (IsLonger letter first second self.old self.new) }
+    {
+        self.word.push(letter)?;
+        self.first.push(first)?;
+        self.second.push(second)
+    }
+}
+
+/// A move of the product as a move of each copy: the two numbers and the two targets.
+#[derive(Clone, Copy)]
+struct Sides {
+    first: u32,
+    second: u32,
+    one: u32,
+    other: u32,
+}
+
+/// The two moves that a move of the product from the pair of `one` and `other` is made of.
+fn split_move(g: &Multigraph, one: u32, other: u32, letter: u32, number: u64) -> Sides
+    requires one_in { one < g.now.states }
+    requires other_in { other < g.now.states }
+    requires letter_in { letter < g.now.letters }
+    requires number_in { number < length (edges_of g.now one letter) * length (edges_of g.now other letter) }
+    ensures { AreSides (edges_of g.now) g.now.states one other letter number result.first result.second result.one result.other }
+{
+    let _states = g.states();
+    let ones = g.edges(one, letter);
+    let others = g.edges(other, letter);
+    let width = others.len() as u64;
+    let first = number / width;
+    let second = number % width;
+    Sides {
+        first: first as u32,
+        second: second as u32,
+        one: ones[first as usize],
+        other: others[second as usize],
+    }
+}
+
+/// The twin that a path of the product makes which leads from the pair of the targets of two moves back: each of the
+/// two moves, and then one side of the path.
+fn twin_along(
+    alloc: Global,
+    g: &Multigraph,
+    fork: Fork,
+    back: &FoundPath,
+) -> Result<TwinPaths, OutOfMemory>
+    requires moves { AreMoves g.now fork }
+    requires back { IsPath (pair_moves (edges_of g.now) g.now.states) (targets_of g.now fork) (fork.state * g.now.states + fork.state) back.now.moves back.now.word }
+    ensures twin { IfOk result (λ t. IsTwin (edges_of g.now) t.state t.word t.first t.second) }
+    ensures state { IfOk result (λ t. t.state < g.now.states) }
+    ensures letters { IfOk result (λ t. All (λ l. l < g.now.letters) t.word) }
+{
+    let _states = g.states();
+    let row = g.edges(fork.state, fork.letter);
+    let mut one = row[fork.first as usize];
+    let mut other = row[fork.second as usize];
+    let mut twin = TwinPaths::new(alloc, fork.state);
+    twin.push(fork.letter, fork.first, fork.second)?;
+    let letters = back.word.as_slice();
+    let numbers = back.moves.as_slice();
+    for place in 0..letters.len() {
+        let letter = letters[place];
+        let step = split_move(g, one, other, letter, numbers[place]);
+        twin.push(letter, step.first, step.second)?;
+        one = step.one;
+        other = step.other;
+    }
+    Ok(twin)
+}
+
+/// The twin of two moves from whose targets one word leads back.
+fn twin_of(alloc: Global, g: &Multigraph, fork: Fork) -> Result<Option<TwinPaths>, OutOfMemory>
+    requires moves { AreMoves g.now fork }
+    requires back { LeadsBack g.now fork }
+    ensures twin { IfOk result (λ o. IfSome o (λ t. IsTwin (edges_of g.now) t.state t.word t.first t.second)) }
+    ensures state { IfOk result (λ o. IfSome o (λ t. t.state < g.now.states)) }
+    ensures letters { IfOk result (λ o. IfSome o (λ t. All (λ l. l < g.now.letters) t.word)) }
+    ensures found { IfOk result (λ o. IfNone o ⊥) }
+{
+    let count = u64::from(g.states());
+    let row = g.edges(fork.state, fork.letter);
+    let from = u64::from(row[fork.first as usize]) * count + u64::from(row[fork.second as usize]);
+    let to = u64::from(fork.state) * count + u64::from(fork.state);
+    match path_between(alloc, &Twice { graph: g }, from, to)? {
+        Some(back) => {
+            let twin = twin_along(alloc, g, fork, &back)?;
+            Ok(Some(twin))
+        }
+        None => Ok(None),
+    }
+}
+
+/// A twin of a graph; `None` exactly where the graph has none.
+///
+/// It takes the parts of the product of two copies of the graph, and two moves of a state on one letter whose targets
+/// lie, as a pair, in the part of the state's pair with itself (the test for EDA of Weber and Seidl 1991). The time and
+/// the memory are linear in the product. Where no state has two moves on one letter that stay in its component, there
+/// is no twin, and the time and the memory are linear in the graph.
+///
+/// # Errors
+/// [`OutOfMemory`] where there was no memory for the search or the twin.
+pub fn twin(alloc: Global, g: &Multigraph) -> Result<Option<TwinPaths>, OutOfMemory>
+    ensures twin { IfOk result (λ o. IfSome o (λ t. IsTwin (edges_of g.now) t.state t.word t.first t.second)) }
+    ensures state { IfOk result (λ o. IfSome o (λ t. t.state < g.now.states)) }
+    ensures letters { IfOk result (λ o. IfSome o (λ t. All (λ l. l < g.now.letters) t.word)) }
+    ensures none { IfOk result (λ o. IfNone o (HasNoTwin (edges_of g.now))) }
+    ensures no_paths { IfOk result (λ o. IfNone o ((q : ℕ) (w p r : List ℕ) → IsTwin (edges_of g.now) q w p r → ⊥)) }
+{
+    let components = g.components()?;
+    let _states = g.states();
+    if !has_inner_moves(g, &components) {
+        return Ok(None);
+    }
+    let parts = parts_of(alloc, &Twice { graph: g })?;
+    match fork_in(g, &parts) {
+        Some(fork) => twin_of(alloc, g, fork),
+        None => Ok(None),
+    }
+}
