@@ -1,0 +1,10 @@
+mod Numbers
+mod Bodies
+mod Bounds
+mod Ends
+mod Quotes
+mod HexLaws
+mod PieceLaws
+mod BodyLaws
+mod ReadBack
+mod TestLemmas

@@ -1,0 +1,7 @@
+-- The characters of the text.
+use Rattle.std.proofs.Common.{rules}
+use Rattle.std.proofs.lemmas.Str.{chars_from_encodes}
+use Rattle.rl_pystr.proofs.body.decoded.Goals as goal
+
+pub returns-clause-value : goal.returns-clause-value
+returns-clause-value c = search (rules, chars_from_encodes)

@@ -1,0 +1,5 @@
+pub mod Escapes
+pub mod Values
+pub mod Runs
+pub mod Quoting
+pub mod Laws

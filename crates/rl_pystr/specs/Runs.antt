@@ -1,0 +1,117 @@
+-- The value of a run of tokens, literals and comments: the values of its literals one behind the other.
+use Rattle.std.specs.Prelude.{◌≡◌, IsTrue, ℕ, ◌+◌, ◌-◌, Bool, true, false, not, ◌&&◌, ◌||◌, ◌==◌, List, [], ◌∷◌, length, take, drop, slice_get, Some, unwrap_or, Result, Ok, Err, if◌then◌else◌}
+use Rattle.std.specs.List.{list_any, list_all}
+use Rattle.std.specs.Option.{option_map_or}
+use Rattle.std.specs.Char.{to_ascii_lowercase}
+use Rattle.std.specs.Str.{chars}
+use Rattle.rl_ranges.specs.declared.universe.Universe.{Universe}
+use Rattle.rl_ranges.specs.declared.universe.Universe.TheVariants as universe
+use Rattle.rl_pylex.specs.declared.token_list.TokenKind.{TokenKind}
+use Rattle.rl_pylex.specs.declared.token_list.TokenKind.TheVariants as kind
+use Rattle.rl_pylex.specs.declared.token_list.Token.{Token}
+use Rattle.rl_pylex.specs.Literals.{prefix_size, quote_count}
+use Rattle.rl_pylex.specs.Source.{text_of}
+use Rattle.rl_pystr.specs.declared.fault.StrError.{StrError}
+use Rattle.rl_pystr.specs.declared.fault.StrError.TheVariants as error
+use Rattle.rl_pystr.specs.declared.placed.Placed.{Placed}
+use Rattle.rl_pystr.specs.declared.literal.Literal.{Literal}
+use Rattle.rl_pystr.specs.Values.{empty, before, value_from}
+
+abbrev pub is_literal_kind : TokenKind → Bool
+is_literal_kind kind.Literal = true
+is_literal_kind _ = false
+
+abbrev pub is_comment_kind : TokenKind → Bool
+is_comment_kind kind.Comment = true
+is_comment_kind _ = false
+
+abbrev pub is_literal : Token → Bool
+is_literal token = is_literal_kind token.kind
+
+-- how many letters a literal's prefix has
+abbrev pub letter_count : List ℕ → ℕ
+letter_count text = unwrap_or (prefix_size text) 0
+
+-- the prefix of a literal has this letter, in any case
+unfoldable pub has_letter : ℕ → List ℕ → Bool
+has_letter letter text = list_any (λ c. to_ascii_lowercase c == letter) (take (letter_count text) text)
+
+-- how many quotes stand at each end of a literal
+abbrev pub quotes_of : List ℕ → ℕ
+quotes_of text = quote_count (drop (letter_count text) text)
+
+-- where the body of a literal begins in it, behind its prefix and its opening quotes
+unfoldable pub body_start : List ℕ → ℕ
+body_start text = letter_count text + quotes_of text
+
+-- the bytes between the quotes
+unfoldable pub body_of : List ℕ → List ℕ
+body_of text = take (length text - quotes_of text - body_start text) (drop (body_start text) text)
+
+-- the value of a literal whose text begins at a place, of bytes or of text
+unfoldable pub literal_value : Bool → ℕ → List ℕ → Result Placed StrError
+literal_value bytes place text =
+    value_from (has_letter 114 text) bytes (place + body_start text) 0 (chars (body_of text))
+
+-- a literal token whose prefix has the letter
+abbrev pub is_lettered : ℕ → List ℕ → Token → Bool
+is_lettered letter source token = is_literal token && has_letter letter (text_of source token)
+
+-- a literal token whose prefix doesn't have the letter
+abbrev pub is_unlettered : ℕ → List ℕ → Token → Bool
+is_unlettered letter source token = is_literal token && not (has_letter letter (text_of source token))
+
+-- a token that is no literal gives nothing
+abbrev pub token_value : Bool → List ℕ → Token → Result Placed StrError
+token_value bytes source token =
+    if is_literal token then literal_value bytes token.from (text_of source token) else Ok empty
+
+abbrev pub values : Bool → List ℕ → List Token → Result Placed StrError
+values bytes source [] = Ok empty
+values bytes source (token ∷ tokens) = before (token_value bytes source token) (values bytes source tokens)
+
+-- some literal of the run is one of bytes
+unfoldable pub has_bytes : List ℕ → List Token → Bool
+has_bytes source run = list_any (is_lettered 98 source) run
+
+-- the value of a run, or its refusal: an f-string, bytes beside text, or the first fault by place in a body
+unfoldable pub value_of_run : List ℕ → List Token → Result Placed StrError
+value_of_run source run =
+    if list_any (is_lettered 102 source) run then Err error.FString
+    else (if has_bytes source run && list_any (is_unlettered 98 source) run then Err error.Mixed
+    else values (has_bytes source run) source run)
+
+abbrev pub universe_by : Bool → Universe
+universe_by bytes = if bytes then universe.Bytes else universe.Str
+
+-- where the closing quotes of a literal token begin
+unfoldable pub close_of : List ℕ → Token → ℕ
+close_of source token = token.upto - quotes_of (text_of source token)
+
+-- the last token of a run is this one
+abbrev pub IsLast : List Token → Token → Type 0
+IsLast run token = slice_get run (length run - 1) ≡ Some token
+
+-- the place is where the closing quotes of the run's last literal begin
+pub record HasEnd (source : List ℕ) (run : List Token) (end : ℕ) : Type 0 where
+  pub last : Token
+  pub is_last : IsLast run last
+  pub closes : end ≡ close_of source last
+
+-- The literal is the value of the run: its codes and their places, its universe, and where the last literal's closing quotes begin.
+pub record IsValue (source : List ℕ) (run : List Token) (literal : Literal) : Type 0 where
+  pub value : value_of_run source run ≡ Ok (record { codes = literal.codes; places = literal.places })
+  pub universe : literal.universe ≡ universe_by (has_bytes source run)
+  pub end : HasEnd source run literal.end
+
+abbrev pub begins_literal : List Token → Bool
+begins_literal run = option_map_or is_literal (slice_get run 0) false
+
+abbrev pub ends_literal : List Token → Bool
+ends_literal run = option_map_or is_literal (slice_get run (length run - 1)) false
+
+-- a run of literals and comments that begins and ends with a literal
+pub record IsLiteralRun (run : List Token) : Type 0 where
+  pub kinds : IsTrue (list_all (λ token. is_literal token || is_comment_kind token.kind) run)
+  pub begins : IsTrue (begins_literal run)
+  pub ends : IsTrue (ends_literal run)

@@ -1,0 +1,59 @@
+-- The value of a literal's body: its codes, each with the byte place of the code or escape that gives it.
+use Rattle.std.specs.Prelude.{◌≡◌, ⊤, ℕ, zero, suc, ◌+◌, ◌-◌, Bool, List, [], ◌∷◌, ◌++◌, Result, Ok, Err}
+use Rattle.std.specs.Char.{len_utf8}
+use Rattle.rl_pystr.specs.declared.escapes.Cause.{Cause}
+use Rattle.rl_pystr.specs.declared.escapes.Cause.TheVariants as cause
+use Rattle.rl_pystr.specs.declared.escapes.Gives.{Gives}
+use Rattle.rl_pystr.specs.declared.escapes.Gives.TheVariants.{Nothing, One, Both, Refuses}
+use Rattle.rl_pystr.specs.declared.fault.StrError.{StrError}
+use Rattle.rl_pystr.specs.declared.fault.StrError.TheVariants as error
+use Rattle.rl_pystr.specs.declared.placed.Placed.{Placed}
+use Rattle.rl_pystr.specs.Escapes.{unit, size_of}
+
+abbrev pub empty : Placed
+empty = record { codes = []; places = [] }
+
+-- one code at a place
+abbrev pub one : ℕ → ℕ → Placed
+one code place = record { codes = code ∷ []; places = place ∷ [] }
+
+abbrev pub joined : Placed → Placed → Placed
+joined a b = record { codes = a.codes ++ b.codes; places = a.places ++ b.places }
+
+abbrev pub in_front : Placed → Result Placed StrError → Result Placed StrError
+in_front a (Ok b) = Ok (joined a b)
+in_front a (Err e) = Err e
+
+-- the one value in front of the other; the first refusal counts
+abbrev pub before : Result Placed StrError → Result Placed StrError → Result Placed StrError
+before (Ok a) r = in_front a r
+before (Err e) r = Err e
+
+abbrev pub refusal : Cause → ℕ → StrError
+refusal cause.BadEscape place = error.BadEscape place
+refusal cause.NamedEscape place = error.NamedEscape place
+refusal cause.NotAscii place = error.NotAscii place
+
+-- what is given at a place: the codes of an escape all have the place of its backslash
+abbrev pub given : Gives → ℕ → Result Placed StrError
+given (Nothing size) place = Ok empty
+given (One code size) place = Ok (one code place)
+given (Both code) place = Ok (record { codes = 92 ∷ code ∷ []; places = place ∷ place ∷ [] })
+given (Refuses cause offset) place = Err (refusal cause (place + offset))
+
+-- The value of a body that begins at a byte place, raw or not, of bytes or of text. The first `skip` codes are passed.
+abbrev pub value_from : Bool → Bool → ℕ → ℕ → List ℕ → Result Placed StrError
+value_from raw bytes place skip [] = Ok empty
+value_from raw bytes place (suc skip) (c ∷ text) = value_from raw bytes (place + len_utf8 c) skip text
+value_from raw bytes place zero (c ∷ text) =
+    before (given (unit raw bytes (c ∷ text)) place)
+    (value_from raw bytes (place + len_utf8 c) (size_of (unit raw bytes (c ∷ text)) - 1) text)
+
+-- The error is this value's refusal, or memory was refused.
+abbrev pub IsRefused : Result Placed StrError → StrError → Type 0
+IsRefused r error.FString = r ≡ Err error.FString
+IsRefused r error.Mixed = r ≡ Err error.Mixed
+IsRefused r (error.BadEscape p) = r ≡ Err (error.BadEscape p)
+IsRefused r (error.NamedEscape p) = r ≡ Err (error.NamedEscape p)
+IsRefused r (error.NotAscii p) = r ≡ Err (error.NotAscii p)
+IsRefused r error.OutOfMemory = ⊤

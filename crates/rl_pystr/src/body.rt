@@ -1,0 +1,113 @@
+// The value of a body: its units one behind the other.
+ghost use Rattle.std.specs.Prelude.{◌≡◌, ℕ, ◌+◌, ◌*◌, ◌^◌, ◌<◌, ◌≤◌, ◌-◌, drop, length, slice_index, IfOk, IfErr, OnOk, Ok, IsUtf8};
+ghost use Rattle.std.specs.Str.{chars};
+ghost use Rattle.std.specs.Char.{len_utf8};
+ghost use Rattle.rl_pystr.specs.Escapes.{size_of};
+ghost use Rattle.rl_pystr.specs.Values.{before, given, refusal, value_from, IsRefused};
+
+use crate::StrError;
+use crate::escapes::{Cause, Gives, unit};
+use crate::placed::{Placed, push_code};
+use std::alloc::Global;
+
+fn refusal(cause: Cause, place: u32) -> StrError
+    ensures { result ≡ refusal cause place }
+{
+    match cause {
+        Cause::BadEscape => StrError::BadEscape(place),
+        Cause::NamedEscape => StrError::NamedEscape(place),
+        Cause::NotAscii => StrError::NotAscii(place),
+    }
+}
+
+fn size_of(gives: Gives) -> usize
+    ensures { result ≡ size_of gives }
+{
+    match gives {
+        Gives::Nothing(size) | Gives::One(_, size) => size,
+        Gives::Both(_) => 2,
+        Gives::Refuses(_, _) => 1,
+    }
+}
+
+/// Puts what is given at a place behind the others.
+#[tactic(auto, using(crate::proofs::Bodies::refusals))]
+fn push_given(out: &mut Placed, gives: Gives, place: u32) -> Result<(), StrError>
+    requires { place + 256 < 2 ^ 32 }
+    ensures ok { OnOk result (Ok out.new ≡ before (Ok out.old) (given gives place)) }
+    ensures err { IfErr result (IsRefused (before (Ok out.old) (given gives place))) }
+{
+    match gives {
+        Gives::Nothing(_) => Ok(()),
+        Gives::One(code, _) => push_code(out, code, place),
+        Gives::Both(code) => {
+            push_code(out, '\\' as u32, place)?;
+            push_code(out, code, place)
+        }
+        Gives::Refuses(cause, offset) => Err(refusal(cause, place + offset as u32)),
+    }
+}
+
+/// Passes the code at the front of a body, or begins a unit there and puts what it gives behind the others. It answers
+/// how many of the codes behind it are still to be passed.
+#[tactic(auto, using(crate::proofs::Bodies::steps))]
+fn step(
+    out: &mut Placed,
+    raw: bool,
+    bytes: bool,
+    place: u32,
+    skip: usize,
+    body: &[char],
+) -> Result<usize, StrError>
+    requires some { 0 < length body.now }
+    requires place { place + 256 < 2 ^ 32 }
+    ensures ok { IfOk result (λ next. before (Ok out.old) (value_from raw bytes place skip body.now) ≡ before (Ok out.new) (value_from raw bytes (place + len_utf8 (slice_index body.now 0)) next (drop 1 body.now))) }
+    ensures err { IfErr result (IsRefused (before (Ok out.old) (value_from raw bytes place skip body.now))) }
+{
+    if skip > 0 {
+        return Ok(skip - 1);
+    }
+    let gives = unit(raw, bytes, body);
+    push_given(out, gives, place)?;
+    Ok(size_of(gives).saturating_sub(1))
+}
+
+/// Puts the value of a body that begins at a byte place behind the others.
+#[tactic(auto, using(crate::proofs::Bodies::refusals))]
+pub fn push_body(
+    out: &mut Placed,
+    raw: bool,
+    bytes: bool,
+    first: u32,
+    body: &[char],
+) -> Result<(), StrError>
+    requires { first + 4 * length body.now + 256 < 2 ^ 32 }
+    ensures ok { OnOk result (Ok out.new ≡ before (Ok out.old) (value_from raw bytes first 0 body.now)) }
+    ensures err { IfErr result (IsRefused (before (Ok out.old) (value_from raw bytes first 0 body.now))) }
+{
+    let mut place = first;
+    let mut skip = 0;
+    let mut rest = body;
+    while let [code, after @ ..] = rest {
+        skip = step(out, raw, bytes, place, skip, rest)?;
+        place += code.len_utf8() as u32;
+        rest = after;
+    }
+    Ok(())
+}
+
+/// The codes of bytes of UTF-8.
+pub fn decoded(alloc: Global, bytes: &[u8]) -> Result<Vec<char>, StrError>
+    requires { IsUtf8 bytes.now }
+    ensures value { IfOk result (λ codes. codes.items ≡ chars bytes.now) }
+    ensures short { IfOk result (λ codes. length codes.items ≤ length bytes.now) }
+    ensures memory { IfErr result (λ e. e ≡ StrError.OutOfMemory) }
+{
+    match str::from_utf8(bytes) {
+        Ok(text) => {
+            let codes = text.chars().collect(alloc)?;
+            Ok(codes)
+        }
+        Err(_) => unreachable!(),
+    }
+}

@@ -1,0 +1,84 @@
+// Digits at the front of a text.
+ghost use Rattle.std.specs.Prelude.{◌≡◌, ℕ, ◌+◌, ◌<◌, ◌≤◌, ◌^◌, min, length, not, ◌==◌, true};
+ghost use Rattle.std.specs.List.{prefix_len, list_all};
+ghost use Rattle.std.specs.Char.{digit_value};
+ghost use Rattle.rl_pylex.specs.Bytes.{line_end};
+ghost use Rattle.rl_pystr.specs.Escapes.{is_octal, is_hex, number_of, has_hex};
+
+/// How many codes the line end at the front of the text has.
+#[tactic(auto, unfolding(rl_pylex::specs::Bytes::line_end))]
+pub fn line_end(text: &[char]) -> usize
+    ensures value { result ≡ line_end text.now }
+    ensures within { result ≤ length text.now }
+{
+    match text {
+        ['\r', '\n', ..] => 2,
+        ['\n' | '\r', ..] => 1,
+        _ => 0,
+    }
+}
+
+pub fn is_octal(code: char) -> bool
+    ensures { result ≡ is_octal code }
+{
+    code.is_digit(8)
+}
+
+fn is_hex(code: char) -> bool
+    ensures { result ≡ is_hex code }
+{
+    code.is_digit(16)
+}
+
+/// How many octal digits, at most three, stand at the front of the text.
+pub fn octal_size(text: &[char]) -> usize
+    ensures value { result ≡ min 3 (prefix_len is_octal text.now) }
+    ensures within { result ≤ length text.now }
+    ensures few { result ≤ 3 }
+{
+    match text {
+        [a, b, c, ..] if is_octal(*a) && is_octal(*b) && is_octal(*c) => 3,
+        [a, b, ..] if is_octal(*a) && is_octal(*b) => 2,
+        [a, ..] if is_octal(*a) => 1,
+        _ => 0,
+    }
+}
+
+fn are_hex(digits: &[char]) -> bool
+    ensures { result ≡ list_all is_hex digits.now }
+{
+    digits.iter().all(|digit| is_hex(*digit))
+}
+
+/// Whether the text begins with `count` hexadecimal digits.
+#[tactic(auto, unfolding(crate::specs::Escapes::has_hex))]
+pub fn has_hex(count: usize, text: &[char]) -> bool
+    ensures value { result ≡ has_hex count text.now }
+    ensures within { result ≡ true → count ≤ length text.now }
+{
+    count <= text.len() && are_hex(&text[..count])
+}
+
+/// The value of a digit or a letter, and 36 for any other code.
+fn digit_value(code: char) -> u64
+    ensures value { result ≡ digit_value code }
+    ensures within { result ≤ 36 }
+{
+    match code.to_digit(36) {
+        Some(digit) => digit as u64,
+        None => 36,
+    }
+}
+
+/// The number that at most eight digits spell in a base.
+pub fn number_of(base: u64, digits: &[char]) -> u64
+    requires base { base ≤ 16 }
+    requires few { length digits.now ≤ 8 }
+    ensures { result ≡ number_of base digits.now }
+{
+    let mut number = 0;
+    for digit in digits {
+        number = number * base + digit_value(*digit);
+    }
+    number
+}

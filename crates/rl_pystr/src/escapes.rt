@@ -1,0 +1,160 @@
+// What stands at the front of a body: one code, a line end, or an escape.
+ghost use Rattle.std.specs.Prelude.{◌≡◌, ℕ, ◌+◌, ◌<◌, ◌≤◌, ◌∷◌, length, not, ◌==◌, if◌then◌else◌};
+ghost use Rattle.rl_pylex.specs.Bytes.{begins};
+ghost use Rattle.rl_pystr.specs.Escapes.{octal, hexadecimal, named_code, byte_escape, text_escape, named_or, escape, unit, size_of, is_octal};
+
+use crate::digits::{has_hex, is_octal, line_end, number_of, octal_size};
+
+/// Why an escape or a code has no value.
+#[derive(Clone, Copy, Debug, PartialEq, Eq)]
+pub enum Cause {
+    BadEscape,
+    NamedEscape,
+    NotAscii,
+}
+
+/// What a unit of a body gives.
+#[derive(Clone, Copy, Debug, PartialEq, Eq)]
+pub enum Gives {
+    /// No code; the unit has so many codes.
+    Nothing(usize),
+    /// One code; the unit has so many codes.
+    One(u32, usize),
+    /// A backslash and this code, which stands behind it.
+    Both(u32),
+    /// A refusal so many codes behind the unit's first.
+    Refuses(Cause, u8),
+}
+
+/// The number of one to three octal digits, as many as there are.
+#[tactic(auto, unfolding(crate::specs::Escapes::octal))]
+fn octal(text: &[char]) -> Gives
+    ensures { result ≡ octal text.now }
+{
+    let count = octal_size(text);
+    let number = number_of(8, &text[..count]);
+    if number > 255 {
+        Gives::Refuses(Cause::BadEscape, 0)
+    } else {
+        Gives::One(number as u32, 1 + count)
+    }
+}
+
+/// The number of `count` hexadecimal digits.
+#[tactic(auto, unfolding(crate::specs::Escapes::hexadecimal))]
+fn hexadecimal(count: usize, text: &[char]) -> Gives
+    requires { count ≤ 8 }
+    ensures { result ≡ hexadecimal count text.now }
+{
+    if !has_hex(count, text) {
+        return Gives::Refuses(Cause::BadEscape, 0);
+    }
+    let number = number_of(16, &text[..count]);
+    if number > 0x10_FFFF {
+        Gives::Refuses(Cause::BadEscape, 0)
+    } else {
+        Gives::One(number as u32, 2 + count)
+    }
+}
+
+/// The code of an escape by a letter.
+#[tactic(auto, unfolding(crate::specs::Escapes::named_code))]
+fn named_code(letter: char) -> Option<u32>
+    ensures { result ≡ named_code letter }
+{
+    match letter {
+        'a' => Some(7),
+        'b' => Some(8),
+        'f' => Some(12),
+        'n' => Some(10),
+        'r' => Some(13),
+        't' => Some(9),
+        'v' => Some(11),
+        _ => None,
+    }
+}
+
+/// Any other code behind a backslash, in bytes.
+#[tactic(auto, unfolding(crate::specs::Escapes::byte_escape))]
+fn byte_escape(code: char) -> Gives
+    ensures { result ≡ byte_escape code }
+{
+    if code > '\x7F' {
+        Gives::Refuses(Cause::NotAscii, 1)
+    } else {
+        Gives::Both(code as u32)
+    }
+}
+
+fn by_name(rest: &[char]) -> Cause
+    ensures { result ≡ (if begins "{" rest.now then Cause.NamedEscape else Cause.BadEscape) }
+{
+    match rest {
+        ['{', ..] => Cause::NamedEscape,
+        _ => Cause::BadEscape,
+    }
+}
+
+/// An escape of four or eight digits or by a name, or any other code behind a backslash, in text.
+#[tactic(auto, unfolding(crate::specs::Escapes::text_escape))]
+fn text_escape(code: char, rest: &[char]) -> Gives
+    ensures { result ≡ text_escape code rest.now }
+{
+    match code {
+        'u' => hexadecimal(4, rest),
+        'U' => hexadecimal(8, rest),
+        'N' => Gives::Refuses(by_name(rest), 0),
+        _ => Gives::Both(code as u32),
+    }
+}
+
+fn letter_escape(bytes: bool, code: char, rest: &[char]) -> Gives
+    ensures { result ≡ named_or (named_code code) (if bytes then byte_escape code else text_escape code rest.now) }
+{
+    match named_code(code) {
+        Some(named) => Gives::One(named, 2),
+        None if bytes => byte_escape(code),
+        None => text_escape(code, rest),
+    }
+}
+
+/// The escape of a backslash and this text behind it.
+fn escape(bytes: bool, text: &[char]) -> Gives
+    ensures { result ≡ escape bytes text.now }
+{
+    let [code, rest @ ..] = text else {
+        return Gives::One('\\' as u32, 1);
+    };
+    let end = line_end(text);
+    if end > 0 {
+        Gives::Nothing(1 + end)
+    } else if matches!(*code, '\\' | '\'' | '"') {
+        Gives::One(*code as u32, 2)
+    } else if is_octal(*code) {
+        octal(text)
+    } else if *code == 'x' {
+        hexadecimal(2, rest)
+    } else {
+        letter_escape(bytes, *code, rest)
+    }
+}
+
+/// What stands at the front of a text in a body, raw or not, of bytes or of text.
+pub fn unit(raw: bool, bytes: bool, text: &[char]) -> Gives
+    requires { 0 < length text.now }
+    ensures { result ≡ unit raw bytes text.now }
+{
+    let [code, rest @ ..] = text else {
+        return Gives::Nothing(1);
+    };
+    let end = line_end(text);
+    if end > 0 {
+        Gives::One('\n' as u32, end)
+    } else if !raw && *code == '\\' {
+        escape(bytes, rest)
+    } else if bytes && *code > '\x7F' {
+        Gives::Refuses(Cause::NotAscii, 0)
+    } else {
+        Gives::One(*code as u32, 1)
+    }
+}

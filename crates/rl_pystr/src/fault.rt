@@ -1,0 +1,52 @@
+// Why a run of literals has no value.
+ghost use Rattle.std.specs.Prelude.{◌≡◌};
+
+use rl_lists::OutOfMemory;
+use std::alloc::{AllocError, AllocFailed};
+
+/// Why a run of literals has no value. The places are byte places in the source.
+#[derive(Clone, Copy, Debug, PartialEq, Eq)]
+pub enum StrError {
+    /// A literal is an f-string.
+    FString,
+    /// Literals of bytes stand beside literals of text.
+    Mixed,
+    /// An escape that has no value: the place of its backslash.
+    BadEscape(u32),
+    /// A character by its name: the place of its backslash.
+    NamedEscape(u32),
+    /// A code from 0x80 in a literal of bytes: its place.
+    NotAscii(u32),
+    /// Memory was refused.
+    OutOfMemory,
+}
+
+impl From<OutOfMemory> for StrError {
+    ghost use Rattle.rl_pystr.specs.declared.fault.StrError.TheVariants as error;
+
+    ghost from_gives = { λ _ e. e ≡ error.OutOfMemory };
+
+    fn from(_: OutOfMemory) -> Self {
+        StrError::OutOfMemory
+    }
+}
+
+impl From<AllocError> for StrError {
+    ghost use Rattle.rl_pystr.specs.declared.fault.StrError.TheVariants as error;
+
+    ghost from_gives = { λ _ e. e ≡ error.OutOfMemory };
+
+    fn from(_: AllocError) -> Self {
+        StrError::OutOfMemory
+    }
+}
+
+impl<T: Drop> From<AllocFailed<T>> for StrError {
+    ghost use Rattle.rl_pystr.specs.declared.fault.StrError.TheVariants as error;
+
+    ghost from_gives = { λ _ e. e ≡ error.OutOfMemory };
+
+    fn from(_: AllocFailed<T>) -> Self {
+        StrError::OutOfMemory
+    }
+}

@@ -1,0 +1,34 @@
+// Codes with their places.
+ghost use Rattle.std.specs.Prelude.{◌≡◌, OnOk, IfErr, Result, Ok, IsOkUnless};
+ghost use Rattle.rl_pystr.specs.Values.{empty, one, joined};
+
+use crate::StrError;
+use rl_lists::{Codes, Places};
+use std::alloc::Global;
+
+/// Codes, each with its byte place.
+#[derive(Drop)]
+pub struct Placed {
+    pub codes: Codes,
+    pub places: Places,
+}
+
+/// No codes.
+pub fn no_codes(alloc: Global) -> Placed
+    ensures { result ≡ empty }
+{
+    Placed {
+        codes: Codes::new(alloc),
+        places: Places::new(alloc),
+    }
+}
+
+/// Puts a code and its place behind the others.
+pub fn push_code(out: &mut Placed, code: u32, place: u32) -> Result<(), StrError>
+    ensures pushed { OnOk result (out.new ≡ joined out.old (one code place)) }
+    ensures memory { IsOkUnless result StrError.OutOfMemory }
+{
+    out.codes.push(code)?;
+    out.places.push(place)?;
+    Ok(())
+}

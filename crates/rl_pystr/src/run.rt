@@ -1,0 +1,305 @@
+// The value of a run of literals.
+ghost use Rattle.std.specs.Prelude.{◌≡◌, ℕ, ◌+◌, ◌<◌, ◌≤◌, ◌-◌, ◌∷◌, List, All, take, drop, length, not, IfOk, IfErr, OnOk, Ok, IsUtf8, IsTrue, true};
+ghost use Rattle.std.specs.List.{list_any};
+ghost use Rattle.rl_pylex.specs.Literals.{IsLiteral};
+ghost use Rattle.rl_pylex.specs.Source.{text_of, IsReadAt, IsTokenList};
+ghost use Rattle.rl_pystr.specs.Values.{empty, before, IsRefused};
+ghost use Rattle.rl_pystr.specs.Runs.{is_literal, letter_count, has_letter, quotes_of, body_start, body_of, literal_value, is_lettered, is_unlettered, token_value, values, has_bytes, value_of_run, universe_by, close_of, IsLast, HasEnd, IsValue, ends_literal, IsLiteralRun};
+
+use crate::body::{decoded, push_body};
+use crate::placed::{Placed, no_codes};
+use crate::{Literal, StrError};
+use rl_pylex::{Token, TokenKind, TokenList, prefix_size, quote_count, text_of};
+use rl_ranges::universe::Universe;
+use std::alloc::Global;
+
+/// The text from a place on.
+fn rest_from(text: &[u8], at: usize) -> &[u8]
+    requires { at ≤ length text.now }
+    ensures { result.now ≡ drop at text.now }
+{
+    &text[at..]
+}
+
+fn is_literal(token: Token) -> bool
+    ensures { result ≡ is_literal token }
+{
+    matches!(token.kind, TokenKind::Literal)
+}
+
+/// How many letters the prefix of a literal has.
+fn letter_count(text: &[u8]) -> usize
+    ensures value { result ≡ letter_count text.now }
+    ensures within { result ≤ length text.now }
+{
+    prefix_size(text).unwrap_or(0)
+}
+
+/// Whether the prefix of a literal has this letter, in any case.
+#[tactic(auto, unfolding(crate::specs::Runs::has_letter))]
+fn has_letter(letter: u8, text: &[u8]) -> bool
+    ensures { result ≡ has_letter letter text.now }
+{
+    text[..letter_count(text)]
+        .iter()
+        .any(|byte| byte.to_ascii_lowercase() == letter)
+}
+
+/// How many quotes stand at each end of a literal.
+#[tactic(auto, using(crate::proofs::Bounds::bounds))]
+fn quotes_of(text: &[u8]) -> usize
+    requires { IsLiteral text.now }
+    ensures value { result ≡ quotes_of text.now }
+    ensures room { letter_count text.now + result + result ≤ length text.now }
+{
+    quote_count(rest_from(text, letter_count(text)))
+}
+
+/// Where the body of a literal begins in it.
+#[tactic(auto, unfolding(crate::specs::Runs::body_start))]
+fn body_start(text: &[u8]) -> usize
+    requires { IsLiteral text.now }
+    ensures value { result ≡ body_start text.now }
+    ensures room { result + quotes_of text.now ≤ length text.now }
+{
+    letter_count(text) + quotes_of(text)
+}
+
+/// The bytes between the quotes of a literal.
+#[tactic(auto, unfolding(crate::specs::Runs::body_of))]
+fn body_of(text: &[u8]) -> &[u8]
+    requires { IsLiteral text.now }
+    ensures value { result.now ≡ body_of text.now }
+    ensures short { length result.now ≤ length text.now }
+{
+    let end = text.len() - quotes_of(text);
+    &text[body_start(text)..end]
+}
+
+/// Puts the value of a literal whose text begins at a place behind the others.
+#[tactic(auto, unfolding(crate::specs::Runs::literal_value))]
+fn push_literal(
+    alloc: Global,
+    out: &mut Placed,
+    bytes: bool,
+    place: u32,
+    text: &[u8],
+) -> Result<(), StrError>
+    requires literal { IsLiteral text.now }
+    requires utf8 { IsUtf8 (body_of text.now) }
+    requires place { place ≤ 4194304 }
+    requires short { length text.now ≤ 4194304 }
+    ensures ok { OnOk result (Ok out.new ≡ before (Ok out.old) (literal_value bytes place text.now)) }
+    ensures err { IfErr result (IsRefused (before (Ok out.old) (literal_value bytes place text.now))) }
+{
+    let body = decoded(alloc, body_of(text))?;
+    let raw = has_letter(b'r', text);
+    let first = place + body_start(text) as u32;
+    push_body(out, raw, bytes, first, body.as_slice())
+}
+
+/// Puts the value of a token behind the others.
+#[tactic(auto, using(crate::proofs::Bodies::refusals, crate::proofs::Bounds::bounds))]
+fn push_token(
+    alloc: Global,
+    out: &mut Placed,
+    bytes: bool,
+    source: &[u8],
+    token: Token,
+) -> Result<(), StrError>
+    requires read { IsReadAt source.now token }
+    requires utf8 { IsUtf8 source.now }
+    requires short { length source.now ≤ 4194304 }
+    ensures ok { OnOk result (Ok out.new ≡ before (Ok out.old) (token_value bytes source.now token)) }
+    ensures err { IfErr result (IsRefused (before (Ok out.old) (token_value bytes source.now token))) }
+{
+    if !is_literal(token) {
+        return Ok(());
+    }
+    push_literal(alloc, out, bytes, token.from, text_of(source, token))
+}
+
+/// Puts the value of the first of the tokens behind the others.
+#[tactic(auto, using(crate::proofs::Bodies::fronts))]
+fn push_front(
+    alloc: Global,
+    out: &mut Placed,
+    bytes: bool,
+    source: &[u8],
+    run: &[Token],
+) -> Result<(), StrError>
+    requires some { 0 < length run.now }
+    requires read { All (IsReadAt source.now) run.now }
+    requires utf8 { IsUtf8 source.now }
+    requires short { length source.now ≤ 4194304 }
+    ensures ok { OnOk result (before (Ok out.old) (values bytes source.now run.now) ≡ before (Ok out.new) (values bytes source.now (drop 1 run.now))) }
+    ensures err { IfErr result (IsRefused (before (Ok out.old) (values bytes source.now run.now))) }
+    ensures rest { All (IsReadAt source.now) (drop 1 run.now) }
+{
+    push_token(alloc, out, bytes, source, run[0])?;
+    Ok(())
+}
+
+/// Puts the values of the tokens behind the others.
+#[tactic(auto, using(crate::proofs::Bodies::runs))]
+fn push_values(
+    alloc: Global,
+    out: &mut Placed,
+    bytes: bool,
+    source: &[u8],
+    run: &[Token],
+) -> Result<(), StrError>
+    requires read { All (IsReadAt source.now) run.now }
+    requires utf8 { IsUtf8 source.now }
+    requires short { length source.now ≤ 4194304 }
+    ensures ok { OnOk result (Ok out.new ≡ before (Ok out.old) (values bytes source.now run.now)) }
+    ensures err { IfErr result (IsRefused (before (Ok out.old) (values bytes source.now run.now))) }
+{
+    let mut rest = run;
+    while let [_, after @ ..] = rest {
+        push_front(alloc, out, bytes, source, rest)?;
+        rest = after;
+    }
+    Ok(())
+}
+
+fn is_lettered(letter: u8, source: &[u8], token: Token) -> bool
+    ensures { result ≡ is_lettered letter source.now token }
+{
+    is_literal(token) && has_letter(letter, text_of(source, token))
+}
+
+fn is_unlettered(letter: u8, source: &[u8], token: Token) -> bool
+    ensures { result ≡ is_unlettered letter source.now token }
+{
+    is_literal(token) && !has_letter(letter, text_of(source, token))
+}
+
+fn any_lettered(letter: u8, source: &[u8], run: &[Token]) -> bool
+    ensures { result ≡ list_any (is_lettered letter source.now) run.now }
+{
+    run.iter().any(|token| is_lettered(letter, source, *token))
+}
+
+fn any_unlettered(letter: u8, source: &[u8], run: &[Token]) -> bool
+    ensures { result ≡ list_any (is_unlettered letter source.now) run.now }
+{
+    run.iter()
+        .any(|token| is_unlettered(letter, source, *token))
+}
+
+fn universe_by(bytes: bool) -> Universe
+    ensures { result ≡ universe_by bytes }
+{
+    if bytes {
+        Universe::Bytes
+    } else {
+        Universe::Str
+    }
+}
+
+/// The codes of a run, with their places.
+#[tactic(auto, using(crate::proofs::Bodies::runs), unfolding(crate::specs::Runs::value_of_run, crate::specs::Runs::has_bytes))]
+fn value_of_run(alloc: Global, source: &[u8], run: &[Token]) -> Result<Placed, StrError>
+    requires read { All (IsReadAt source.now) run.now }
+    requires utf8 { IsUtf8 source.now }
+    requires short { length source.now ≤ 4194304 }
+    ensures ok { IfOk result (λ placed. value_of_run source.now run.now ≡ Ok placed) }
+    ensures err { IfErr result (IsRefused (value_of_run source.now run.now)) }
+{
+    if any_lettered(b'f', source, run) {
+        return Err(StrError::FString);
+    }
+    let bytes = any_lettered(b'b', source, run);
+    if bytes && any_unlettered(b'b', source, run) {
+        return Err(StrError::Mixed);
+    }
+    let mut out = no_codes(alloc);
+    push_values(alloc, &mut out, bytes, source, run)?;
+    Ok(out)
+}
+
+/// The last token of a run that ends with a literal.
+#[tactic(auto, using(crate::proofs::Ends::ends))]
+fn last_literal(run: &[Token]) -> Token
+    requires { IsTrue (ends_literal run.now) }
+    ensures last { IsLast run.now result }
+    ensures literal { is_literal result ≡ true }
+{
+    match run.last() {
+        Some(token) => *token,
+        None => unreachable!(),
+    }
+}
+
+/// The place where the closing quotes of a literal token begin.
+#[tactic(auto, using(crate::proofs::Ends::ends), unfolding(crate::specs::Runs::close_of))]
+fn close_of(source: &[u8], token: Token) -> u32
+    requires { IsLiteral (text_of source.now token) }
+    ensures { result ≡ close_of source.now token }
+{
+    let quotes = quotes_of(text_of(source, token));
+    token.upto - quotes as u32
+}
+
+#[tactic(auto, using(crate::proofs::Ends::ends))]
+fn end_of(source: &[u8], run: &[Token]) -> u32
+    requires read { All (IsReadAt source.now) run.now }
+    requires ends { IsTrue (ends_literal run.now) }
+    ensures { HasEnd source.now run.now result }
+{
+    close_of(source, last_literal(run))
+}
+
+#[tactic(auto, unfolding(crate::specs::Runs::has_bytes))]
+fn universe_of(source: &[u8], run: &[Token]) -> Universe
+    ensures { result ≡ universe_by (has_bytes source.now run.now) }
+{
+    universe_by(any_lettered(b'b', source, run))
+}
+
+#[tactic(auto, using(crate::proofs::Ends::ends))]
+fn run_of(tokens: &TokenList, first: u32, count: u32) -> &[Token]
+    requires { first + count ≤ length tokens.now }
+    ensures { result.now ≡ take count (drop first tokens.now) }
+{
+    let first = first as usize;
+    &tokens.as_slice()[first..first + count as usize]
+}
+
+/// The value of a run of literals, which may have comments between them: the values of the literals one behind the
+/// other. The `count` tokens of the source from `first` on are literals and comments, and the first and the last of
+/// them are literals.
+///
+/// # Errors
+/// The first of these that holds.
+/// - [`StrError::FString`] exactly where a literal has an `f` in its prefix
+/// - [`StrError::Mixed`] exactly where one has a `b` in its prefix and another has none
+/// - [`StrError::BadEscape`] or [`StrError::NamedEscape`], with the place of its backslash, or [`StrError::NotAscii`],
+///   with its own place, exactly where such an escape, or a code from 0x80 in bytes, is the first of these by place
+/// - [`StrError::OutOfMemory`] where memory was refused
+#[tactic(auto, using(crate::proofs::Ends::ends))]
+pub fn value(
+    alloc: Global,
+    source: &[u8],
+    tokens: &TokenList,
+    first: u32,
+    count: u32,
+) -> Result<Literal, StrError>
+    requires tokens { IsTokenList source.now tokens.now }
+    requires within { first + count ≤ length tokens.now }
+    requires run { IsLiteralRun (take count (drop first tokens.now)) }
+    ensures ok { IfOk result (IsValue source.now (take count (drop first tokens.now))) }
+    ensures err { IfErr result (IsRefused (value_of_run source.now (take count (drop first tokens.now)))) }
+{
+    let run = run_of(tokens, first, count);
+    let placed = value_of_run(alloc, source, run)?;
+    let universe = universe_of(source, run);
+    let end = end_of(source, run);
+    Ok(Literal {
+        codes: placed.codes,
+        universe,
+        places: placed.places,
+        end,
+    })
+}
