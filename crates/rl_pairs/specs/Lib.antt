@@ -1,0 +1,5 @@
+pub mod LivePairs
+pub mod PairGraph
+pub mod Counted
+pub mod Families
+pub mod RightVerdict

@@ -1,0 +1,192 @@
+-- Lemmas on rows of truth values as sets.
+use Rattle.std.proofs.Common.{◌≡◌, ◌≢◌, ℕ, ◌+◌, ◌<◌, ◌≤◌, ◌⊎◌, Bool, true, false, not, ◌&&◌, ◌||◌, eqb, filter, List, [], ◌∷◌, length, get_or, set, drop, replicate, refl, sym, ap, ◌∙◌, subst, inl, inr, arith}
+use Rattle.std.specs.List.{list_any}
+use Rattle.std.proofs.lemmas.Bool.{cases_lt, cases_eq, eq-eqb, ne_eqb, cond-true, cond-false}
+use Rattle.std.proofs.lemmas.List.{set-set, at_drop_more, get_or-set_same, get_or-set_other, length-set, length-replicate, ext_get_or}
+use Rattle.std.proofs.lemmas.List.Elements.{All-from_get_or}
+use Rattle.rl_lanes.specs.Tables.{image as rows_image}
+use Rattle.rl_lanes.proofs.RowLemmas.{place_within, get_or-replicate_false}
+use Rattle.rl_lanes.proofs.ImageLemmas.{get_or-image, length-image}
+use Rattle.rl_prio.specs.Automaton.{Automaton, dead_state, moves_at}
+use Rattle.rl_sets.specs.Live.{below, holds, set_where, image, joined}
+use Rattle.rl_sets.specs.Walk.{set_of}
+use Rattle.rl_sets.specs.Rows.{members_of, marked, IsTableOn}
+use Rattle.rl_sets.proofs.SetLemmas.{same_tests, filter_same, any-there, any-from, holds-there, holds-from}
+
+-- a state is a member where its place holds true
+pub holds-members : (row : List Bool) (q : ℕ) → holds (members_of row) q ≡ get_or row q false
+unfolding members_of
+holds-members row q =
+    same_tests _ _ (λ e. (holds-there (λ k. get_or row k false) (length row) q e).1) (λ e.
+    holds-from (λ k. get_or row k false) (length row) q (place_within row q e) e)
+
+-- rows of one length with the same members are equal
+pub same_rows : (a b : List Bool) → length a ≡ length b → members_of a ≡ members_of b → a ≡ b
+same_rows a b long same = ext_get_or false a b long (λ q lt. sym (holds-members a q) ∙ ap (λ l. holds l q) same ∙ holds-members b q)
+
+-- the set of a row whose places say whether a test passes
+pub members-where : (a : Automaton) (row : List Bool) (p : ℕ → Bool) → length row ≡ a.states → ((q : ℕ) → q < a.states → get_or row q false ≡ p q) → members_of row ≡ set_where a p
+unfolding members_of
+members-where a row p long says =
+    ap (λ n. filter (λ q. get_or row q false) (below n)) long ∙ filter_same (λ q. get_or row q false) p a.states says
+
+-- a row stands for the set of its members
+pub members-set : (a : Automaton) (row : List Bool) → length row ≡ a.states → members_of row ≡ set_where a (holds (members_of row))
+members-set a row long = members-where a row (holds (members_of row)) long (λ q lt. sym (holds-members row q))
+
+-- ---- marks
+pub length-marked : (row : List Bool) (qs : List ℕ) → length (marked row qs) ≡ length row
+length-marked row [] = refl
+length-marked row (q ∷ qs) = length-marked (set row q true) qs ∙ length-set row q true
+
+pub get_or-marked : (row : List Bool) (qs : List ℕ) (t : ℕ) → t < length row → get_or (marked row qs) t false ≡ (get_or row t false || holds qs t)
+get_or-marked row [] t lt = or_false (get_or row t false)
+  where
+    or_false : (b : Bool) → b ≡ (b || false)
+    or_false true = refl
+    or_false false = refl
+get_or-marked row (q ∷ qs) t lt =
+    get_or-marked (set row q true) qs t (omega (arith, length-set row q true)) ∙ by (cases_eq t q)
+  where
+    all_true : (b c : Bool) → true ≡ (b || (true || c))
+    all_true true c = refl
+    all_true false c = refl
+
+    by : (t ≡ q) ⊎ (t ≡ q → ⊥) → (get_or (set row q true) t false || holds qs t) ≡ (get_or row t false || (eqb q t || holds qs t))
+    by (inl here) =
+        ap (λ b. b || holds qs t) (ap (λ k. get_or (set row q true) k false) here ∙ get_or-set_same row q true false (omega arith))
+        ∙ all_true (get_or row t false) (holds qs t)
+        ∙ ap (λ b. get_or row t false || (b || holds qs t)) (sym (eq-eqb q t (sym here)))
+    by (inr other) =
+        ap (λ b. b || holds qs t) (get_or-set_other row q t true false other)
+        ∙ ap (λ b. get_or row t false || (b || holds qs t)) (sym (ne_eqb q t (λ e. other (sym e))))
+
+-- the row of listed states
+pub get_or-marked_zeros : (n : ℕ) (qs : List ℕ) (t : ℕ) → t < n → get_or (marked (replicate n false) qs) t false ≡ holds qs t
+get_or-marked_zeros n qs t lt =
+    get_or-marked (replicate n false) qs t (omega (arith, length-replicate n false)) ∙ ap (λ b. b || holds qs t) (get_or-replicate_false n t)
+
+pub length-marked_zeros : (n : ℕ) (qs : List ℕ) → length (marked (replicate n false) qs) ≡ n
+length-marked_zeros n qs = length-marked (replicate n false) qs ∙ length-replicate n false
+
+-- ---- images
+-- the test of an image before the dead state is left out
+abbrev reaches : Automaton → ℕ → List ℕ → ℕ → Bool
+reaches a letter members t = list_any (λ q. holds (moves_at a q letter) t) members
+
+-- the union of the rows of the members holds what they move to
+image_reaches : (a : Automaton) (letter : ℕ) (table : List (List Bool)) (row : List Bool) (t : ℕ) → IsTableOn a letter table → length row ≡ a.states → t < a.states
+    → get_or (rows_image table row a.states) t false ≡ reaches a letter (members_of row) t
+unfolding members_of
+image_reaches a letter table row t on long lt =
+    let f = λ (q : ℕ). holds (moves_at a q letter) t in
+    let p = λ (q : ℕ). get_or row q false in
+    let both = get_or-image table row a.states t on.wide in
+    same_tests _ _ (λ e.
+    let h = both.0 e in
+    let small : h.0 < length row = place_within row h.0 h.1 in
+    any-from f p (length row) h.0 small h.1 (sym (on.moves h.0 t (omega arith) lt) ∙ h.2)) (λ e.
+    let h = any-there f p (length row) e in
+    both.1 (h.0, h.2, on.moves h.0 t (omega arith) lt ∙ h.3))
+
+-- the same without the dead state
+image_says : (a : Automaton) (letter : ℕ) (into : List Bool) (members : List ℕ) (t : ℕ) → length into ≡ a.states → t < a.states → get_or into t false ≡ reaches a letter members t
+    → get_or (set into (dead_state a) false) t false ≡ (not (eqb t (dead_state a)) && reaches a letter members t)
+image_says a letter into members t long lt same = by (cases_eq t (dead_state a))
+  where
+    by : (t ≡ dead_state a) ⊎ (t ≡ dead_state a → ⊥) → get_or (set into (dead_state a) false) t false ≡ (not (eqb t (dead_state a)) && reaches a letter members t)
+    by (inl here) =
+        ap (λ k. get_or (set into (dead_state a) false) k false) here
+        ∙ get_or-set_same into (dead_state a) false false (omega arith)
+        ∙ ap (λ b. not b && reaches a letter members t) (sym (eq-eqb t (dead_state a) here))
+    by (inr other) =
+        get_or-set_other into (dead_state a) t false false other
+        ∙ same
+        ∙ ap (λ b. not b && reaches a letter members t) (sym (ne_eqb t (dead_state a) other))
+
+-- the union of the rows of the members, without the dead state, is the row of the image
+pub members-image : (a : Automaton) (letter : ℕ) (table : List (List Bool)) (row : List Bool) → IsTableOn a letter table → length row ≡ a.states
+    → members_of (set (rows_image table row a.states) (dead_state a) false) ≡ image a (members_of row) letter
+unfolding image
+members-image a letter table row on long =
+    let into = rows_image table row a.states in
+    let wide : length into ≡ a.states = length-image table row a.states on.wide in
+    members-where a (set into (dead_state a) false) (λ t. not (eqb t (dead_state a)) && reaches a letter (members_of row) t) (length-set into (dead_state a) false ∙ wide) (λ t lt.
+    image_says a letter into (members_of row) t wide lt (image_reaches a letter table row t on long lt))
+
+-- ---- tables
+-- where the marking of a row of a table stands, before the state with the number `i`
+pub record IsMarking (old now : List (List Bool)) (at : ℕ) (qs : List ℕ) (i : ℕ) : Type 0 where
+  pub rest_same : now ≡ set old at (get_or now at [])
+  pub left : marked (get_or now at []) (drop i qs) ≡ marked (get_or old at []) qs
+  pub long : length (get_or now at []) ≡ length (get_or old at [])
+
+pub IsMarking-more : (old now new : List (List Bool)) (at i q : ℕ) (qs : List ℕ) → at < length old → i < length qs → q ≡ get_or qs i 0 → IsMarking old now at qs i → new ≡ set now at (set (get_or now at []) q true) → IsMarking old new at qs (i + 1)
+IsMarking-more old now new at i q qs in' lt read m e =
+    let row = get_or now at [] in
+    let long : length now ≡ length old = ap length m.rest_same ∙ length-set old at row in
+    let row_is : get_or new at [] ≡ set row q true = ap (λ t. get_or t at []) e ∙ get_or-set_same now at (set row q true) [] (omega arith) in
+    record {
+      rest_same = e ∙ ap (λ t. set t at (set row q true)) m.rest_same ∙ set-set old at row (set row q true) ∙ ap (set old at) (sym row_is);
+      left =
+          ap (λ r. marked r (drop (i + 1) qs)) row_is
+          ∙ sym (at_drop_more (marked row) qs i 0 lt ∙ ap (λ x. marked row (x ∷ drop (i + 1) qs)) (sym read))
+          ∙ m.left;
+      long = ap length row_is ∙ length-set row q true ∙ m.long;
+    }
+
+-- where the filling of a table stands, before the row `q`
+pub record IsFilling (a : Automaton) (letter : ℕ) (table : List (List Bool)) (q : ℕ) : Type 0 where
+  pub high : length table ≡ a.states
+  pub filled : (r : ℕ) → r < q → get_or table r [] ≡ marked (replicate a.states false) (moves_at a r letter)
+  pub bare : (r : ℕ) → q ≤ r → r < a.states → get_or table r [] ≡ replicate a.states false
+
+pub IsFilling-more : (a : Automaton) (letter q : ℕ) (now new : List (List Bool)) → q < a.states → IsFilling a letter now q → new ≡ set now q (marked (get_or now q []) (moves_at a q letter)) → IsFilling a letter new (q + 1)
+IsFilling-more a letter q now new lt f e =
+    let row = marked (get_or now q []) (moves_at a q letter) in
+    let here : get_or new q [] ≡ row = ap (λ t. get_or t q []) e ∙ get_or-set_same now q row [] (omega (arith, f.high)) in
+    let others : (r : ℕ) → r ≢ q → get_or new r [] ≡ get_or now r [] = λ r other. ap (λ t. get_or t r []) e ∙ get_or-set_other now q r row [] other in
+    record {
+      high = ap length e ∙ length-set now q row ∙ f.high;
+      filled = λ r below. elim (cases_lt r q) [
+        | inl less ↦ others r (λ s. omega arith) ∙ f.filled r less
+        | inr more ↦
+            let same : q ≡ r = omega arith in
+            subst (λ k. get_or new k [] ≡ marked (replicate a.states false) (moves_at a k letter)) same (here ∙ ap (λ x. marked x (moves_at a q letter)) (f.bare q (omega arith) lt))
+      ];
+      bare = λ r from small. others r (λ s. omega arith) ∙ f.bare r (omega arith) small;
+    }
+
+pub IsFilling-all : (a : Automaton) (letter q : ℕ) (table : List (List Bool)) → a.states ≤ q → IsFilling a letter table q → IsTableOn a letter table
+IsFilling-all a letter q table all f =
+    let row = λ (r : ℕ). marked (replicate a.states false) (moves_at a r letter) in
+    record {
+      high = f.high;
+      wide = All-from_get_or (λ r. length r ≡ a.states) table [] (λ i lt. ap length (f.filled i (omega (arith, f.high))) ∙ length-marked_zeros a.states (moves_at a i letter));
+      moves = λ q2 t lt small. ap (λ r. get_or r t false) (f.filled q2 (omega arith)) ∙ get_or-marked_zeros a.states (moves_at a q2 letter) t small;
+    }
+
+-- ---- the rows of listed and of joined sets
+pub members-listed : (a : Automaton) (row : List Bool) (qs : List ℕ) → row ≡ marked (replicate a.states false) qs → members_of row ≡ set_of a qs
+members-listed a row qs e =
+    members-where a row (holds qs) (ap length e ∙ length-marked_zeros a.states qs) (λ q lt. ap (λ r. get_or r q false) e ∙ get_or-marked_zeros a.states qs q lt)
+
+pub joined-dead : (a : Automaton) (t : ℕ) (set : List ℕ) → t ≡ dead_state a → joined a t set ≡ set
+unfolding joined
+joined-dead a t set here = cond-true (eqb t (dead_state a)) set (set_where a (λ x. eqb x t || holds set x)) (eq-eqb t (dead_state a) here)
+
+pub members-joined : (a : Automaton) (row : List Bool) (t : ℕ) → length row ≡ a.states → t < a.states → t ≢ dead_state a → members_of (set row t true) ≡ joined a t (members_of row)
+unfolding joined
+members-joined a row t long lt other =
+    members-where a (set row t true) (λ x. eqb x t || holds (members_of row) x) (length-set row t true ∙ long) (λ x small. by x (cases_eq x t))
+    ∙ sym (cond-false (eqb t (dead_state a)) (members_of row) (set_where a (λ x. eqb x t || holds (members_of row) x)) (ne_eqb t (dead_state a) other))
+  where
+    by : (x : ℕ) → (x ≡ t) ⊎ (x ≡ t → ⊥) → get_or (set row t true) x false ≡ (eqb x t || holds (members_of row) x)
+    by x (inl here) =
+        ap (λ k. get_or (set row t true) k false) here
+        ∙ get_or-set_same row t true false (omega arith)
+        ∙ ap (λ b. b || holds (members_of row) x) (sym (eq-eqb x t here))
+    by x (inr apart) =
+        get_or-set_other row t x true false apart
+        ∙ sym (holds-members row x)
+        ∙ ap (λ b. b || holds (members_of row) x) (sym (ne_eqb x t apart))

@@ -1,0 +1,9 @@
+//! Sets of states of an automaton: numbered once each, with their images and the rests that they refuse.
+#![tactic(auto)]
+
+mod error;
+mod rows;
+mod walk;
+
+pub use error::SetsError;
+pub use walk::SetWalk;

@@ -1,0 +1,59 @@
+//! Rows of states, and the table of the moves on one letter.
+
+ghost use Rattle.std.specs.Prelude.{◌≡◌, ◌<◌, ◌≤◌, ◌^◌, All, [], length, slice_index_or, slice_set, IfOk};
+ghost use Rattle.rl_prio.specs.Automaton.{letters_count};
+ghost use Rattle.rl_sets.specs.Rows.{members_of, marked, IsTableOn};
+
+use rl_lanes::{BitRow, BitTable};
+use rl_lists::{Items, Members, OutOfMemory};
+use rl_prio::Prio;
+use std::alloc::Global;
+
+/// Makes the places of states hold true.
+pub(crate) fn mark(row: &mut BitRow, states: &[u32])
+    requires { All (λ q. q < length row.old) states.now }
+    ensures marked { row.new ≡ marked row.old states.now }
+    ensures len { length row.new ≡ length row.old }
+{
+    for q in states {
+        row.set(*q as usize, true);
+    }
+}
+
+/// Makes the places of states hold true in one row of a table.
+fn mark_row(table: &mut BitTable, at: usize, states: &[u32])
+    requires row_in { at < length table.old }
+    requires states_in { All (λ q. q < length (slice_index_or table.old at [])) states.now }
+    ensures { table.new ≡ slice_set table.old at (marked (slice_index_or table.old at []) states.now) }
+{
+    for q in states {
+        table.set(at, *q as usize, true);
+    }
+}
+
+/// The moves of an automaton on one letter, the end letter included.
+pub(crate) fn table_on(alloc: Global, a: &Prio, letter: u32) -> Result<BitTable, OutOfMemory>
+    requires { letter ≤ letters_count a.now }
+    ensures { IfOk result (IsTableOn a.now letter) }
+{
+    let states = a.states() as usize;
+    let mut table = BitTable::zeros(alloc, states, states)?;
+    for q in 0..a.states() {
+        mark_row(&mut table, q as usize, a.moves(q, letter));
+    }
+    Ok(table)
+}
+
+/// The members of the set that a row stands for, rising.
+pub(crate) fn members(alloc: Global, row: &BitRow) -> Result<Members, OutOfMemory>
+    requires { length row.now < 2 ^ 32 }
+    ensures { IfOk result (λ m. m ≡ members_of row.now) }
+{
+    let mut members = Items::new(alloc);
+    let mut from = 0;
+    while let Some(state) = row.next_from(from) {
+        members.push(state as u32)?;
+        from = state + 1;
+    }
+    Ok(members)
+}

@@ -1,0 +1,216 @@
+//! Walks over sets of states.
+
+ghost use Rattle.std.specs.Prelude.{◌≡◌, ◌≢◌, ℕ, ◌<◌, ◌≤◌, [], length, All, slice_get, Some, false, IfOk, IfErr, OnOk, OnErr, List, Bool};
+ghost use Rattle.rl_prio.specs.Automaton.{Automaton, letters_count, dead_state};
+ghost use Rattle.rl_sets.specs.declared.error.SetsError.TheVariants.{Sets};
+ghost use Rattle.rl_sets.specs.Live.{holds, image, joined};
+ghost use Rattle.rl_sets.specs.Rows.{members_of};
+ghost use Rattle.rl_sets.specs.Walk.{set_at, set_of, IsMadeFor, IsListed, IsFull};
+
+use crate::error::SetsError;
+use crate::rows::{mark, members, table_on};
+use indexmap::IndexSet;
+use rl_lanes::{BitRow, BitTable};
+use rl_lists::{Members, OutOfMemory};
+use rl_prio::Prio;
+use std::alloc::Global;
+use std::marker::Model;
+
+/// A walk over sets of states of one automaton. Each set has one number, its place in the walk's list.
+#[derive(Drop)]
+pub struct SetWalk {
+    states: u32,
+    limit: u32,
+    rows: IndexSet<BitRow>,
+    tables: Vec<Option<BitTable>>,
+}
+
+impl Model for SetWalk {
+    ghost use Rattle.std.specs.Prelude.{map};
+    ghost use Rattle.rl_sets.specs.Rows.{members_of};
+    ghost use Rattle.rl_sets.specs.Walk.{Walk, AreRows};
+
+    ghost Value = { Walk };
+
+    ghost view = { λ w. record { sets = map members_of w.rows.keys; limit = w.limit; kept = record { states = w.states; tables = w.tables.items } } };
+
+    ghost invariant = { λ w. AreRows w.states w.limit w.rows.keys };
+}
+
+impl SetWalk {
+    /// A walk without a set, which may get `limit` of them.
+    ///
+    /// # Errors
+    /// [`OutOfMemory`] where there was no memory for it.
+    pub fn new(alloc: Global, a: &Prio, limit: u32) -> Result<SetWalk, OutOfMemory>
+        requires some { 1 ≤ limit }
+        requires low { limit ≤ 20003 }
+        ensures empty { IfOk result (λ w. w.sets ≡ []) }
+        ensures limit { IfOk result (λ w. w.limit ≡ limit) }
+        ensures made { IfOk result (λ w. IsMadeFor w a.now) }
+    {
+        let mut tables = Vec::new(alloc);
+        for _letter in 0..a.letters().count() {
+            tables.push(None)?;
+        }
+        tables.push(None)?;
+        Ok(SetWalk {
+            states: a.states(),
+            limit,
+            rows: IndexSet::new(alloc),
+            tables,
+        })
+    }
+
+    /// How many sets the walk has.
+    pub fn len(&self) -> u32
+        ensures len { result ≡ length self.now.sets }
+        ensures few { length self.now.sets ≤ self.now.limit }
+    {
+        self.rows.len() as u32
+    }
+
+    /// Whether a state is a member of the set with a number.
+    pub fn holds(&self, set: u32, state: u32) -> bool
+        requires set_in { set < length self.now.sets }
+        requires state_in { state < self.now.kept.states }
+        ensures { result ≡ holds (set_at self.now set) state }
+    {
+        self.rows[set as usize].get(state as usize)
+    }
+
+    /// The number of the set of the listed states, which goes behind the others unless it is there.
+    ///
+    /// # Errors
+    /// [`SetsError::Sets`] where the set isn't there and the walk has as many sets as it may, and
+    /// [`SetsError::OutOfMemory`] where there was no memory for it. The walk's sets are unchanged then.
+    pub fn intern(&mut self, a: &Prio, members: &Vec<u32>) -> Result<u32, SetsError>
+        requires made { IsMadeFor self.old a.now }
+        requires states { All (λ q. (q < a.now.states) × (q ≢ dead_state a.now)) members.now.items }
+        ensures listed { IfOk result (IsListed self.old.sets self.new.sets (set_of a.now members.now.items)) }
+        ensures made { IsMadeFor self.new a.now }
+        ensures limit { self.new.limit ≡ self.old.limit }
+        ensures full { IfErr result (λ e. e ≡ Sets → IsFull self.old.sets self.old.limit (set_of a.now members.now.items)) }
+        ensures unchanged { OnErr result (self.new.sets ≡ self.old.sets) }
+    {
+        let mut row = BitRow::zeros(self.allocator(), a.states() as usize)?;
+        mark(&mut row, members.as_slice());
+        self.add(row)
+    }
+
+    /// The number of the image of a set on a letter, which goes behind the others unless it is there. The letter after the
+    /// last one is the end letter.
+    ///
+    /// # Errors
+    /// [`SetsError::Sets`] where the image isn't there and the walk has as many sets as it may, and
+    /// [`SetsError::OutOfMemory`] where there was no memory for it. The walk's sets are unchanged then.
+    pub fn step(&mut self, a: &Prio, set: u32, letter: u32) -> Result<u32, SetsError>
+        requires made { IsMadeFor self.old a.now }
+        requires set_in { set < length self.old.sets }
+        requires letter_in { letter ≤ letters_count a.now }
+        ensures listed { IfOk result (IsListed self.old.sets self.new.sets (image a.now (set_at self.old set) letter)) }
+        ensures made { IsMadeFor self.new a.now }
+        ensures limit { self.new.limit ≡ self.old.limit }
+        ensures full { IfErr result (λ e. e ≡ Sets → IsFull self.old.sets self.old.limit (image a.now (set_at self.old set) letter)) }
+        ensures unchanged { OnErr result (self.new.sets ≡ self.old.sets) }
+    {
+        self.prepare(a, letter)?;
+        let row = self.image_row(a, set, letter)?;
+        self.add(row)
+    }
+
+    /// The number of the set with one more member, which goes behind the others unless it is there. The dead state is left
+    /// out, so with it the set is the one that it was.
+    ///
+    /// # Errors
+    /// [`SetsError::Sets`] where the new set isn't there and the walk has as many sets as it may, and
+    /// [`SetsError::OutOfMemory`] where there was no memory for it. The walk's sets are unchanged then.
+    pub fn join(&mut self, set: u32, state: u32) -> Result<u32, SetsError>
+        requires set_in { set < length self.old.sets }
+        requires state_in { state < self.old.kept.states }
+        ensures listed { (a : Automaton) → IsMadeFor self.old a → IfOk result (IsListed self.old.sets self.new.sets (joined a state (set_at self.old set))) }
+        ensures made { (a : Automaton) → IsMadeFor self.old a → IsMadeFor self.new a }
+        ensures limit { self.new.limit ≡ self.old.limit }
+        ensures full { (a : Automaton) → IsMadeFor self.old a → IfErr result (λ e. e ≡ Sets → IsFull self.old.sets self.old.limit (joined a state (set_at self.old set))) }
+        ensures unchanged { OnErr result (self.new.sets ≡ self.old.sets) }
+    {
+        if state == self.states - 1 {
+            return Ok(set);
+        }
+        let mut row = self.rows[set as usize].copy()?;
+        row.set(state as usize, true);
+        self.add(row)
+    }
+
+    /// The members of the set with a number, rising.
+    ///
+    /// # Errors
+    /// [`OutOfMemory`] where there was no memory for the list.
+    pub fn members(&self, set: u32) -> Result<Members, OutOfMemory>
+        requires { set < length self.now.sets }
+        ensures { IfOk result (λ m. m ≡ set_at self.now set) }
+    {
+        // Each row has a place for each state, whose number is read so that it is known to fit.
+        let _states = self.states;
+        members(self.allocator(), &self.rows[set as usize])
+    }
+
+    /// The allocator of the walk.
+    fn allocator(&self) -> Global {
+        *self.tables.allocator()
+    }
+
+    /// Makes the table of a letter unless it is made.
+    fn prepare(&mut self, a: &Prio, letter: u32) -> Result<(), OutOfMemory>
+        requires made { IsMadeFor self.old a.now }
+        requires letter_in { letter ≤ letters_count a.now }
+        ensures there { OnOk result ((table : List (List Bool)) × (slice_get self.new.kept.tables letter ≡ Some (Some table))) }
+        ensures made { IsMadeFor self.new a.now }
+        ensures sets { self.new.sets ≡ self.old.sets }
+        ensures limit { self.new.limit ≡ self.old.limit }
+    {
+        if self.tables[letter as usize].is_none() {
+            let table = table_on(self.allocator(), a, letter)?;
+            self.tables[letter as usize] = Some(table);
+        }
+        Ok(())
+    }
+
+    /// The row of the image of a set on a letter whose table is made.
+    fn image_row(&self, a: &Prio, set: u32, letter: u32) -> Result<BitRow, OutOfMemory>
+        requires made { IsMadeFor self.now a.now }
+        requires set_in { set < length self.now.sets }
+        requires there { (table : List (List Bool)) × (slice_get self.now.kept.tables letter ≡ Some (Some table)) }
+        ensures image { IfOk result (λ row. members_of row ≡ image a.now (set_at self.now set) letter) }
+        ensures len { IfOk result (λ row. length row ≡ a.now.states) }
+    {
+        let states = a.states() as usize;
+        let mut into = BitRow::zeros(self.allocator(), states)?;
+        let Some(table) = &self.tables[letter as usize] else {
+            unreachable!()
+        };
+        table.image(&self.rows[set as usize], &mut into);
+        into.set(states - 1, false);
+        Ok(into)
+    }
+
+    /// The number of the set of a row.
+    fn add(&mut self, row: BitRow) -> Result<u32, SetsError>
+        requires { length row ≡ self.old.kept.states }
+        ensures listed { IfOk result (IsListed self.old.sets self.new.sets (members_of row)) }
+        ensures few { length self.new.sets ≤ self.new.limit }
+        ensures limit { self.new.limit ≡ self.old.limit }
+        ensures kept { self.new.kept ≡ self.old.kept }
+        ensures full { IfErr result (λ e. e ≡ Sets → IsFull self.old.sets self.old.limit (members_of row)) }
+        ensures unchanged { OnErr result (self.new.sets ≡ self.old.sets) }
+    {
+        if let Some(number) = self.rows.get_index_of(&row) {
+            return Ok(number as u32);
+        }
+        if self.rows.len() == self.limit as usize {
+            return Err(SetsError::Sets);
+        }
+        let (number, _) = self.rows.insert_full(row)?;
+        Ok(number as u32)
+    }
+}
