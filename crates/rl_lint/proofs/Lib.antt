@@ -1,0 +1,3 @@
+mod CodeLemmas
+mod LineLemmas
+mod PlanLemmas

@@ -1,0 +1,42 @@
+-- How a run ends, and the table of statuses.
+use Rattle.std.specs.Prelude.{◌≡◌, ◌⊎◌, ℕ, Bool, true, false, [], codes}
+use Rattle.std.specs.Io.KnownBytes.{Appends, Keeps}
+use Rattle.std.specs.String.{string_bytes}
+use Rattle.rl_source.specs.Faults.{Rose}
+use Rattle.rl_source.specs.Written.{GainsLess}
+use Rattle.rl_lint.specs.Uses.{Text, Use, Tells}
+use Rattle.rl_lint.specs.declared.plan.Message.{Message}
+use Rattle.rl_lint.specs.declared.plan.Message.TheVariants.{Fixed, Made}
+use Rattle.rl_lint.specs.declared.plan.Plan.{Plan}
+use Rattle.rl_lint.specs.declared.plan.Plan.TheVariants.{Refuses, Writes}
+
+-- what a run is to do, by its words and by what the tree answered
+pub data Ending : Type 0 where
+  -- tells this
+  refuses : Text → Ending
+  -- writes this; the flag says whether it has a finding
+  writes : Text → Bool → Ending
+
+abbrev pub message_text : Message → Text
+message_text (Fixed text) = text.now
+message_text (Made text) = string_bytes text
+
+abbrev pub ending_of : Plan → Ending
+ending_of (Refuses message) = refuses (message_text message)
+ending_of (Writes text finding) = writes (string_bytes text) finding
+
+abbrev pub status_of : Bool → ℕ
+status_of true = 1
+status_of false = 0
+
+-- the text is built whole and then written
+abbrev pub IsWritten : Text → Bool → Use → Use → ℕ → Type 0
+IsWritten text finding out err status =
+    ((status ≡ status_of finding) × Appends out.old out.new text × Tells [] err)
+    ⊎ ((status ≡ 4) × Rose out.faults_old out.faults_new × GainsLess out.old out.new text
+    × Tells (codes "relint: write fault\n") err)
+
+-- the statuses, with what the sinks gained
+abbrev pub EndsBy : Ending → Use → Use → ℕ → Type 0
+EndsBy (refuses message) out err status = (status ≡ 2) × Keeps out.old out.new × Tells message err
+EndsBy (writes text finding) out err status = IsWritten text finding out err status
