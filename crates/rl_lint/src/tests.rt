@@ -15,7 +15,7 @@ struct Row {
     err: &'static str,
 }
 
-static ROWS: [Row; 10] = [
+static ROWS: [Row; 11] = [
     Row {
         words: &["cost", "", ""],
         step: 99,
@@ -50,6 +50,19 @@ static ROWS: [Row; 10] = [
         err_fails: &[],
         status: 0,
         out: "steps 22 refused\n",
+        err: "",
+    },
+    Row {
+        words: &[
+            "cost",
+            "(a|a)*",
+            "aaaaaaaaaaaaaaaaaaaaaaaaaaaaaaaaaaaaaaaab",
+        ],
+        step: 99,
+        out_fails: &[],
+        err_fails: &[],
+        status: 0,
+        out: "steps 6597069766654 refused\n",
         err: "",
     },
     Row {
