@@ -1,3 +1,11 @@
 pub mod SetLemmas
 pub mod RowLemmas
 pub mod WalkLemmas
+pub mod FillLemmas
+pub mod LiveLemmas
+pub mod RouteLemmas
+pub mod GrowthLemmas
+pub mod SearchLemmas
+pub mod VisitLemmas
+pub mod ExpandLemmas
+pub mod SearchingLemmas

@@ -1,9 +1,9 @@
 -- Lemmas on the rows of a walk and the sets that they stand for.
-use Rattle.std.proofs.Common.{◌≡◌, ◌≢◌, ℕ, zero, suc, ◌<◌, ◌≤◌, ◌⊎◌, Bool, true, false, List, [], ◌∷◌, ◌++◌, length, get_or, map, replicate, if◌then◌else◌, slice_get, position, Option, Some, None, Result, Ok, Err, is_some, IfOk, OnErr, set, Contains, refl, sym, ap, ◌∙◌, subst, inl, inr, arith}
+use Rattle.std.proofs.Common.{set as put, ◌*◌, ◌≡◌, ◌≢◌, ℕ, zero, suc, ◌<◌, ◌≤◌, ◌⊎◌, Bool, true, false, List, [], ◌∷◌, ◌++◌, length, get_or, map, replicate, if◌then◌else◌, slice_get, position, Option, Some, None, Result, Ok, Err, is_some, IfOk, OnErr, set, Contains, refl, sym, ap, ◌∙◌, subst, inl, inr, arith}
 use Rattle.std.specs.List.{list_any}
 use Rattle.std.specs.Option.{option_map}
 use Rattle.std.proofs.lemmas.Bool.{false≢true, both_ways, cases_lt, cases_eq}
-use Rattle.std.proofs.lemmas.List.{length-set, get_or_default, length_push, get_or_push, get_or_append_left, length-map, get_or-map}
+use Rattle.std.proofs.lemmas.List.{get_or-set_same, get_or-set_other, get_or_past, length-set, get_or_default, length_push, get_or_push, get_or_append_left, length-map, get_or-map}
 use Rattle.std.proofs.lemmas.List.Elements.{All-push}
 use Rattle.std.proofs.lemmas.List.Folds.{list_any_at}
 use Rattle.std.proofs.lemmas.List.Quantifiers.{position-Some}
@@ -11,9 +11,14 @@ use Rattle.std.proofs.lemmas.Option.{slice_get-map, slice_get-get_or, slice_get_
 use Rattle.indexmap.specs.IndexSet.{insert_key}
 use Rattle.rl_lanes.specs.Rows.{row_eq, row_eq_decides}
 use Rattle.rl_sets.specs.declared.error.SetsError.{SetsError}
+use Rattle.rl_sets.specs.declared.life.Life.TheVariants.{Unknown}
+use Rattle.std.proofs.Math.Nat.{mul-le-mul_right}
+use Rattle.std.proofs.lemmas.Nat.{same_from_place}
+use Rattle.rl_sets.specs.Live.{image}
+use Rattle.rl_sets.specs.Rests.{IsLife}
 use Rattle.rl_sets.specs.Rows.{members_of, IsTableOn}
-use Rattle.rl_prio.specs.Automaton.{Automaton}
-use Rattle.rl_sets.specs.Walk.{Walk, IsSetOf, IsMadeFor, IsListed, AreRows}
+use Rattle.rl_prio.specs.Automaton.{letters_count, Automaton}
+use Rattle.rl_sets.specs.Walk.{set_at, image_place, Walk, IsSetOf, IsMadeFor, IsListed, AreRows}
 use Rattle.rl_sets.specs.Live.{holds}
 use Rattle.rl_sets.proofs.RowLemmas.{same_rows, holds-members}
 
@@ -81,6 +86,12 @@ holds-row rows row n q read = sym (holds-members row q) ∙ ap (λ l. holds l q)
 pub row_wide : (states limit : ℕ) (rows : List (List Bool)) (row : List Bool) (n : ℕ) → AreRows states limit rows → slice_get rows n ≡ Some row → length row ≡ states
 row_wide states limit rows row n are read = ap length (sym (get_or_from_slice_get rows n row [] read)) ∙ are.wide n [] (slice_get_within rows n row read)
 
+-- what stands in a list stays where another is put behind it
+pub get_kept : {X : Type 0} (xs ys : List X) (i : ℕ) (x : X) → slice_get xs i ≡ Some x → slice_get (xs ++ ys) i ≡ Some x
+get_kept [] ys i x e = cc
+get_kept (y ∷ xs) ys zero x e = e
+get_kept (y ∷ xs) ys (suc i) x e = get_kept xs ys i x e
+
 -- ---- a walk goes on being one of its automaton
 pub same_walk : (v w : Walk) → v.sets ≡ w.sets → v.limit ≡ w.limit → v.kept ≡ w.kept → v ≡ w
 same_walk v w e f g = λ i. record { sets = e i; limit = f i; kept = g i }
@@ -97,11 +108,30 @@ IsMadeFor-pushed old a set made is none room = record {
   states = made.states;
   letters = made.letters;
   tables = made.tables;
+  few_images = omega (arith, made.few_images, mul-le-mul_right {m = length old.sets} {n = length (old.sets ++ set ∷ [])} (suc (letters_count a)) (omega (arith, length_push old.sets set)));
+  images = λ n letter m lt small e. by_images n letter m (cases_lt n (length old.sets)) (omega (arith, length_push old.sets set)) small e;
+  first_route = made.first_route;
+  few_lives = omega (arith, made.few_lives, length_push old.sets set);
+  lives = λ n lt. by_lives n (cases_lt n (length old.sets)) (omega (arith, length_push old.sets set));
 }
   where
     by_sets : (n : ℕ) → (n < length old.sets) ⊎ (length old.sets ≤ n) → n ≤ length old.sets → IsSetOf a (get_or (old.sets ++ set ∷ []) n [])
     by_sets n (inl lt) le = subst (IsSetOf a) (sym (get_or_append_left old.sets (set ∷ []) [] n lt)) (made.sets n lt)
     by_sets n (inr ge) le = subst (IsSetOf a) (sym (get_or_push old.sets set [] n (omega arith))) is
+
+    by_images : (n letter m : ℕ) → (n < length old.sets) ⊎ (length old.sets ≤ n) → n ≤ length old.sets → letter ≤ letters_count a → get_or old.kept.images (image_place a n letter) None ≡ Some m → slice_get (old.sets ++ set ∷ []) m ≡ Some (image a (get_or (old.sets ++ set ∷ []) n []) letter)
+    by_images n letter m (inl lt) le small e =
+        get_kept old.sets (set ∷ []) m (image a (set_at old n) letter) (made.images n letter m lt small e)
+        ∙ ap (λ (s : List ℕ). Some (image a s letter)) (sym (get_or_append_left old.sets (set ∷ []) [] n lt))
+    by_images n letter m (inr ge) le small e =
+        let past : length old.kept.images ≤ image_place a n letter = omega (arith, made.few_images, mul-le-mul_right {m = length old.sets} {n = n} (suc (letters_count a)) ge) in
+        let none = get_or_past old.kept.images (image_place a n letter) None past in
+        cc
+
+    by_lives : (n : ℕ) → (n < length old.sets) ⊎ (length old.sets ≤ n) → n ≤ length old.sets → IsLife a old.kept.routes (get_or (old.sets ++ set ∷ []) n []) (get_or old.kept.lives n Unknown)
+    by_lives n (inl lt) le = subst (λ (s : List ℕ). IsLife a old.kept.routes s (get_or old.kept.lives n Unknown)) (sym (get_or_append_left old.sets (set ∷ []) [] n lt)) (made.lives n lt)
+    by_lives n (inr ge) le =
+        subst (IsLife a old.kept.routes (get_or (old.sets ++ set ∷ []) n [])) (sym (get_or_past old.kept.lives n Unknown (omega (arith, made.few_lives)))) tt
 
     by : (m n : ℕ) → m < n → (n < length old.sets) ⊎ (length old.sets ≤ n) → n ≤ length old.sets → get_or (old.sets ++ set ∷ []) m [] ≢ get_or (old.sets ++ set ∷ []) n []
     by m n lt (inl old_n) le e = made.apart m n lt old_n (sym (get_or_append_left old.sets (set ∷ []) [] m (omega arith)) ∙ e ∙ get_or_append_left old.sets (set ∷ []) [] n old_n)
@@ -136,9 +166,9 @@ get_set_other (x ∷ xs) (suc i) zero v other = refl
 get_set_other (x ∷ xs) (suc i) (suc j) v other = get_set_other xs i j v (λ e. other (ap suc e))
 
 -- the walk with one more table
-pub IsMadeFor-table : (old new : Walk) (a : Automaton) (letter : ℕ) (table : List (List Bool)) → IsMadeFor old a → IsTableOn a letter table → new.sets ≡ old.sets → new.limit ≡ old.limit → new.kept ≡ record { states = old.kept.states; tables = set old.kept.tables letter (Some table) } → IsMadeFor new a
+pub IsMadeFor-table : (old new : Walk) (a : Automaton) (letter : ℕ) (table : List (List Bool)) → IsMadeFor old a → IsTableOn a letter table → new.sets ≡ old.sets → new.limit ≡ old.limit → new.kept ≡ record { states = old.kept.states; tables = set old.kept.tables letter (Some table); images = old.kept.images; routes = old.kept.routes; lives = old.kept.lives } → IsMadeFor new a
 IsMadeFor-table old new a letter table made on e f g =
-    subst (λ (w : Walk). IsMadeFor w a) (sym (same_walk new (record { sets = old.sets; limit = old.limit; kept = record { states = old.kept.states; tables = set old.kept.tables letter (Some table) } }) e f g)) (record {
+    subst (λ (w : Walk). IsMadeFor w a) (sym (same_walk new (record { sets = old.sets; limit = old.limit; kept = record { states = old.kept.states; tables = set old.kept.tables letter (Some table); images = old.kept.images; routes = old.kept.routes; lives = old.kept.lives } }) e f g)) (record {
       sets = made.sets;
       apart = made.apart;
       few = made.few;
@@ -146,6 +176,11 @@ IsMadeFor-table old new a letter table made on e f g =
       states = made.states;
       letters = length-set old.kept.tables letter (Some table) ∙ made.letters;
       tables = λ l t at. by l t at (cases_eq l letter);
+      few_images = made.few_images;
+      images = made.images;
+      first_route = made.first_route;
+      few_lives = made.few_lives;
+      lives = made.lives;
     })
   where
     by : (l : ℕ) (t : List (List Bool)) → slice_get (set old.kept.tables letter (Some table)) l ≡ Some (Some t) → (l ≡ letter) ⊎ (l ≡ letter → ⊥) → IsTableOn a l t
@@ -159,3 +194,49 @@ IsMadeFor-table old new a letter table made on e f g =
 pub there_is : {X : Type 0} (o : Option X) → is_some o ≡ true → (x : X) × (o ≡ Some x)
 there_is None e = absurd (false≢true e)
 there_is (Some x) e = (x, refl)
+
+-- ---- numbers of images
+module _ (w : Walk) (a : Automaton) (longer : List (Option ℕ)) (made : IsMadeFor w a) (same : (i : ℕ) → get_or longer i None ≡ get_or w.kept.images i None) (few : length longer ≤ length w.sets * suc (letters_count a)) where
+  -- the walk with room for more
+  pub IsMadeFor-room : IsMadeFor (record { sets = w.sets; limit = w.limit; kept = record { states = w.kept.states; tables = w.kept.tables; images = longer; routes = w.kept.routes; lives = w.kept.lives } }) a
+  IsMadeFor-room = record {
+    sets = made.sets;
+    apart = made.apart;
+    few = made.few;
+    low = made.low;
+    states = made.states;
+    letters = made.letters;
+    tables = made.tables;
+    few_images = few;
+    images = λ n letter m lt small e. made.images n letter m lt small (sym (same (image_place a n letter)) ∙ e);
+    first_route = made.first_route;
+    few_lives = made.few_lives;
+    lives = made.lives;
+  }
+
+-- the walk with one more number
+pub IsMadeFor-image : (w : Walk) (a : Automaton) (set letter number : ℕ) → IsMadeFor w a → letter ≤ letters_count a → image_place a set letter < length w.kept.images → slice_get w.sets number ≡ Some (image a (set_at w set) letter)
+    → IsMadeFor (record { sets = w.sets; limit = w.limit; kept = record { states = w.kept.states; tables = w.kept.tables; images = put w.kept.images (image_place a set letter) (Some number); routes = w.kept.routes; lives = w.kept.lives } }) a
+IsMadeFor-image w a set letter number made small there is = record {
+  sets = made.sets;
+  apart = made.apart;
+  few = made.few;
+  low = made.low;
+  states = made.states;
+  letters = made.letters;
+  tables = made.tables;
+  few_images = omega (arith, made.few_images, length-set w.kept.images (image_place a set letter) (Some number));
+  images = λ n l m lt low e. by n l m lt low e (cases_eq (image_place a n l) (image_place a set letter));
+  first_route = made.first_route;
+  few_lives = made.few_lives;
+  lives = made.lives;
+}
+  where
+    by : (n l m : ℕ) → n < length w.sets → l ≤ letters_count a → get_or (put w.kept.images (image_place a set letter) (Some number)) (image_place a n l) None ≡ Some m → (image_place a n l ≡ image_place a set letter) ⊎ (image_place a n l ≡ image_place a set letter → ⊥)
+        → slice_get w.sets m ≡ Some (image a (set_at w n) l)
+    by n l m lt low e (inl here) =
+        let both = same_from_place n l set letter (suc (letters_count a)) (omega arith) (omega arith) here in
+        let read : get_or (put w.kept.images (image_place a set letter) (Some number)) (image_place a n l) None ≡ Some number = ap (λ i. get_or (put w.kept.images (image_place a set letter) (Some number)) i None) here ∙ get_or-set_same w.kept.images (image_place a set letter) (Some number) None there in
+        let which : m ≡ number = cc in
+        ap (slice_get w.sets) which ∙ is ∙ ap (λ k. Some (image a (set_at w k) letter)) (sym both.0) ∙ ap (λ k. Some (image a (set_at w n) k)) (sym both.1)
+    by n l m lt low e (inr other) = made.images n l m lt low (sym (get_or-set_other w.kept.images (image_place a set letter) (image_place a n l) (Some number) None other) ∙ e)

@@ -1,3 +1,5 @@
 pub mod Live
 pub mod Rows
+pub mod Rests
 pub mod Walk
+pub mod Search

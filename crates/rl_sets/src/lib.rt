@@ -2,6 +2,9 @@
 #![tactic(auto)]
 
 mod error;
+mod fill;
+mod life;
+mod rests;
 mod rows;
 mod walk;
 

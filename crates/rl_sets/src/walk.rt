@@ -7,7 +7,11 @@ ghost use Rattle.rl_sets.specs.Live.{holds, image, joined};
 ghost use Rattle.rl_sets.specs.Rows.{members_of};
 ghost use Rattle.rl_sets.specs.Walk.{set_at, set_of, IsMadeFor, IsListed, IsFull};
 
+mod images;
+mod lives;
+
 use crate::error::SetsError;
+use crate::life::{Life, Route};
 use crate::rows::{mark, members, table_on};
 use indexmap::IndexSet;
 use rl_lanes::{BitRow, BitTable};
@@ -23,6 +27,9 @@ pub struct SetWalk {
     limit: u32,
     rows: IndexSet<BitRow>,
     tables: Vec<Option<BitTable>>,
+    images: Vec<Option<u32>>,
+    routes: Vec<Route>,
+    lives: Vec<Life>,
 }
 
 impl Model for SetWalk {
@@ -32,7 +39,7 @@ impl Model for SetWalk {
 
     ghost Value = { Walk };
 
-    ghost view = { λ w. record { sets = map members_of w.rows.keys; limit = w.limit; kept = record { states = w.states; tables = w.tables.items } } };
+    ghost view = { λ w. record { sets = map members_of w.rows.keys; limit = w.limit; kept = record { states = w.states; tables = w.tables.items; images = w.images.items; routes = w.routes.items; lives = w.lives.items } } };
 
     ghost invariant = { λ w. AreRows w.states w.limit w.rows.keys };
 }
@@ -54,11 +61,16 @@ impl SetWalk {
             tables.push(None)?;
         }
         tables.push(None)?;
+        let mut routes = Vec::new(alloc);
+        routes.push(Route::End)?;
         Ok(SetWalk {
             states: a.states(),
             limit,
             rows: IndexSet::new(alloc),
             tables,
+            images: Vec::new(alloc),
+            routes,
+            lives: Vec::new(alloc),
         })
     }
 
@@ -88,6 +100,8 @@ impl SetWalk {
         requires made { IsMadeFor self.old a.now }
         requires states { All (λ q. (q < a.now.states) × (q ≢ dead_state a.now)) members.now.items }
         ensures listed { IfOk result (IsListed self.old.sets self.new.sets (set_of a.now members.now.items)) }
+        ensures inside { IfOk result (λ n. n < length self.new.sets) }
+        ensures longer { length self.old.sets ≤ length self.new.sets }
         ensures made { IsMadeFor self.new a.now }
         ensures limit { self.new.limit ≡ self.old.limit }
         ensures full { IfErr result (λ e. e ≡ Sets → IsFull self.old.sets self.old.limit (set_of a.now members.now.items)) }
@@ -109,14 +123,22 @@ impl SetWalk {
         requires set_in { set < length self.old.sets }
         requires letter_in { letter ≤ letters_count a.now }
         ensures listed { IfOk result (IsListed self.old.sets self.new.sets (image a.now (set_at self.old set) letter)) }
+        ensures inside { IfOk result (λ n. n < length self.new.sets) }
+        ensures longer { length self.old.sets ≤ length self.new.sets }
         ensures made { IsMadeFor self.new a.now }
         ensures limit { self.new.limit ≡ self.old.limit }
         ensures full { IfErr result (λ e. e ≡ Sets → IsFull self.old.sets self.old.limit (image a.now (set_at self.old set) letter)) }
         ensures unchanged { OnErr result (self.new.sets ≡ self.old.sets) }
     {
+        if let Some(number) = self.known_image(a, set, letter) {
+            return Ok(number);
+        }
         self.prepare(a, letter)?;
         let row = self.image_row(a, set, letter)?;
-        self.add(row)
+        self.make_room(a, set)?;
+        let number = self.add(row)?;
+        self.keep_image(a, set, letter, number);
+        Ok(number)
     }
 
     /// The number of the set with one more member, which goes behind the others unless it is there. The dead state is left
@@ -129,6 +151,8 @@ impl SetWalk {
         requires set_in { set < length self.old.sets }
         requires state_in { state < self.old.kept.states }
         ensures listed { (a : Automaton) → IsMadeFor self.old a → IfOk result (IsListed self.old.sets self.new.sets (joined a state (set_at self.old set))) }
+        ensures inside { IfOk result (λ n. n < length self.new.sets) }
+        ensures longer { length self.old.sets ≤ length self.new.sets }
         ensures made { (a : Automaton) → IsMadeFor self.old a → IsMadeFor self.new a }
         ensures limit { self.new.limit ≡ self.old.limit }
         ensures full { (a : Automaton) → IsMadeFor self.old a → IfErr result (λ e. e ≡ Sets → IsFull self.old.sets self.old.limit (joined a state (set_at self.old set))) }
@@ -156,7 +180,7 @@ impl SetWalk {
     }
 
     /// The allocator of the walk.
-    fn allocator(&self) -> Global {
+    pub(crate) fn allocator(&self) -> Global {
         *self.tables.allocator()
     }
 
@@ -198,6 +222,8 @@ impl SetWalk {
     fn add(&mut self, row: BitRow) -> Result<u32, SetsError>
         requires { length row ≡ self.old.kept.states }
         ensures listed { IfOk result (IsListed self.old.sets self.new.sets (members_of row)) }
+        ensures inside { IfOk result (λ n. n < length self.new.sets) }
+        ensures longer { length self.old.sets ≤ length self.new.sets }
         ensures few { length self.new.sets ≤ self.new.limit }
         ensures limit { self.new.limit ≡ self.old.limit }
         ensures kept { self.new.kept ≡ self.old.kept }

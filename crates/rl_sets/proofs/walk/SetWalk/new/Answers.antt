@@ -1,4 +1,6 @@
-use Rattle.std.proofs.Common.{◌≡◌, ◌+◌, [], ◌∷◌, ◌++◌, length, replicate, slice_get, None, ap, sym, ◌∙◌, arith}
+use Rattle.std.proofs.Common.{List, ◌≡◌, ◌+◌, [], ◌∷◌, ◌++◌, length, replicate, slice_get, None, ap, sym, ◌∙◌, arith}
+use Rattle.rl_sets.specs.declared.life.Route.{Route}
+use Rattle.rl_sets.specs.declared.life.Route.TheVariants.{End}
 use Rattle.std.proofs.lemmas.List.{length-replicate, replicate_more}
 use Rattle.rl_ranges.specs.Letters.{LetterTable}
 use Rattle.rl_sets.proofs.WalkLemmas.{sets_of, none_made}
@@ -18,4 +20,9 @@ returns-clause-made c =
       states = c.states.ensures.count;
       letters = ap length bare ∙ length-replicate (n + 1) None ∙ omega arith;
       tables = λ letter table e. absurd (none_made (n + 1) letter table (sym (ap (λ l. slice_get l letter) bare) ∙ e));
+      few_images = omega (arith, ap length c.new-2.ensures.items);
+      images = λ k letter m lt. absurd (omega (arith, ap length none));
+      first_route = ap (λ (l : List Route). slice_get l 0) (c.in_ok-push-3.ensures.items ∙ ap (λ (l : List Route). l ++ End ∷ []) c.new-routes.ensures.items);
+      few_lives = omega (arith, ap length c.new-3.ensures.items);
+      lives = λ k lt. absurd (omega (arith, ap length none));
     }

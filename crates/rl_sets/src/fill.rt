@@ -1,0 +1,21 @@
+//! Lists that are lengthened by a filler.
+
+ghost use Rattle.std.specs.Prelude.{◌≡◌, ℕ, ◌≤◌, max, length, slice_index_or, OnOk};
+
+use rl_lists::OutOfMemory;
+
+/// Makes the list at least as long as wanted, with the filler behind what it held.
+pub(crate) fn lengthen<T: Copy + Drop>(
+    list: &mut Vec<T>,
+    len: usize,
+    filler: T,
+) -> Result<(), OutOfMemory>
+    ensures same { (n : ℕ) → slice_index_or list.new.items n filler ≡ slice_index_or list.old.items n filler }
+    ensures long { OnOk result (len ≤ length list.new.items) }
+    ensures short { length list.new.items ≤ max (length list.old.items) len }
+{
+    for _n in list.len()..len {
+        list.push(filler)?;
+    }
+    Ok(())
+}

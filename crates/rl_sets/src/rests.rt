@@ -1,0 +1,271 @@
+//! Refused rests.
+
+ghost use Rattle.std.specs.Prelude.{◌≡◌, ◌+◌, ◌<◌, ◌≤◌, [], ◌∷◌, false, length, IfOk, IfErr, OnOk, IfSome, IfNone};
+ghost use Rattle.rl_prio.specs.Automaton.{letters_count, accepting_state};
+ghost use Rattle.rl_sets.specs.declared.error.SetsError.TheVariants.{Sets};
+ghost use Rattle.rl_sets.specs.Live.{holds, IsLive};
+ghost use Rattle.rl_sets.specs.Rests.{IsRefusedRest, HasRoute, IsGrown, IsOver};
+ghost use Rattle.rl_sets.specs.Walk.{set_at, IsMadeFor};
+ghost use Rattle.rl_sets.specs.Search.{found_of, found_set, root_way, IsSearch, IsLookedAt, IsAdded, IsImageAt, GoesOn};
+
+use crate::error::SetsError;
+use crate::life::Life;
+use crate::walk::SetWalk;
+use indexmap::IndexSet;
+use rl_lists::{OutOfMemory, Word};
+use rl_prio::Prio;
+use std::alloc::Global;
+
+/// How a set was found: the place of the set whose image it is, and the letter.
+#[derive(Clone, Copy)]
+struct Way {
+    parent: usize,
+    letter: u32,
+}
+
+/// The numbers of the sets that a search has found, in order, and how each was found.
+#[derive(Drop)]
+struct Search {
+    numbers: IndexSet<u32>,
+    ways: Vec<Way>,
+}
+
+impl Search {
+    /// A search from a set.
+    fn new(alloc: Global, set: u32) -> Result<Search, OutOfMemory>
+        ensures { IfOk result (λ s. found_of s ≡ record { numbers = set ∷ []; ways = root_way ∷ [] }) }
+    {
+        let mut numbers = IndexSet::new(alloc);
+        numbers.insert(set)?;
+        let mut ways = Vec::new(alloc);
+        ways.push(Way {
+            parent: 0,
+            letter: 0,
+        })?;
+        Ok(Search { numbers, ways })
+    }
+
+    /// Puts a set behind the others unless it is found.
+    fn add(&mut self, set: u32, parent: usize, letter: u32) -> Result<(), OutOfMemory>
+        ensures { OnOk result (IsAdded set (record { parent = parent; letter = letter }) (found_of self.old) (found_of self.new)) }
+    {
+        if self.numbers.insert(set)? {
+            self.ways.push(Way { parent, letter })?;
+        }
+        Ok(())
+    }
+}
+
+impl SetWalk {
+    /// A rest that no member of a set accepts, or `None` where there is none.
+    ///
+    /// What is found out of a set is kept, so it is looked for once.
+    ///
+    /// # Errors
+    /// [`SetsError::Sets`] where the sets of the walk and those that images give from the set would be more than the walk
+    /// may have, and [`SetsError::OutOfMemory`] where there was no memory for the search or the rest.
+    pub fn refused_rest(&mut self, a: &Prio, set: u32) -> Result<Option<Word>, SetsError>
+        requires made { IsMadeFor self.old a.now }
+        requires set_in { set < length self.old.sets }
+        ensures rest { IfOk result (λ o. IfSome o (IsRefusedRest a.now (set_at self.old set))) }
+        ensures none { IfOk result (λ o. IfNone o (IsLive a.now (set_at self.old set) → ⊥)) }
+        ensures made { IsMadeFor self.new a.now }
+        ensures limit { self.new.limit ≡ self.old.limit }
+        ensures grown { IsGrown a.now (set_at self.old set) self.old.sets self.new.sets }
+        ensures longer { length self.old.sets ≤ length self.new.sets }
+        ensures full { IfErr result (λ e. e ≡ Sets → IsOver a.now (set_at self.old set) self.old.sets self.old.limit) }
+    {
+        match self.route_from(a, set)? {
+            Some(route) => {
+                let rest = self.rest_of(a, route)?;
+                Ok(Some(rest))
+            }
+            None => Ok(None),
+        }
+    }
+
+    /// The number of a route for a set, or `None` where the set refuses no rest.
+    fn route_from(&mut self, a: &Prio, set: u32) -> Result<Option<usize>, SetsError>
+        requires made { IsMadeFor self.old a.now }
+        requires set_in { set < length self.old.sets }
+        ensures route { IfOk result (λ o. IfSome o (HasRoute a.now self.new.kept.routes (set_at self.old set))) }
+        ensures none { IfOk result (λ o. IfNone o (IsLive a.now (set_at self.old set) → ⊥)) }
+        ensures made { IsMadeFor self.new a.now }
+        ensures limit { self.new.limit ≡ self.old.limit }
+        ensures grown { IsGrown a.now (set_at self.old set) self.old.sets self.new.sets }
+        ensures full { IfErr result (λ e. e ≡ Sets → IsOver a.now (set_at self.old set) self.old.sets self.old.limit) }
+    {
+        if self.holds(set, a.states() - 2) {
+            return Ok(None);
+        }
+        match self.life(set) {
+            Life::Dead => Ok(None),
+            Life::Live(route) => Ok(Some(route)),
+            Life::Unknown => self.search(a, set),
+        }
+    }
+
+    /// Searches the sets that images give from a set, for a route for the set.
+    fn search(&mut self, a: &Prio, set: u32) -> Result<Option<usize>, SetsError>
+        requires made { IsMadeFor self.old a.now }
+        requires set_in { set < length self.old.sets }
+        requires free { holds (set_at self.old set) (accepting_state a.now) ≡ false }
+        ensures route { IfOk result (λ o. IfSome o (HasRoute a.now self.new.kept.routes (set_at self.old set))) }
+        ensures none { IfOk result (λ o. IfNone o (IsLive a.now (set_at self.old set) → ⊥)) }
+        ensures made { IsMadeFor self.new a.now }
+        ensures limit { self.new.limit ≡ self.old.limit }
+        ensures grown { IsGrown a.now (set_at self.old set) self.old.sets self.new.sets }
+        ensures full { IfErr result (λ e. e ≡ Sets → IsOver a.now (set_at self.old set) self.old.sets self.old.limit) }
+    {
+        let _states = a.states();
+        let mut search = Search::new(self.allocator(), set)?;
+        let mut place = 0;
+        while place < search.numbers.len() {
+            if let Some(route) = self.expand(a, &mut search, place)? {
+                let route = self.trace(a, &search, place, route)?;
+                return Ok(Some(route));
+            }
+            place += 1;
+        }
+        self.bury(a, &search)?;
+        Ok(None)
+    }
+
+    /// Looks at the images of the set at a place. A route for the set where there is one at once.
+    fn expand(
+        &mut self,
+        a: &Prio,
+        search: &mut Search,
+        place: usize,
+    ) -> Result<Option<usize>, SetsError>
+        requires made { IsMadeFor self.old a.now }
+        requires place_in { place < length (found_of search.old).numbers }
+        requires search { IsSearch a.now self.old (found_of search.old) }
+        requires looked { IsLookedAt a.now self.old (found_of search.old) place 0 }
+        ensures made { IsMadeFor self.new a.now }
+        ensures limit { self.new.limit ≡ self.old.limit }
+        ensures grown { IsGrown a.now (found_set self.old (found_of search.old) 0) self.old.sets self.new.sets }
+        ensures full { IfErr result (λ e. e ≡ Sets → IsOver a.now (found_set self.old (found_of search.old) 0) self.old.sets self.old.limit) }
+        ensures goes_on { OnOk result (GoesOn a.now self.old self.new (found_of search.old) (found_of search.new)) }
+        ensures route { IfOk result (λ o. IfSome o (HasRoute a.now self.new.kept.routes (found_set self.new (found_of search.new) place))) }
+        ensures looked { IfOk result (λ o. IfNone o (IsLookedAt a.now self.new (found_of search.new) (place + 1) 0)) }
+    {
+        let end = a.letters().count();
+        let after = self.step_from(a, search, place, end)?;
+        if !self.holds(after, a.states() - 2) {
+            return Ok(Some(0));
+        }
+        for letter in 0..end {
+            let route = self.visit(a, search, place, letter)?;
+            if route.is_some() {
+                return Ok(route);
+            }
+        }
+        Ok(None)
+    }
+
+    /// Looks at the image of the set at a place on a letter. A route for the set where the image has one.
+    fn visit(
+        &mut self,
+        a: &Prio,
+        search: &mut Search,
+        place: usize,
+        letter: u32,
+    ) -> Result<Option<usize>, SetsError>
+        requires made { IsMadeFor self.old a.now }
+        requires letter_in { letter < letters_count a.now }
+        requires place_in { place < length (found_of search.old).numbers }
+        requires search { IsSearch a.now self.old (found_of search.old) }
+        requires looked { IsLookedAt a.now self.old (found_of search.old) place letter }
+        ensures made { IsMadeFor self.new a.now }
+        ensures limit { self.new.limit ≡ self.old.limit }
+        ensures grown { IsGrown a.now (found_set self.old (found_of search.old) 0) self.old.sets self.new.sets }
+        ensures full { IfErr result (λ e. e ≡ Sets → IsOver a.now (found_set self.old (found_of search.old) 0) self.old.sets self.old.limit) }
+        ensures goes_on { OnOk result (GoesOn a.now self.old self.new (found_of search.old) (found_of search.new)) }
+        ensures route { IfOk result (λ o. IfSome o (HasRoute a.now self.new.kept.routes (found_set self.new (found_of search.new) place))) }
+        ensures looked { IfOk result (λ o. IfNone o (IsLookedAt a.now self.new (found_of search.new) place (letter + 1))) }
+    {
+        let next = self.step_from(a, search, place, letter)?;
+        if self.holds(next, a.states() - 2) {
+            return Ok(None);
+        }
+        match self.life(next) {
+            Life::Dead => Ok(None),
+            Life::Live(route) => {
+                let route = self.put_route(letter, route)?;
+                Ok(Some(route))
+            }
+            Life::Unknown => {
+                search.add(next, place, letter)?;
+                Ok(None)
+            }
+        }
+    }
+
+    /// The number of the image of the set at a place.
+    fn step_from(
+        &mut self,
+        a: &Prio,
+        search: &Search,
+        place: usize,
+        letter: u32,
+    ) -> Result<u32, SetsError>
+        requires made { IsMadeFor self.old a.now }
+        requires letter_in { letter ≤ letters_count a.now }
+        requires place_in { place < length (found_of search.now).numbers }
+        requires search { IsSearch a.now self.old (found_of search.now) }
+        ensures made { IsMadeFor self.new a.now }
+        ensures limit { self.new.limit ≡ self.old.limit }
+        ensures grown { IsGrown a.now (found_set self.old (found_of search.now) 0) self.old.sets self.new.sets }
+        ensures full { IfErr result (λ e. e ≡ Sets → IsOver a.now (found_set self.old (found_of search.now) 0) self.old.sets self.old.limit) }
+        ensures image { IfOk result (IsImageAt a.now self.new (found_of search.now) place letter) }
+    {
+        self.step(a, search.numbers[place], letter)
+    }
+
+    /// Notes routes for the sets on the way from the first set to one with a route. A route for the first set.
+    fn trace(
+        &mut self,
+        a: &Prio,
+        search: &Search,
+        place: usize,
+        route: usize,
+    ) -> Result<usize, OutOfMemory>
+        requires made { IsMadeFor self.old a.now }
+        requires place_in { place < length (found_of search.now).numbers }
+        requires search { IsSearch a.now self.old (found_of search.now) }
+        requires route { HasRoute a.now self.old.kept.routes (found_set self.old (found_of search.now) place) route }
+        ensures made { IsMadeFor self.new a.now }
+        ensures limit { self.new.limit ≡ self.old.limit }
+        ensures sets { self.new.sets ≡ self.old.sets }
+        ensures route { IfOk result (HasRoute a.now self.new.kept.routes (found_set self.old (found_of search.now) 0)) }
+    {
+        let _states = a.states();
+        let mut at = place;
+        let mut route = route;
+        while at > 0 {
+            self.note(search.numbers[at], Life::Live(route))?;
+            let way = search.ways[at];
+            route = self.put_route(way.letter, route)?;
+            at = way.parent;
+        }
+        self.note(search.numbers[0], Life::Live(route))?;
+        Ok(route)
+    }
+
+    /// Notes that the found sets refuse no rest.
+    fn bury(&mut self, a: &Prio, search: &Search) -> Result<(), OutOfMemory>
+        requires made { IsMadeFor self.old a.now }
+        requires search { IsSearch a.now self.old (found_of search.now) }
+        requires dead { IsLookedAt a.now self.old (found_of search.now) (length (found_of search.now).numbers) 0 }
+        ensures made { IsMadeFor self.new a.now }
+        ensures limit { self.new.limit ≡ self.old.limit }
+        ensures sets { self.new.sets ≡ self.old.sets }
+    {
+        let _states = a.states();
+        for i in 0..search.numbers.len() {
+            self.note(search.numbers[i], Life::Dead)?;
+        }
+        Ok(())
+    }
+}

@@ -1,0 +1,65 @@
+//! What a walk knows of the rests that its sets refuse.
+
+ghost use Rattle.std.specs.Prelude.{◌≡◌, ℕ, ◌+◌, ◌<◌, ◌≤◌, [], ◌∷◌, ◌++◌, List, length, slice_index_or, IfOk, OnOk, OnErr};
+ghost use Rattle.rl_prio.specs.Automaton.{Automaton, letters_count};
+ghost use Rattle.rl_sets.specs.declared.life.Life.TheVariants.{Unknown};
+ghost use Rattle.rl_sets.specs.declared.life.Route.TheVariants.{On};
+ghost use Rattle.rl_sets.specs.Rests.{IsLife, Routed};
+ghost use Rattle.rl_sets.specs.Walk.{set_at, IsMadeFor};
+
+use crate::fill::lengthen;
+use crate::life::{Life, Route, word_of};
+use crate::walk::SetWalk;
+use rl_lists::{OutOfMemory, Word};
+use rl_prio::Prio;
+
+impl SetWalk {
+    /// What is known of the rests that a set refuses.
+    pub(crate) fn life(&self, set: u32) -> Life
+        ensures { result ≡ slice_index_or self.now.kept.lives set Unknown }
+    {
+        match self.lives.get(set as usize) {
+            Some(life) => *life,
+            None => Life::Unknown,
+        }
+    }
+
+    /// Notes what is known of the rests that a set refuses.
+    pub(crate) fn note(&mut self, set: u32, life: Life) -> Result<(), OutOfMemory>
+        requires { set < length self.old.sets }
+        ensures made { (a : Automaton) → IsMadeFor self.old a → IsLife a self.old.kept.routes (set_at self.old set) life → IsMadeFor self.new a }
+        ensures sets { self.new.sets ≡ self.old.sets }
+        ensures limit { self.new.limit ≡ self.old.limit }
+        ensures routes { self.new.kept.routes ≡ self.old.kept.routes }
+    {
+        lengthen(&mut self.lives, set as usize + 1, Life::Unknown)?;
+        self.lives[set as usize] = life;
+        Ok(())
+    }
+
+    /// Puts a route behind the others, and answers its number.
+    pub(crate) fn put_route(&mut self, letter: u32, next: usize) -> Result<usize, OutOfMemory>
+        ensures put { OnOk result (self.new.kept.routes ≡ self.old.kept.routes ++ On letter next ∷ []) }
+        ensures number { IfOk result (λ r. r ≡ length self.old.kept.routes) }
+        ensures made { (a : Automaton) → IsMadeFor self.old a → IsMadeFor self.new a }
+        ensures sets { self.new.sets ≡ self.old.sets }
+        ensures limit { self.new.limit ≡ self.old.limit }
+    {
+        let number = self.routes.len();
+        self.routes.push(Route::On(letter, next))?;
+        Ok(number)
+    }
+
+    /// The rest of a route.
+    pub(crate) fn rest_of(&self, a: &Prio, route: usize) -> Result<Word, OutOfMemory>
+        requires { (word : List ℕ) × Routed (letters_count a.now) self.now.kept.routes route word }
+        ensures { (word : List ℕ) → Routed (letters_count a.now) self.now.kept.routes route word → IfOk result (λ w. w ≡ word) }
+    {
+        word_of(
+            self.allocator(),
+            self.routes.as_slice(),
+            route,
+            a.letters().count(),
+        )
+    }
+}
