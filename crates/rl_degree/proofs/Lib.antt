@@ -7,3 +7,9 @@ pub mod WithoutSplit
 pub mod SplitLaws
 pub mod RankPaths
 pub mod FallingLaws
+pub mod InnerLaws
+pub mod PairLaws
+pub mod TripleLaws
+pub mod SearchLaws
+pub mod RankLaws
+pub mod ChainLaws

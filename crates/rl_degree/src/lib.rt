@@ -1,4 +1,15 @@
 //! The degree of growth of the numbers of paths in a multigraph, and what bounds these numbers.
 #![tactic(auto)]
 
+mod chains;
+mod inner;
 pub mod laws;
+mod pairs;
+mod ranks;
+mod searches;
+mod triples;
+
+pub use chains::{Chain, Loop, Split, Splits, degree};
+
+#[cfg(test)]
+mod tests;

@@ -1,3 +1,4 @@
+mod CheckLemmas
 mod CodeLemmas
 mod LineLemmas
 mod PlanLemmas

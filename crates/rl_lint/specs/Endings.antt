@@ -1,5 +1,5 @@
 -- How a run ends, and the table of statuses.
-use Rattle.std.specs.Prelude.{◌≡◌, ◌⊎◌, ℕ, Bool, true, false, [], codes}
+use Rattle.std.specs.Prelude.{◌≡◌, ◌⊎◌, ℕ, Bool, [], codes, if◌then◌else◌}
 use Rattle.std.specs.Io.KnownBytes.{Appends, Keeps}
 use Rattle.std.specs.String.{string_bytes}
 use Rattle.rl_source.specs.Faults.{Rose}
@@ -14,8 +14,8 @@ use Rattle.rl_lint.specs.declared.plan.Plan.TheVariants.{Refuses, Writes}
 pub data Ending : Type 0 where
   -- tells this
   refuses : Text → Ending
-  -- writes this; the flag says whether it has a finding
-  writes : Text → Bool → Ending
+  -- writes this; the flags say whether it has a finding, and whether a call of the tree failed
+  writes : Text → Bool → Bool → Ending
 
 abbrev pub message_text : Message → Text
 message_text (Fixed text) = text.now
@@ -23,20 +23,20 @@ message_text (Made text) = string_bytes text
 
 abbrev pub ending_of : Plan → Ending
 ending_of (Refuses message) = refuses (message_text message)
-ending_of (Writes text finding) = writes (string_bytes text) finding
+ending_of (Writes text finding failed) = writes text finding failed
 
-abbrev pub status_of : Bool → ℕ
-status_of true = 1
-status_of false = 0
+-- of a run that wrote all that it had to write, by whether that has a finding, and whether a call of the tree failed
+abbrev pub status_of : Bool → Bool → ℕ
+status_of finding failed = if failed then 3 else (if finding then 1 else 0)
 
 -- the text is built whole and then written
-abbrev pub IsWritten : Text → Bool → Use → Use → ℕ → Type 0
-IsWritten text finding out err status =
-    ((status ≡ status_of finding) × Appends out.old out.new text × Tells [] err)
+abbrev pub IsWritten : Text → Bool → Bool → Use → Use → ℕ → Type 0
+IsWritten text finding failed out err status =
+    ((status ≡ status_of finding failed) × Appends out.old out.new text × Tells [] err)
     ⊎ ((status ≡ 4) × Rose out.faults_old out.faults_new × GainsLess out.old out.new text
     × Tells (codes "relint: write fault\n") err)
 
 -- the statuses, with what the sinks gained
 abbrev pub EndsBy : Ending → Use → Use → ℕ → Type 0
 EndsBy (refuses message) out err status = (status ≡ 2) × Keeps out.old out.new × Tells message err
-EndsBy (writes text finding) out err status = IsWritten text finding out err status
+EndsBy (writes text finding failed) out err status = IsWritten text finding failed out err status

@@ -1,6 +1,12 @@
 pub mod Uses
 pub mod Endings
 pub mod Texts
+pub mod Readings
 pub mod CostEnding
+pub mod ClassEnding
+pub mod Options
+pub mod Walks
+pub mod CheckEnding
+pub mod Checks
 pub mod Planned
 pub mod Runs

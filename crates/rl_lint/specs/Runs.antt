@@ -4,15 +4,12 @@ use Rattle.std.specs.Io.KnownBytes.{Keeps}
 use Rattle.rl_words.specs.Given.{given_by}
 use Rattle.rl_lint.specs.Uses.{Asking, Tells, Text, Use}
 use Rattle.rl_lint.specs.Endings.{Ending, EndsBy}
-use Rattle.rl_lint.specs.Planned.{IsEnding, SawOf, Seen}
+use Rattle.rl_lint.specs.Planned.{IsPlanned}
 
--- the run came to its ending
+-- the run came to its ending, which follows from its words and from what the tree answered
 pub record Completes (words : List Text) (tree : Asking) (out err : Use) (status : ℕ) : Type 0 where
-  -- what the tree answered
-  pub seen : Seen
   pub ending : Ending
-  pub saw : SawOf (given_by words) tree seen
-  pub right : IsEnding (given_by words) seen ending
+  pub planned : IsPlanned (given_by words) tree ending
   pub ends : EndsBy ending out err status
 
 -- memory was refused before anything was written

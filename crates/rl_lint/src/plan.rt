@@ -1,14 +1,22 @@
 //! What a run is to do, worked out before anything is written.
-ghost use Rattle.std.specs.Prelude.{◌≡◌, map, IfOk};
+ghost use Rattle.std.specs.Prelude.{◌≡◌, ◌≤◌, false, map, IfOk, Some};
 ghost use Rattle.std.specs.String.{string_bytes};
+ghost use Rattle.rl_words.specs.Built.{IsIn};
+ghost use Rattle.rl_words.specs.Call.{HasRanges, asked};
 ghost use Rattle.rl_words.specs.Given.{given_by};
+ghost use Rattle.rl_words.specs.declared.built.TheConstants.{BUILT};
 ghost use Rattle.rl_lint.specs.Endings.{ending_of, message_text};
-ghost use Rattle.rl_lint.specs.Planned.{IsEnding, Seen, mode_given, unasked};
+ghost use Rattle.rl_lint.specs.Planned.{IsPlanned, asks_check, call_of, is_check};
+ghost use Rattle.rl_lint.specs.Uses.{asking_of};
 
+use crate::check::check_plan;
+use crate::class::class_plan;
 use crate::cost::cost_plan;
-use rl_lists::OutOfMemory;
+use crate::options::{mode_given, number_given, settings_given};
+use rl_lists::{Bytes, OutOfMemory};
+use rl_source::Tree;
 use rl_syntax::Mode;
-use rl_words::{Action, ModeWord, Words, WordsError, read_words, usage_text};
+use rl_words::{Action, Options, WordsError, read_words, usage_text};
 use std::alloc::Global;
 
 /// A message for the error output.
@@ -37,35 +45,70 @@ impl Message {
 pub enum Plan {
     /// To refuse what it was asked for, with this message.
     Refuses(Message),
-    /// To write this text; the flag says whether it has a finding.
-    Writes(String, bool),
+    /// To write this text, and to say by its status whether that has a finding, and whether a call of the tree failed.
+    Writes {
+        text: Bytes,
+        finding: bool,
+        failed: bool,
+    },
 }
 
-/// The mode of the actions on one pattern.
-fn mode_given(word: Option<ModeWord>) -> Mode
-    ensures { result ≡ mode_given word }
+/// What a run is to do for this action with these options.
+///
+/// # Errors
+/// [`OutOfMemory`] where memory was refused; in `check` the tree may have been read.
+fn action_plan<T: Tree>(
+    alloc: Global,
+    action: Action,
+    options: &Options,
+    tree: &mut T,
+) -> Result<Plan, OutOfMemory>
+    requires is_in { IsIn BUILT (call_of action options.now) }
+    requires ranges { HasRanges (call_of action options.now) }
+    ensures planned { IfOk result (λ plan. IsPlanned (Some (call_of action.entry options.now))
+        (asking_of T.told T.fault_count tree.old tree.new) (ending_of plan)) }
+    ensures trail { is_check (asked action.entry) ≡ false → T.told tree.new ≡ T.told tree.old }
+    ensures later { T.fault_count tree.old ≤ T.fault_count tree.new }
 {
-    match word {
-        None | Some(ModeWord::Fullmatch) => Mode::Fullmatch,
-        Some(ModeWord::Match) => Mode::Match,
-        Some(ModeWord::Search) => Mode::Search,
+    match action {
+        Action::Check { paths } => {
+            check_plan(alloc, paths.as_slice(), settings_given(options), tree)
+        }
+        Action::Cost { pattern, text } => {
+            cost_plan(
+                alloc,
+                pattern,
+                text,
+                mode_given(options.mode, Mode::Fullmatch),
+            )
+        }
+        Action::Class { pattern } => class_plan(
+            alloc,
+            pattern,
+            mode_given(options.mode, Mode::Fullmatch),
+            number_given(options.max_degree, 2),
+            number_given(options.max_pairs, 600),
+        ),
+        _ => Ok(Plan::Refuses(Message::Fixed(usage_text()))),
     }
 }
 
-/// What a run with these words is to do.
+/// What a run with these words is to do. `check` walks over the tree, and no other action asks it anything.
 ///
 /// # Errors
-/// [`OutOfMemory`] where memory was refused.
-pub fn plan_of(alloc: Global, words: &Vec<String>) -> Result<Plan, OutOfMemory>
-    ensures { IfOk result (λ plan. IsEnding (given_by (map string_bytes words.now.items)) unasked (ending_of plan)) }
+/// [`OutOfMemory`] where memory was refused; in `check` the tree may have been read.
+pub fn plan_of<T: Tree>(
+    alloc: Global,
+    words: &Vec<String>,
+    tree: &mut T,
+) -> Result<Plan, OutOfMemory>
+    ensures planned { IfOk result (λ plan. IsPlanned (given_by (map string_bytes words.now.items))
+        (asking_of T.told T.fault_count tree.old tree.new) (ending_of plan)) }
+    ensures trail { asks_check (given_by (map string_bytes words.now.items)) ≡ false → T.told tree.new ≡ T.told tree.old }
+    ensures later { T.fault_count tree.old ≤ T.fault_count tree.new }
 {
     match read_words(alloc, words) {
-        Ok(words) => match words.action {
-            Action::Cost { pattern, text } => {
-                cost_plan(alloc, pattern, text, mode_given(words.options.mode))
-            }
-            _ => Ok(Plan::Refuses(Message::Fixed(usage_text()))),
-        },
+        Ok(words) => action_plan(alloc, words.action, &words.options, tree),
         Err(WordsError::Invalid) => Ok(Plan::Refuses(Message::Fixed(usage_text()))),
         Err(WordsError::OutOfMemory) => Err(OutOfMemory),
     }

@@ -1,9 +1,10 @@
 //! The top call.
-ghost use Rattle.std.specs.Prelude.{◌≡◌, ◌⊎◌, ◌≤◌, map, None};
+ghost use Rattle.std.specs.Prelude.{◌≡◌, ◌⊎◌, ◌≤◌, true, false, map, None};
 ghost use Rattle.std.specs.String.{string_bytes};
 ghost use Rattle.rl_source.specs.Faults.{Rose};
 ghost use Rattle.rl_words.specs.Given.{given_by};
 ghost use Rattle.rl_lint.specs.Endings.{status_of};
+ghost use Rattle.rl_lint.specs.Planned.{asks_check};
 ghost use Rattle.rl_lint.specs.Runs.{Runs};
 ghost use Rattle.rl_lint.specs.Uses.{asking_of, use_of};
 
@@ -13,25 +14,32 @@ use rl_source::{Sink, Tree, write_all};
 use std::alloc::Global;
 
 /// The status of a run that wrote all that it had to write.
-fn status_of(finding: bool) -> u8
-    ensures { result ≡ status_of finding }
+fn status_of(finding: bool, failed: bool) -> u8
+    ensures { result ≡ status_of finding failed }
 {
-    if finding { 1 } else { 0 }
+    if failed {
+        3
+    } else if finding {
+        1
+    } else {
+        0
+    }
 }
 
 /// Does what the words after the program's name ask for, and answers the run's status.
 ///
 /// | Status | Comes |
 /// |---|---|
-/// | 0 | where all was written and it has no finding |
-/// | 1 | where all was written and it has a finding |
+/// | 0 | where all was written, it has no finding, and no call of the tree failed |
+/// | 1 | where all was written, it has a finding, and no call of the tree failed |
 /// | 2 | where the words aren't a valid call, or what they ask for is refused |
+/// | 3 | where all was written and a call of the tree failed |
 /// | 4 | where a write to `out` failed |
 /// | 5 | where memory was refused; nothing was written to `out` then |
 ///
 /// What the run writes is built whole and then written to `out`. With the statuses 2, 4 and 5 a message is written to
-/// `err`; a write to `err` that fails changes no status, and the rest of the message is dropped. The tree is asked
-/// nothing.
+/// `err`; a write to `err` that fails changes no status, and the rest of the message is dropped. `check` walks over the
+/// tree from its paths on, and goes on after a call that failed. No other action asks the tree anything.
 pub fn relint_main<T: Tree, O: Sink, E: Sink>(
     alloc: Global,
     words: &Vec<String>,
@@ -46,20 +54,29 @@ pub fn relint_main<T: Tree, O: Sink, E: Sink>(
     ensures invalid { given_by (map string_bytes words.now.items) ≡ None → (result ≡ 2) ⊎ (result ≡ 5) }
     ensures write_fault { result ≡ 4 → Rose (O.fault_count out.old) (O.fault_count out.new) }
     ensures read_fault { result ≡ 3 → Rose (T.fault_count tree.old) (T.fault_count tree.new) }
-    ensures trail { T.told tree.new ≡ T.told tree.old }
+    ensures complete { asks_check (given_by (map string_bytes words.now.items)) ≡ true
+        → ¬ Rose (T.fault_count tree.old) (T.fault_count tree.new)
+        → ¬ Rose (O.fault_count out.old) (O.fault_count out.new) → (result ≤ 1) ⊎ (result ≡ 5) }
+    ensures trail { asks_check (given_by (map string_bytes words.now.items)) ≡ false → T.told tree.new ≡ T.told tree.old }
     ensures tree_counts { T.fault_count tree.old ≤ T.fault_count tree.new }
     ensures out_counts { O.fault_count out.old ≤ O.fault_count out.new }
     ensures err_counts { E.fault_count err.old ≤ E.fault_count err.new }
 {
-    match plan_of(alloc, words) {
+    match plan_of(alloc, words, tree) {
         Ok(Plan::Refuses(message)) => {
             tell(err, message.as_str());
             2
         }
-        Ok(Plan::Writes(text, finding)) => match write_all(out, text.as_bytes()) {
+        Ok(
+            Plan::Writes {
+                text,
+                finding,
+                failed,
+            },
+        ) => match write_all(out, text.as_slice()) {
             Ok(()) => {
                 tell(err, "");
-                status_of(finding)
+                status_of(finding, failed)
             }
             Err(_) => {
                 tell(err, "relint: write fault\n");

@@ -15,7 +15,7 @@ struct Row {
     err: &'static str,
 }
 
-static ROWS: [Row; 11] = [
+static ROWS: [Row; 13] = [
     Row {
         words: &["cost", "", ""],
         step: 99,
@@ -66,13 +66,13 @@ static ROWS: [Row; 11] = [
         err: "",
     },
     Row {
-        words: &["cost", "a{2,3}", "aa"],
+        words: &["cost", "a{2001}", "a"],
         step: 99,
         out_fails: &[],
         err_fails: &[],
-        status: 2,
-        out: "",
-        err: "relint: refused not-built\n",
+        status: 0,
+        out: "undecided size over 4000\n",
+        err: "",
     },
     Row {
         words: &["cost", "(a", "a"],
@@ -84,13 +84,31 @@ static ROWS: [Row; 11] = [
         err: "relint: refused syntax at 2\n",
     },
     Row {
+        words: &["class", "a{2001}"],
+        step: 99,
+        out_fails: &[],
+        err_fails: &[],
+        status: 0,
+        out: "undecided size over 4000\n",
+        err: "",
+    },
+    Row {
+        words: &["class", "(?=a)b"],
+        step: 99,
+        out_fails: &[],
+        err_fails: &[],
+        status: 2,
+        out: "",
+        err: "relint: refused lookaround at 0\n",
+    },
+    Row {
         words: &[],
         step: 99,
         out_fails: &[],
         err_fails: &[],
         status: 2,
         out: "",
-        err: "usage: relint cost [OPTIONS] PATTERN TEXT\n",
+        err: "usage: relint check [OPTIONS] PATH..\n       relint class [OPTIONS] PATTERN\n       relint cost [OPTIONS] PATTERN TEXT\n",
     },
     Row {
         words: &["cost"],
@@ -130,7 +148,7 @@ fn strings(alloc: Global, words: &[&str]) -> Result<Vec<String>, AllocError> {
 }
 
 fn sink(alloc: Global, step: usize, fails: &[u64]) -> Result<MemSink, AllocError> {
-    MemSink::new(alloc, step.max(1), 200, Vec::from_slice(alloc, fails)?).map_err(|_| AllocError)
+    MemSink::new(alloc, step.max(1), 400, Vec::from_slice(alloc, fails)?).map_err(|_| AllocError)
 }
 
 #[test]
@@ -146,5 +164,30 @@ fn runs_end_by_their_rows(rt: HostRuntime) -> Result<(), Fail> {
         assert_eq!(rt; err.bytes(), row.err.as_bytes());
         assert_eq!(rt; tree.faults(), 0);
     }
+    Ok(())
+}
+
+// The family behind the verdict is free.
+fn begins(rt: &HostRuntime, words: &[&str], line: &str, status: u8) -> Result<bool, Fail> {
+    let words = strings(rt.alloc(), words)?;
+    let mut tree = MemTree::new(rt.alloc(), Nodes::new(rt.alloc()), Vec::new(rt.alloc()))?;
+    let mut out = sink(rt.alloc(), 99, &[])?;
+    let mut err = sink(rt.alloc(), 99, &[])?;
+    let ended = relint_main(rt.alloc(), &words, &mut tree, &mut out, &mut err);
+    Ok(ended == status && out.bytes().starts_with(line.as_bytes()))
+}
+
+#[test]
+fn verdicts_come_first(rt: HostRuntime) -> Result<(), Fail> {
+    let flat = begins(&rt, &["class", "abc"], "degree 0\n  family x0 ", 0)?;
+    let square = begins(&rt, &["class", "a*a*"], "degree 2\n  family x0 ", 0)?;
+    let found = begins(
+        &rt,
+        &["class", "--max-degree", "1", "a*a*"],
+        "degree 2\n",
+        1,
+    )?;
+    let power = begins(&rt, &["class", "(?:a|a)*"], "exponential\n  family x0 ", 1)?;
+    assert!(rt; flat && square && found && power);
     Ok(())
 }

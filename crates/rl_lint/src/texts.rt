@@ -1,35 +1,12 @@
-//! The texts that `cost` tells and writes.
+//! The texts that are told of a pattern word, and that `cost` writes.
 ghost use Rattle.std.specs.Prelude.{◌≡◌, ℕ, IfOk};
 ghost use Rattle.std.specs.String.{string_bytes};
 ghost use Rattle.rl_machine.specs.Counts.{Counts};
-ghost use Rattle.rl_lint.specs.Texts.{feature_name, outcome, refused_at, steps_line};
+ghost use Rattle.rl_lint.specs.Texts.{outcome, refused_at, steps_line};
 
 use rl_lists::OutOfMemory;
 use rl_machine::{Counted, Steps};
-use rl_syntax::Feature;
 use std::alloc::Global;
-
-/// The name of what a pattern may not hold.
-pub fn feature_name(feature: Feature) -> &'static str
-    ensures { result.now ≡ feature_name feature }
-{
-    match feature {
-        Feature::Locale => "locale",
-        Feature::FlagClash => "flag-clash",
-        Feature::DuplicateName => "duplicate-name",
-        Feature::CodeTooLarge => "code-too-large",
-        Feature::ReversedRange => "reversed-range",
-        Feature::RepeatTooLarge => "repeat-too-large",
-        Feature::RepeatOrder => "repeat-order",
-        Feature::Possessive => "possessive",
-        Feature::Backreference => "backreference",
-        Feature::Lookaround => "lookaround",
-        Feature::Conditional => "conditional",
-        Feature::Atomic => "atomic",
-        Feature::NamedEscape => "named-escape",
-        Feature::InnerAnchor => "inner-anchor",
-    }
-}
 
 /// The message on a pattern that is refused for this cause at this code.
 ///

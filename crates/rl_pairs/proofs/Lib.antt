@@ -12,3 +12,9 @@ pub mod VerdictLaws
 pub mod WorkedPairs
 mod WorkedGraph
 pub mod PrefixLaws
+pub mod CountingLaws
+pub mod RowLaws
+pub mod FindingLaws
+pub mod ExpandLaws
+pub mod BuiltLaws
+pub mod WholeLaws

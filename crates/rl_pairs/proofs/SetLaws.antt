@@ -39,10 +39,10 @@ pub any-none : {A : Type 0} (p : A → Bool) (l : List A) → ((x : A) → Has x
 any-none p [] h = refl
 any-none p (a ∷ l) h = ap₂ (λ x y. x || y) (h a (inl refl)) (any-none p l (λ x i. h x (inr i)))
 
-holds-has : (set : List ℕ) (q : ℕ) → holds set q ≡ true → Has q set
+pub holds-has : (set : List ℕ) (q : ℕ) → holds set q ≡ true → Has q set
 holds-has set q h = let r = any-there (λ x. eqb x q) set h in subst (λ (x : ℕ). Has x set) (eqb-true r.0 q r.2) r.1
 
-has-holds : (set : List ℕ) (q : ℕ) → Has q set → holds set q ≡ true
+pub has-holds : (set : List ℕ) (q : ℕ) → Has q set → holds set q ≡ true
 has-holds set q h = any-has (λ x. eqb x q) q set h (eq-eqb q q refl)
 
 -- the numbers below a bound

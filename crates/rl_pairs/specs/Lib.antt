@@ -3,3 +3,7 @@ pub mod PairGraph
 pub mod Counted
 pub mod Families
 pub mod RightVerdict
+pub mod Errors
+pub mod Counting
+pub mod Finding
+pub mod PairTable

@@ -14,5 +14,8 @@ pub mod Deep
 pub mod Loop
 pub mod FirstFault
 pub mod Layers
-mod PlainCodes
-mod PlainParts
+pub mod Anchors
+pub mod LeafLaws
+pub mod ShapeParts
+pub mod InnerBare
+mod TestLemmas

@@ -6,5 +6,7 @@ pub mod Viable
 pub mod Found
 pub mod Views
 pub mod Answers
-pub mod Plain
+pub mod Judged
 pub mod Parsed
+pub mod Shape
+pub mod LeafSets

@@ -1,9 +1,6 @@
 -- What is answered of a list of codes: the refusals in their order, or the pattern.
-use Rattle.std.specs.Prelude.{◌≡◌, ℕ, ◌<◌, ◌≤◌, Bool, true, false, List, length, Option, Some, None, Result, Ok, Err}
-use Rattle.rl_ranges.specs.Text.{code_count}
+use Rattle.std.specs.Prelude.{◌≡◌, ◌⊎◌, ℕ, ◌<◌, ◌≤◌, List, length, Some, None, Result, Ok, Err}
 use Rattle.rl_ranges.specs.declared.universe.Universe.{Universe}
-use Rattle.rl_ranges.specs.declared.universe.Universe.TheVariants.{Str, Bytes}
-use Rattle.rl_syntax.specs.declared.anchors.Trail.TheVariants as trail
 use Rattle.rl_syntax.specs.declared.feature.Feature.{Feature}
 use Rattle.rl_syntax.specs.declared.pattern.Pattern.{Pattern}
 use Rattle.rl_syntax.specs.Pattern.{body_of, is_anchored, trail_of, universe_of}
@@ -13,36 +10,39 @@ use Rattle.rl_pattern.specs.declared.parsing.PatError.TheVariants as error
 use Rattle.rl_pattern.specs.Tree as t
 use Rattle.rl_pattern.specs.Grammar.{Spells}
 use Rattle.rl_pattern.specs.Viable.{Viable, TooDeepAt}
-use Rattle.rl_pattern.specs.Found.{refused_flags}
+use Rattle.rl_pattern.specs.Found.{Inner, inner, fault, refused, refused_flags}
 use Rattle.rl_pattern.specs.Answers.{Shallow}
-use Rattle.rl_pattern.specs.Plain.{plain}
-
--- whether the universe is text
-abbrev pub is_text : Universe → Bool
-is_text Str = true
-is_text Bytes = false
+pub use Rattle.rl_pattern.specs.Shape.{is_text}
+use Rattle.rl_pattern.specs.Shape.{shape}
 
 -- no more codes than are read, and flags that a call may have
 pub record IsAsked (flags : Flags) (u : Universe) (w : List ℕ) : Type 0 where
   pub short : length w ≤ 10000
   pub allowed : refused_flags flags (is_text u) ≡ None
 
--- the pattern of a spelled tree that is plain
-pub record IsPlainOf (u : Universe) (whole : t.Whole) (found : Pattern) : Type 0 where
-  pub body : plain (code_count u) whole.body ≡ Some (body_of found)
-  pub leading : is_anchored found ≡ false
-  pub trailing : trail_of found ≡ trail.None
+-- the pattern of a spelled tree that its outer anchors are taken off
+pub record IsPatternOf (u : Universe) (left : Inner) (found : Pattern) : Type 0 where
+  pub body : body_of found ≡ shape u left.body
+  pub leading : is_anchored found ≡ left.leading
+  pub trailing : trail_of found ≡ left.trail
   pub universe : universe_of found ≡ u
-
-abbrev pub IsPlainOrNot : Universe → t.Whole → Option Pattern → Type 0
-IsPlainOrNot u whole None = plain (code_count u) whole.body ≡ None
-IsPlainOrNot u whole (Some found) = IsPlainOf u whole found
 
 -- the tree that the codes spell, in which no group opens too deep
 pub record IsRead (flags : Flags) (u : Universe) (w : List ℕ) (whole : t.Whole) : Type 0 where
   pub asked : IsAsked flags u w
   pub spelled : Spells flags (is_text u) w whole
   pub shallow : Shallow flags (is_text u) w
+
+-- a tree is spelled in which nothing is refused, and this is its pattern
+pub record IsSpelled (flags : Flags) (u : Universe) (w : List ℕ) (found : Pattern) (whole : t.Whole) : Type 0 where
+  pub read : IsRead flags u w whole
+  pub allowed : refused flags (is_text u) whole ≡ None
+  pub pattern : IsPatternOf u (inner whole) found
+
+-- a tree is spelled, and what is refused first in it is this feature at `p`
+pub record IsOutside (flags : Flags) (u : Universe) (w : List ℕ) (p : ℕ) (what : Feature) (whole : t.Whole) : Type 0 where
+  pub read : IsRead flags u w whole
+  pub first : refused flags (is_text u) whole ≡ Some (fault p what)
 
 -- no tree is spelled, and the longest prefix that begins one has `n` codes
 pub record IsMisspelled (flags : Flags) (u : Universe) (w : List ℕ) (n : ℕ) : Type 0 where
@@ -64,19 +64,18 @@ pub record IsRefused (flags : Flags) (u : Universe) (w : List ℕ) (p : ℕ) (wh
   pub refused : refused_flags flags (is_text u) ≡ Some what
 
 abbrev pub IsParsed : Flags → Universe → List ℕ → Result Pattern PatError → Type 0
-IsParsed flags u w (Ok found) = (whole : t.Whole) × IsRead flags u w whole × IsPlainOf u whole found
+IsParsed flags u w (Ok found) = (whole : t.Whole) × IsSpelled flags u w found whole
 IsParsed flags u w (Err error.TooLong) = 10000 < length w
-IsParsed flags u w (Err (error.Outside p what)) = IsRefused flags u w p what
+IsParsed flags u w (Err (error.Outside p what)) = IsRefused flags u w p what ⊎ ((whole : t.Whole) × IsOutside flags u w p what whole)
 IsParsed flags u w (Err (error.TooDeep p)) = IsTooDeep flags u w p
 IsParsed flags u w (Err (error.Syntax n)) = IsMisspelled flags u w n
-IsParsed flags u w (Err error.NotBuilt) = (whole : t.Whole) × IsRead flags u w whole × (plain (code_count u) whole.body ≡ None)
 IsParsed flags u w (Err error.OutOfMemory) = Unit {0}
 
--- a spelled tree that isn't plain is refused as such; want of memory is free
-abbrev pub IsNotPlain : Universe → t.Whole → PatError → Type 0
-IsNotPlain u whole error.NotBuilt = plain (code_count u) whole.body ≡ None
-IsNotPlain u whole error.OutOfMemory = Unit {0}
-IsNotPlain u whole error.TooLong = ⊥
-IsNotPlain u whole (error.Outside p what) = ⊥
-IsNotPlain u whole (error.TooDeep p) = ⊥
-IsNotPlain u whole (error.Syntax n) = ⊥
+-- what is answered of a spelled tree
+abbrev pub IsOutcome : Flags → Universe → t.Whole → Result Pattern PatError → Type 0
+IsOutcome flags u whole (Ok found) = (refused flags (is_text u) whole ≡ None) × IsPatternOf u (inner whole) found
+IsOutcome flags u whole (Err (error.Outside p what)) = refused flags (is_text u) whole ≡ Some (fault p what)
+IsOutcome flags u whole (Err error.OutOfMemory) = Unit {0}
+IsOutcome flags u whole (Err error.TooLong) = ⊥
+IsOutcome flags u whole (Err (error.TooDeep p)) = ⊥
+IsOutcome flags u whole (Err (error.Syntax n)) = ⊥

@@ -14,7 +14,7 @@ use rl_syntax::Span;
 use std::alloc::Global;
 
 /// A branch of these items: one item is the branch.
-fn branch(place: Span, items: Items<Node>) -> Branch
+pub(crate) fn branch(place: Span, items: Items<Node>) -> Branch
     ensures { branch_of result ≡ t.branch place (map node_of items) }
 {
     if items.len() == 1 {

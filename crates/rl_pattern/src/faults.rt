@@ -62,7 +62,7 @@ pub(crate) fn earlier(first: Option<Fault>, second: Option<Fault>) -> Option<Fau
 }
 
 /// A fault where there is one.
-fn fault_if(found: bool, place: u32, what: Feature) -> Option<Fault>
+pub(crate) fn fault_if(found: bool, place: u32, what: Feature) -> Option<Fault>
     ensures { result ≡ f.first_fault (f.fault_if found place what) }
 {
     if found {

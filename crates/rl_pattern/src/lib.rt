@@ -9,11 +9,15 @@ mod escape;
 mod faults;
 pub mod flags;
 mod head;
+mod inner;
+mod leaf_set;
 mod lex;
+mod names;
 pub mod parsing;
-mod plain;
 mod read;
+mod refused;
 mod set;
+mod shape;
 mod state;
 mod step;
 mod tree;
@@ -21,5 +25,9 @@ mod tree;
 pub use flags::Flags;
 pub use parsing::{PatError, parse};
 
+#[cfg(test)]
+mod judge_tests;
+#[cfg(test)]
+mod parse_tests;
 #[cfg(test)]
 mod tests;

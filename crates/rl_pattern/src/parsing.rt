@@ -1,21 +1,27 @@
 //! Patterns from their codes.
 
-ghost use Rattle.std.specs.Prelude.{◌≡◌, ◌<◌, ◌≤◌, IfOk, IfErr, length};
-ghost use Rattle.rl_ranges.specs.Text.{code_count, IsText};
-ghost use Rattle.rl_pattern.specs.Parsed.{is_text, IsParsed, IsPlainOf, IsPlainOrNot, IsNotPlain};
+ghost use Rattle.std.specs.Prelude.{◌≡◌, ℕ, ◌<◌, ◌≤◌, List, IfOk, length};
+ghost use Rattle.rl_ranges.specs.Text.{IsText};
+ghost use Rattle.rl_syntax.specs.IsPattern.{IsPattern};
+ghost use Rattle.rl_pattern.specs.Grammar.{Spells};
+ghost use Rattle.rl_pattern.specs.Judged.{left_of};
+ghost use Rattle.rl_pattern.specs.Parsed.{IsParsed, IsPatternOf, IsOutcome};
+ghost use Rattle.rl_pattern.specs.Shape.{is_text, shape};
 ghost use Rattle.rl_pattern.specs.Views.{whole_of};
 
 use crate::faults::refused_flags;
 use crate::flags::Flags;
-use crate::plain::plain_pat;
+use crate::inner::Inner;
 use crate::read::{ReadError, read};
+use crate::refused::{Judged, judge};
+use crate::shape::{is_text, node_pat};
 use crate::tree::Whole;
 use rl_lists::OutOfMemory;
 use rl_ranges::{Codes, Universe};
-use rl_syntax::{Feature, Pattern, Trail};
+use rl_syntax::{Feature, Pattern};
 use std::alloc::Global;
 
-/// Why codes are no pattern that is judged. Places count codes from 0.
+/// Why codes give no pattern. Places count codes from 0.
 #[derive(Clone, Copy, Debug, PartialEq, Eq)]
 pub enum PatError {
     /// No pattern is spelled; the place is the length of the longest prefix that begins one.
@@ -24,10 +30,8 @@ pub enum PatError {
     TooDeep(u32),
     /// There are more than 10,000 codes.
     TooLong,
-    /// A feature at the place that isn't judged.
+    /// The flags of the call are refused, at 0, or the first feature at its place that no pattern here may hold.
     Outside(u32, Feature),
-    /// A pattern is spelled, and holds more than single codes, groups that capture, branches and `*`.
-    NotBuilt,
     /// Memory was refused.
     OutOfMemory,
 }
@@ -43,38 +47,31 @@ impl From<OutOfMemory> for PatError {
     }
 }
 
-/// Whether the universe is text.
-fn is_text(universe: Universe) -> bool
-    ensures { result ≡ is_text universe }
+/// The pattern of a tree without its outer anchors.
+fn pattern_of(alloc: Global, left: &Inner, universe: Universe) -> Result<Pattern, OutOfMemory>
+    requires { IsPattern universe (shape universe (left_of left.now).body) }
+    ensures { IfOk result (IsPatternOf universe (left_of left.now)) }
 {
-    match universe {
-        Universe::Str => true,
-        Universe::Bytes => false,
-    }
+    let body = node_pat(alloc, universe, &left.body)?;
+    Ok(Pattern::new(body, left.leading, left.trailing, universe))
 }
 
-/// The pattern of a spelled tree, or none where it isn't plain.
-fn plain_of(
+/// What is answered of the tree that the codes spell.
+fn outcome(
     alloc: Global,
-    whole: &Whole,
+    whole: Whole,
+    flags: Flags,
     universe: Universe,
-) -> Result<Option<Pattern>, OutOfMemory>
-    ensures { IfOk result (IsPlainOrNot universe (whole_of whole.now)) }
+) -> Result<Pattern, PatError>
+    requires { (w : List ℕ) × Spells flags (is_text universe) w (whole_of whole) }
+    ensures { IsOutcome flags universe (whole_of whole) result }
 {
-    match plain_pat(alloc, universe.count(), &whole.body)? {
-        None => Ok(None),
-        Some(body) => Ok(Some(Pattern::new(body, false, Trail::None, universe))),
-    }
-}
-
-/// The pattern of a spelled tree.
-fn judged(alloc: Global, whole: &Whole, universe: Universe) -> Result<Pattern, PatError>
-    ensures ok { IfOk result (IsPlainOf universe (whole_of whole.now)) }
-    ensures err { IfErr result (IsNotPlain universe (whole_of whole.now)) }
-{
-    match plain_of(alloc, whole, universe)? {
-        None => Err(PatError::NotBuilt),
-        Some(pattern) => Ok(pattern),
+    match judge(alloc, flags, is_text(universe), whole)? {
+        Judged::Refused(fault) => Err(PatError::Outside(fault.place, fault.what)),
+        Judged::Left(left) => {
+            let pattern = pattern_of(alloc, &left, universe)?;
+            Ok(pattern)
+        }
     }
 }
 
@@ -82,8 +79,8 @@ fn judged(alloc: Global, whole: &Whole, universe: Universe) -> Result<Pattern, P
 ///
 /// # Errors
 /// In this order: [`PatError::TooLong`] for more than 10,000 codes; [`PatError::Outside`] at 0 where the flags hold LOCALE or
-/// clash; [`PatError::TooDeep`]; [`PatError::Syntax`]; [`PatError::NotBuilt`]. [`PatError::OutOfMemory`] where memory was
-/// refused.
+/// clash; [`PatError::TooDeep`]; [`PatError::Syntax`]; [`PatError::Outside`] where the tree that is spelled holds a feature that
+/// is refused. [`PatError::OutOfMemory`] where memory was refused.
 pub fn parse(
     alloc: Global,
     codes: &Codes,
@@ -100,7 +97,7 @@ pub fn parse(
     match refused_flags(flags, text) {
         Some(what) => Err(PatError::Outside(0, what)),
         None => match read(alloc, codes.as_slice(), flags, text) {
-            Ok(whole) => judged(alloc, &whole, universe),
+            Ok(whole) => outcome(alloc, whole, flags, universe),
             Err(ReadError::Syntax(place)) => Err(PatError::Syntax(place)),
             Err(ReadError::TooDeep(place)) => Err(PatError::TooDeep(place)),
             Err(ReadError::OutOfMemory) => Err(PatError::OutOfMemory),

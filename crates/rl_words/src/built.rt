@@ -27,8 +27,8 @@ pub struct Built {
 
 /// What is in. To switch something on, change its line, and for an action the usage text too.
 pub const BUILT: Built = Built {
-    check: false,
-    class: false,
+    check: true,
+    class: true,
     cost: true,
     sample: false,
     prove: false,

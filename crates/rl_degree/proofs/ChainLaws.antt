@@ -1,0 +1,62 @@
+-- A longest chain put together link by link, and cycles.
+use Rattle.std.proofs.Common.{◌≡◌, ℕ, ◌<◌, ◌≤◌, ◌⊎◌, inl, inr, true, false, List, [], ◌∷◌, ◌++◌, length, get_or, sym, ◌∙◌, ap, subst, arith, append_assoc}
+use Rattle.std.proofs.lemmas.Bool.{cases_lt}
+use Rattle.std.proofs.lemmas.List.{map-append}
+use Rattle.rl_graph.specs.Paths.{paths, Reaches}
+use Rattle.rl_graph.specs.Graph.{Graph, edges_of, IsWhole}
+use Rattle.rl_graph.specs.Parts.{PartTable, IsParts, number_of, cycle_of}
+use Rattle.rl_graph.specs.Twins.{IsSplit, Link, ChainFrom}
+use Rattle.rl_graph.proofs.Sums.{total-there}
+use Rattle.rl_graph.proofs.PathLaws.{Reaches-self}
+use Rattle.rl_graph.proofs.GraphLaws.{bounded-whole}
+use Rattle.rl_degree.specs.Ranks.{best_at, IsFirst, IsGood, AreBests}
+use Rattle.rl_degree.specs.Chains.{link_of, links_of, IsChain, AreRanks, HasNoCycle}
+use Rattle.rl_degree.specs.declared.chains.Split.{Split}
+use Rattle.rl_degree.specs.declared.ranks.Best.{Best}
+use Rattle.rl_degree.proofs.InnerLaws.{move-state}
+use Rattle.rl_degree.proofs.RankLaws.{best-bound}
+
+-- the first link of a chain that has one
+pub first-there : (next : ℕ → ℕ → List ℕ) (n : ℕ) (p : PartTable) (bests : List Best) (q : ℕ) (b : Best) → AreBests next n p n bests → IsParts next n p → q < n → b ≡ best_at bests (number_of p q) → 0 < b.rank → IsFirst next n p bests q b
+first-there next n p bests q b are parts hq e some =
+    by (subst (IsGood next n p bests q) (sym e) (are.right q hq (parts.below q hq)).good).chain
+  where
+    by : (b.rank ≡ 0) ⊎ IsFirst next n p bests q b → IsFirst next n p bests q b
+    by (inl z) = absurd (omega arith)
+    by (inr f) = f
+
+-- one more link
+pub chain-more : (next : ℕ → ℕ → List ℕ) (start q : ℕ) (links : List Split) (s : Split) → ((ms : List Link) → ChainFrom next q ms → ChainFrom next start (links_of links ++ ms)) → Reaches next q s.from → IsSplit next s.from s.to s.word
+    → (ms : List Link) → ChainFrom next s.to ms → ChainFrom next start (links_of (links ++ s ∷ []) ++ ms)
+chain-more next start q links s old reached split ms c =
+    let e : links_of (links ++ s ∷ []) ++ ms ≡ links_of links ++ (link_of s ∷ ms) =
+    ap (λ (z : List Link). z ++ ms) (map-append link_of links (s ∷ [])) ∙ append_assoc (links_of links) (link_of s ∷ []) ms in
+    subst (ChainFrom next start) (sym e) (old (link_of s ∷ ms) (reached, split, c))
+
+-- a chain from a state is a chain
+pub chain-is : (next : ℕ → ℕ → List ℕ) (start : ℕ) (links : List Split) → ChainFrom next start (links_of links) → IsChain next links
+chain-is next start [] c = tt
+chain-is next start (s ∷ links) c = (Reaches-self next s.from, c.1, c.2)
+
+-- no chain is longer than that of a state of the greatest rank
+pub longest-there : (g : Graph) (p : PartTable) (bests : List Best) (ranks : List ℕ) (top d : ℕ) → IsWhole g → IsParts (edges_of g) g.states p → AreBests (edges_of g) g.states p g.states bests → AreRanks (edges_of g) g.states ranks → top < g.states
+    → ((q : ℕ) → q < g.states → get_or ranks q 0 ≤ get_or ranks top 0) → d ≡ (best_at bests (number_of p top)).rank
+    → (s : ℕ) (ms : List Link) → s < g.states → ChainFrom (edges_of g) s ms → length ms ≤ d
+longest-there g p bests ranks top d whole parts are right ht most e s ms hs c =
+    let here = right.right top ht in
+    let bound = best-bound (edges_of g) g.states g.letters p bests (bounded-whole g whole) are parts top here.chain ht here.goes in
+    omega (arith, (right.right s hs).longest ms c, most s hs, here.long, bound, e)
+
+-- no state that is marked as one on a cycle, and so no cycle
+pub no-cycle : (g : Graph) (p : PartTable) → IsParts (edges_of g) g.states p → ((q : ℕ) → q < g.states → cycle_of p q ≡ false) → HasNoCycle (edges_of g)
+no-cycle g p parts none q l w = by (cases_lt 0 (paths (edges_of g) q q (l ∷ w)))
+  where
+    not-both : true ≡ false → ⊥
+    not-both e = cc
+
+    by : (0 < paths (edges_of g) q q (l ∷ w)) ⊎ (paths (edges_of g) q q (l ∷ w) ≤ 0) → paths (edges_of g) q q (l ∷ w) ≡ 0
+    by (inr h) = omega arith
+    by (inl h) =
+        let m = total-there (λ m. paths (edges_of g) m q w) (edges_of g q l) (omega arith) in
+        let hq = move-state g q l m.0 m.1 in
+        absurd (not-both (sym ((parts.on_cycle q hq).1 (l, w, omega arith)) ∙ none q hq))

@@ -1,0 +1,6 @@
+use Rattle.rl_graph.specs.Graph.{edges_of}
+use Rattle.rl_degree.specs.Ranks.{AreBests}
+use Rattle.rl_degree.proofs.ranks.all_bests.Given as goal
+
+abbrev pub invariant-loop-component : goal.invariant-loop-component
+invariant-loop-component l = AreBests (edges_of l.g) l.g.states l.table.components l.component l.bests.items

@@ -1,0 +1,21 @@
+-- Which pairs of states are splits.
+use Rattle.std.specs.Prelude.{◌≡◌, ℕ, ◌*◌, ◌/◌, ◌%◌, ◌<◌, ◌↔◌, Bool, true, false, IsTrue, List, length, slice_index_or}
+use Rattle.rl_graph.specs.Graph.{Graph, edges_of}
+use Rattle.rl_graph.specs.Twins.{IsSplit}
+use Rattle.rl_graph.specs.Parts.{number_of}
+use Rattle.rl_degree.specs.Pairs.{is_wanted}
+use Rattle.rl_degree.specs.declared.pairs.PairTable.{PairTable}
+
+-- the two states are a split on some word
+abbrev pub HasSplit : (ℕ → ℕ → List ℕ) → ℕ → ℕ → Type 0
+HasSplit next r q = (y : List ℕ) × IsSplit next r q y
+
+-- the mark of a part: it tells of each wanted pair of the part whether it is a split
+abbrev pub IsMark : Graph → PairTable → ℕ → Bool → Type 0
+IsMark g t k b =
+    (x : ℕ) → x < g.states * g.states → is_wanted t.components t.parts g.states x ≡ true → number_of t.parts x ≡ k → IsTrue b ↔ HasSplit (edges_of g) (x / g.states) (x % g.states)
+
+-- a mark for each part
+pub record AreMarks (g : Graph) (t : PairTable) (marks : List Bool) : Type 0 where
+  pub size : length marks ≡ g.states * g.states
+  pub right : (k : ℕ) → k < g.states * g.states → IsMark g t k (slice_index_or marks k false)

@@ -1,0 +1,185 @@
+//! Chains of splits of the greatest length.
+
+ghost use Rattle.std.specs.Prelude.{◌≡◌, ℕ, ◌<◌, ◌≤◌, List, length, slice_index, All, IfOk, IfSome, IfNone, IsTrue};
+ghost use Rattle.rl_graph.specs.Graph.{edges_of};
+ghost use Rattle.rl_graph.specs.Parts.{IsParts, cycle_of, number_of};
+ghost use Rattle.rl_graph.specs.Twins.{HasNoTwin, Link, ChainFrom};
+ghost use Rattle.rl_degree.specs.Pairs.{IsTable};
+ghost use Rattle.rl_degree.specs.Ranks.{AreBests, best_at};
+ghost use Rattle.rl_degree.specs.Chains.{links_of, IsSplitIn, IsChain, AreRanks, IsLoop, HasNoCycle};
+
+use crate::pairs::{PairTable, table_of};
+use crate::ranks::{Best, all_bests, ranks_of};
+use crate::searches::{split_marks, split_word};
+use rl_graph::{Components, FoundPath, Multigraph, cycle_through};
+use rl_lists::{Items, OutOfMemory, Ranks, Word};
+use std::alloc::Global;
+
+/// A split: two different states and a word with paths from the first to itself, from the first to the second and from the
+/// second to itself.
+#[derive(Drop)]
+pub struct Split {
+    /// The first state.
+    pub from: u32,
+    /// The second state.
+    pub to: u32,
+    /// The letters of the word.
+    pub word: Word,
+}
+
+/// A state and a word that leads from it back to it.
+#[derive(Drop)]
+pub struct Loop {
+    /// The state.
+    pub state: u32,
+    /// The letters of the word, at least one.
+    pub word: Word,
+}
+
+/// A list of splits.
+pub type Splits = Items<Split>;
+
+/// A longest chain of splits of a graph, the rank of each state, and a cycle.
+#[derive(Drop)]
+pub struct Chain {
+    /// The splits, each reached from the one before it.
+    pub links: Splits,
+    /// For each state the length of the longest chain from it.
+    pub ranks: Ranks,
+    /// A state on a cycle, where there is one.
+    pub cycle: Option<Loop>,
+}
+
+/// A place of the greatest rank.
+fn top_place(ranks: &[u32]) -> usize
+    requires { 0 < length ranks.now }
+    ensures place_in { result < length ranks.now }
+    ensures greatest { (q : ℕ) → q < length ranks.now → slice_index ranks.now q ≤ slice_index ranks.now result }
+{
+    let mut top = 0;
+    for place in 0..ranks.len() {
+        if ranks[top] < ranks[place] {
+            top = place;
+        }
+    }
+    top
+}
+
+/// A longest chain from a state.
+fn chain_from(
+    alloc: Global,
+    g: &Multigraph,
+    table: &PairTable,
+    bests: &[Best],
+    start: u32,
+) -> Result<Splits, OutOfMemory>
+    requires few { g.now.states < 65536 }
+    requires table { IsTable g.now table.now }
+    requires no_twin { HasNoTwin (edges_of g.now) }
+    requires bests { AreBests (edges_of g.now) g.now.states table.now.components g.now.states bests.now }
+    requires start_in { start < g.now.states }
+    ensures chain { IfOk result (λ l. ChainFrom (edges_of g.now) start (links_of l)) }
+    ensures long { IfOk result (λ l. length l ≡ (best_at bests.now (number_of table.now.components start)).rank) }
+    ensures states { IfOk result (All (IsSplitIn g.now.states)) }
+{
+    let _states = g.states();
+    let mut links = Items::new(alloc);
+    let mut state = start;
+    let mut best = bests[table.components.of(state) as usize];
+    while best.rank > 0 {
+        match split_word(alloc, g, table, best.from, best.to)? {
+            Some(word) => {
+                links.push(Split {
+                    from: best.from,
+                    to: best.to,
+                    word,
+                })?;
+                state = best.to;
+                best = bests[table.components.of(state) as usize];
+            }
+            None => unreachable!(),
+        }
+    }
+    Ok(links)
+}
+
+/// A cycle through a state that lies on one.
+fn loop_at(
+    alloc: Global,
+    g: &Multigraph,
+    components: &Components,
+    state: u32,
+) -> Result<Loop, OutOfMemory>
+    requires parts { IsParts (edges_of g.now) g.now.states components.now }
+    requires state_in { state < g.now.states }
+    requires cycle { IsTrue (cycle_of components.now state) }
+    ensures { IfOk result (IsLoop (edges_of g.now) g.now.states) }
+{
+    match cycle_through(alloc, g, u64::from(state))? {
+        Some(path) => {
+            let FoundPath { word, moves: _ } = path;
+            Ok(Loop { state, word })
+        }
+        None => unreachable!(),
+    }
+}
+
+/// A cycle of a graph.
+fn some_loop(
+    alloc: Global,
+    g: &Multigraph,
+    components: &Components,
+) -> Result<Option<Loop>, OutOfMemory>
+    requires parts { IsParts (edges_of g.now) g.now.states components.now }
+    ensures cycle { IfOk result (λ o. IfSome o (IsLoop (edges_of g.now) g.now.states)) }
+    ensures none { IfOk result (λ o. IfNone o (HasNoCycle (edges_of g.now))) }
+{
+    for state in 0..g.states() {
+        if components.on_cycle(state) {
+            let found = loop_at(alloc, g, components, state)?;
+            return Ok(Some(found));
+        }
+    }
+    Ok(None)
+}
+
+/// The greatest number of states that the tables of pairs are made for.
+const MOST_STATES: u32 = 65_535;
+
+/// A longest chain of splits of a graph without a twin, all ranks and a cycle.
+///
+/// It takes the parts of the product of two copies of the graph, and for each part that holds pairs of different states on a
+/// cycle it makes one search for one of its pairs (the test for IDA of Weber and Seidl 1991), over triples of states whose
+/// outer ones lie in that part. Ranks and chains go by the components of the graph in their order.
+///
+/// # Errors
+/// [`OutOfMemory`] where there was no memory for the search or the answer, as for a graph of 65,536 states or more, which has
+/// over four billion pairs.
+pub fn degree(alloc: Global, g: &Multigraph) -> Result<Chain, OutOfMemory>
+    requires no_twin { HasNoTwin (edges_of g.now) }
+    ensures links { IfOk result (λ c. IsChain (edges_of g.now) c.links) }
+    ensures states { IfOk result (λ c. All (IsSplitIn g.now.states) c.links) }
+    ensures longest { IfOk result (λ c. (s : ℕ) (ms : List Link) → s < g.now.states → ChainFrom (edges_of g.now) s ms → length ms ≤ length c.links) }
+    ensures ranks { IfOk result (λ c. AreRanks (edges_of g.now) g.now.states c.ranks) }
+    ensures cycle { IfOk result (λ c. IfSome c.cycle (IsLoop (edges_of g.now) g.now.states)) }
+    ensures no_cycle { IfOk result (λ c. IfNone c.cycle (HasNoCycle (edges_of g.now))) }
+{
+    if g.states() > MOST_STATES {
+        return Err(OutOfMemory);
+    }
+    let table = table_of(alloc, g)?;
+    let marks = split_marks(alloc, g, &table)?;
+    let bests = all_bests(alloc, g, &table, &marks)?;
+    let ranks = ranks_of(alloc, g, &table.components, &bests)?;
+    let links = if ranks.is_empty() {
+        Items::new(alloc)
+    } else {
+        chain_from(alloc, g, &table, &bests, top_place(ranks.as_slice()) as u32)?
+    };
+    let cycle = some_loop(alloc, g, &table.components)?;
+    Ok(Chain {
+        links,
+        ranks,
+        cycle,
+    })
+}

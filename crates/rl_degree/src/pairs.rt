@@ -1,0 +1,130 @@
+//! The pairs of states that may be splits, part by part of the product of two copies of the graph of inner moves.
+
+ghost use Rattle.std.specs.Prelude.{◌≡◌, ℕ, ◌<◌, ◌+◌, ◌*◌, ◌^◌, length, IfOk, OnOk};
+ghost use Rattle.rl_graph.specs.Parts.{number_of};
+ghost use Rattle.rl_degree.specs.Pairs.{is_wanted, lists_of, row_of, with_pair, IsBarePlaced, IsPlaced, IsTable};
+
+use crate::inner::inner_graph;
+use rl_graph::{Components, Multigraph, Parts, Twice, parts_of};
+use rl_lists::{Items, OutOfMemory};
+use std::alloc::Global;
+
+/// The pairs of different states on a common cycle, by parts: the members of each part of the product, and for each pair its
+/// place among the members of its part.
+#[derive(Drop)]
+pub(crate) struct Placed {
+    pub(crate) members: Vec<Items<u64>>,
+    pub(crate) places: Vec<u64>,
+}
+
+/// A graph's components, its inner moves, the parts of the product of two copies of them, and the pairs of each part.
+#[derive(Drop)]
+pub(crate) struct PairTable {
+    pub(crate) components: Components,
+    pub(crate) inner: Multigraph,
+    pub(crate) parts: Parts,
+    pub(crate) placed: Placed,
+}
+
+/// The pair of two states.
+pub(crate) fn pair_of(count: u64, from: u32, to: u32) -> u64
+    requires { count < 2 ^ 32 }
+    ensures { result ≡ from * count + to }
+{
+    u64::from(from) * count + u64::from(to)
+}
+
+impl PairTable {
+    /// The pairs of a part.
+    pub(crate) fn members_of(&self, part: u64) -> &[u64]
+        requires { part < length self.now.placed.members.items }
+        ensures { result.now ≡ row_of (lists_of self.now.placed) part }
+    {
+        self.placed.members[part as usize].as_slice()
+    }
+}
+
+/// Whether a pair lies on a cycle of the product, and its second state in a component that may be reached from the first
+/// one's, but not the other way round.
+pub(crate) fn wanted(components: &Components, parts: &Parts, count: u64, pair: u64) -> bool
+    requires pair_in { pair < count * count }
+    requires few { count < 2 ^ 32 }
+    requires components_size { length components.now.numbers ≡ count }
+    requires parts_size { length parts.now.numbers ≡ count * count }
+    ensures { result ≡ is_wanted components.now parts.now count pair }
+{
+    let first = components.of((pair / count) as u32);
+    let second = components.of((pair % count) as u32);
+    parts.on_cycle(pair) && second < first
+}
+
+impl Placed {
+    /// No pair in any of so many parts.
+    fn new(alloc: Global, count: usize) -> Result<Placed, OutOfMemory>
+        ensures { IfOk result (λ p. IsBarePlaced count (lists_of p)) }
+    {
+        let mut members = Vec::with_capacity(alloc, count)?;
+        for _part in 0..count {
+            members.push(Items::new(alloc))?;
+        }
+        let places = vec![in alloc; 0; count]?;
+        Ok(Placed { members, places })
+    }
+
+    /// Puts a pair behind the members of a part.
+    fn put(&mut self, part: u64, pair: u64) -> Result<(), OutOfMemory>
+        requires part_in { part < length self.old.members.items }
+        requires pair_in { pair < length self.old.places.items }
+        ensures { OnOk result (lists_of self.new ≡ with_pair part pair (lists_of self.old)) }
+    {
+        let row = &mut self.members[part as usize];
+        let place = row.len() as u64;
+        row.push(pair)?;
+        self.places[pair as usize] = place;
+        Ok(())
+    }
+}
+
+/// The wanted pairs by parts.
+fn placed_pairs(
+    alloc: Global,
+    components: &Components,
+    parts: &Parts,
+    count: u64,
+) -> Result<Placed, OutOfMemory>
+    requires few { count < 2 ^ 32 }
+    requires components_size { length components.now.numbers ≡ count }
+    requires parts_size { length parts.now.numbers ≡ count * count }
+    requires parts_below { (x : ℕ) → x < count * count → number_of parts.now x < count * count }
+    ensures { IfOk result (λ p. IsPlaced components.now parts.now count (lists_of p)) }
+{
+    let pairs = count * count;
+    let mut placed = Placed::new(alloc, pairs as usize)?;
+    for pair in 0..pairs {
+        if wanted(components, parts, count, pair) {
+            placed.put(parts.of(pair), pair)?;
+        }
+    }
+    Ok(placed)
+}
+
+/// The tables of a graph.
+///
+/// # Errors
+/// [`OutOfMemory`] where there was no memory for them.
+pub(crate) fn table_of(alloc: Global, g: &Multigraph) -> Result<PairTable, OutOfMemory>
+    ensures { IfOk result (IsTable g.now) }
+{
+    let count = u64::from(g.states());
+    let components = g.components()?;
+    let inner = inner_graph(alloc, g, &components)?;
+    let _states = inner.states();
+    let parts = parts_of(alloc, &Twice { graph: &inner })?;
+    let placed = placed_pairs(alloc, &components, &parts, count)?;
+    Ok(PairTable {
+        components,
+        inner,
+        parts,
+        placed,
+    })
+}

@@ -1,0 +1,199 @@
+//! The longest chains of splits, component by component in the order in which they are reached from one another.
+
+ghost use Rattle.std.specs.Prelude.{◌≡◌, ℕ, ◌<◌, ◌≤◌, ◌⊎◌, IfOk};
+ghost use Rattle.rl_graph.specs.Graph.{edges_of};
+ghost use Rattle.rl_graph.specs.Parts.{IsParts, number_of};
+ghost use Rattle.rl_graph.specs.Twins.{HasNoTwin};
+ghost use Rattle.rl_degree.specs.Pairs.{IsTable};
+ghost use Rattle.rl_degree.specs.Splits.{AreMarks};
+ghost use Rattle.rl_degree.specs.Ranks.{IsGood, BeatsLetter, BeatsMoves, BeatsSplits, IsBest, AreBests};
+ghost use Rattle.rl_degree.specs.Chains.{AreRanks};
+
+use crate::pairs::PairTable;
+use crate::searches::is_split;
+use rl_graph::{Components, Multigraph};
+use rl_lists::{Items, OutOfMemory, Ranks};
+use std::alloc::Global;
+
+/// The number of links of a longest chain from the states of a component, and where it has some, the states of the first one.
+#[derive(Clone, Copy)]
+pub(crate) struct Best {
+    pub(crate) rank: u32,
+    pub(crate) from: u32,
+    pub(crate) to: u32,
+}
+
+/// The one of the greater rank.
+fn better(best: Best, other: Best) -> Best
+    ensures one { (result ≡ best) ⊎ (result ≡ other) }
+    ensures least { best.rank ≤ result.rank }
+    ensures other { other.rank ≤ result.rank }
+{
+    if best.rank < other.rank { other } else { best }
+}
+
+/// The better one of a chain and those of the states in lower components that a state's moves on a letter lead to.
+fn best_by_letter(
+    g: &Multigraph,
+    components: &Components,
+    bests: &[Best],
+    state: u32,
+    letter: u32,
+    start: Best,
+) -> Best
+    requires state_in { state < g.now.states }
+    requires letter_in { letter < g.now.letters }
+    requires parts { IsParts (edges_of g.now) g.now.states components.now }
+    requires bests { AreBests (edges_of g.now) g.now.states components.now (number_of components.now state) bests.now }
+    requires start { IsGood (edges_of g.now) g.now.states components.now bests.now state start }
+    ensures good { IsGood (edges_of g.now) g.now.states components.now bests.now state result }
+    ensures least { start.rank ≤ result.rank }
+    ensures letter { BeatsLetter (edges_of g.now) components.now bests.now state letter result.rank }
+{
+    let own = components.of(state);
+    let mut best = start;
+    let row = g.edges(state, letter);
+    for place in 0..row.len() {
+        let component = components.of(row[place]);
+        if component < own {
+            best = better(best, bests[component as usize]);
+        }
+    }
+    best
+}
+
+/// The same for the moves on all letters.
+fn best_by_moves(
+    g: &Multigraph,
+    components: &Components,
+    bests: &[Best],
+    state: u32,
+    start: Best,
+) -> Best
+    requires state_in { state < g.now.states }
+    requires parts { IsParts (edges_of g.now) g.now.states components.now }
+    requires bests { AreBests (edges_of g.now) g.now.states components.now (number_of components.now state) bests.now }
+    requires start { IsGood (edges_of g.now) g.now.states components.now bests.now state start }
+    ensures good { IsGood (edges_of g.now) g.now.states components.now bests.now state result }
+    ensures least { start.rank ≤ result.rank }
+    ensures moves { BeatsMoves (edges_of g.now) components.now bests.now state result.rank }
+{
+    let _states = g.states();
+    let mut best = start;
+    for letter in 0..g.letters() {
+        best = best_by_letter(g, components, bests, state, letter, best);
+    }
+    best
+}
+
+/// The better one of a chain and those that begin with a split from a state.
+fn best_by_splits(
+    g: &Multigraph,
+    table: &PairTable,
+    marks: &[bool],
+    bests: &[Best],
+    state: u32,
+    start: Best,
+) -> Best
+    requires few { g.now.states < 65536 }
+    requires table { IsTable g.now table.now }
+    requires no_twin { HasNoTwin (edges_of g.now) }
+    requires marks { AreMarks g.now table.now marks.now }
+    requires state_in { state < g.now.states }
+    requires bests { AreBests (edges_of g.now) g.now.states table.now.components (number_of table.now.components state) bests.now }
+    requires start { IsGood (edges_of g.now) g.now.states table.now.components bests.now state start }
+    ensures good { IsGood (edges_of g.now) g.now.states table.now.components bests.now state result }
+    ensures least { start.rank ≤ result.rank }
+    ensures splits { BeatsSplits (edges_of g.now) g.now.states table.now.components bests.now state result.rank }
+{
+    let mut best = start;
+    for to in 0..g.states() {
+        if is_split(g, table, marks, state, to) {
+            let rest = bests[table.components.of(to) as usize];
+            best = better(
+                best,
+                Best {
+                    rank: rest.rank + 1,
+                    from: state,
+                    to,
+                },
+            );
+        }
+    }
+    best
+}
+
+/// The best of a component, from those of the lower ones.
+fn best_of(
+    g: &Multigraph,
+    table: &PairTable,
+    marks: &[bool],
+    bests: &[Best],
+    component: u32,
+) -> Best
+    requires few { g.now.states < 65536 }
+    requires table { IsTable g.now table.now }
+    requires no_twin { HasNoTwin (edges_of g.now) }
+    requires marks { AreMarks g.now table.now marks.now }
+    requires bests { AreBests (edges_of g.now) g.now.states table.now.components component bests.now }
+    ensures { (q : ℕ) → q < g.now.states → number_of table.now.components q ≡ component → IsBest (edges_of g.now) g.now.states table.now.components bests.now q result }
+{
+    let mut best = Best {
+        rank: 0,
+        from: 0,
+        to: 0,
+    };
+    for state in 0..g.states() {
+        if table.components.of(state) == component {
+            let by_moves = best_by_moves(g, &table.components, bests, state, best);
+            best = best_by_splits(g, table, marks, bests, state, by_moves);
+        }
+    }
+    best
+}
+
+/// The best of each component.
+///
+/// # Errors
+/// [`OutOfMemory`] where there was no memory for them.
+pub(crate) fn all_bests(
+    alloc: Global,
+    g: &Multigraph,
+    table: &PairTable,
+    marks: &[bool],
+) -> Result<Vec<Best>, OutOfMemory>
+    requires few { g.now.states < 65536 }
+    requires table { IsTable g.now table.now }
+    requires no_twin { HasNoTwin (edges_of g.now) }
+    requires marks { AreMarks g.now table.now marks.now }
+    ensures { IfOk result (λ v. AreBests (edges_of g.now) g.now.states table.now.components g.now.states v.items) }
+{
+    let mut bests = Vec::new(alloc);
+    for component in 0..g.states() {
+        let best = best_of(g, table, marks, &bests, component);
+        bests.push(best)?;
+    }
+    Ok(bests)
+}
+
+/// The rank of each state.
+///
+/// # Errors
+/// [`OutOfMemory`] where there was no memory for them.
+pub(crate) fn ranks_of(
+    alloc: Global,
+    g: &Multigraph,
+    components: &Components,
+    bests: &[Best],
+) -> Result<Ranks, OutOfMemory>
+    requires no_twin { HasNoTwin (edges_of g.now) }
+    requires parts { IsParts (edges_of g.now) g.now.states components.now }
+    requires bests { AreBests (edges_of g.now) g.now.states components.now g.now.states bests.now }
+    ensures { IfOk result (λ r. AreRanks (edges_of g.now) g.now.states r) }
+{
+    let mut ranks = Items::new(alloc);
+    for state in 0..g.states() {
+        ranks.push(bests[components.of(state) as usize].rank)?;
+    }
+    Ok(ranks)
+}

@@ -1,0 +1,4 @@
+pub mod RouteLaws
+pub mod FamilyLaws
+pub mod VerdictLaws
+pub mod LongestLaws

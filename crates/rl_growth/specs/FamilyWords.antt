@@ -1,0 +1,42 @@
+-- The words of a family in the graph of live pairs, as letters.
+use Rattle.std.specs.Prelude.{◌≡◌, ℕ, ◌<◌, ◌≤◌, true, List, [], ◌∷◌, length, All}
+use Rattle.rl_prio.specs.Automaton.{Automaton, letters_count}
+use Rattle.rl_graph.specs.Paths.{paths}
+use Rattle.rl_graph.specs.Twins.{Link}
+use Rattle.rl_sets.specs.Live.{IsRest}
+use Rattle.rl_pairs.specs.declared.pair.Pair.{Pair}
+use Rattle.rl_pairs.specs.LivePairs.{refused}
+use Rattle.rl_pairs.specs.Families.{Chained, chain_heads, chain_pumps, to_end}
+
+-- words of letters without the end letter
+abbrev pub AreLetters : Automaton → List (List ℕ) → Type 0
+AreLetters a words = All (All (λ letter. letter < letters_count a)) words
+
+-- the words of a twin: what leads to its state, its word and what the state's set refuses behind it
+pub record IsTwinWords (a : Automaton) (next : ℕ → ℕ → List ℕ) (at : ℕ → Pair) (heads pumps : List (List ℕ)) : Type 0 where
+  pub state : ℕ
+  pub lead : List ℕ
+  pub round : List ℕ
+  pub last : List ℕ
+  pub same_heads : heads ≡ lead ∷ (last ∷ [])
+  pub same_pumps : pumps ≡ round ∷ []
+  pub leads : 1 ≤ paths next 0 state lead
+  pub twice : 2 ≤ paths next state state round
+  pub rest : IsRest a (to_end a last)
+  pub refuses : refused a at state (to_end a last) ≡ true
+
+-- the words of a chain of `d` splits that ends on a cycle, and what the set of the cycle's state refuses behind it
+pub record IsChainWords (a : Automaton) (next : ℕ → ℕ → List ℕ) (at : ℕ → Pair) (d : ℕ) (heads pumps : List (List ℕ)) : Type 0 where
+  pub links : List Link
+  pub lead : List ℕ
+  pub state : ℕ
+  pub round : List ℕ
+  pub last : List ℕ
+  pub same_heads : heads ≡ chain_heads links lead last
+  pub same_pumps : pumps ≡ chain_pumps links round
+  pub count : length links ≡ d
+  pub chained : Chained next 0 links lead state
+  pub cycle : 1 ≤ paths next state state round
+  pub some : 1 ≤ length round
+  pub rest : IsRest a (to_end a last)
+  pub refuses : refused a at state (to_end a last) ≡ true

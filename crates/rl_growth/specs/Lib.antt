@@ -1,0 +1,4 @@
+pub mod Questions
+pub mod Routes
+pub mod FamilyWords
+pub mod Texts

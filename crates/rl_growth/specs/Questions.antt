@@ -1,0 +1,42 @@
+-- What a call asks, and the automata and graphs that answer it.
+use Rattle.std.specs.Prelude.{◌≡◌, ℕ, ◌<◌, ◌≤◌, true, List}
+use Rattle.rl_ranges.specs.declared.universe.Universe.{Universe}
+use Rattle.rl_syntax.specs.declared.re.Ending.{Ending}
+use Rattle.rl_syntax.specs.declared.re.Lowered.{Lowered}
+use Rattle.rl_syntax.specs.declared.verdict.Verdict.{Verdict}
+use Rattle.rl_syntax.specs.declared.verdict.Limit.{Limit}
+use Rattle.rl_syntax.specs.Tree.{Tree, tree_of}
+use Rattle.rl_prio.specs.Automaton.{Automaton, IsAutomaton}
+use Rattle.rl_prio.specs.StandsFor.{StandsFor}
+use Rattle.rl_graph.specs.Paths.{paths}
+use Rattle.rl_sets.specs.Live.{IsRest}
+use Rattle.rl_pairs.specs.declared.pair.Pair.{Pair}
+use Rattle.rl_pairs.specs.LivePairs.{refused}
+use Rattle.rl_pairs.specs.PairGraph.{IsPairGraph, IsNumbered}
+use Rattle.rl_pairs.specs.PairTable.{PairTable, moves_in, pair_in, lead_in, rest_in}
+use Rattle.rl_pairs.specs.RightVerdict.{Question, IsMachine, IsPassed, RightVerdict}
+
+-- the lowered tree with its ending, for the texts of the universe
+abbrev pub question_of : Lowered → Universe → ℕ → Question
+question_of l universe max_pairs = record { tree = tree_of l.tree; ending = l.ending; universe = universe; max_pairs = max_pairs }
+
+-- the automaton stands for some tree and ending
+abbrev pub StandsForSome : Automaton → Type 0
+StandsForSome a = (t : Tree) × (ending : Ending) × IsAutomaton a × StandsFor a t ending
+
+-- a numbered graph of the live pairs, of which there are at most 1,000, with a word that leads to each of them and a rest that its set refuses
+pub record IsLedGraph (a : Automaton) (next : ℕ → ℕ → List ℕ) (at : ℕ → Pair) (n : ℕ) (lead rest : ℕ → List ℕ) : Type 0 where
+  pub graph : IsPairGraph a next at n
+  pub numbered : IsNumbered a next at n
+  pub few : n ≤ 1000
+  pub leads : (i : ℕ) → i < n → 1 ≤ paths next 0 i (lead i)
+  pub rests : (i : ℕ) → i < n → IsRest a (rest i)
+  pub refuses : (i : ℕ) → i < n → refused a at i (rest i) ≡ true
+
+-- the same of the program's graph
+abbrev pub IsLed : Automaton → PairTable → Type 0
+IsLed a g = IsLedGraph a (moves_in g) (pair_in g) g.graph.states (lead_in g) (rest_in g)
+
+-- the verdict is right for each question that the automaton stands for and that passes no limit
+abbrev pub DecidesFor : Automaton → Verdict → Type 0
+DecidesFor a verdict = (q : Question) → IsMachine q a → ((limit : Limit) → IsPassed q limit → ⊥) → RightVerdict q verdict

@@ -1,0 +1,144 @@
+//! Verdicts, by the graph of live pairs.
+
+ghost use Rattle.std.specs.Prelude.{◌≡◌, ℕ, ◌<◌, ◌≤◌, [], ◌∷◌, IfOk};
+ghost use Rattle.rl_graph.specs.Graph.{edges_of};
+ghost use Rattle.rl_graph.specs.Twins.{HasNoTwin, IsTwin};
+ghost use Rattle.rl_syntax.specs.Tree.{tree_of, size, IsOver};
+ghost use Rattle.rl_pairs.specs.PairTable.{moves_in};
+ghost use Rattle.rl_pairs.specs.RightVerdict.{RightVerdict};
+ghost use Rattle.rl_growth.specs.Texts.{HasTexts};
+ghost use Rattle.rl_growth.specs.Questions.{question_of, StandsForSome, IsLed, DecidesFor};
+
+use crate::spelling::family_of;
+use crate::words::{chain_words, twin_words};
+use rl_degree::degree;
+use rl_expo::{TwinPaths, twin};
+use rl_lists::{Items, OutOfMemory};
+use rl_pairs::{PairGraph, PairsError, pairs};
+use rl_prio::{Prio, PrioError};
+use rl_syntax::{Family, Limit, Lowered, Universe, Verdict};
+use std::alloc::Global;
+
+/// The most nodes that a judged tree has.
+const MOST_NODES: u64 = 4_000;
+
+/// The verdict on a graph of live pairs that has a twin.
+fn exponential(
+    alloc: Global,
+    a: &Prio,
+    g: &PairGraph,
+    twin: &TwinPaths,
+) -> Result<Verdict, OutOfMemory>
+    requires stands { StandsForSome a.now }
+    requires led { IsLed a.now g.now }
+    requires state_in { twin.now.state < g.now.graph.states }
+    requires twin { IsTwin (moves_in g.now) twin.now.state twin.now.word twin.now.first twin.now.second }
+    ensures { IfOk result (DecidesFor a.now) }
+{
+    let words = twin_words(alloc, g, twin)?;
+    let family = family_of(alloc, a, &words)?;
+    Ok(Verdict::Expo(family))
+}
+
+/// The family of no pump and one empty head.
+fn flat(alloc: Global) -> Result<Family, OutOfMemory>
+    ensures heads { IfOk result (λ f. f.heads ≡ [] ∷ []) }
+    ensures pumps { IfOk result (λ f. f.pumps ≡ []) }
+{
+    let mut heads = Items::new(alloc);
+    heads.push(Items::new(alloc))?;
+    Ok(Family {
+        heads,
+        pumps: Items::new(alloc),
+    })
+}
+
+/// The verdict on a graph of live pairs that has no twin: one more than the splits of its longest chain, or 0 where it has no
+/// cycle.
+fn polynomial(alloc: Global, a: &Prio, g: &PairGraph) -> Result<Verdict, OutOfMemory>
+    requires stands { StandsForSome a.now }
+    requires led { IsLed a.now g.now }
+    requires no_twin { HasNoTwin (moves_in g.now) }
+    ensures { IfOk result (DecidesFor a.now) }
+{
+    let chain = degree(alloc, g.graph())?;
+    match &chain.cycle {
+        None => Ok(Verdict::Degree(0, flat(alloc)?)),
+        Some(cycle) => {
+            let words = chain_words(alloc, g, chain.links.as_slice(), cycle)?;
+            let family = family_of(alloc, a, &words)?;
+            let power = chain.links.len() as u32 + 1;
+            Ok(Verdict::Degree(power, family))
+        }
+    }
+}
+
+/// The verdict on a graph of live pairs.
+fn judged(alloc: Global, a: &Prio, g: &PairGraph) -> Result<Verdict, OutOfMemory>
+    requires stands { StandsForSome a.now }
+    requires led { IsLed a.now g.now }
+    ensures { IfOk result (DecidesFor a.now) }
+{
+    match twin(alloc, g.graph())? {
+        Some(twin) => exponential(alloc, a, g, &twin),
+        None => polynomial(alloc, a, g),
+    }
+}
+
+/// The verdict on a tree within the limit of its size.
+fn judged_small(
+    alloc: Global,
+    l: &Lowered,
+    u: Universe,
+    max_pairs: u32,
+) -> Result<Verdict, OutOfMemory>
+    requires some { 1 ≤ max_pairs }
+    requires few { max_pairs ≤ 1000 }
+    requires inside { IsOver u (tree_of l.now.tree) }
+    requires small { size (tree_of l.now.tree) ≤ 4000 }
+    ensures { IfOk result (RightVerdict (question_of l.now u max_pairs)) }
+{
+    let a = match Prio::build(alloc, &l.tree, l.ending, u) {
+        Ok(a) => a,
+        Err(PrioError::Letters) => return Ok(Verdict::Undecided(Limit::Letters)),
+        Err(PrioError::Moves) => return Ok(Verdict::Undecided(Limit::Moves)),
+        Err(PrioError::OutOfMemory) => return Err(OutOfMemory),
+    };
+    let _states = a.states();
+    match pairs(alloc, &a, max_pairs) {
+        Ok(g) => judged(alloc, &a, &g),
+        Err(PairsError::Sets) => Ok(Verdict::Undecided(Limit::Sets)),
+        Err(PairsError::Pairs) => Ok(Verdict::Undecided(Limit::Pairs)),
+        Err(PairsError::OutOfMemory) => Err(OutOfMemory),
+    }
+}
+
+/// How the cost of a lowered pattern grows with the length of a text of the universe, where at most `max_pairs` live pairs are
+/// looked at.
+///
+/// The degree is exact: the family's texts cost at least this power of the family's number, and no text costs more than this
+/// power of its length and one, up to a factor that the tree's size gives. It is 0 where no live pair lies on a cycle, else one
+/// more than the splits of the longest chain. [`Verdict::Undecided`] names the limit that is passed: the tree has more than
+/// 4,000 nodes, more than 128 letters, a list of more than 256 moves, more than `max_pairs` live pairs, or more than 20,000
+/// counted sets.
+///
+/// # Errors
+/// [`OutOfMemory`] where there was no memory for the automaton, the graph or the family.
+pub fn classify(
+    alloc: Global,
+    l: &Lowered,
+    u: Universe,
+    max_pairs: u32,
+) -> Result<Verdict, OutOfMemory>
+    requires some { 1 ≤ max_pairs }
+    requires few { max_pairs ≤ 1000 }
+    requires inside { IsOver u (tree_of l.now.tree) }
+    ensures right { IfOk result (RightVerdict (question_of l.now u max_pairs)) }
+    ensures texts { IfOk result (HasTexts u) }
+{
+    if l.tree.nodes() > MOST_NODES {
+        return Ok(Verdict::Undecided(Limit::Size));
+    }
+    let verdict = judged_small(alloc, l, u, max_pairs)?;
+    Ok(verdict)
+}

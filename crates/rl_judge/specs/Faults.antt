@@ -1,0 +1,39 @@
+-- Where the faults of sources, literals and patterns are, as byte places in the source.
+use Rattle.std.specs.Prelude.{ℕ, Option, Some, None, slice_get, unwrap_or}
+use Rattle.rl_pylex.specs.declared.fault.LexError.{LexError}
+use Rattle.rl_pylex.specs.declared.fault.LexError.TheVariants as lexing
+use Rattle.rl_pystr.specs.declared.fault.StrError.{StrError}
+use Rattle.rl_pystr.specs.declared.fault.StrError.TheVariants as valuing
+use Rattle.rl_pystr.specs.declared.literal.Literal.{Literal}
+use Rattle.rl_pattern.specs.declared.parsing.PatError.{PatError}
+use Rattle.rl_pattern.specs.declared.parsing.PatError.TheVariants as parsing
+
+-- of a source without tokens
+abbrev pub source_fault : LexError → Option ℕ
+source_fault (lexing.NotUtf8 byte) = Some byte
+source_fault (lexing.Coding byte) = Some byte
+source_fault (lexing.Unterminated byte) = Some byte
+source_fault (lexing.StrayCode byte) = Some byte
+source_fault lexing.FileTooLong = None
+source_fault lexing.OutOfMemory = None
+
+-- of literals without a value
+abbrev pub literal_fault : StrError → Option ℕ
+literal_fault valuing.FString = None
+literal_fault valuing.Mixed = None
+literal_fault (valuing.BadEscape byte) = Some byte
+literal_fault (valuing.NamedEscape byte) = Some byte
+literal_fault (valuing.NotAscii byte) = Some byte
+literal_fault valuing.OutOfMemory = None
+
+-- the byte place of the code with this number; where the closing quotes of the last literal begin, for the number of codes
+abbrev pub code_place : Literal → ℕ → ℕ
+code_place literal code = unwrap_or (slice_get literal.places code) literal.end
+
+-- of codes that give no pattern
+abbrev pub pattern_fault : Literal → PatError → Option ℕ
+pattern_fault literal (parsing.Syntax code) = Some (code_place literal code)
+pattern_fault literal (parsing.TooDeep code) = Some (code_place literal code)
+pattern_fault literal parsing.TooLong = None
+pattern_fault literal (parsing.Outside code feature) = Some (code_place literal code)
+pattern_fault literal parsing.OutOfMemory = None

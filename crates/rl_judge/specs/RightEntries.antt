@@ -1,0 +1,109 @@
+-- Which entries are right for a source, given its path, its bytes and the settings.
+use Rattle.std.specs.Prelude.{◌≡◌, ◌≢◌, ◌⊎◌, ◌≤◌, ℕ, List, [], ◌∷◌, take, drop, slice_get, Option, Some, None, option_map, if◌then◌else◌}
+use Rattle.std.specs.List.{AllZip, list_any}
+use Rattle.rl_ranges.specs.declared.universe.Universe.TheVariants as universe
+use Rattle.rl_syntax.specs.declared.re.Mode.{Mode}
+use Rattle.rl_syntax.specs.declared.re.Mode.TheVariants.{Fullmatch, Match, Search}
+use Rattle.rl_pylex.specs.declared.fault.LexError.{LexError}
+use Rattle.rl_pylex.specs.declared.fault.LexError.TheVariants as lexing
+use Rattle.rl_pylex.specs.declared.token_list.Token.{Token}
+use Rattle.rl_pylex.specs.Source.{IsTokenList, IsFault}
+use Rattle.rl_sites.specs.declared.call.Call.{Call}
+use Rattle.rl_sites.specs.declared.call.Call.TheVariants as call
+use Rattle.rl_sites.specs.declared.site.Site.{Site}
+use Rattle.rl_sites.specs.Sites.{sites_of}
+use Rattle.rl_report.specs.declared.report.Entry.{Entry}
+use Rattle.rl_report.specs.declared.report.Marks.{Marks}
+use Rattle.rl_report.specs.declared.report.Outcome.TheVariants as outcome
+use Rattle.rl_report.specs.Findings.{is_finding}
+use Rattle.rl_report.specs.Places.{place_of}
+use Rattle.rl_judge.specs.declared.settings.Settings.{Settings}
+use Rattle.rl_judge.specs.declared.told.Told.{Told}
+use Rattle.rl_judge.specs.declared.told.Terms.{Terms}
+use Rattle.rl_judge.specs.Faults.{source_fault}
+use Rattle.rl_judge.specs.Sites.{IsOfArgument}
+
+-- settings that a report can be made with
+pub record IsValid (s : Settings) : Type 0 where
+  pub some : 1 ≤ s.max_pairs
+  pub few : s.max_pairs ≤ 1000
+  pub version : (s.report ≡ 1) ⊎ (s.report ≡ 2)
+
+-- the mode that a call counts as
+abbrev pub mode_of : Settings → Call → Mode
+mode_of s call.Compile = s.compile_as
+mode_of s call.Match = Match
+mode_of s call.Fullmatch = Fullmatch
+mode_of s call.Search = Search
+mode_of s call.Findall = Search
+mode_of s call.Finditer = Search
+mode_of s call.Split = Search
+mode_of s call.Sub = Search
+mode_of s call.Subn = Search
+
+abbrev pub terms_of : Settings → Call → Terms
+terms_of s c = record { mode = mode_of s c; max_pairs = s.max_pairs }
+
+-- marks are of suggestions: until they are given, no entry has one
+abbrev pub no_marks : Marks
+no_marks = record { dropped = []; merged = []; passed = [] }
+
+-- the entry of a source without tokens
+abbrev pub fault_entry : List ℕ → List ℕ → LexError → Entry
+fault_entry path source e = record {
+  path = path;
+  at = option_map (place_of source) (source_fault e);
+  call = None;
+  universe = universe.Str;
+  fault = None;
+  outcome = outcome.Source e;
+  marks = no_marks;
+}
+
+-- the entry of a site of which this is told
+abbrev pub site_entry : List ℕ → List ℕ → List Token → Site → Told → Entry
+site_entry path source tokens site told = record {
+  path = path;
+  at = option_map (λ token. place_of source token.from) (slice_get tokens site.first);
+  call = Some site.call;
+  universe = told.universe;
+  fault = option_map (place_of source) told.fault;
+  outcome = told.outcome;
+  marks = no_marks;
+}
+
+-- the tokens of a site's literals, with the comments between them
+abbrev pub run_of : List Token → Site → List Token
+run_of tokens site = take site.count (drop site.first tokens)
+
+-- this is to be told of a site
+abbrev pub IsTold : List ℕ → List Token → Settings → Site → Told → Type 0
+IsTold source tokens s site told =
+    IsOfArgument site.whole source (run_of tokens site) site.flags (terms_of s site.call) told
+
+-- the entry is right for the site
+pub record IsSiteEntry (path source : List ℕ) (tokens : List Token) (s : Settings) (site : Site) (entry : Entry) : Type 0 where
+  pub told : Told
+  pub right : IsTold source tokens s site told
+  pub is : entry ≡ site_entry path source tokens site told
+
+-- the source has no tokens: one entry says why
+pub record IsFaultEntry (path source : List ℕ) (entries : List Entry) : Type 0 where
+  pub fault : LexError
+  pub first : IsFault source fault
+  pub some : fault ≢ lexing.OutOfMemory
+  pub one : entries ≡ fault_entry path source fault ∷ []
+
+-- the source has these tokens: one entry for each site, in their order
+pub record AreSiteEntries (path source : List ℕ) (s : Settings) (entries : List Entry) : Type 0 where
+  pub tokens : List Token
+  pub are_tokens : IsTokenList source tokens
+  pub each : AllZip (IsSiteEntry path source tokens s) (sites_of source tokens) entries
+
+-- the entries are right for the source
+abbrev pub AreRight : List ℕ → List ℕ → Settings → List Entry → Type 0
+AreRight path source s entries = IsFaultEntry path source entries ⊎ AreSiteEntries path source s entries
+
+-- 1 where one of the entries is a finding, else 0
+abbrev pub status_of : Settings → List Entry → ℕ
+status_of s entries = if list_any (is_finding s.max_degree) entries then 1 else 0

@@ -1,0 +1,137 @@
+//! The entries of the visits of a walk.
+ghost use Rattle.std.specs.Prelude.{◌≡◌, ◌||◌, ◌++◌, ◌∷◌, [], All, IfOk, OnOk};
+ghost use Rattle.rl_report.specs.Layouts.{IsOfItsUniverse};
+ghost use Rattle.rl_walk.specs.Visits.{is_unreadable};
+ghost use Rattle.rl_judge.specs.RightEntries.{IsValid};
+ghost use Rattle.rl_judge.specs.RightReport.{path_entry, IsRightFor, HasChecked};
+ghost use Rattle.rl_judge.specs.Asked.{IsOfUniverse};
+ghost use Rattle.rl_ranges.specs.declared.universe.Universe.TheVariants as universe;
+
+use crate::judging::{judge, no_marks};
+use crate::settings::Settings;
+use rl_lists::OutOfMemory;
+use rl_report::{Entries, Entry, Outcome};
+use rl_source::Name;
+use rl_syntax::Universe;
+use rl_walk::{Visit, Visitor};
+use std::alloc::Global;
+use std::marker::Model;
+
+/// The one entry of a path of which nothing else is told.
+fn path_entries(alloc: Global, path: &Name, outcome: Outcome) -> Result<Entries, OutOfMemory>
+    requires { IsOfUniverse universe.Str outcome }
+    ensures entry { IfOk result (λ entries. entries ≡ path_entry path.now outcome ∷ []) }
+    ensures universe { IfOk result (All IsOfItsUniverse) }
+{
+    let path = path.clone()?;
+    let mut entries = Entries::new(alloc);
+    entries.push(Entry {
+        path,
+        at: None,
+        call: None,
+        universe: Universe::Str,
+        fault: None,
+        outcome,
+        marks: no_marks(alloc),
+    })?;
+    Ok(entries)
+}
+
+/// The entries of a visit.
+fn entries_of(alloc: Global, visit: &Visit, settings: &Settings) -> Result<Entries, OutOfMemory>
+    requires { IsValid settings.now }
+    ensures right { IfOk result (IsRightFor settings.now visit.now) }
+    ensures universe { IfOk result (All IsOfItsUniverse) }
+{
+    match visit {
+        Visit::Source(path, content) => judge(alloc, path, content.as_slice(), settings),
+        Visit::Unreadable(path) => path_entries(alloc, path, Outcome::Unreadable),
+        Visit::TooDeep(path) => path_entries(alloc, path, Outcome::TooDeepFolder),
+        Visit::NotPlain(path) => path_entries(alloc, path, Outcome::NotPlain),
+    }
+}
+
+/// Whether a call of the tree failed before, or for the visit's path.
+fn is_unread(before: bool, visit: &Visit) -> bool
+    ensures { result ≡ (before || is_unreadable visit.now) }
+{
+    before || matches!(visit, Visit::Unreadable(_))
+}
+
+/// Puts entries behind the others.
+fn put_behind(entries: &mut Entries, later: Entries) -> Result<(), OutOfMemory>
+    ensures { OnOk result (entries.new ≡ entries.old ++ later) }
+{
+    for entry in later.into_vec() {
+        entries.push(entry)?;
+    }
+    Ok(())
+}
+
+/// The entries of the visits so far.
+#[derive(Drop)]
+pub struct Checker {
+    alloc: Global,
+    settings: Settings,
+    entries: Entries,
+    has_unread: bool,
+}
+
+impl Model for Checker {
+    ghost use Rattle.rl_judge.specs.RightReport.{Checked};
+    ghost use Rattle.rl_judge.specs.RightEntries.{IsValid};
+
+    ghost Value = { Checked };
+
+    ghost view = { λ c. record { settings = c.settings; entries = c.entries; has_unread = c.has_unread } };
+
+    ghost invariant = { λ c. IsValid c.settings };
+}
+
+impl Checker {
+    /// No visit was told of yet.
+    pub fn new(alloc: Global, settings: Settings) -> Checker
+        requires { IsValid settings }
+        ensures told { HasChecked result [] }
+        ensures settings { result.settings ≡ settings }
+    {
+        Checker {
+            alloc,
+            settings,
+            entries: Entries::new(alloc),
+            has_unread: false,
+        }
+    }
+
+    /// The entries of the visits so far.
+    pub fn entries(&self) -> &Entries
+        ensures { result.now ≡ self.now.entries }
+    {
+        &self.entries
+    }
+
+    /// Whether a call of the tree failed so far.
+    pub fn has_unread(&self) -> bool
+        ensures { result ≡ self.now.has_unread }
+    {
+        self.has_unread
+    }
+}
+
+impl Visitor for Checker {
+    ghost use Rattle.rl_judge.specs.declared.settings.Settings.{Settings};
+
+    ghost was_told = { HasChecked };
+
+    ghost Terms = { Settings };
+
+    ghost terms = { λ c. c.settings };
+
+    fn visit(&mut self, visit: Visit) -> Result<(), OutOfMemory> {
+        let later = entries_of(self.alloc, &visit, &self.settings)?;
+        let has_unread = is_unread(self.has_unread, &visit);
+        put_behind(&mut self.entries, later)?;
+        self.has_unread = has_unread;
+        Ok(())
+    }
+}

@@ -1,0 +1,14 @@
+//! From the bytes of sources to the entries of their report.
+#![tactic(auto)]
+
+mod checking;
+mod judging;
+mod settings;
+mod told;
+
+pub use checking::Checker;
+pub use judging::{judge, status_of};
+pub use settings::{Layout, Settings};
+
+#[cfg(test)]
+mod tests;

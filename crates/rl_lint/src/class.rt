@@ -1,0 +1,132 @@
+//! The action `class`.
+ghost use Rattle.std.specs.Prelude.{◌≡◌, ◌≤◌, ◌++◌, IfOk};
+ghost use Rattle.std.specs.Str.{chars};
+ghost use Rattle.rl_ranges.specs.declared.universe.Universe.TheVariants.{Str};
+ghost use Rattle.rl_syntax.specs.Pattern.{pattern_ending, pattern_tree, universe_of};
+ghost use Rattle.rl_pairs.specs.RightVerdict.{RightVerdict};
+ghost use Rattle.rl_report.specs.Findings.{is_found};
+ghost use Rattle.rl_report.specs.Verdicts.{IsVerdictOf, IsFamilyOf, family_text_line};
+ghost use Rattle.rl_lint.specs.Endings.{ending_of};
+ghost use Rattle.rl_lint.specs.Readings.{spelled};
+ghost use Rattle.rl_lint.specs.ClassEnding.{ClassEnds, IsClassEnding, class_text};
+
+use crate::plan::Plan;
+use crate::word::{PatternWord, pattern_word};
+use rl_growth::classify;
+use rl_lists::{Bytes, OutOfMemory};
+use rl_report::{family_line, verdict_line};
+use rl_syntax::{Family, Limit, LowerError, Mode, Pattern, Universe, Verdict, lower};
+use std::alloc::Global;
+
+/// Whether a verdict is a finding: an exponential one, or a degree above the greatest that is allowed.
+fn is_found(verdict: &Verdict, max_degree: u32) -> bool
+    ensures { result ≡ is_found max_degree verdict.now }
+{
+    match verdict {
+        Verdict::Degree(degree, _) => *degree > max_degree,
+        Verdict::Expo(_) => true,
+        Verdict::Undecided(_) => false,
+    }
+}
+
+/// A line, and the line of a family behind it.
+fn with_family(alloc: Global, line: Bytes, family: &Family) -> Result<Bytes, OutOfMemory>
+    requires { IsFamilyOf Str family.now }
+    ensures { IfOk result (λ text. text ≡ line ++ family_text_line Str family.now) }
+{
+    let mut text = line.into_vec();
+    let more = family_line(alloc, family, Universe::Str)?;
+    text.extend_from_slice(more.as_slice())?;
+    Ok(Bytes::from_vec(text))
+}
+
+/// The lines on a verdict over text.
+///
+/// # Errors
+/// [`OutOfMemory`] where memory was refused.
+fn class_text(alloc: Global, verdict: &Verdict, max_pairs: u32) -> Result<Bytes, OutOfMemory>
+    requires { IsVerdictOf Str verdict.now }
+    ensures { IfOk result (λ text. text ≡ class_text max_pairs verdict.now) }
+{
+    let line = verdict_line(alloc, verdict, max_pairs)?;
+    match verdict {
+        Verdict::Degree(_, family) | Verdict::Expo(family) => with_family(alloc, line, family),
+        Verdict::Undecided(_) => Ok(line),
+    }
+}
+
+/// The verdict on a text pattern in a mode.
+///
+/// # Errors
+/// [`OutOfMemory`] where memory was refused.
+fn verdict_on(
+    alloc: Global,
+    pattern: &Pattern,
+    mode: Mode,
+    max_pairs: u32,
+) -> Result<Verdict, OutOfMemory>
+    requires of_text { universe_of pattern.now ≡ Str }
+    requires some { 1 ≤ max_pairs }
+    requires few { max_pairs ≤ 1000 }
+    ensures { IfOk result (RightVerdict (record {
+      tree = pattern_tree pattern.now mode;
+      ending = pattern_ending pattern.now mode;
+      universe = Str;
+      max_pairs = max_pairs;
+    })) }
+{
+    match lower(alloc, pattern, mode) {
+        Ok(lowered) => classify(alloc, &lowered, Universe::Str, max_pairs),
+        Err(LowerError::TooLarge) => Ok(Verdict::Undecided(Limit::Size)),
+        Err(LowerError::OutOfMemory) => Err(OutOfMemory),
+    }
+}
+
+/// What `class` is to do for a text pattern in a mode.
+///
+/// # Errors
+/// [`OutOfMemory`] where memory was refused.
+fn pattern_plan(
+    alloc: Global,
+    pattern: &Pattern,
+    mode: Mode,
+    max_degree: u32,
+    max_pairs: u32,
+) -> Result<Plan, OutOfMemory>
+    requires of_text { universe_of pattern.now ≡ Str }
+    requires some { 1 ≤ max_pairs }
+    requires few { max_pairs ≤ 1000 }
+    ensures { IfOk result (λ plan. ClassEnds (spelled (pattern_tree pattern.now mode) (pattern_ending pattern.now mode))
+        (record { max_degree = max_degree; max_pairs = max_pairs }) (ending_of plan)) }
+{
+    let verdict = verdict_on(alloc, pattern, mode, max_pairs)?;
+    let text = class_text(alloc, &verdict, max_pairs)?;
+    Ok(Plan::Writes {
+        text,
+        finding: is_found(&verdict, max_degree),
+        failed: false,
+    })
+}
+
+/// What `class` is to do for a pattern word in a mode, with the greatest degree that is no finding and how many live pairs are
+/// looked at.
+///
+/// # Errors
+/// [`OutOfMemory`] where memory was refused.
+pub fn class_plan(
+    alloc: Global,
+    pattern: &str,
+    mode: Mode,
+    max_degree: u32,
+    max_pairs: u32,
+) -> Result<Plan, OutOfMemory>
+    requires some { 1 ≤ max_pairs }
+    requires few { max_pairs ≤ 1000 }
+    ensures { IfOk result (λ plan. IsClassEnding (chars pattern.now) mode
+        (record { max_degree = max_degree; max_pairs = max_pairs }) (ending_of plan)) }
+{
+    match pattern_word(alloc, pattern)? {
+        PatternWord::Refused(message) => Ok(Plan::Refuses(message)),
+        PatternWord::Spelled(pattern) => pattern_plan(alloc, &pattern, mode, max_degree, max_pairs),
+    }
+}

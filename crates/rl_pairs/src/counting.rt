@@ -1,0 +1,115 @@
+//! Walks over counted sets: the sets that the moves of live pairs and images give.
+
+ghost use Rattle.std.specs.Prelude.{◌≡◌, ℕ, suc, ◌+◌, ◌<◌, ◌≤◌, false, length, IfOk, IfErr, OnOk, IfSome, IfNone};
+ghost use Rattle.rl_prio.specs.Automaton.{letters_count, accepting_state};
+ghost use Rattle.rl_sets.specs.Live.{holds, image, joined, IsLive};
+ghost use Rattle.rl_sets.specs.Rests.{IsRefusedRest};
+ghost use Rattle.rl_sets.specs.Walk.{set_at};
+ghost use Rattle.rl_pairs.specs.Errors.{IsRightError};
+ghost use Rattle.rl_pairs.specs.Counting.{IsCounted, IsCounting, IsOnward, IsNumberOf, IsClosed};
+
+use crate::error::PairsError;
+use rl_lists::Word;
+use rl_prio::Prio;
+use rl_sets::SetWalk;
+use std::alloc::Global;
+
+/// How many counted sets there may be.
+const SETS: u32 = 20_000;
+
+/// A walk with the empty set alone.
+pub(crate) fn start(alloc: Global, a: &Prio) -> Result<SetWalk, PairsError>
+    ensures counting { IfOk result (IsCounting a.now) }
+    ensures errors { (limit : ℕ) → IfErr result (IsRightError a.now limit) }
+{
+    let mut walk = SetWalk::new(alloc, a, SETS)?;
+    walk.intern(a, &Vec::new(alloc))?;
+    Ok(walk)
+}
+
+/// The number of the image of a set on a letter.
+pub(crate) fn image_of(
+    walk: &mut SetWalk,
+    a: &Prio,
+    set: u32,
+    letter: u32,
+) -> Result<u32, PairsError>
+    requires counting { IsCounting a.now walk.old }
+    requires set_in { set < length walk.old.sets }
+    requires letter_in { letter ≤ letters_count a.now }
+    requires counted { IsCounted a.now (image a.now (set_at walk.old set) letter) }
+    ensures image { IfOk result (IsNumberOf walk.new (image a.now (set_at walk.old set) letter)) }
+    ensures onward { OnOk result (IsOnward a.now walk.old walk.new) }
+    ensures errors { (limit : ℕ) → IfErr result (IsRightError a.now limit) }
+{
+    let number = walk.step(a, set, letter)?;
+    Ok(number)
+}
+
+/// The number of a set with one more member.
+pub(crate) fn joined_with(
+    walk: &mut SetWalk,
+    a: &Prio,
+    set: u32,
+    state: u32,
+) -> Result<u32, PairsError>
+    requires counting { IsCounting a.now walk.old }
+    requires set_in { set < length walk.old.sets }
+    requires state_in { state < a.now.states }
+    requires counted { IsCounted a.now (joined a.now state (set_at walk.old set)) }
+    ensures joined { IfOk result (IsNumberOf walk.new (joined a.now state (set_at walk.old set))) }
+    ensures onward { OnOk result (IsOnward a.now walk.old walk.new) }
+    ensures errors { (limit : ℕ) → IfErr result (IsRightError a.now limit) }
+{
+    let number = walk.join(set, state)?;
+    Ok(number)
+}
+
+/// A rest that a set refuses, if it is live.
+pub(crate) fn rest_of(walk: &mut SetWalk, a: &Prio, set: u32) -> Result<Option<Word>, PairsError>
+    requires counting { IsCounting a.now walk.old }
+    requires set_in { set < length walk.old.sets }
+    ensures rest { IfOk result (λ o. IfSome o (IsRefusedRest a.now (set_at walk.old set))) }
+    ensures none { IfOk result (λ o. IfNone o (IsLive a.now (set_at walk.old set) → ⊥)) }
+    ensures onward { OnOk result (IsOnward a.now walk.old walk.new) }
+    ensures errors { (limit : ℕ) → IfErr result (IsRightError a.now limit) }
+{
+    let rest = walk.refused_rest(a, set)?;
+    Ok(rest)
+}
+
+/// Makes the images of a set.
+fn close_set(walk: &mut SetWalk, a: &Prio, set: u32) -> Result<(), PairsError>
+    requires counting { IsCounting a.now walk.old }
+    requires set_in { set < length walk.old.sets }
+    requires free { holds (set_at walk.old set) (accepting_state a.now) ≡ false }
+    requires closed { IsClosed a.now walk.old set 0 }
+    ensures closed { OnOk result (IsClosed a.now walk.new (suc set) 0) }
+    ensures onward { OnOk result (IsOnward a.now walk.old walk.new) }
+    ensures errors { (limit : ℕ) → IfErr result (IsRightError a.now limit) }
+{
+    let end = a.letters().count();
+    for letter in 0..end {
+        image_of(walk, a, set, letter)?;
+    }
+    image_of(walk, a, set, end)?;
+    Ok(())
+}
+
+/// Makes the images of all sets of a walk, and theirs.
+pub(crate) fn close(walk: &mut SetWalk, a: &Prio) -> Result<(), PairsError>
+    requires counting { IsCounting a.now walk.old }
+    ensures closed { OnOk result (IsClosed a.now walk.new (length walk.new.sets) 0) }
+    ensures onward { OnOk result (IsOnward a.now walk.old walk.new) }
+    ensures errors { (limit : ℕ) → IfErr result (IsRightError a.now limit) }
+{
+    let accepting = a.states() - 2;
+    let mut set = 0;
+    while set < walk.len() {
+        if !walk.holds(set, accepting) {
+            close_set(walk, a, set)?;
+        }
+        set += 1;
+    }
+    Ok(())
+}

@@ -1,0 +1,62 @@
+//! Why a graph of live pairs isn't made.
+
+ghost use Rattle.std.specs.Prelude.{◌≡◌};
+
+use rl_lists::OutOfMemory;
+use rl_sets::SetsError;
+use std::alloc::{AllocError, AllocFailed};
+
+/// Why there is no graph of live pairs.
+#[derive(Clone, Copy, Debug, PartialEq, Eq)]
+pub enum PairsError {
+    /// There are more than 20,000 counted sets.
+    Sets,
+    /// There are more live pairs than there may be.
+    Pairs,
+    /// Memory was refused.
+    OutOfMemory,
+}
+
+impl From<SetsError> for PairsError {
+    ghost use Rattle.std.specs.Prelude.{◌≡◌};
+    ghost use Rattle.rl_pairs.specs.Errors.{sets_error};
+
+    ghost from_gives = { λ x e. e ≡ sets_error x };
+
+    fn from(error: SetsError) -> Self {
+        match error {
+            SetsError::Sets => PairsError::Sets,
+            SetsError::OutOfMemory => PairsError::OutOfMemory,
+        }
+    }
+}
+
+impl From<OutOfMemory> for PairsError {
+    ghost use Rattle.rl_pairs.specs.declared.error.PairsError.TheVariants as error;
+
+    ghost from_gives = { λ _ e. e ≡ error.OutOfMemory };
+
+    fn from(_: OutOfMemory) -> Self {
+        PairsError::OutOfMemory
+    }
+}
+
+impl From<AllocError> for PairsError {
+    ghost use Rattle.rl_pairs.specs.declared.error.PairsError.TheVariants as error;
+
+    ghost from_gives = { λ _ e. e ≡ error.OutOfMemory };
+
+    fn from(_: AllocError) -> Self {
+        PairsError::OutOfMemory
+    }
+}
+
+impl<T: Drop> From<AllocFailed<T>> for PairsError {
+    ghost use Rattle.rl_pairs.specs.declared.error.PairsError.TheVariants as error;
+
+    ghost from_gives = { λ _ e. e ≡ error.OutOfMemory };
+
+    fn from(_: AllocFailed<T>) -> Self {
+        PairsError::OutOfMemory
+    }
+}

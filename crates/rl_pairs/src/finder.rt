@@ -1,0 +1,253 @@
+//! The search for live pairs.
+
+ghost use Rattle.std.specs.Prelude.{◌≡◌, ◌≢◌, ℕ, suc, ◌+◌, ◌*◌, ◌^◌, ◌<◌, ◌≤◌, [], ◌∷◌, ◌++◌, All, length, IfOk, IfErr, OnOk, IfSome, IfNone};
+ghost use Rattle.rl_prio.specs.Automaton.{letters_count};
+ghost use Rattle.rl_graph.specs.Paths.{Has};
+ghost use Rattle.rl_sets.specs.Walk.{set_at};
+ghost use Rattle.rl_pairs.specs.LivePairs.{next_pairs};
+ghost use Rattle.rl_pairs.specs.Errors.{IsRightError};
+ghost use Rattle.rl_pairs.specs.Counting.{IsCounted, IsCounting, IsOnward, IsNumberOf};
+ghost use Rattle.rl_pairs.specs.Finding.{found_of, with_row, first_key, key_at, pair_of, pair_at, lead_at, width, IsFound, Stays, IsMoved, IsNoted, IsFurther, set_for};
+
+use crate::counting::{image_of, joined_with, rest_of};
+use crate::error::PairsError;
+use indexmap::IndexSet;
+use rl_lists::{Items, OutOfMemory, Word};
+use rl_prio::Prio;
+use rl_sets::SetWalk;
+use std::alloc::Global;
+
+/// A pair by its state and the number of its set.
+#[derive(Clone, Copy, Debug, PartialEq, Eq, Hash)]
+pub(crate) struct Key {
+    /// The state.
+    pub state: u32,
+    /// The number of the set in the walk.
+    pub set: u32,
+}
+
+/// The pairs that are found, in the order in which they were found, with a lead and a rest for each, and the targets of the
+/// moves that were looked at, a row for each pair and letter.
+#[derive(Drop)]
+pub(crate) struct Finder {
+    /// How many pairs there may be.
+    pub limit: u32,
+    /// The pairs.
+    pub keys: IndexSet<Key>,
+    /// The leads.
+    pub leads: Vec<Word>,
+    /// The rests.
+    pub rests: Vec<Word>,
+    /// The rows.
+    pub rows: Vec<Word>,
+}
+
+impl Finder {
+    /// A search that has found the first pair.
+    pub(crate) fn new(alloc: Global, a: &Prio, limit: u32) -> Result<Finder, OutOfMemory>
+        ensures { IfOk result (λ f. found_of f ≡ record { limit = limit; keys = first_key ∷ []; leads = [] ∷ []; rests = (letters_count a.now ∷ []) ∷ []; rows = [] }) }
+    {
+        let mut keys = IndexSet::new(alloc);
+        keys.insert(Key { state: 0, set: 0 })?;
+        let mut leads = Vec::new(alloc);
+        leads.push(Items::new(alloc))?;
+        let mut rest = Items::new(alloc);
+        rest.push(a.letters().count())?;
+        let mut rests = Vec::new(alloc);
+        rests.push(rest)?;
+        Ok(Finder {
+            limit,
+            keys,
+            leads,
+            rests,
+            rows: Vec::new(alloc),
+        })
+    }
+
+    /// The lead of a pair with one more letter.
+    fn longer_lead(&self, from: u32, letter: u32) -> Result<Word, OutOfMemory>
+        requires { from < length (found_of self.now).leads }
+        ensures { IfOk result (λ w. w ≡ lead_at (found_of self.now) from ++ letter ∷ []) }
+    {
+        let mut lead = Items::from_slice(
+            *self.leads.allocator(),
+            self.leads[from as usize].as_slice(),
+        )?;
+        lead.push(letter)?;
+        Ok(lead)
+    }
+
+    /// Puts a pair behind the others.
+    fn add(&mut self, key: Key, lead: Word, rest: Word) -> Result<(), OutOfMemory>
+        requires { (k : ℕ) → k < length (found_of self.old).keys → key_at (found_of self.old) k ≢ key }
+        ensures { OnOk result (found_of self.new ≡ record { limit = (found_of self.old).limit; keys = (found_of self.old).keys ++ key ∷ []; leads = (found_of self.old).leads ++ lead ∷ []; rests = (found_of self.old).rests ++ rest ∷ []; rows = (found_of self.old).rows }) }
+    {
+        self.keys.insert(key)?;
+        self.leads.push(lead)?;
+        self.rests.push(rest)?;
+        Ok(())
+    }
+
+    /// How many pairs are found.
+    pub(crate) fn count(&self) -> u32
+        requires { length (found_of self.now).keys ≤ (found_of self.now).limit }
+        ensures count { result ≡ length (found_of self.now).keys }
+        ensures limit { (found_of self.now).limit < 2 ^ 32 }
+    {
+        let _limit = self.limit;
+        self.keys.len() as u32
+    }
+
+    /// Puts a row behind the others.
+    fn end_row(&mut self, row: Word) -> Result<(), OutOfMemory>
+        ensures { OnOk result (found_of self.new ≡ with_row (found_of self.old) row) }
+    {
+        self.rows.push(row)?;
+        Ok(())
+    }
+
+    /// The number of a pair, if it is found.
+    fn number_of(&self, key: Key) -> Option<u32>
+        requires { length (found_of self.now).keys ≤ (found_of self.now).limit }
+        ensures found { IfSome result (λ k. (k < length (found_of self.now).keys) × (key_at (found_of self.now) k ≡ key)) }
+        ensures none { IfNone result ((k : ℕ) → k < length (found_of self.now).keys → key_at (found_of self.now) k ≢ key) }
+    {
+        // There are at most as many pairs, so that a number fits.
+        let _limit = self.limit;
+        match self.keys.get_index_of(&key) {
+            Some(number) => Some(number as u32),
+            None => None,
+        }
+    }
+
+    /// Puts the number of the pair of a move behind the row of a pair and a letter, if the pair is live.
+    fn visit(
+        &mut self,
+        a: &Prio,
+        walk: &mut SetWalk,
+        row: &mut Word,
+        from: u32,
+        letter: u32,
+        key: Key,
+    ) -> Result<(), PairsError>
+        requires counting { IsCounting a.now walk.old }
+        requires found { IsFound a.now walk.old (with_row (found_of self.old) row.old) }
+        requires place { length (found_of self.old).rows ≡ from * width a.now + letter }
+        requires from_in { from < length (found_of self.old).keys }
+        requires letter_in { letter ≤ letters_count a.now }
+        requires set_in { key.set < length walk.old.sets }
+        requires state_in { key.state < a.now.states }
+        requires reached { Has (pair_of walk.old key) (next_pairs a.now (pair_at walk.old (found_of self.old) from) letter) }
+        ensures onward { OnOk result (IsOnward a.now walk.old walk.new) }
+        ensures found { OnOk result (IsFound a.now walk.new (with_row (found_of self.new) row.new)) }
+        ensures stays { OnOk result (Stays (found_of self.old) (found_of self.new)) }
+        ensures rows { OnOk result ((found_of self.new).rows ≡ (found_of self.old).rows) }
+        ensures noted { OnOk result (IsNoted a.now walk.new (found_of self.new) (pair_of walk.old key) row.old row.new) }
+        ensures errors { IfErr result (IsRightError a.now (found_of self.old).limit) }
+    {
+        if let Some(number) = self.number_of(key) {
+            row.push(number)?;
+            return Ok(());
+        }
+        let Some(rest) = rest_of(walk, a, key.set)? else {
+            return Ok(());
+        };
+        let number = self.keys.len();
+        if number == self.limit as usize {
+            return Err(PairsError::Pairs);
+        }
+        let lead = self.longer_lead(from, letter)?;
+        self.add(key, lead, rest)?;
+        row.push(number as u32)?;
+        Ok(())
+    }
+
+    /// Looks at the moves of a pair on a letter.
+    fn expand_on(
+        &mut self,
+        a: &Prio,
+        walk: &mut SetWalk,
+        from: u32,
+        letter: u32,
+    ) -> Result<(), PairsError>
+        requires counting { IsCounting a.now walk.old }
+        requires found { IsFound a.now walk.old (found_of self.old) }
+        requires moved { IsMoved a.now walk.old (found_of self.old) (from * width a.now + letter) }
+        requires from_in { from < length (found_of self.old).keys }
+        requires letter_in { letter ≤ letters_count a.now }
+        ensures further { OnOk result (IsFurther a.now walk.old walk.new (found_of self.old) (found_of self.new) (from * width a.now + suc letter)) }
+        ensures errors { IfErr result (IsRightError a.now (found_of self.old).limit) }
+    {
+        let _states = a.states();
+        let pair = self.keys[from as usize];
+        let targets = a.moves(pair.state, letter);
+        let mut row = Items::new(*self.rows.allocator());
+        let mut set = image_of(walk, a, pair.set, letter)?;
+        for k in 0..targets.len() {
+            set = set_before(walk, a, targets, k, set)?;
+            let key = Key {
+                state: targets[k],
+                set,
+            };
+            self.visit(a, walk, &mut row, from, letter, key)?;
+        }
+        self.end_row(row)?;
+        Ok(())
+    }
+
+    /// Looks at the moves of a pair: the letters in rising order, the end letter last.
+    fn expand(&mut self, a: &Prio, walk: &mut SetWalk, from: u32) -> Result<(), PairsError>
+        requires counting { IsCounting a.now walk.old }
+        requires found { IsFound a.now walk.old (found_of self.old) }
+        requires moved { IsMoved a.now walk.old (found_of self.old) (from * width a.now) }
+        requires from_in { from < length (found_of self.old).keys }
+        ensures further { OnOk result (IsFurther a.now walk.old walk.new (found_of self.old) (found_of self.new) (suc from * width a.now)) }
+        ensures errors { IfErr result (IsRightError a.now (found_of self.old).limit) }
+    {
+        let end = a.letters().count();
+        for letter in 0..end {
+            self.expand_on(a, walk, from, letter)?;
+        }
+        self.expand_on(a, walk, from, end)?;
+        Ok(())
+    }
+
+    /// Finds all live pairs.
+    pub(crate) fn find(&mut self, a: &Prio, walk: &mut SetWalk) -> Result<(), PairsError>
+        requires counting { IsCounting a.now walk.old }
+        requires found { IsFound a.now walk.old (found_of self.old) }
+        requires moved { IsMoved a.now walk.old (found_of self.old) 0 }
+        ensures further { OnOk result (IsFurther a.now walk.old walk.new (found_of self.old) (found_of self.new) (length (found_of self.new).keys * width a.now)) }
+        ensures errors { IfErr result (IsRightError a.now (found_of self.old).limit) }
+    {
+        let mut place = 0;
+        while place < self.count() {
+            self.expand(a, walk, place)?;
+            place += 1;
+        }
+        Ok(())
+    }
+}
+
+/// The number of the set for a move, from that of the set for the move before.
+fn set_before(
+    walk: &mut SetWalk,
+    a: &Prio,
+    targets: &[u32],
+    k: usize,
+    set: u32,
+) -> Result<u32, PairsError>
+    requires counting { IsCounting a.now walk.old }
+    requires k_in { k < length targets.now }
+    requires targets_in { All (λ target. target < a.now.states) targets.now }
+    requires set_in { set < length walk.old.sets }
+    requires counted { IsCounted a.now (set_for a.now targets.now k (set_at walk.old set)) }
+    ensures set { IfOk result (IsNumberOf walk.new (set_for a.now targets.now k (set_at walk.old set))) }
+    ensures onward { OnOk result (IsOnward a.now walk.old walk.new) }
+    ensures errors { (limit : ℕ) → IfErr result (IsRightError a.now limit) }
+{
+    if k == 0 {
+        return Ok(set);
+    }
+    joined_with(walk, a, set, targets[k - 1])
+}

@@ -1,0 +1,206 @@
+//! Graphs of live pairs.
+
+ghost use Rattle.std.specs.Prelude.{◌≡◌, ◌≢◌, ℕ, suc, ◌+◌, ◌*◌, ◌<◌, ◌≤◌, ◌⊎◌, [], ◌++◌, true, List, All, length, map, slice_index_or, IfOk, IfErr, OnOk};
+ghost use Rattle.rl_prio.specs.Automaton.{letters_count};
+ghost use Rattle.rl_graph.specs.Graph.{edges_of};
+ghost use Rattle.rl_graph.specs.Paths.{Has, paths};
+ghost use Rattle.rl_sets.specs.Live.{IsRest};
+ghost use Rattle.rl_pairs.specs.LivePairs.{LivePair, refused};
+ghost use Rattle.rl_pairs.specs.PairGraph.{IsPairGraph, IsNumbered};
+ghost use Rattle.rl_pairs.specs.Counted.{CountedSet, MoreThan};
+ghost use Rattle.rl_pairs.specs.PairTable.{moves_in, pair_in, lead_in, rest_in, IsFull, HasRow, HasRows, IsBuilt};
+ghost use Rattle.rl_pairs.specs.declared.error.PairsError.TheVariants as error;
+ghost use Rattle.rl_pairs.specs.Finding.{found_of, pair_of};
+
+use crate::counting::{close, start};
+use crate::error::PairsError;
+use crate::finder::{Finder, Key};
+use crate::pair::Pair;
+use indexmap::IndexSet;
+use rl_graph::Multigraph;
+use rl_lists::{OutOfMemory, Word};
+use rl_prio::Prio;
+use rl_sets::SetWalk;
+use std::alloc::Global;
+use std::marker::Model;
+
+/// The live pairs of an automaton and their moves. The pairs are numbered by first sight: breadth first from the first pair,
+/// which is 0, of one pair the letters in rising order, the end letter last, of one letter the moves in order.
+#[derive(Drop)]
+pub struct PairGraph {
+    graph: Multigraph,
+    pairs: Vec<Pair>,
+    leads: Vec<Word>,
+    rests: Vec<Word>,
+}
+
+impl Model for PairGraph {
+    ghost use Rattle.rl_pairs.specs.PairTable.{PairTable, IsFull};
+
+    ghost Value = { PairTable };
+
+    ghost view = { λ g. record { graph = g.graph; pairs = g.pairs.items; leads = g.leads.items; rests = g.rests.items } };
+
+    ghost invariant = { λ g. IsFull (record { graph = g.graph; pairs = g.pairs.items; leads = g.leads.items; rests = g.rests.items }) };
+}
+
+impl PairGraph {
+    /// The multigraph of the moves. Its states are the numbers of the pairs, its letters those of the automaton, and its last
+    /// letter the end letter.
+    pub fn graph(&self) -> &Multigraph
+        ensures { result.now ≡ self.now.graph }
+    {
+        &self.graph
+    }
+
+    /// The pair with a number.
+    pub fn pair(&self, i: u32) -> &Pair
+        requires { i < self.now.graph.states }
+        ensures { result.now ≡ pair_in self.now i }
+    {
+        &self.pairs[i as usize]
+    }
+
+    /// A word that leads from the first pair to the pair with a number.
+    pub fn lead(&self, i: u32) -> &Word
+        requires { i < self.now.graph.states }
+        ensures { result.now ≡ lead_in self.now i }
+    {
+        &self.leads[i as usize]
+    }
+
+    /// A rest that the set of the pair with a number refuses.
+    pub fn rest(&self, i: u32) -> &Word
+        requires { i < self.now.graph.states }
+        ensures { result.now ≡ rest_in self.now i }
+    {
+        &self.rests[i as usize]
+    }
+}
+
+/// The pairs of keys.
+fn listed(alloc: Global, walk: &SetWalk, keys: &IndexSet<Key>) -> Result<Vec<Pair>, OutOfMemory>
+    requires { All (λ key. key.set < length walk.now.sets) keys.now.keys }
+    ensures { IfOk result (λ pairs. pairs.items ≡ map (pair_of walk.now) keys.now.keys) }
+{
+    let mut pairs = Vec::new(alloc);
+    for k in 0..keys.len() {
+        let key = keys[k];
+        let set = walk.members(key.set)?;
+        pairs.push(Pair {
+            state: key.state,
+            set,
+        })?;
+    }
+    Ok(pairs)
+}
+
+/// Adds the moves of a state on a letter that has none.
+fn put_row(graph: &mut Multigraph, from: u32, letter: u32, row: &[u32]) -> Result<(), OutOfMemory>
+    requires from_in { from < graph.old.states }
+    requires letter_in { letter < graph.old.letters }
+    requires targets { All (λ k. k < graph.old.states) row.now }
+    requires bare { edges_of graph.old from letter ≡ [] }
+    ensures { OnOk result (HasRow graph.old graph.new from letter row.now) }
+{
+    // So many moves have no numbers; no memory holds them.
+    if row.len() >= u32::MAX as usize {
+        return Err(OutOfMemory);
+    }
+    for target in row {
+        graph.add(from, letter, *target)?;
+    }
+    Ok(())
+}
+
+/// The graph of rows of targets, one for each state and letter.
+fn graph_of(
+    alloc: Global,
+    states: u32,
+    letters: u32,
+    rows: &Vec<Word>,
+) -> Result<Multigraph, OutOfMemory>
+    requires some { 0 < letters }
+    requires rows { length rows.now.items ≡ states * letters }
+    requires targets { All (All (λ k. k < states)) rows.now.items }
+    ensures { IfOk result (λ g. HasRows g states letters rows.now.items (length rows.now.items)) }
+{
+    let mut graph = Multigraph::new(alloc, states, letters)?;
+    for place in 0..rows.len() {
+        let from = place / letters as usize;
+        let letter = place % letters as usize;
+        put_row(
+            &mut graph,
+            from as u32,
+            letter as u32,
+            rows[place].as_slice(),
+        )?;
+    }
+    Ok(graph)
+}
+
+/// The graph of the pairs that were found.
+fn built(
+    alloc: Global,
+    letters: u32,
+    walk: &SetWalk,
+    finder: Finder,
+) -> Result<PairGraph, OutOfMemory>
+    requires some { 0 < letters }
+    requires few { length (found_of finder).keys ≤ (found_of finder).limit }
+    requires sets { All (λ key. key.set < length walk.now.sets) (found_of finder).keys }
+    requires led { length (found_of finder).leads ≡ length (found_of finder).keys }
+    requires refused { length (found_of finder).rests ≡ length (found_of finder).keys }
+    requires rows { length (found_of finder).rows ≡ length (found_of finder).keys * letters }
+    requires targets { All (All (λ k. k < length (found_of finder).keys)) (found_of finder).rows }
+    ensures { IfOk result (IsBuilt walk.now (found_of finder) letters) }
+{
+    let pairs = listed(alloc, walk, &finder.keys)?;
+    let graph = graph_of(alloc, finder.count(), letters, &finder.rows)?;
+    let Finder {
+        limit: _,
+        keys: _,
+        leads,
+        rests,
+        rows: _,
+    } = finder;
+    Ok(PairGraph {
+        graph,
+        pairs,
+        leads,
+        rests,
+    })
+}
+
+/// The graph of the live pairs of an automaton.
+///
+/// # Errors
+/// [`PairsError::Pairs`] where there are more than `max_pairs` live pairs, [`PairsError::Sets`] where there are more than
+/// 20,000 counted sets, and [`PairsError::OutOfMemory`] where there was no memory for the graph. Where one of the first two
+/// holds, there is no graph.
+pub fn pairs(alloc: Global, a: &Prio, max_pairs: u32) -> Result<PairGraph, PairsError>
+    requires some { 1 ≤ max_pairs }
+    requires few { max_pairs ≤ 1000 }
+    ensures graph { IfOk result (λ g. IsPairGraph a.now (moves_in g) (pair_in g) g.graph.states) }
+    ensures numbered { IfOk result (λ g. IsNumbered a.now (moves_in g) (pair_in g) g.graph.states) }
+    ensures few_pairs { IfOk result (λ g. g.graph.states ≤ max_pairs) }
+    ensures few_sets { IfOk result (λ _. MoreThan 20000 (CountedSet a.now) → ⊥) }
+    ensures letters { IfOk result (λ g. g.graph.letters ≡ letters_count a.now + 1) }
+    ensures leads { IfOk result (λ g. (i : ℕ) → i < g.graph.states → 1 ≤ paths (moves_in g) 0 i (lead_in g i)) }
+    ensures rests { IfOk result (λ g. (i : ℕ) → i < g.graph.states → IsRest a.now (rest_in g i)) }
+    ensures refused { IfOk result (λ g. (i : ℕ) → i < g.graph.states → refused a.now (pair_in g) i (rest_in g i) ≡ true) }
+    ensures lists { IfOk result IsFull }
+    ensures too_many_pairs { IfErr result (λ e. e ≡ error.Pairs → MoreThan max_pairs (LivePair a.now)) }
+    ensures too_many_sets { IfErr result (λ e. e ≡ error.Sets → MoreThan 20000 (CountedSet a.now)) }
+{
+    let Some(letters) = a.letters().count().checked_add(1) else {
+        return Err(PairsError::OutOfMemory);
+    };
+    let _states = a.states();
+    let mut walk = start(alloc, a)?;
+    let mut finder = Finder::new(alloc, a, max_pairs)?;
+    finder.find(a, &mut walk)?;
+    close(&mut walk, a)?;
+    let graph = built(alloc, letters, &walk, finder)?;
+    Ok(graph)
+}

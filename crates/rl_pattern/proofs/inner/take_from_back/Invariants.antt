@@ -1,0 +1,11 @@
+-- What is left without the run is what was without it.
+use Rattle.std.proofs.Common.{◌≡◌, map, reverse, length}
+use Rattle.rl_pattern.specs.Views.{node_of}
+use Rattle.rl_pattern.specs.Found.{without_leading}
+use Rattle.rl_pattern.proofs.inner.take_from_back.Given as goal
+
+abbrev pub invariant-loop-items : goal.invariant-loop-items
+invariant-loop-items l = without_leading (reverse (map node_of l.items.items)) ≡ without_leading (reverse (map node_of l.fn.items.items))
+
+abbrev pub decreases-loop-items : goal.decreases-loop-items
+decreases-loop-items l = length l.items.items

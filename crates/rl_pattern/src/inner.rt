@@ -1,0 +1,198 @@
+//! Taking off the outer anchors of a pattern.
+
+ghost use Rattle.std.specs.Prelude.{◌≡◌, List, [], ◌∷◌, map, reverse, Some, IfOk};
+ghost use Rattle.rl_pattern.specs.Views.{node_of, branch_of, whole_of};
+ghost use Rattle.rl_pattern.specs.Judged.{left_of, trail_at};
+ghost use Rattle.rl_pattern.specs.Tree as t;
+ghost use Rattle.rl_pattern.specs.Found as f;
+
+use crate::base::branch;
+use crate::tree::{Branch, Mark, Node, Whole};
+use rl_lists::{Items, OutOfMemory};
+use rl_syntax::{Span, Trail};
+use std::alloc::Global;
+
+/// A pattern without its outer anchors.
+#[derive(Drop)]
+pub(crate) struct Inner {
+    /// What is left of the body. The spans are those that were spelled.
+    pub(crate) body: Node,
+    /// Whether there was an anchor at the beginning.
+    pub(crate) leading: bool,
+    /// The anchors at the end.
+    pub(crate) trailing: Trail,
+}
+
+/// Whether a node is an anchor that may stand at the beginning.
+fn is_leading(node: &Node) -> bool
+    ensures { result ≡ f.is_leading (node_of node.now) }
+{
+    match node {
+        Node::Mark(_, flags, mark) => match mark {
+            Mark::TextStart => true,
+            Mark::Caret => !flags.multiline,
+            Mark::Dollar | Mark::TextEnd | Mark::Boundary(_) => false,
+        },
+        Node::Leaf(_, _, _)
+        | Node::Repeat(_, _, _, _, _)
+        | Node::Group(_, _, _)
+        | Node::Nothing(_)
+        | Node::Seq(_, _)
+        | Node::Choice(_, _) => false,
+    }
+}
+
+/// The anchor at the end that a node may be.
+fn trail_of(node: &Node) -> Trail
+    ensures { result ≡ f.trail_of (node_of node.now) }
+{
+    match node {
+        Node::Mark(_, flags, mark) => match mark {
+            Mark::TextEnd => Trail::End,
+            Mark::Dollar => {
+                if flags.multiline {
+                    Trail::None
+                } else {
+                    Trail::Dollar
+                }
+            }
+            Mark::TextStart | Mark::Caret | Mark::Boundary(_) => Trail::None,
+        },
+        Node::Leaf(_, _, _)
+        | Node::Repeat(_, _, _, _, _)
+        | Node::Group(_, _, _)
+        | Node::Nothing(_)
+        | Node::Seq(_, _)
+        | Node::Choice(_, _) => Trail::None,
+    }
+}
+
+/// The anchor of two: `\Z` where one of them is it.
+fn both_trails(first: Trail, second: Trail) -> Trail
+    ensures { result ≡ f.both_trails first second }
+{
+    match first {
+        Trail::End => Trail::End,
+        Trail::None => second,
+        Trail::Dollar => match second {
+            Trail::End => Trail::End,
+            Trail::None | Trail::Dollar => Trail::Dollar,
+        },
+    }
+}
+
+/// Whether the first item is an anchor that may stand at the beginning.
+fn begins_leading(items: &[Node]) -> bool
+    ensures { result ≡ f.begins_leading (map node_of items.now) }
+{
+    match items.first() {
+        None => false,
+        Some(node) => is_leading(node),
+    }
+}
+
+/// Whether the last item is an anchor that may stand at the beginning.
+fn ends_leading(items: &[Node]) -> bool
+    ensures { result ≡ f.begins_leading (reverse (map node_of items.now)) }
+{
+    match items.last() {
+        None => false,
+        Some(node) => is_leading(node),
+    }
+}
+
+/// The anchor at the end that the last item may be.
+fn last_trail(items: &[Node]) -> Trail
+    ensures { result ≡ trail_at (reverse (map node_of items.now)) }
+{
+    match items.last() {
+        None => Trail::None,
+        Some(node) => trail_of(node),
+    }
+}
+
+/// Takes the longest run of anchors off the end of the items, which stand from the end.
+fn take_from_back(items: &mut Vec<Node>)
+    ensures { reverse (map node_of items.new.items) ≡ f.without_leading (reverse (map node_of items.old.items)) }
+{
+    while ends_leading(items.as_slice()) {
+        items.pop();
+    }
+}
+
+/// Takes the longest run of leading anchors off the items.
+fn take_leading(items: &mut Vec<Node>)
+    ensures { map node_of items.new.items ≡ f.without_leading (map node_of items.old.items) }
+{
+    items.reverse();
+    take_from_back(items);
+    items.reverse();
+}
+
+/// Takes the longest run of trailing anchors off the items, and answers which it was.
+fn take_trailing(items: &mut Vec<Node>) -> Trail
+    ensures rest { reverse (map node_of items.new.items) ≡ f.without_trailing (reverse (map node_of items.old.items)) }
+    ensures run { result ≡ f.trailing_run (reverse (map node_of items.old.items)) }
+{
+    let mut run = Trail::None;
+    let mut last = last_trail(items.as_slice());
+    while last != Trail::None {
+        items.pop();
+        run = both_trails(run, last);
+        last = last_trail(items.as_slice());
+    }
+    run
+}
+
+/// A branch of these items without its outer anchors.
+fn inner_branch(place: Span, mut items: Vec<Node>) -> Inner
+    ensures { left_of result ≡ f.inner_of place (t.nothing place) (Some (map node_of items.items)) }
+{
+    let leading = begins_leading(items.as_slice());
+    take_leading(&mut items);
+    let trailing = take_trailing(&mut items);
+    let Branch { place: _, body } = branch(place, Items::from_vec(items));
+    Inner {
+        body,
+        leading,
+        trailing,
+    }
+}
+
+/// What is left of a whole pattern where its outer anchors are taken off.
+///
+/// # Errors
+/// [`OutOfMemory`] where there was no memory for a branch.
+pub(crate) fn without_anchors(alloc: Global, whole: Whole) -> Result<Inner, OutOfMemory>
+    ensures { IfOk result (λ i. left_of i ≡ f.inner (whole_of whole)) }
+{
+    let Whole {
+        fronts: _,
+        place,
+        body,
+    } = whole;
+    match body {
+        Node::Choice(span, branches) => Ok(Inner {
+            body: Node::Choice(span, branches),
+            leading: false,
+            trailing: Trail::None,
+        }),
+        Node::Nothing(_) => Ok(inner_branch(place, Vec::new(alloc))),
+        Node::Seq(_, items) => Ok(inner_branch(place, items.into_vec())),
+        Node::Leaf(span, flags, leaf) => one_inner(alloc, place, Node::Leaf(span, flags, leaf)),
+        Node::Mark(span, flags, mark) => one_inner(alloc, place, Node::Mark(span, flags, mark)),
+        Node::Repeat(span, mark, count, greed, body) => {
+            one_inner(alloc, place, Node::Repeat(span, mark, count, greed, body))
+        }
+        Node::Group(span, kind, body) => one_inner(alloc, place, Node::Group(span, kind, body)),
+    }
+}
+
+/// A branch of one item without its outer anchors.
+fn one_inner(alloc: Global, place: Span, item: Node) -> Result<Inner, OutOfMemory>
+    ensures { IfOk result (λ i. left_of i ≡ f.inner_of place (node_of item) (Some (node_of item ∷ []))) }
+{
+    let mut items = Vec::new(alloc);
+    items.push(item)?;
+    Ok(inner_branch(place, items))
+}

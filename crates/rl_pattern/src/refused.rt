@@ -1,0 +1,45 @@
+//! What a whole pattern is judged to be.
+
+ghost use Rattle.std.specs.Prelude.{◌≡◌, IfOk};
+ghost use Rattle.rl_pattern.specs.Views.{whole_of};
+ghost use Rattle.rl_pattern.specs.Judged.{IsJudged};
+
+use crate::faults::{Fault, earlier, fronts_fault, node_fault};
+use crate::flags::Flags;
+use crate::inner::{Inner, without_anchors};
+use crate::names::name_fault;
+use crate::tree::Whole;
+use rl_lists::OutOfMemory;
+use std::alloc::Global;
+
+/// What a whole pattern is judged to be.
+#[derive(Drop)]
+pub(crate) enum Judged {
+    /// It is refused for its first fault.
+    Refused(Fault),
+    /// Nothing of it is refused. This is the pattern without its outer anchors.
+    Left(Inner),
+}
+
+/// Judges a whole pattern under the call's flags, in text or not.
+///
+/// # Errors
+/// [`OutOfMemory`] where there was no memory for the names of groups, or for a branch.
+#[tactic(auto, using(crate::proofs::FirstFault::first_of_joined))]
+pub(crate) fn judge(
+    alloc: Global,
+    call: Flags,
+    text: bool,
+    whole: Whole,
+) -> Result<Judged, OutOfMemory>
+    ensures { IfOk result (IsJudged call text (whole_of whole)) }
+{
+    let fronts = fronts_fault(text, call, whole.fronts.as_slice());
+    let names = name_fault(alloc, &whole.body)?;
+    let left = without_anchors(alloc, whole)?;
+    let nodes = node_fault(text, &left.body);
+    match earlier(fronts, earlier(names, nodes)) {
+        Some(fault) => Ok(Judged::Refused(fault)),
+        None => Ok(Judged::Left(left)),
+    }
+}

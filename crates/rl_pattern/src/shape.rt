@@ -1,0 +1,210 @@
+//! What a spelled tree is as a pattern.
+
+ghost use Rattle.std.specs.Prelude.{◌≡◌, ℕ, ◌<◌, ◌≤◌, ◌++◌, List, map, IfOk};
+ghost use Rattle.rl_syntax.specs.PatTree as s;
+ghost use Rattle.rl_syntax.specs.PatTree.{pat_of};
+ghost use Rattle.rl_syntax.specs.Counting.{branch_tree};
+ghost use Rattle.rl_pattern.specs.Views.{node_of, branch_of};
+ghost use Rattle.rl_pattern.specs.Tree as t;
+ghost use Rattle.rl_pattern.specs.Shape as p;
+
+use crate::flags::Flags;
+use crate::leaf_set::leaf_set;
+use crate::tree::{Branch as SpelledBranch, Count, Greed, Kind, Leaf, Mark, Node};
+use rl_lists::{Items, OutOfMemory};
+use rl_ranges::{CodeSet, Universe};
+use rl_syntax::{AnchorKind, Branch, Branches, Feature, Pat, Pats, Span};
+use std::alloc::Global;
+
+/// Whether the universe is text.
+pub(crate) fn is_text(universe: Universe) -> bool
+    ensures { result ≡ p.is_text universe }
+{
+    match universe {
+        Universe::Str => true,
+        Universe::Bytes => false,
+    }
+}
+
+/// The class of a leaf.
+fn leaf_pat(
+    alloc: Global,
+    universe: Universe,
+    span: Span,
+    flags: Flags,
+    leaf: &Leaf,
+) -> Result<Pat, OutOfMemory>
+    ensures { IfOk result (λ found. pat_of found ≡ s.class span (p.leaf_codes universe flags leaf.now)) }
+{
+    let set = leaf_set(alloc, universe, flags, leaf)?;
+    Ok(Pat::Class { span, set })
+}
+
+/// The anchor or boundary of a mark.
+fn mark_pat(universe: Universe, span: Span, flags: Flags, mark: Mark) -> Pat
+    ensures { pat_of result ≡ p.mark_shape universe span flags mark }
+{
+    let multiline = flags.multiline;
+    match mark {
+        Mark::Caret => Pat::Anchor {
+            span,
+            kind: AnchorKind::Caret,
+            multiline,
+        },
+        Mark::TextStart => Pat::Anchor {
+            span,
+            kind: AnchorKind::TextStart,
+            multiline,
+        },
+        Mark::Dollar => Pat::Anchor {
+            span,
+            kind: AnchorKind::Dollar,
+            multiline,
+        },
+        Mark::TextEnd => Pat::Anchor {
+            span,
+            kind: AnchorKind::TextEnd,
+            multiline,
+        },
+        Mark::Boundary(negated) => Pat::Boundary {
+            span,
+            negated,
+            ascii: flags.ascii || !is_text(universe),
+        },
+    }
+}
+
+/// Whether a quantifier tries more copies first.
+fn is_greedy(greed: Greed) -> bool
+    ensures { result ≡ p.is_greedy greed }
+{
+    match greed {
+        Greed::Greedy => true,
+        Greed::Lazy | Greed::Possessive => false,
+    }
+}
+
+/// Copies of a pattern.
+fn repeat_pat(
+    alloc: Global,
+    span: Span,
+    mark: Span,
+    count: Count,
+    greed: Greed,
+    body: Pat,
+) -> Result<Pat, OutOfMemory>
+    ensures { IfOk result (λ found. pat_of found ≡ s.repeat span mark count.least count.most (p.is_greedy greed) (pat_of body)) }
+{
+    let body = Box::new(alloc, body)?;
+    Ok(Pat::Repeat {
+        span,
+        mark,
+        min: count.least,
+        max: count.most,
+        greedy: is_greedy(greed),
+        body,
+    })
+}
+
+/// A group of a pattern that is judged.
+fn group_of(alloc: Global, span: Span, captures: bool, body: Pat) -> Result<Pat, OutOfMemory>
+    ensures { IfOk result (λ found. pat_of found ≡ s.group span captures (pat_of body)) }
+{
+    let body = Box::new(alloc, body)?;
+    Ok(Pat::Group {
+        span,
+        captures,
+        body,
+    })
+}
+
+/// A group that is refused.
+fn refused_group(span: Span, what: Feature) -> Pat
+    ensures { pat_of result ≡ s.outside span what }
+{
+    Pat::Outside { span, what }
+}
+
+/// The group of a pattern.
+fn group_pat(alloc: Global, span: Span, kind: &Kind, body: Pat) -> Result<Pat, OutOfMemory>
+    ensures { IfOk result (λ found. pat_of found ≡ p.group_shape span kind.now (pat_of body)) }
+{
+    match kind {
+        Kind::Capturing | Kind::Named(_) => group_of(alloc, span, true, body),
+        Kind::Scoped(_, _) => group_of(alloc, span, false, body),
+        Kind::Lookaround => Ok(refused_group(span, Feature::Lookaround)),
+        Kind::Atomic => Ok(refused_group(span, Feature::Atomic)),
+        Kind::Conditional => Ok(refused_group(span, Feature::Conditional)),
+    }
+}
+
+/// A branch with its span.
+fn branch_at(span: Span, body: Pat) -> Branch
+    ensures { branch_tree result ≡ (span, pat_of body) }
+{
+    Branch { span, body }
+}
+
+/// What a node is as a pattern over the universe. A group that is refused is left as [`Pat::Outside`].
+///
+/// # Errors
+/// [`OutOfMemory`] where there was no memory for the pattern.
+#[cycle(shape)]
+pub(crate) fn node_pat(alloc: Global, universe: Universe, node: &Node) -> Result<Pat, OutOfMemory>
+    ensures { IfOk result (λ found. pat_of found ≡ p.shape universe (node_of node.now)) }
+{
+    match node {
+        Node::Leaf(span, flags, leaf) => leaf_pat(alloc, universe, *span, *flags, leaf),
+        Node::Mark(span, flags, mark) => Ok(mark_pat(universe, *span, *flags, *mark)),
+        Node::Repeat(span, mark, count, greed, body) => {
+            let body = node_pat(alloc, universe, body)?;
+            repeat_pat(alloc, *span, *mark, *count, *greed, body)
+        }
+        Node::Group(span, kind, body) => {
+            let body = node_pat(alloc, universe, body)?;
+            group_pat(alloc, *span, kind, body)
+        }
+        Node::Nothing(span) => Ok(Pat::Nothing { span: *span }),
+        Node::Seq(span, items) => {
+            let items = item_pats(alloc, universe, items.as_slice())?;
+            Ok(Pat::Seq { span: *span, items })
+        }
+        Node::Choice(span, branches) => {
+            let branches = branch_pats(alloc, universe, branches.as_slice())?;
+            Ok(Pat::Choice {
+                span: *span,
+                branches,
+            })
+        }
+    }
+}
+
+/// What nodes one after another are as patterns.
+#[cycle(shape)]
+fn item_pats(alloc: Global, universe: Universe, nodes: &[Node]) -> Result<Pats, OutOfMemory>
+    ensures { IfOk result (λ ps. map pat_of ps ≡ p.shapes universe (t.nodes (map node_of nodes.now))) }
+{
+    let mut items: Pats = Items::new(alloc);
+    for node in nodes {
+        let item = node_pat(alloc, universe, node)?;
+        items.push(item)?;
+    }
+    Ok(items)
+}
+
+/// What branches are as those of a pattern.
+#[cycle(shape)]
+fn branch_pats(
+    alloc: Global,
+    universe: Universe,
+    branches: &[SpelledBranch],
+) -> Result<Branches, OutOfMemory>
+    ensures { IfOk result (λ bs. map branch_tree bs ≡ p.branch_shapes universe (t.branches (map branch_of branches.now))) }
+{
+    let mut found: Branches = Items::new(alloc);
+    for branch in branches {
+        let body = node_pat(alloc, universe, &branch.body)?;
+        found.push(branch_at(branch.place, body))?;
+    }
+    Ok(found)
+}

@@ -1,0 +1,174 @@
+-- A report in JSON has no float: each part, put to members without one, gives members without one.
+use Rattle.std.proofs.Common.{◌≡◌, ℕ, Bool, true, false, cond, ◌||◌, List, [], ◌∷◌, map, refl, ap, sym, ◌∙◌, Ordering, Less, Equal, Greater, nat_cmp, codes, Option, Some, None}
+use Rattle.std.specs.Prelude.{◌==◌}
+use Rattle.std.specs.Cmp.Lexicographic.{slice_cmp}
+use Rattle.std.specs.List.{count_by}
+use Rattle.std.specs.Ordering.{match_ordering}
+use Rattle.std.proofs.lemmas.Bool.{false≢true}
+use Rattle.serde_json.specs.Data.{Data, Members, member, no_members, object, string, put}
+use Rattle.serde_json.specs.View.{items_of}
+use Rattle.serde_json.specs.Written.{has_float, items_have_float, members_have_float}
+use Rattle.rl_ranges.specs.declared.universe.Universe.{Universe}
+use Rattle.rl_sites.specs.declared.call.Call.{Call}
+use Rattle.rl_syntax.specs.declared.verdict.Family.{Family}
+use Rattle.rl_syntax.specs.declared.verdict.Suggestion.{Suggestion}
+use Rattle.rl_syntax.specs.declared.verdict.Verdict.{Verdict}
+use Rattle.rl_syntax.specs.declared.verdict.Verdict.TheVariants.{Degree, Expo, Undecided}
+use Rattle.rl_report.specs.declared.places.Place.{Place}
+use Rattle.rl_report.specs.declared.report.Entry.{Entry}
+use Rattle.rl_report.specs.declared.report.Mark.{Mark}
+use Rattle.rl_report.specs.declared.report.Marks.{Marks}
+use Rattle.rl_report.specs.Names.{Text, call_name, cause_name, kind_name, limit_name, limit_number}
+use Rattle.rl_report.specs.Findings.{verdict_of, suggestion_of, becomes_of, is_finding, is_refused, is_undecided}
+use Rattle.rl_report.specs.Document.{whole, place_members, place_data, at_members, call_members, fault_members, kind_members, verdict_members, refusal_members, outcome_members, text_data, texts_data, family_data, family_members, marks_data, marks_members, becomes_members, suggest_members, suggestion_members, front_members, entry_data, entries_data, report_data}
+
+neither : (b c : Bool) → b ≡ false → c ≡ false → (b || c) ≡ false
+neither false c e f = f
+neither true c e f = e
+
+not-left : (b c : Bool) → (b || c) ≡ false → b ≡ false
+not-left false c h = refl
+not-left true c h = h
+
+not-right : (b c : Bool) → (b || c) ≡ false → c ≡ false
+not-right false c h = h
+not-right true c h = absurd (false≢true (sym h))
+
+by_order : (o : Ordering) (k l : List ℕ) (d e : Data) (ms more : Members) → has_float d ≡ false → has_float e ≡ false → members_have_float ms ≡ false → members_have_float more ≡ false
+    → members_have_float (match_ordering o (member k d (member l e ms)) (member l d ms) (member l e more)) ≡ false
+by_order Less k l d e ms more hd he hm hn = neither _ _ hd (neither _ _ he hm)
+by_order Equal k l d e ms more hd he hm hn = neither _ _ hd hm
+by_order Greater k l d e ms more hd he hm hn = neither _ _ he hn
+
+put-plain : (k : List ℕ) (d : Data) (ms : Members) → has_float d ≡ false → members_have_float ms ≡ false → members_have_float (put k d ms) ≡ false
+put-plain k d no_members hd hm = neither _ _ hd refl
+put-plain k d (member l e ms) hd hm =
+    let he : has_float e ≡ false = not-left (has_float e) (members_have_float ms) hm in
+    let hr : members_have_float ms ≡ false = not-right (has_float e) (members_have_float ms) hm in
+    by_order (slice_cmp nat_cmp k l) k l d e ms (put k d ms) hd he hr (put-plain k d ms hd hr)
+
+items-plain : {X : Type 0} (f : X → Data) (xs : List X) → ((x : X) → has_float (f x) ≡ false) → items_have_float (items_of (map f xs)) ≡ false
+items-plain f [] h = refl
+items-plain f (x ∷ xs) h = neither (has_float (f x)) (items_have_float (items_of (map f xs))) (h x) (items-plain f xs h)
+
+place-plain : (p : Place) (ms : Members) → members_have_float ms ≡ false → members_have_float (place_members p ms) ≡ false
+place-plain p ms h =
+    put-plain (codes "column") (whole p.column) (put (codes "line") (whole p.line) ms) refl (put-plain (codes "line") (whole p.line) ms refl h)
+
+place_data-plain : (p : Place) → has_float (place_data p) ≡ false
+place_data-plain p = place-plain p no_members refl
+
+at-plain : (o : Option Place) (ms : Members) → members_have_float ms ≡ false → members_have_float (at_members o ms) ≡ false
+at-plain None ms h = h
+at-plain (Some p) ms h = place-plain p ms h
+
+call-plain : (o : Option Call) (ms : Members) → members_have_float ms ≡ false → members_have_float (call_members o ms) ≡ false
+call-plain None ms h = h
+call-plain (Some c) ms h = put-plain (codes "call") (string (call_name c)) ms refl h
+
+fault-plain : (o : Option Place) (ms : Members) → members_have_float ms ≡ false → members_have_float (fault_members o ms) ≡ false
+fault-plain None ms h = h
+fault-plain (Some p) ms h = put-plain (codes "fault") (place_data p) ms (place_data-plain p) h
+
+kind-plain : (kind : Text) (ms : Members) → members_have_float ms ≡ false → members_have_float (kind_members kind ms) ≡ false
+kind-plain kind ms h = put-plain (codes "kind") (string kind) ms refl h
+
+verdict-plain : (max_pairs : ℕ) (v : Verdict) (ms : Members) → members_have_float ms ≡ false → members_have_float (verdict_members max_pairs v ms) ≡ false
+verdict-plain max_pairs (Degree d family) ms h = put-plain (codes "degree") (whole d) (kind_members (codes "degree") ms) refl (kind-plain (codes "degree") ms h)
+verdict-plain max_pairs (Expo family) ms h = kind-plain (codes "exponential") ms h
+verdict-plain max_pairs (Undecided limit) ms h =
+    let kind = kind_members (codes "undecided") ms in
+    let named = put (codes "limit") (string (limit_name limit)) kind in
+    put-plain (codes "over") (whole (limit_number max_pairs limit)) named refl
+    (put-plain (codes "limit") (string (limit_name limit)) kind refl (kind-plain (codes "undecided") ms h))
+
+refusal-plain : (kind : Text) (cause : Option Text) (fault : Option Place) (ms : Members) → members_have_float ms ≡ false → members_have_float (refusal_members kind cause fault ms) ≡ false
+refusal-plain kind None fault ms h = kind-plain kind ms h
+refusal-plain kind (Some cause) fault ms h =
+    let caused = put (codes "cause") (string cause) (kind_members kind ms) in
+    fault-plain fault caused (put-plain (codes "cause") (string cause) (kind_members kind ms) refl (kind-plain kind ms h))
+
+outcome-plain : (max_pairs : ℕ) (e : Entry) (v : Option Verdict) (ms : Members) → members_have_float ms ≡ false → members_have_float (outcome_members max_pairs e v ms) ≡ false
+outcome-plain max_pairs e None ms h = refusal-plain (kind_name e.outcome) (cause_name e.outcome) e.fault ms h
+outcome-plain max_pairs e (Some v) ms h = verdict-plain max_pairs v ms h
+
+texts-plain : (u : Universe) (texts : List (List ℕ)) → has_float (texts_data u texts) ≡ false
+texts-plain u texts = items-plain (text_data u) texts (λ text. refl)
+
+family_data-plain : (u : Universe) (f : Family) → has_float (family_data u f) ≡ false
+family_data-plain u f =
+    let heads = put (codes "heads") (texts_data u f.heads) no_members in
+    put-plain (codes "pumps") (texts_data u f.pumps) heads (texts-plain u f.pumps)
+    (put-plain (codes "heads") (texts_data u f.heads) no_members (texts-plain u f.heads) refl)
+
+family-plain : (u : Universe) (v : Option Verdict) (ms : Members) → members_have_float ms ≡ false → members_have_float (family_members u v ms) ≡ false
+family-plain u None ms h = h
+family-plain u (Some (Degree d family)) ms h = put-plain (codes "family") (family_data u family) ms (family_data-plain u family) h
+family-plain u (Some (Expo family)) ms h = put-plain (codes "family") (family_data u family) ms (family_data-plain u family) h
+family-plain u (Some (Undecided limit)) ms h = h
+
+marks_data-plain : (marks : List Mark) → has_float (marks_data marks) ≡ false
+marks_data-plain marks = items-plain (λ (m : Mark). place_data m.at) marks (λ m. place_data-plain m.at)
+
+marks-plain : (marks : Marks) (ms : Members) → members_have_float ms ≡ false → members_have_float (marks_members marks ms) ≡ false
+marks-plain marks ms h =
+    let dropped = put (codes "dropped") (marks_data marks.dropped) ms in
+    let merged = put (codes "merged") (marks_data marks.merged) dropped in
+    put-plain (codes "passed") (marks_data marks.passed) merged (marks_data-plain marks.passed)
+    (put-plain (codes "merged") (marks_data marks.merged) dropped (marks_data-plain marks.merged)
+    (put-plain (codes "dropped") (marks_data marks.dropped) ms (marks_data-plain marks.dropped) h))
+
+cond-plain : (b : Bool) (ms more : Members) → members_have_float ms ≡ false → members_have_float more ≡ false → members_have_float (cond b ms more) ≡ false
+cond-plain true ms more h k = h
+cond-plain false ms more h k = k
+
+becomes-plain : (max_pairs report : ℕ) (v : Option Verdict) (ms : Members) → members_have_float ms ≡ false → members_have_float (becomes_members max_pairs report v ms) ≡ false
+becomes-plain max_pairs report None ms h = h
+becomes-plain max_pairs report (Some v) ms h =
+    cond-plain (report == 2) (put (codes "becomes") (object (verdict_members max_pairs v no_members)) ms) ms
+    (put-plain (codes "becomes") (object (verdict_members max_pairs v no_members)) ms (verdict-plain max_pairs v no_members refl) h) h
+
+suggest-plain : (max_pairs report : ℕ) (u : Universe) (text : Option (List ℕ)) (v : Option Verdict) (ms : Members) → members_have_float ms ≡ false
+    → members_have_float (suggest_members max_pairs report u text v ms) ≡ false
+suggest-plain max_pairs report u None v ms h = h
+suggest-plain max_pairs report u (Some text) v ms h =
+    becomes-plain max_pairs report v (put (codes "suggest") (text_data u text) ms) (put-plain (codes "suggest") (text_data u text) ms refl h)
+
+suggestion-plain : (max_pairs report : ℕ) (u : Universe) (marks : Marks) (s : Option Suggestion) (v : Option Verdict) (ms : Members) → members_have_float ms ≡ false
+    → members_have_float (suggestion_members max_pairs report u marks s v ms) ≡ false
+suggestion-plain max_pairs report u marks None v ms h = h
+suggestion-plain max_pairs report u marks (Some s) v ms h = suggest-plain max_pairs report u s.text v (marks_members marks ms) (marks-plain marks ms h)
+
+front-plain : (e : Entry) (ms : Members) → members_have_float ms ≡ false → members_have_float (front_members e ms) ≡ false
+front-plain e ms h =
+    let path = put (codes "path") (string e.path) ms in
+    call-plain e.call (at_members e.at path) (at-plain e.at path (put-plain (codes "path") (string e.path) ms refl h))
+
+entry-plain : (max_pairs report : ℕ) (e : Entry) → has_float (entry_data max_pairs report e) ≡ false
+entry-plain max_pairs report e =
+    let front = front_members e no_members in
+    let judged = outcome_members max_pairs e (verdict_of e.outcome) front in
+    suggestion-plain max_pairs report e.universe e.marks (suggestion_of e.outcome) (becomes_of e.outcome)
+    (family_members e.universe (verdict_of e.outcome) judged)
+    (family-plain e.universe (verdict_of e.outcome) judged
+    (outcome-plain max_pairs e (verdict_of e.outcome) front (front-plain e no_members refl)))
+
+report-plain : (max_degree max_pairs report : ℕ) (entries : List Entry) → has_float (report_data max_degree max_pairs report entries) ≡ false
+unfolding report_data
+report-plain max_degree max_pairs report entries =
+    let shown = put (codes "entries") (entries_data max_pairs report entries) no_members in
+    let found = put (codes "findings") (whole (count_by (is_finding max_degree) entries)) shown in
+    let refused = put (codes "refused") (whole (count_by is_refused entries)) found in
+    let passed = put (codes "undecided") (whole (count_by is_undecided entries)) refused in
+    put-plain (codes "version") (whole report) passed refl
+    (put-plain (codes "undecided") (whole (count_by is_undecided entries)) refused refl
+    (put-plain (codes "refused") (whole (count_by is_refused entries)) found refl
+    (put-plain (codes "findings") (whole (count_by (is_finding max_degree) entries)) shown refl
+    (put-plain (codes "entries") (entries_data max_pairs report entries) no_members
+    (items-plain (entry_data max_pairs report) entries (entry-plain max_pairs report)) refl))))
+
+-- a report in JSON has no float
+pub plain_report : (d : Data) (max_degree max_pairs report : ℕ) (entries : List Entry) → d ≡ report_data max_degree max_pairs report entries → has_float d ≡ false
+plain_report d max_degree max_pairs report entries e = ap has_float e ∙ report-plain max_degree max_pairs report entries
+
+pub ruleset plain = (plain_report)

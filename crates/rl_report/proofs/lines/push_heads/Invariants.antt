@@ -1,0 +1,8 @@
+-- The head lines of the entries so far are put behind what was there.
+use Rattle.std.proofs.Common.{◌≡◌, ◌++◌, take}
+use Rattle.std.specs.List.{flat_map}
+use Rattle.rl_report.specs.Layouts.{head_line}
+use Rattle.rl_report.proofs.lines.push_heads.Given as goal
+
+abbrev pub invariant-loop-entry : goal.invariant-loop-entry
+invariant-loop-entry l = l.out.items ≡ l.initial.out.items ++ flat_map (head_line l.max_pairs) (take l.entry-index l.entries)

@@ -1,0 +1,132 @@
+-- The layouts of a report as text.
+use Rattle.std.specs.Prelude.{ℕ, ◌==◌, List, [], ◌++◌, Option, Some, None, codes, length, IfSome, if◌then◌else◌}
+use Rattle.std.specs.Fmt.{decimal}
+use Rattle.std.specs.List.{count_by, flat_map}
+use Rattle.rl_ranges.specs.declared.universe.Universe.{Universe}
+use Rattle.rl_ranges.specs.Text.{IsText}
+use Rattle.rl_sites.specs.declared.call.Call.{Call}
+use Rattle.rl_syntax.specs.declared.verdict.Suggestion.{Suggestion}
+use Rattle.rl_syntax.specs.declared.verdict.Verdict.{Verdict}
+use Rattle.rl_syntax.specs.declared.verdict.Verdict.TheVariants.{Degree, Expo, Undecided}
+use Rattle.rl_report.specs.declared.places.Place.{Place}
+use Rattle.rl_report.specs.declared.report.Entry.{Entry}
+use Rattle.rl_report.specs.declared.report.Mark.{Mark}
+use Rattle.rl_report.specs.declared.report.Marks.{Marks}
+use Rattle.rl_report.specs.declared.report.Outcome.{Outcome}
+use Rattle.rl_report.specs.Names.{Text, call_name, cause_name, kind_name}
+use Rattle.rl_report.specs.Findings.{verdict_of, suggestion_of, becomes_of, is_finding, is_refused, is_undecided}
+use Rattle.rl_report.specs.Verdicts.{verdict_text, quoted_text, family_text_line, IsVerdictOf}
+
+-- LINE:COLUMN
+abbrev pub place_text : Place → Text
+place_text p = decimal p.line ++ (codes ":" ++ decimal p.column)
+
+-- ---- the head line
+
+-- behind the path
+abbrev pub at_text : Option Place → Text
+at_text None = []
+at_text (Some p) = codes ":" ++ place_text p
+
+abbrev pub call_text : Option Call → Text
+call_text None = []
+call_text (Some c) = call_name c ++ codes ": "
+
+-- where in the source the fault of a literal or a pattern is
+abbrev pub fault_text : Option Place → Text
+fault_text None = []
+fault_text (Some p) = codes " at " ++ place_text p
+
+-- the cause of a refusal with its place, or the kind of what has no cause
+abbrev pub refusal_text : Outcome → Option Text → Option Place → Text
+refusal_text o None fault = kind_name o
+refusal_text o (Some cause) fault = codes "refused " ++ (cause ++ fault_text fault)
+
+abbrev pub outcome_text : ℕ → Entry → Option Verdict → Text
+outcome_text max_pairs e None = refusal_text e.outcome (cause_name e.outcome) e.fault
+outcome_text max_pairs e (Some verdict) = verdict_text max_pairs verdict
+
+-- PATH:LINE:COLUMN: CALL: OUTCOME. What an entry doesn't have isn't there
+abbrev pub head_line : ℕ → Entry → Text
+head_line max_pairs e =
+    e.path ++ (at_text e.at ++ (codes ": " ++ (call_text e.call ++ (outcome_text max_pairs e (verdict_of e.outcome) ++ codes "\n"))))
+
+-- ---- the detail lines
+
+abbrev pub mark_text : Option Text → Text
+mark_text None = []
+mark_text (Some text) = codes " " ++ text
+
+-- the line of a mark behind the word for its part of the suggestion
+abbrev pub mark_line : Text → Mark → Text
+mark_line word m = codes "  " ++ (word ++ (codes " " ++ (place_text m.at ++ (mark_text m.text ++ codes "\n"))))
+
+abbrev pub mark_lines : Marks → Text
+mark_lines marks =
+    flat_map (mark_line (codes "drop")) marks.dropped ++ (flat_map (mark_line (codes "merge")) marks.merged
+    ++ flat_map (mark_line (codes "passed")) marks.passed)
+
+-- in report version 2
+abbrev pub becomes_line : ℕ → ℕ → Option Verdict → Text
+becomes_line max_pairs report None = []
+becomes_line max_pairs report (Some verdict) =
+    if report == 2 then codes "  becomes " ++ (verdict_text max_pairs verdict ++ codes "\n") else []
+
+abbrev pub suggest_lines : ℕ → ℕ → Universe → Option (List ℕ) → Option Verdict → Text
+suggest_lines max_pairs report universe None becomes = []
+suggest_lines max_pairs report universe (Some text) becomes =
+    codes "  suggest " ++ (quoted_text universe text ++ (codes "\n" ++ becomes_line max_pairs report becomes))
+
+abbrev pub suggestion_lines : ℕ → ℕ → Universe → Marks → Option Suggestion → Option Verdict → Text
+suggestion_lines max_pairs report universe marks None becomes = []
+suggestion_lines max_pairs report universe marks (Some suggestion) becomes =
+    mark_lines marks ++ suggest_lines max_pairs report universe suggestion.text becomes
+
+abbrev pub family_lines : Universe → Option Verdict → Text
+family_lines universe None = []
+family_lines universe (Some (Degree d family)) = family_text_line universe family
+family_lines universe (Some (Expo family)) = family_text_line universe family
+family_lines universe (Some (Undecided limit)) = []
+
+abbrev pub detail_lines : ℕ → ℕ → Entry → Text
+detail_lines max_pairs report e =
+    family_lines e.universe (verdict_of e.outcome)
+    ++ suggestion_lines max_pairs report e.universe e.marks (suggestion_of e.outcome) (becomes_of e.outcome)
+
+-- ---- the last line
+
+-- how many entries are known and not shown, where that is told
+abbrev pub hidden_text : Option ℕ → Text
+hidden_text None = []
+hidden_text (Some hidden) = codes ", " ++ (decimal hidden ++ codes " hidden")
+
+abbrev pub counts_text : ℕ → List Entry → Text
+counts_text max_degree entries =
+    decimal (length entries) ++ (codes " entries, " ++ (decimal (count_by (is_finding max_degree) entries)
+    ++ (codes " findings, " ++ (decimal (count_by is_refused entries) ++ (codes " refused, "
+    ++ (decimal (count_by is_undecided entries) ++ codes " undecided"))))))
+
+abbrev pub last_line : ℕ → Option ℕ → List Entry → Text
+last_line max_degree hidden entries = counts_text max_degree entries ++ (hidden_text hidden ++ codes "\n")
+
+-- ---- the reports
+
+-- the head line and the detail lines of an entry
+abbrev pub entry_lines : ℕ → ℕ → Entry → Text
+entry_lines max_pairs report e = head_line max_pairs e ++ detail_lines max_pairs report e
+
+abbrev pub brief_report : ℕ → ℕ → Option ℕ → List Entry → Text
+brief_report max_degree max_pairs hidden entries =
+    flat_map (head_line max_pairs) entries ++ last_line max_degree hidden entries
+
+abbrev pub text_report : ℕ → ℕ → ℕ → Option ℕ → List Entry → Text
+text_report max_degree max_pairs report hidden entries =
+    flat_map (entry_lines max_pairs report) entries ++ last_line max_degree hidden entries
+
+-- ---- the universe of an entry
+
+-- the codes of the entry's verdict and suggestion are of its universe
+abbrev pub IsOfItsUniverse : Entry → Type 0
+IsOfItsUniverse e =
+    IfSome (verdict_of e.outcome) (IsVerdictOf e.universe)
+    × IfSome (suggestion_of e.outcome) (λ s. IfSome s.text (IsText e.universe))

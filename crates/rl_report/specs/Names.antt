@@ -1,0 +1,119 @@
+-- The names in a report: of calls, kinds, limits and causes.
+use Rattle.std.specs.Prelude.{ℕ, List, Option, Some, None, codes}
+use Rattle.rl_pattern.specs.declared.parsing.PatError.{PatError}
+use Rattle.rl_pattern.specs.declared.parsing.PatError.TheVariants as pattern_error
+use Rattle.rl_pylex.specs.declared.fault.LexError.{LexError}
+use Rattle.rl_pylex.specs.declared.fault.LexError.TheVariants as lex_error
+use Rattle.rl_pystr.specs.declared.fault.StrError.{StrError}
+use Rattle.rl_pystr.specs.declared.fault.StrError.TheVariants as str_error
+use Rattle.rl_sites.specs.declared.call.Call.{Call}
+use Rattle.rl_sites.specs.declared.call.Call.TheVariants as call
+use Rattle.rl_syntax.specs.declared.feature.Feature.{Feature}
+use Rattle.rl_syntax.specs.declared.feature.Feature.TheVariants as feature
+use Rattle.rl_syntax.specs.declared.verdict.Limit.{Limit}
+use Rattle.rl_syntax.specs.declared.verdict.Limit.TheVariants as limit
+use Rattle.rl_syntax.specs.declared.verdict.Verdict.{Verdict}
+use Rattle.rl_syntax.specs.declared.verdict.Verdict.TheVariants.{Degree, Expo, Undecided}
+use Rattle.rl_report.specs.declared.report.Outcome.{Outcome}
+use Rattle.rl_report.specs.declared.report.Outcome.TheVariants as outcome
+
+abbrev pub Text : Type 0
+Text = List ℕ
+
+-- what a pattern may not hold
+abbrev pub feature_name : Feature → Text
+feature_name feature.Locale = codes "locale"
+feature_name feature.FlagClash = codes "flag-clash"
+feature_name feature.DuplicateName = codes "duplicate-name"
+feature_name feature.CodeTooLarge = codes "code-too-large"
+feature_name feature.ReversedRange = codes "reversed-range"
+feature_name feature.RepeatTooLarge = codes "repeat-too-large"
+feature_name feature.RepeatOrder = codes "repeat-order"
+feature_name feature.Possessive = codes "possessive"
+feature_name feature.Backreference = codes "backreference"
+feature_name feature.Lookaround = codes "lookaround"
+feature_name feature.Conditional = codes "conditional"
+feature_name feature.Atomic = codes "atomic"
+feature_name feature.NamedEscape = codes "named-escape"
+feature_name feature.InnerAnchor = codes "inner-anchor"
+
+abbrev pub call_name : Call → Text
+call_name call.Compile = codes "compile"
+call_name call.Match = codes "match"
+call_name call.Search = codes "search"
+call_name call.Fullmatch = codes "fullmatch"
+call_name call.Findall = codes "findall"
+call_name call.Finditer = codes "finditer"
+call_name call.Split = codes "split"
+call_name call.Sub = codes "sub"
+call_name call.Subn = codes "subn"
+
+abbrev pub limit_name : Limit → Text
+limit_name limit.Size = codes "size"
+limit_name limit.Letters = codes "letters"
+limit_name limit.Moves = codes "moves"
+limit_name limit.Sets = codes "sets"
+limit_name limit.Pairs = codes "pairs"
+
+-- the number of a limit. That of the pairs is a setting
+abbrev pub limit_number : ℕ → Limit → ℕ
+limit_number max_pairs limit.Size = 4000
+limit_number max_pairs limit.Letters = 128
+limit_number max_pairs limit.Moves = 256
+limit_number max_pairs limit.Sets = 20000
+limit_number max_pairs limit.Pairs = max_pairs
+
+-- why a source has no tokens. Want of memory is no outcome
+abbrev pub lexing_cause : LexError → Text
+lexing_cause (lex_error.NotUtf8 n) = codes "not-utf8"
+lexing_cause (lex_error.Coding p) = codes "coding"
+lexing_cause (lex_error.Unterminated p) = codes "unterminated"
+lexing_cause lex_error.FileTooLong = codes "file-too-long"
+lexing_cause (lex_error.StrayCode p) = codes "stray-code"
+lexing_cause lex_error.OutOfMemory = codes "out-of-memory"
+
+-- why literals have no value
+abbrev pub literal_cause : StrError → Text
+literal_cause str_error.FString = codes "f-string"
+literal_cause str_error.Mixed = codes "mixed"
+literal_cause (str_error.BadEscape p) = codes "bad-escape"
+literal_cause (str_error.NamedEscape p) = codes "named-escape"
+literal_cause (str_error.NotAscii p) = codes "not-ascii"
+literal_cause str_error.OutOfMemory = codes "out-of-memory"
+
+-- why codes are no pattern that is judged
+abbrev pub pattern_cause : PatError → Text
+pattern_cause (pattern_error.Syntax n) = codes "syntax"
+pattern_cause (pattern_error.TooDeep p) = codes "too-deep"
+pattern_cause pattern_error.TooLong = codes "too-long"
+pattern_cause (pattern_error.Outside p what) = feature_name what
+pattern_cause pattern_error.OutOfMemory = codes "out-of-memory"
+
+-- the cause of a refusal
+abbrev pub cause_name : Outcome → Option Text
+cause_name outcome.Unreadable = None
+cause_name outcome.TooDeepFolder = None
+cause_name outcome.NotPlain = None
+cause_name (outcome.Source e) = Some (lexing_cause e)
+cause_name outcome.NotWhole = Some (codes "not-whole")
+cause_name (outcome.Literal e) = Some (literal_cause e)
+cause_name outcome.FlagsUnknown = Some (codes "flags-unknown")
+cause_name (outcome.Pattern e) = Some (pattern_cause e)
+cause_name (outcome.Judged verdict suggestion becomes) = None
+
+abbrev pub verdict_kind : Verdict → Text
+verdict_kind (Degree d family) = codes "degree"
+verdict_kind (Expo family) = codes "exponential"
+verdict_kind (Undecided l) = codes "undecided"
+
+-- the kind of an outcome
+abbrev pub kind_name : Outcome → Text
+kind_name outcome.Unreadable = codes "unreadable"
+kind_name outcome.TooDeepFolder = codes "too-deep-folder"
+kind_name outcome.NotPlain = codes "not-plain"
+kind_name (outcome.Source e) = codes "refused"
+kind_name outcome.NotWhole = codes "refused"
+kind_name (outcome.Literal e) = codes "refused"
+kind_name outcome.FlagsUnknown = codes "refused"
+kind_name (outcome.Pattern e) = codes "refused"
+kind_name (outcome.Judged verdict suggestion becomes) = verdict_kind verdict

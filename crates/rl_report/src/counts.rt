@@ -1,0 +1,44 @@
+//! What a report counts.
+ghost use Rattle.std.specs.Prelude.{◌≡◌, ◌≤◌, length};
+ghost use Rattle.std.specs.List.{count_by};
+ghost use Rattle.rl_report.specs.Findings.{is_finding, is_refused, is_undecided};
+
+use crate::report::Entry;
+
+/// How many entries are findings.
+pub fn findings(entries: &[Entry], max_degree: u32) -> usize
+    ensures { result ≡ count_by (is_finding max_degree) entries.now }
+{
+    entries
+        .iter()
+        .filter(|entry| entry.is_finding(max_degree))
+        .count()
+}
+
+/// How many entries are anything but verdicts.
+#[tactic(auto, using(crate::proofs::CountLemmas::counts))]
+pub fn refusals(entries: &[Entry]) -> usize
+    ensures { result ≡ count_by is_refused entries.now }
+{
+    let mut count = 0;
+    for entry in entries {
+        if entry.is_refused() {
+            count += 1;
+        }
+    }
+    count
+}
+
+/// How many verdicts are that a limit was passed.
+#[tactic(auto, using(crate::proofs::CountLemmas::counts))]
+pub fn undecided(entries: &[Entry]) -> usize
+    ensures { result ≡ count_by is_undecided entries.now }
+{
+    let mut count = 0;
+    for entry in entries {
+        if entry.is_undecided() {
+            count += 1;
+        }
+    }
+    count
+}

@@ -1,0 +1,457 @@
+//! A report in JSON.
+ghost use Rattle.std.specs.Prelude.{◌≡◌, ◌++◌, All, IfOk, IfSome, OnOk, codes, false, option_map};
+ghost use Rattle.rl_ranges.specs.Text.{IsText};
+ghost use Rattle.serde_json.specs.Data.{no_members, object, put, string};
+ghost use Rattle.serde_json.specs.View.{items_of, items_view, members_view, view};
+ghost use Rattle.serde_json.specs.Written.{compact_text, has_float};
+ghost use Rattle.rl_report.specs.Document.{at_members, becomes_members, call_members, entries_data, entry_data, family_data, family_members, fault_members, front_members, json_report, judged_members, kind_members, marks_data, marks_members, outcome_members, place_data, place_members, refusal_members, report_data, suggest_members, suggestion_members, text_data, texts_data, verdict_members, whole};
+ghost use Rattle.rl_report.specs.Findings.{verdict_of};
+ghost use Rattle.rl_report.specs.Layouts.{IsOfItsUniverse};
+ghost use Rattle.rl_report.specs.Verdicts.{IsFamilyOf, IsVerdictOf, quoted_text};
+
+use crate::counts::{findings, refusals, undecided};
+use crate::lines::Terms;
+use crate::names::{call_name, limit_name, limit_number};
+use crate::places::Place;
+use crate::report::{Entry, Mark, Marks};
+use rl_lists::{Bytes, Codes, OutOfMemory};
+use rl_pystr::quote;
+use rl_sites::Call;
+use rl_syntax::{Family, Limit, Suggestion, Universe, Verdict};
+use serde_json::{Map, Value, put};
+use std::alloc::Global;
+
+/// The members of an object.
+type Members = Map<String, Value>;
+
+fn put_text(alloc: Global, members: &mut Members, key: &str, text: &str) -> Result<(), OutOfMemory>
+    ensures { OnOk result (members_view members.new.entries
+        ≡ put key.now (string text.now) (members_view members.old.entries)) }
+{
+    let value = Value::try_from_str(alloc, text)?;
+    put(members, alloc, key, value)?;
+    Ok(())
+}
+
+fn put_number(
+    alloc: Global,
+    members: &mut Members,
+    key: &str,
+    number: usize,
+) -> Result<(), OutOfMemory>
+    ensures { OnOk result (members_view members.new.entries
+        ≡ put key.now (whole number) (members_view members.old.entries)) }
+{
+    put(members, alloc, key, Value::from(number))?;
+    Ok(())
+}
+
+fn put_place(alloc: Global, members: &mut Members, place: Place) -> Result<(), OutOfMemory>
+    ensures { OnOk result (members_view members.new.entries
+        ≡ place_members place (members_view members.old.entries)) }
+{
+    put_number(alloc, members, "line", place.line as usize)?;
+    put_number(alloc, members, "column", place.column as usize)?;
+    Ok(())
+}
+
+fn place_value(alloc: Global, place: Place) -> Result<Value, OutOfMemory>
+    ensures { IfOk result (λ v. view v ≡ place_data place) }
+{
+    let mut members = Map::new(alloc);
+    put_place(alloc, &mut members, place)?;
+    Ok(Value::Object(members))
+}
+
+fn put_at(alloc: Global, members: &mut Members, at: Option<Place>) -> Result<(), OutOfMemory>
+    ensures { OnOk result (members_view members.new.entries
+        ≡ at_members at (members_view members.old.entries)) }
+{
+    match at {
+        None => Ok(()),
+        Some(place) => put_place(alloc, members, place),
+    }
+}
+
+fn put_call(alloc: Global, members: &mut Members, call: Option<Call>) -> Result<(), OutOfMemory>
+    ensures { OnOk result (members_view members.new.entries
+        ≡ call_members call (members_view members.old.entries)) }
+{
+    match call {
+        None => Ok(()),
+        Some(call) => put_text(alloc, members, "call", call_name(call)),
+    }
+}
+
+fn put_fault(alloc: Global, members: &mut Members, fault: Option<Place>) -> Result<(), OutOfMemory>
+    ensures { OnOk result (members_view members.new.entries
+        ≡ fault_members fault (members_view members.old.entries)) }
+{
+    match fault {
+        None => Ok(()),
+        Some(place) => {
+            let value = place_value(alloc, place)?;
+            put(members, alloc, "fault", value)?;
+            Ok(())
+        }
+    }
+}
+
+fn put_limit(
+    alloc: Global,
+    members: &mut Members,
+    limit: Limit,
+    max_pairs: u32,
+) -> Result<(), OutOfMemory>
+    ensures { OnOk result (members_view members.new.entries
+        ≡ verdict_members max_pairs (Verdict.Undecided limit) (members_view members.old.entries)) }
+{
+    put_text(alloc, members, "kind", "undecided")?;
+    put_text(alloc, members, "limit", limit_name(limit))?;
+    let number = limit_number(limit, max_pairs) as usize;
+    put_number(alloc, members, "over", number)?;
+    Ok(())
+}
+
+fn put_verdict(
+    alloc: Global,
+    members: &mut Members,
+    verdict: &Verdict,
+    max_pairs: u32,
+) -> Result<(), OutOfMemory>
+    ensures { OnOk result (members_view members.new.entries
+        ≡ verdict_members max_pairs verdict.now (members_view members.old.entries)) }
+{
+    match verdict {
+        Verdict::Degree(degree, _) => {
+            put_text(alloc, members, "kind", "degree")?;
+            put_number(alloc, members, "degree", *degree as usize)?;
+            Ok(())
+        }
+        Verdict::Expo(_) => put_text(alloc, members, "kind", "exponential"),
+        Verdict::Undecided(limit) => put_limit(alloc, members, *limit, max_pairs),
+    }
+}
+
+fn put_refusal(
+    alloc: Global,
+    members: &mut Members,
+    kind: &str,
+    cause: Option<&'static str>,
+    fault: Option<Place>,
+) -> Result<(), OutOfMemory>
+    ensures { OnOk result (members_view members.new.entries
+        ≡ refusal_members kind.now (option_map (λ c. c.now) cause.entry) fault (members_view members.old.entries)) }
+{
+    put_text(alloc, members, "kind", kind)?;
+    match cause {
+        None => Ok(()),
+        Some(cause) => {
+            put_text(alloc, members, "cause", cause)?;
+            put_fault(alloc, members, fault)?;
+            Ok(())
+        }
+    }
+}
+
+fn put_outcome(
+    alloc: Global,
+    members: &mut Members,
+    entry: &Entry,
+    max_pairs: u32,
+) -> Result<(), OutOfMemory>
+    ensures { OnOk result (members_view members.new.entries
+        ≡ outcome_members max_pairs entry.now (verdict_of entry.now.outcome) (members_view members.old.entries)) }
+{
+    let outcome = &entry.outcome;
+    match outcome.verdict() {
+        None => put_refusal(alloc, members, outcome.kind(), outcome.cause(), entry.fault),
+        Some(verdict) => put_verdict(alloc, members, verdict, max_pairs),
+    }
+}
+
+/// A quoted text, which is ASCII.
+fn quoted_value(alloc: Global, text: &Codes, universe: Universe) -> Result<Value, OutOfMemory>
+    requires { IsText universe text.now }
+    ensures { IfOk result (λ v. view v ≡ text_data universe text.now) }
+{
+    let literal = quote(alloc, text, universe)?;
+    match String::from_utf8(literal.into_vec()) {
+        Ok(text) => Ok(Value::from(text)),
+        Err(_) => unreachable!(),
+    }
+}
+
+#[tactic(auto, using(crate::proofs::ValueLemmas::values))]
+fn texts_value(alloc: Global, texts: &[Codes], universe: Universe) -> Result<Value, OutOfMemory>
+    requires { All (IsText universe) texts.now }
+    ensures { IfOk result (λ v. view v ≡ texts_data universe texts.now) }
+{
+    let mut values = Vec::new(alloc);
+    for text in texts {
+        let value = quoted_value(alloc, text, universe)?;
+        values.push(value)?;
+    }
+    Ok(Value::Array(values))
+}
+
+fn family_value(alloc: Global, family: &Family, universe: Universe) -> Result<Value, OutOfMemory>
+    requires { IsFamilyOf universe family.now }
+    ensures { IfOk result (λ v. view v ≡ family_data universe family.now) }
+{
+    let heads = texts_value(alloc, family.heads.as_slice(), universe)?;
+    let pumps = texts_value(alloc, family.pumps.as_slice(), universe)?;
+    let mut members = Map::new(alloc);
+    put(&mut members, alloc, "heads", heads)?;
+    put(&mut members, alloc, "pumps", pumps)?;
+    Ok(Value::Object(members))
+}
+
+fn put_family(
+    alloc: Global,
+    members: &mut Members,
+    family: &Family,
+    universe: Universe,
+) -> Result<(), OutOfMemory>
+    requires { IsFamilyOf universe family.now }
+    ensures { OnOk result (members_view members.new.entries
+        ≡ put (codes "family") (family_data universe family.now) (members_view members.old.entries)) }
+{
+    let value = family_value(alloc, family, universe)?;
+    put(members, alloc, "family", value)?;
+    Ok(())
+}
+
+fn put_family_of(
+    alloc: Global,
+    members: &mut Members,
+    universe: Universe,
+    verdict: Option<&Verdict>,
+) -> Result<(), OutOfMemory>
+    requires { IfSome verdict (λ v. IsVerdictOf universe v.now) }
+    ensures { OnOk result (members_view members.new.entries
+        ≡ family_members universe (option_map (λ v. v.now) verdict.entry) (members_view members.old.entries)) }
+{
+    match verdict {
+        None => Ok(()),
+        Some(Verdict::Degree(_, family)) => put_family(alloc, members, family, universe),
+        Some(Verdict::Expo(family)) => put_family(alloc, members, family, universe),
+        Some(Verdict::Undecided(_)) => Ok(()),
+    }
+}
+
+#[tactic(auto, using(crate::proofs::ValueLemmas::values))]
+fn marks_value(alloc: Global, marks: &[Mark]) -> Result<Value, OutOfMemory>
+    ensures { IfOk result (λ v. view v ≡ marks_data marks.now) }
+{
+    let mut values = Vec::new(alloc);
+    for mark in marks {
+        let value = place_value(alloc, mark.at)?;
+        values.push(value)?;
+    }
+    Ok(Value::Array(values))
+}
+
+fn put_mark_list(
+    alloc: Global,
+    members: &mut Members,
+    key: &str,
+    marks: &[Mark],
+) -> Result<(), OutOfMemory>
+    ensures { OnOk result (members_view members.new.entries
+        ≡ put key.now (marks_data marks.now) (members_view members.old.entries)) }
+{
+    let value = marks_value(alloc, marks)?;
+    put(members, alloc, key, value)?;
+    Ok(())
+}
+
+fn put_marks(alloc: Global, members: &mut Members, marks: &Marks) -> Result<(), OutOfMemory>
+    ensures { OnOk result (members_view members.new.entries
+        ≡ marks_members marks.now (members_view members.old.entries)) }
+{
+    put_mark_list(alloc, members, "dropped", marks.dropped.as_slice())?;
+    put_mark_list(alloc, members, "merged", marks.merged.as_slice())?;
+    put_mark_list(alloc, members, "passed", marks.passed.as_slice())?;
+    Ok(())
+}
+
+fn verdict_value(alloc: Global, verdict: &Verdict, max_pairs: u32) -> Result<Value, OutOfMemory>
+    ensures { IfOk result (λ v. view v ≡ object (verdict_members max_pairs verdict.now no_members)) }
+{
+    let mut members = Map::new(alloc);
+    put_verdict(alloc, &mut members, verdict, max_pairs)?;
+    Ok(Value::Object(members))
+}
+
+fn put_becomes(
+    alloc: Global,
+    members: &mut Members,
+    terms: Terms,
+    becomes: Option<&Verdict>,
+) -> Result<(), OutOfMemory>
+    ensures { OnOk result (members_view members.new.entries
+        ≡ becomes_members terms.max_pairs terms.report (option_map (λ v. v.now) becomes.entry)
+        (members_view members.old.entries)) }
+{
+    match becomes {
+        None => Ok(()),
+        Some(verdict) => {
+            if terms.report == 2 {
+                let value = verdict_value(alloc, verdict, terms.max_pairs)?;
+                put(members, alloc, "becomes", value)?;
+            }
+            Ok(())
+        }
+    }
+}
+
+fn put_suggest(
+    alloc: Global,
+    members: &mut Members,
+    terms: Terms,
+    universe: Universe,
+    text: &Option<Codes>,
+    becomes: Option<&Verdict>,
+) -> Result<(), OutOfMemory>
+    requires { IfSome text.now (IsText universe) }
+    ensures { OnOk result (members_view members.new.entries
+        ≡ suggest_members terms.max_pairs terms.report universe text.now (option_map (λ v. v.now) becomes.entry)
+        (members_view members.old.entries)) }
+{
+    match text {
+        None => Ok(()),
+        Some(text) => {
+            let value = quoted_value(alloc, text, universe)?;
+            put(members, alloc, "suggest", value)?;
+            put_becomes(alloc, members, terms, becomes)?;
+            Ok(())
+        }
+    }
+}
+
+fn put_suggestion(
+    alloc: Global,
+    members: &mut Members,
+    terms: Terms,
+    universe: Universe,
+    marks: &Marks,
+    suggestion: Option<&Suggestion>,
+    becomes: Option<&Verdict>,
+) -> Result<(), OutOfMemory>
+    requires { IfSome suggestion (λ s. IfSome s.now.text (IsText universe)) }
+    ensures { OnOk result (members_view members.new.entries
+        ≡ suggestion_members terms.max_pairs terms.report universe marks.now
+        (option_map (λ s. s.now) suggestion.entry) (option_map (λ v. v.now) becomes.entry)
+        (members_view members.old.entries)) }
+{
+    match suggestion {
+        None => Ok(()),
+        Some(suggestion) => {
+            put_marks(alloc, members, marks)?;
+            put_suggest(alloc, members, terms, universe, &suggestion.text, becomes)?;
+            Ok(())
+        }
+    }
+}
+
+fn put_front(alloc: Global, members: &mut Members, entry: &Entry) -> Result<(), OutOfMemory>
+    ensures { OnOk result (members_view members.new.entries
+        ≡ front_members entry.now (members_view members.old.entries)) }
+{
+    put_text(alloc, members, "path", entry.path.as_str())?;
+    put_at(alloc, members, entry.at)?;
+    put_call(alloc, members, entry.call)?;
+    Ok(())
+}
+
+fn put_judged(
+    alloc: Global,
+    members: &mut Members,
+    terms: Terms,
+    entry: &Entry,
+) -> Result<(), OutOfMemory>
+    requires { IsOfItsUniverse entry.now }
+    ensures { OnOk result (members_view members.new.entries
+        ≡ judged_members terms.max_pairs terms.report entry.now (members_view members.old.entries)) }
+{
+    let outcome = &entry.outcome;
+    put_family_of(alloc, members, entry.universe, outcome.verdict())?;
+    put_suggestion(
+        alloc,
+        members,
+        terms,
+        entry.universe,
+        &entry.marks,
+        outcome.suggestion(),
+        outcome.becomes(),
+    )?;
+    Ok(())
+}
+
+fn entry_value(alloc: Global, terms: Terms, entry: &Entry) -> Result<Value, OutOfMemory>
+    requires { IsOfItsUniverse entry.now }
+    ensures { IfOk result (λ v. view v ≡ entry_data terms.max_pairs terms.report entry.now) }
+{
+    let mut members = Map::new(alloc);
+    put_front(alloc, &mut members, entry)?;
+    put_outcome(alloc, &mut members, entry, terms.max_pairs)?;
+    put_judged(alloc, &mut members, terms, entry)?;
+    Ok(Value::Object(members))
+}
+
+#[tactic(auto, using(crate::proofs::ValueLemmas::values))]
+fn entries_value(alloc: Global, terms: Terms, entries: &[Entry]) -> Result<Value, OutOfMemory>
+    requires { All IsOfItsUniverse entries.now }
+    ensures { IfOk result (λ v. view v ≡ entries_data terms.max_pairs terms.report entries.now) }
+{
+    let mut values = Vec::new(alloc);
+    for entry in entries {
+        let value = entry_value(alloc, terms, entry)?;
+        values.push(value)?;
+    }
+    Ok(Value::Array(values))
+}
+
+#[tactic(auto, unfolding(crate::specs::Document::report_data))]
+fn report_value(alloc: Global, terms: Terms, entries: &[Entry]) -> Result<Value, OutOfMemory>
+    requires { All IsOfItsUniverse entries.now }
+    ensures { IfOk result (λ v. view v
+        ≡ report_data terms.max_degree terms.max_pairs terms.report entries.now) }
+{
+    let value = entries_value(alloc, terms, entries)?;
+    let mut members = Map::new(alloc);
+    put(&mut members, alloc, "entries", value)?;
+    put_number(
+        alloc,
+        &mut members,
+        "findings",
+        findings(entries, terms.max_degree),
+    )?;
+    put_number(alloc, &mut members, "refused", refusals(entries))?;
+    put_number(alloc, &mut members, "undecided", undecided(entries))?;
+    put_number(alloc, &mut members, "version", terms.report as usize)?;
+    Ok(Value::Object(members))
+}
+
+/// A value as one line.
+fn line_of(alloc: Global, value: &Value) -> Result<Vec<u8>, OutOfMemory>
+    requires { has_float (view value.now) ≡ false }
+    ensures { IfOk result (λ line. line.items ≡ compact_text (view value.now) ++ codes "\n") }
+{
+    let mut line = value.to_vec(alloc)?;
+    line.push(b'\n')?;
+    Ok(line)
+}
+
+/// The report in JSON: one line.
+#[tactic(auto, using(crate::proofs::NoFloats::plain))]
+pub fn json_report(alloc: Global, terms: Terms, entries: &[Entry]) -> Result<Bytes, OutOfMemory>
+    requires { All IsOfItsUniverse entries.now }
+    ensures { IfOk result (λ bytes. bytes
+        ≡ json_report terms.max_degree terms.max_pairs terms.report entries.now) }
+{
+    let value = report_value(alloc, terms, entries)?;
+    let line = line_of(alloc, &value)?;
+    Ok(Bytes::from_vec(line))
+}

@@ -1,0 +1,416 @@
+//! The lines of a report as text.
+ghost use Rattle.std.specs.Prelude.{◌≡◌, ◌∷◌, ◌++◌, All, IfOk, IfSome, OnOk, option_map};
+ghost use Rattle.std.specs.List.{flat_map};
+ghost use Rattle.rl_ranges.specs.Text.{IsText};
+ghost use Rattle.rl_report.specs.Findings.{becomes_of, suggestion_of, verdict_of};
+ghost use Rattle.rl_report.specs.Layouts.{IsOfItsUniverse, at_text, becomes_line, brief_report, call_text, counts_text, detail_lines, entry_lines, family_lines, fault_text, head_line, hidden_text, last_line, mark_line, mark_lines, mark_text, outcome_text, refusal_text, suggest_lines, suggestion_lines, text_report};
+ghost use Rattle.rl_report.specs.Verdicts.{IsVerdictOf, quoted_text};
+
+use crate::counts::{findings, refusals, undecided};
+use crate::names::call_name;
+use crate::pieces::{push_number, push_place, push_quoted, push_text};
+use crate::places::Place;
+use crate::report::{Entry, Mark, Marks, Outcome};
+use crate::verdicts::{push_family, push_verdict};
+use rl_lists::{Bytes, Codes, OutOfMemory};
+use rl_sites::Call;
+use rl_syntax::{Suggestion, Universe, Verdict};
+use std::alloc::Global;
+
+/// The limits and the version by which a report is written.
+#[derive(Clone, Copy, Debug, PartialEq, Eq)]
+pub struct Terms {
+    /// The greatest degree that is no finding.
+    pub max_degree: u32,
+    /// The limit of the live pairs.
+    pub max_pairs: u32,
+    /// The version of the report.
+    pub report: u32,
+}
+
+fn push_at(alloc: Global, out: &mut Vec<u8>, at: Option<Place>) -> Result<(), OutOfMemory>
+    ensures { OnOk result (out.new.items ≡ out.old.items ++ at_text at) }
+{
+    match at {
+        None => Ok(()),
+        Some(place) => {
+            push_text(out, ":")?;
+            push_place(alloc, out, place)?;
+            Ok(())
+        }
+    }
+}
+
+fn push_call(out: &mut Vec<u8>, call: Option<Call>) -> Result<(), OutOfMemory>
+    ensures { OnOk result (out.new.items ≡ out.old.items ++ call_text call) }
+{
+    match call {
+        None => Ok(()),
+        Some(call) => {
+            push_text(out, call_name(call))?;
+            push_text(out, ": ")?;
+            Ok(())
+        }
+    }
+}
+
+fn push_fault(alloc: Global, out: &mut Vec<u8>, fault: Option<Place>) -> Result<(), OutOfMemory>
+    ensures { OnOk result (out.new.items ≡ out.old.items ++ fault_text fault) }
+{
+    match fault {
+        None => Ok(()),
+        Some(place) => {
+            push_text(out, " at ")?;
+            push_place(alloc, out, place)?;
+            Ok(())
+        }
+    }
+}
+
+fn push_refusal(
+    alloc: Global,
+    out: &mut Vec<u8>,
+    outcome: &Outcome,
+    cause: Option<&'static str>,
+    fault: Option<Place>,
+) -> Result<(), OutOfMemory>
+    ensures { OnOk result (out.new.items
+        ≡ out.old.items ++ refusal_text outcome.now (option_map (λ c. c.now) cause.entry) fault) }
+{
+    match cause {
+        None => push_text(out, outcome.kind()),
+        Some(cause) => {
+            push_text(out, "refused ")?;
+            push_text(out, cause)?;
+            push_fault(alloc, out, fault)?;
+            Ok(())
+        }
+    }
+}
+
+fn push_outcome(
+    alloc: Global,
+    out: &mut Vec<u8>,
+    entry: &Entry,
+    max_pairs: u32,
+) -> Result<(), OutOfMemory>
+    ensures { OnOk result (out.new.items
+        ≡ out.old.items ++ outcome_text max_pairs entry.now (verdict_of entry.now.outcome)) }
+{
+    match entry.outcome.verdict() {
+        None => {
+            let cause = entry.outcome.cause();
+            push_refusal(alloc, out, &entry.outcome, cause, entry.fault)
+        }
+        Some(verdict) => push_verdict(alloc, out, verdict, max_pairs),
+    }
+}
+
+/// Puts the head line of an entry behind the others.
+fn push_head(
+    alloc: Global,
+    out: &mut Vec<u8>,
+    entry: &Entry,
+    max_pairs: u32,
+) -> Result<(), OutOfMemory>
+    ensures { OnOk result (out.new.items ≡ out.old.items ++ head_line max_pairs entry.now) }
+{
+    push_text(out, entry.path.as_str())?;
+    push_at(alloc, out, entry.at)?;
+    push_text(out, ": ")?;
+    push_call(out, entry.call)?;
+    push_outcome(alloc, out, entry, max_pairs)?;
+    push_text(out, "\n")?;
+    Ok(())
+}
+
+fn push_mark_text(out: &mut Vec<u8>, text: &Option<Bytes>) -> Result<(), OutOfMemory>
+    ensures { OnOk result (out.new.items ≡ out.old.items ++ mark_text text.now) }
+{
+    match text {
+        None => Ok(()),
+        Some(text) => {
+            push_text(out, " ")?;
+            out.extend_from_slice(text.as_slice())?;
+            Ok(())
+        }
+    }
+}
+
+fn push_mark(alloc: Global, out: &mut Vec<u8>, word: &str, mark: &Mark) -> Result<(), OutOfMemory>
+    ensures { OnOk result (out.new.items ≡ out.old.items ++ mark_line word.now mark.now) }
+{
+    push_text(out, "  ")?;
+    push_text(out, word)?;
+    push_text(out, " ")?;
+    push_place(alloc, out, mark.at)?;
+    push_mark_text(out, &mark.text)?;
+    push_text(out, "\n")?;
+    Ok(())
+}
+
+#[tactic(auto, using(crate::proofs::LineLemmas::rounds))]
+fn push_mark_list(
+    alloc: Global,
+    out: &mut Vec<u8>,
+    word: &str,
+    marks: &[Mark],
+) -> Result<(), OutOfMemory>
+    ensures { OnOk result (out.new.items ≡ out.old.items ++ flat_map (mark_line word.now) marks.now) }
+{
+    for mark in marks {
+        push_mark(alloc, out, word, mark)?;
+    }
+    Ok(())
+}
+
+fn push_marks(alloc: Global, out: &mut Vec<u8>, marks: &Marks) -> Result<(), OutOfMemory>
+    ensures { OnOk result (out.new.items ≡ out.old.items ++ mark_lines marks.now) }
+{
+    push_mark_list(alloc, out, "drop", marks.dropped.as_slice())?;
+    push_mark_list(alloc, out, "merge", marks.merged.as_slice())?;
+    push_mark_list(alloc, out, "passed", marks.passed.as_slice())?;
+    Ok(())
+}
+
+fn push_becomes(
+    alloc: Global,
+    out: &mut Vec<u8>,
+    terms: Terms,
+    becomes: Option<&Verdict>,
+) -> Result<(), OutOfMemory>
+    ensures { OnOk result (out.new.items ≡ out.old.items
+        ++ becomes_line terms.max_pairs terms.report (option_map (λ v. v.now) becomes.entry)) }
+{
+    match becomes {
+        None => Ok(()),
+        Some(verdict) => {
+            if terms.report == 2 {
+                push_text(out, "  becomes ")?;
+                push_verdict(alloc, out, verdict, terms.max_pairs)?;
+                push_text(out, "\n")?;
+            }
+            Ok(())
+        }
+    }
+}
+
+fn push_suggest(
+    alloc: Global,
+    out: &mut Vec<u8>,
+    terms: Terms,
+    universe: Universe,
+    text: &Option<Codes>,
+    becomes: Option<&Verdict>,
+) -> Result<(), OutOfMemory>
+    requires { IfSome text.now (IsText universe) }
+    ensures { OnOk result (out.new.items ≡ out.old.items
+        ++ suggest_lines terms.max_pairs terms.report universe text.now (option_map (λ v. v.now) becomes.entry)) }
+{
+    match text {
+        None => Ok(()),
+        Some(text) => {
+            push_text(out, "  suggest ")?;
+            push_quoted(alloc, out, text, universe)?;
+            push_text(out, "\n")?;
+            push_becomes(alloc, out, terms, becomes)?;
+            Ok(())
+        }
+    }
+}
+
+fn push_suggestion(
+    alloc: Global,
+    out: &mut Vec<u8>,
+    terms: Terms,
+    universe: Universe,
+    marks: &Marks,
+    suggestion: Option<&Suggestion>,
+    becomes: Option<&Verdict>,
+) -> Result<(), OutOfMemory>
+    requires { IfSome suggestion (λ s. IfSome s.now.text (IsText universe)) }
+    ensures { OnOk result (out.new.items ≡ out.old.items
+        ++ suggestion_lines terms.max_pairs terms.report universe marks.now
+        (option_map (λ s. s.now) suggestion.entry) (option_map (λ v. v.now) becomes.entry)) }
+{
+    match suggestion {
+        None => Ok(()),
+        Some(suggestion) => {
+            push_marks(alloc, out, marks)?;
+            push_suggest(alloc, out, terms, universe, &suggestion.text, becomes)?;
+            Ok(())
+        }
+    }
+}
+
+fn push_family_of(
+    alloc: Global,
+    out: &mut Vec<u8>,
+    universe: Universe,
+    verdict: Option<&Verdict>,
+) -> Result<(), OutOfMemory>
+    requires { IfSome verdict (λ v. IsVerdictOf universe v.now) }
+    ensures { OnOk result (out.new.items
+        ≡ out.old.items ++ family_lines universe (option_map (λ v. v.now) verdict.entry)) }
+{
+    match verdict {
+        None => Ok(()),
+        Some(Verdict::Degree(_, family)) => push_family(alloc, out, family, universe),
+        Some(Verdict::Expo(family)) => push_family(alloc, out, family, universe),
+        Some(Verdict::Undecided(_)) => Ok(()),
+    }
+}
+
+/// Puts the detail lines of an entry behind the others.
+fn push_details(
+    alloc: Global,
+    out: &mut Vec<u8>,
+    terms: Terms,
+    entry: &Entry,
+) -> Result<(), OutOfMemory>
+    requires { IsOfItsUniverse entry.now }
+    ensures { OnOk result (out.new.items
+        ≡ out.old.items ++ detail_lines terms.max_pairs terms.report entry.now) }
+{
+    let outcome = &entry.outcome;
+    push_family_of(alloc, out, entry.universe, outcome.verdict())?;
+    push_suggestion(
+        alloc,
+        out,
+        terms,
+        entry.universe,
+        &entry.marks,
+        outcome.suggestion(),
+        outcome.becomes(),
+    )?;
+    Ok(())
+}
+
+/// Puts the head line and the detail lines of an entry behind the others.
+fn push_entry(
+    alloc: Global,
+    out: &mut Vec<u8>,
+    terms: Terms,
+    entry: &Entry,
+) -> Result<(), OutOfMemory>
+    requires { IsOfItsUniverse entry.now }
+    ensures { OnOk result (out.new.items
+        ≡ out.old.items ++ entry_lines terms.max_pairs terms.report entry.now) }
+{
+    push_head(alloc, out, entry, terms.max_pairs)?;
+    push_details(alloc, out, terms, entry)?;
+    Ok(())
+}
+
+#[tactic(auto, using(crate::proofs::LineLemmas::rounds))]
+fn push_entries(
+    alloc: Global,
+    out: &mut Vec<u8>,
+    terms: Terms,
+    entries: &[Entry],
+) -> Result<(), OutOfMemory>
+    requires { All IsOfItsUniverse entries.now }
+    ensures { OnOk result (out.new.items
+        ≡ out.old.items ++ flat_map (entry_lines terms.max_pairs terms.report) entries.now) }
+{
+    for entry in entries {
+        push_entry(alloc, out, terms, entry)?;
+    }
+    Ok(())
+}
+
+#[tactic(auto, using(crate::proofs::LineLemmas::rounds))]
+fn push_heads(
+    alloc: Global,
+    out: &mut Vec<u8>,
+    entries: &[Entry],
+    max_pairs: u32,
+) -> Result<(), OutOfMemory>
+    ensures { OnOk result (out.new.items ≡ out.old.items ++ flat_map (head_line max_pairs) entries.now) }
+{
+    for entry in entries {
+        push_head(alloc, out, entry, max_pairs)?;
+    }
+    Ok(())
+}
+
+fn push_hidden(alloc: Global, out: &mut Vec<u8>, hidden: Option<usize>) -> Result<(), OutOfMemory>
+    ensures { OnOk result (out.new.items ≡ out.old.items ++ hidden_text hidden) }
+{
+    match hidden {
+        None => Ok(()),
+        Some(hidden) => {
+            push_text(out, ", ")?;
+            push_number(alloc, out, hidden)?;
+            push_text(out, " hidden")?;
+            Ok(())
+        }
+    }
+}
+
+fn push_counts(
+    alloc: Global,
+    out: &mut Vec<u8>,
+    terms: Terms,
+    entries: &[Entry],
+) -> Result<(), OutOfMemory>
+    ensures { OnOk result (out.new.items ≡ out.old.items ++ counts_text terms.max_degree entries.now) }
+{
+    let all = entries.len();
+    let found = findings(entries, terms.max_degree);
+    let refused = refusals(entries);
+    let passed = undecided(entries);
+    let text = format!(in alloc;
+        "{all} entries, {found} findings, {refused} refused, {passed} undecided"
+    )?;
+    push_text(out, text.as_str())
+}
+
+/// Puts the last line of a report behind the others.
+fn push_last(
+    alloc: Global,
+    out: &mut Vec<u8>,
+    terms: Terms,
+    entries: &[Entry],
+    hidden: Option<usize>,
+) -> Result<(), OutOfMemory>
+    ensures { OnOk result (out.new.items ≡ out.old.items ++ last_line terms.max_degree hidden entries.now) }
+{
+    push_counts(alloc, out, terms, entries)?;
+    push_hidden(alloc, out, hidden)?;
+    push_text(out, "\n")?;
+    Ok(())
+}
+
+/// The head lines and the last line.
+pub fn brief_report(
+    alloc: Global,
+    terms: Terms,
+    entries: &[Entry],
+    hidden: Option<usize>,
+) -> Result<Bytes, OutOfMemory>
+    ensures { IfOk result (λ bytes. bytes
+        ≡ brief_report terms.max_degree terms.max_pairs hidden entries.now) }
+{
+    let mut out = Vec::new(alloc);
+    push_heads(alloc, &mut out, entries, terms.max_pairs)?;
+    push_last(alloc, &mut out, terms, entries, hidden)?;
+    Ok(Bytes::from_vec(out))
+}
+
+/// The head line and the detail lines of each entry, and the last line.
+pub fn text_report(
+    alloc: Global,
+    terms: Terms,
+    entries: &[Entry],
+    hidden: Option<usize>,
+) -> Result<Bytes, OutOfMemory>
+    requires { All IsOfItsUniverse entries.now }
+    ensures { IfOk result (λ bytes. bytes
+        ≡ text_report terms.max_degree terms.max_pairs terms.report hidden entries.now) }
+{
+    let mut out = Vec::new(alloc);
+    push_entries(alloc, &mut out, terms, entries)?;
+    push_last(alloc, &mut out, terms, entries, hidden)?;
+    Ok(Bytes::from_vec(out))
+}

@@ -1,0 +1,126 @@
+//! The names in a report.
+ghost use Rattle.std.specs.Prelude.{◌≡◌};
+ghost use Rattle.rl_report.specs.Names.{call_name, feature_name, lexing_cause, limit_name, limit_number, literal_cause, pattern_cause, verdict_kind};
+
+use rl_pattern::PatError;
+use rl_pylex::LexError;
+use rl_pystr::StrError;
+use rl_sites::Call;
+use rl_syntax::{Feature, Limit, Verdict};
+
+/// The name of what a pattern may not hold.
+pub fn feature_name(feature: Feature) -> &'static str
+    ensures { result.now ≡ feature_name feature }
+{
+    match feature {
+        Feature::Locale => "locale",
+        Feature::FlagClash => "flag-clash",
+        Feature::DuplicateName => "duplicate-name",
+        Feature::CodeTooLarge => "code-too-large",
+        Feature::ReversedRange => "reversed-range",
+        Feature::RepeatTooLarge => "repeat-too-large",
+        Feature::RepeatOrder => "repeat-order",
+        Feature::Possessive => "possessive",
+        Feature::Backreference => "backreference",
+        Feature::Lookaround => "lookaround",
+        Feature::Conditional => "conditional",
+        Feature::Atomic => "atomic",
+        Feature::NamedEscape => "named-escape",
+        Feature::InnerAnchor => "inner-anchor",
+    }
+}
+
+/// The name of a call.
+pub fn call_name(call: Call) -> &'static str
+    ensures { result.now ≡ call_name call }
+{
+    match call {
+        Call::Compile => "compile",
+        Call::Match => "match",
+        Call::Search => "search",
+        Call::Fullmatch => "fullmatch",
+        Call::Findall => "findall",
+        Call::Finditer => "finditer",
+        Call::Split => "split",
+        Call::Sub => "sub",
+        Call::Subn => "subn",
+    }
+}
+
+/// The name of a limit.
+pub fn limit_name(limit: Limit) -> &'static str
+    ensures { result.now ≡ limit_name limit }
+{
+    match limit {
+        Limit::Size => "size",
+        Limit::Letters => "letters",
+        Limit::Moves => "moves",
+        Limit::Sets => "sets",
+        Limit::Pairs => "pairs",
+    }
+}
+
+/// The number of a limit, where that of the pairs is given.
+pub fn limit_number(limit: Limit, max_pairs: u32) -> u32
+    ensures { result ≡ limit_number max_pairs limit }
+{
+    match limit {
+        Limit::Size => 4000,
+        Limit::Letters => 128,
+        Limit::Moves => 256,
+        Limit::Sets => 20_000,
+        Limit::Pairs => max_pairs,
+    }
+}
+
+/// The name of a verdict's kind.
+pub fn verdict_kind(verdict: &Verdict) -> &'static str
+    ensures { result.now ≡ verdict_kind verdict.now }
+{
+    match verdict {
+        Verdict::Degree(_, _) => "degree",
+        Verdict::Expo(_) => "exponential",
+        Verdict::Undecided(_) => "undecided",
+    }
+}
+
+/// The name of why a source has no tokens.
+pub fn lexing_cause(error: LexError) -> &'static str
+    ensures { result.now ≡ lexing_cause error }
+{
+    match error {
+        LexError::NotUtf8(_) => "not-utf8",
+        LexError::Coding(_) => "coding",
+        LexError::Unterminated(_) => "unterminated",
+        LexError::FileTooLong => "file-too-long",
+        LexError::StrayCode(_) => "stray-code",
+        LexError::OutOfMemory => "out-of-memory",
+    }
+}
+
+/// The name of why literals have no value.
+pub fn literal_cause(error: StrError) -> &'static str
+    ensures { result.now ≡ literal_cause error }
+{
+    match error {
+        StrError::FString => "f-string",
+        StrError::Mixed => "mixed",
+        StrError::BadEscape(_) => "bad-escape",
+        StrError::NamedEscape(_) => "named-escape",
+        StrError::NotAscii(_) => "not-ascii",
+        StrError::OutOfMemory => "out-of-memory",
+    }
+}
+
+/// The name of why codes are no pattern that is judged.
+pub fn pattern_cause(error: PatError) -> &'static str
+    ensures { result.now ≡ pattern_cause error }
+{
+    match error {
+        PatError::Syntax(_) => "syntax",
+        PatError::TooDeep(_) => "too-deep",
+        PatError::TooLong => "too-long",
+        PatError::Outside(_, feature) => feature_name(feature),
+        PatError::OutOfMemory => "out-of-memory",
+    }
+}

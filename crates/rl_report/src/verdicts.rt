@@ -1,0 +1,158 @@
+//! Verdicts and families as texts.
+ghost use Rattle.std.specs.Prelude.{◌≡◌, ◌+◌, [], ◌∷◌, ◌++◌, All, IfOk, OnOk, codes, length};
+ghost use Rattle.rl_ranges.specs.Text.{IsText};
+ghost use Rattle.rl_report.specs.Names.{Text};
+ghost use Rattle.rl_report.specs.Verdicts.{IsFamilyOf, family_part, family_parts, family_text_line, later_parts, verdict_text};
+
+use crate::names::{limit_name, limit_number};
+use crate::pieces::{push_number, push_quoted, push_text};
+use rl_lists::{Bytes, Codes, OutOfMemory};
+use rl_syntax::{Family, Limit, Universe, Verdict};
+use std::alloc::Global;
+
+/// Puts the name and the number of a limit that was passed behind the others.
+fn push_limit(
+    alloc: Global,
+    out: &mut Vec<u8>,
+    limit: Limit,
+    max_pairs: u32,
+) -> Result<(), OutOfMemory>
+    ensures { OnOk result (out.new.items ≡ out.old.items ++ verdict_text max_pairs (Verdict.Undecided limit)) }
+{
+    push_text(out, "undecided ")?;
+    push_text(out, limit_name(limit))?;
+    push_text(out, " over ")?;
+    push_number(alloc, out, limit_number(limit, max_pairs) as usize)?;
+    Ok(())
+}
+
+/// Puts a verdict behind the others.
+pub fn push_verdict(
+    alloc: Global,
+    out: &mut Vec<u8>,
+    verdict: &Verdict,
+    max_pairs: u32,
+) -> Result<(), OutOfMemory>
+    ensures { OnOk result (out.new.items ≡ out.old.items ++ verdict_text max_pairs verdict.now) }
+{
+    match verdict {
+        Verdict::Degree(degree, _) => {
+            push_text(out, "degree ")?;
+            push_number(alloc, out, *degree as usize)?;
+            Ok(())
+        }
+        Verdict::Expo(_) => push_text(out, "exponential"),
+        Verdict::Undecided(limit) => push_limit(alloc, out, *limit, max_pairs),
+    }
+}
+
+/// Puts a head or a pump with its letter and its number behind the others.
+fn push_part(
+    alloc: Global,
+    out: &mut Vec<u8>,
+    universe: Universe,
+    letter: &str,
+    number: usize,
+    text: &Codes,
+) -> Result<(), OutOfMemory>
+    requires { IsText universe text.now }
+    ensures { OnOk result (out.new.items ≡ out.old.items ++ family_part universe letter.now number text.now) }
+{
+    push_text(out, " ")?;
+    push_text(out, letter)?;
+    push_number(alloc, out, number)?;
+    push_text(out, " ")?;
+    push_quoted(alloc, out, text, universe)?;
+    Ok(())
+}
+
+/// Puts the pumps and the heads behind them behind the others, numbered from 1.
+#[tactic(auto, using(crate::proofs::FamilyLemmas::parts))]
+fn push_later_parts(
+    alloc: Global,
+    out: &mut Vec<u8>,
+    universe: Universe,
+    pumps: &[Codes],
+    heads: &[Codes],
+) -> Result<(), OutOfMemory>
+    requires pumps { All (IsText universe) pumps.now }
+    requires heads { All (IsText universe) heads.now }
+    ensures { OnOk result (out.new.items ≡ out.old.items ++ later_parts universe 1 pumps.now heads.now) }
+{
+    for index in 0..pumps.len().min(heads.len()) {
+        push_part(alloc, out, universe, "y", index + 1, &pumps[index])?;
+        push_part(alloc, out, universe, "x", index + 1, &heads[index])?;
+    }
+    Ok(())
+}
+
+/// Puts the heads and pumps of a family behind the others.
+fn push_parts(
+    alloc: Global,
+    out: &mut Vec<u8>,
+    universe: Universe,
+    heads: &[Codes],
+    pumps: &[Codes],
+) -> Result<(), OutOfMemory>
+    requires heads { All (IsText universe) heads.now }
+    requires pumps { All (IsText universe) pumps.now }
+    ensures { OnOk result (out.new.items ≡ out.old.items ++ family_parts universe heads.now pumps.now) }
+{
+    match heads {
+        [] => Ok(()),
+        [head, heads @ ..] => {
+            push_part(alloc, out, universe, "x", 0, head)?;
+            push_later_parts(alloc, out, universe, pumps, heads)?;
+            Ok(())
+        }
+    }
+}
+
+/// Puts the line of a family behind the others.
+pub fn push_family(
+    alloc: Global,
+    out: &mut Vec<u8>,
+    family: &Family,
+    universe: Universe,
+) -> Result<(), OutOfMemory>
+    requires { IsFamilyOf universe family.now }
+    ensures { OnOk result (out.new.items ≡ out.old.items ++ family_text_line universe family.now) }
+{
+    push_text(out, "  family")?;
+    push_parts(
+        alloc,
+        out,
+        universe,
+        family.heads.as_slice(),
+        family.pumps.as_slice(),
+    )?;
+    push_text(out, "\n")?;
+    Ok(())
+}
+
+/// The line of a verdict: `degree D`, `exponential` or `undecided L over N`, and a line feed.
+///
+/// # Errors
+/// [`OutOfMemory`] where memory was refused.
+pub fn verdict_line(alloc: Global, verdict: &Verdict, max_pairs: u32) -> Result<Bytes, OutOfMemory>
+    ensures { IfOk result (λ line. line ≡ verdict_text max_pairs verdict.now ++ codes "\n") }
+{
+    let mut out = Vec::new(alloc);
+    push_verdict(alloc, &mut out, verdict, max_pairs)?;
+    push_text(&mut out, "\n")?;
+    Ok(Bytes::from_vec(out))
+}
+
+/// The line of a family: two spaces, `family`, its first head and each pump with the head behind it, as ` x0`, ` y1`,
+/// ` x1` and so on with the quoted text, and a line feed.
+///
+/// # Errors
+/// [`OutOfMemory`] where memory was refused.
+pub fn family_line(alloc: Global, family: &Family, universe: Universe) -> Result<Bytes, OutOfMemory>
+    requires { IsFamilyOf universe family.now }
+    ensures { IfOk result (λ line. line ≡ family_text_line universe family.now) }
+{
+    let mut out = Vec::new(alloc);
+    push_family(alloc, &mut out, family, universe)?;
+    Ok(Bytes::from_vec(out))
+}

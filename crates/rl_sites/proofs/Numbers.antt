@@ -1,0 +1,63 @@
+-- The numbers of tokens, and of marks.
+use Rattle.std.proofs.Common.{◌≡◌, ℕ, zero, suc, ◌+◌, ◌<◌, ◌≤◌, true, false, cond, List, [], ◌∷◌, take, drop, length, get_or, sym, arith, subst, Some, None}
+use Rattle.std.specs.Prelude.{slice_get}
+use Rattle.rl_pylex.specs.declared.token_list.Token.{Token}
+use Rattle.rl_pylex.specs.Source.{IsTokenList, IsInOrder}
+use Rattle.rl_pylex.proofs.TokenFacts.{IsInOrder-tokens}
+use Rattle.rl_sites.specs.declared.mark.Mark.{Mark}
+use Rattle.rl_sites.specs.Marks.{marks_from, is_comment_kind}
+use Rattle.rl_sites.specs.Walks.{IsNumbered}
+use Rattle.rl_sites.proofs.Tables.{table_drop}
+
+pub numbered_drop : (k : ℕ) (ms : List Mark) → IsNumbered ms → IsNumbered (drop k ms)
+numbered_drop zero ms h = h
+numbered_drop (suc k) [] h = h
+numbered_drop (suc k) (m ∷ ms) h = numbered_drop k ms h.1
+
+pub numbered_take : (k : ℕ) (ms : List Mark) → IsNumbered ms → IsNumbered (take k ms)
+numbered_take zero ms h = tt
+numbered_take (suc k) [] h = h
+numbered_take (suc k) (m ∷ ms) h = (h.0, numbered_take k ms h.1)
+
+none_is_no : (m : Mark) → None ≡ Some m → ⊥
+none_is_no m e = cc
+
+one_mark : (x m : Mark) → Some x ≡ Some m → x ≡ m
+one_mark x m e = cc
+
+pub numbered_at : (ms : List Mark) (i : ℕ) (m : Mark) → IsNumbered ms → Some m ≡ slice_get ms i → m.number < 4194304
+numbered_at [] i m h e = absurd (none_is_no m (sym e))
+numbered_at (x ∷ ms) zero m h e = subst (λ (y : Mark). y.number < 4194304) (sym (one_mark m x e)) h.0
+numbered_at (x ∷ ms) (suc i) m h e = numbered_at ms i m h.1 e
+
+pub ruleset numbers = (numbered_drop, numbered_take, numbered_at, table_drop)
+
+-- the marks of so many tokens
+pub marks-numbered : (n : ℕ) (ts : List Token) → n + length ts ≤ 4194304 → IsNumbered (marks_from n ts)
+marks-numbered n [] h = tt
+marks-numbered n (t ∷ ts) h =
+    elim (is_comment_kind t.kind) as (λ b. IsNumbered (cond b (marks_from (n + 1) ts) (record { number = n; token = t } ∷ marks_from (n + 1) ts))) [
+      | true ↦ marks-numbered (n + 1) ts (omega arith)
+      | false ↦ (omega arith, marks-numbered (n + 1) ts (omega arith))
+    ]
+
+-- a token begins no earlier than its number
+begins_late : (s : List ℕ) (ts : List Token) (d : Token) → IsInOrder s ts → (k : ℕ) → k < length ts → k ≤ (get_or ts k d).from
+begins_late s ts d h zero l = omega arith
+begins_late s ts d h (suc k) l =
+    omega (arith, begins_late s ts d h k (omega arith), (h.each k d (omega arith)).some, h.ordered k (suc k) d (omega arith) l)
+
+count_within : (s : List ℕ) (ts : List Token) → IsInOrder s ts → length ts ≤ length s
+count_within s [] h = omega arith
+count_within s (t ∷ ts) h =
+    omega (arith, begins_late s (t ∷ ts) t h (length ts) (omega arith), (h.each (length ts) t (omega arith)).some, (h.each (length ts) t (omega arith)).within)
+
+-- a source has at most 4,194,304 tokens
+pub few_tokens : (s : List ℕ) (ts : List Token) → IsTokenList s ts → length ts ≤ 4194304
+few_tokens s ts h = omega (arith, count_within s ts (IsInOrder-tokens s ts h), h.readable.short)
+
+marked : (n : ℕ) (ts : List Token) (ms : List Mark) → n + length ts ≤ 4194304 → ms ≡ marks_from n ts → IsNumbered ms
+marked n ts ms h e = subst IsNumbered (sym e) (marks-numbered n ts h)
+
+pub numbered_all : (ts : List Token) (ms : List Mark) → length ts ≤ 4194304 → ms ≡ marks_from 0 ts → IsNumbered ms
+numbered_all ts ms h e = marked 0 ts ms (omega arith) e

@@ -1,0 +1,15 @@
+-- The sites so far, in front of those of the rest, are the whole.
+use Rattle.std.proofs.Common.{◌≡◌, ◌++◌, length, false}
+use Rattle.rl_sites.specs.Walks.{IsTable, IsNumbered}
+use Rattle.rl_sites.specs.Sites.{sites_from}
+use Rattle.rl_sites.proofs.reading.sites_among.Given as goal
+
+abbrev pub invariant-loop-rest : goal.invariant-loop-rest
+invariant-loop-rest l = record {
+  same : sites_from l.source l.names.aliases.items false l.marks ≡ l.sites ++ sites_from l.source l.names.aliases.items l.hidden l.rest;
+  table : IsTable l.source l.rest l.sizes;
+  numbered : IsNumbered l.rest;
+}
+
+abbrev pub decreases-loop-rest : goal.decreases-loop-rest
+decreases-loop-rest l = length l.rest

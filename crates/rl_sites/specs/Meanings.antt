@@ -1,0 +1,89 @@
+-- What a table of names says of each name.
+use Rattle.std.specs.Prelude.{◌≡◌, ℕ, true, false, ◌||◌, List, Option, Some, None, nat_lt, unwrap_or, bytes_eq, if◌then◌else◌}
+use Rattle.std.specs.Map.{lookup}
+use denote.Ref.{Bor}
+use Rattle.rl_sites.specs.declared.mark.Mark.{Mark}
+use Rattle.rl_sites.specs.declared.imports.Alias.{Alias}
+use Rattle.rl_sites.specs.declared.call.Call.{Call}
+use Rattle.rl_sites.specs.declared.call.Call.TheVariants as call
+use Rattle.rl_sites.specs.declared.flag.Flag.{Flag}
+use Rattle.rl_sites.specs.declared.flag.Flag.TheVariants as flag
+use Rattle.rl_sites.specs.declared.meaning.Meaning.{Meaning}
+use Rattle.rl_sites.specs.Marks.{word_of}
+use Rattle.rl_sites.specs.Names.{call_of, flag_of, names_any_module, first_call, first_flag}
+
+abbrev pub call_rank : Call → ℕ
+call_rank call.Compile = 0
+call_rank call.Match = 1
+call_rank call.Search = 2
+call_rank call.Fullmatch = 3
+call_rank call.Findall = 4
+call_rank call.Finditer = 5
+call_rank call.Split = 6
+call_rank call.Sub = 7
+call_rank call.Subn = 8
+
+abbrev pub flag_rank : Flag → ℕ
+flag_rank flag.A = 0
+flag_rank flag.Ascii = 1
+flag_rank flag.I = 2
+flag_rank flag.IgnoreCase = 3
+flag_rank flag.L = 4
+flag_rank flag.Locale = 5
+flag_rank flag.M = 6
+flag_rank flag.Multiline = 7
+flag_rank flag.S = 8
+flag_rank flag.DotAll = 9
+flag_rank flag.U = 10
+flag_rank flag.Unicode = 11
+flag_rank flag.X = 12
+flag_rank flag.Verbose = 13
+flag_rank flag.Debug = 14
+flag_rank flag.NoFlag = 15
+
+-- the one of lower rank
+abbrev pub earlier : {X : Type 0} → (X → ℕ) → Option X → Option X → Option X
+earlier rank None second = second
+earlier rank (Some a) None = Some a
+earlier rank (Some a) (Some b) = if nat_lt (rank b) (rank a) then Some b else Some a
+
+-- the name stands for nothing
+abbrev pub nothing : Meaning
+nothing = record { of_module = false; call = None; flag = None }
+
+-- what a name stands for by two lists of aliases, one behind the other
+abbrev pub joined : Meaning → Meaning → Meaning
+joined first second =
+    record {
+      of_module = first.of_module || second.of_module;
+      call = earlier call_rank first.call second.call;
+      flag = earlier flag_rank first.flag second.flag;
+    }
+
+-- what an alias gives its name to
+abbrev pub own_meaning : List ℕ → Option Mark → Meaning
+own_meaning source None = record { of_module = true; call = None; flag = None }
+own_meaning source (Some member) =
+    record { of_module = false; call = call_of (word_of source member); flag = flag_of (word_of source member) }
+
+-- what a name stands for with one alias more
+abbrev pub meaning_with : List ℕ → Alias → List ℕ → Meaning → Meaning
+meaning_with source alias name old =
+    if bytes_eq (word_of source alias.name) name then joined old (own_meaning source alias.member) else old
+
+-- what the name stands for by these aliases
+abbrev pub meaning_of : List ℕ → List Alias → List ℕ → Meaning
+meaning_of source aliases name =
+    record {
+      of_module = names_any_module source aliases name;
+      call = first_call source aliases name;
+      flag = first_flag source aliases name;
+    }
+
+-- what the name stands for in a table
+abbrev pub meaning_in : List (Bor (List ℕ) × Meaning) → List ℕ → Meaning
+meaning_in entries name = unwrap_or (lookup (λ (k : Bor (List ℕ)). bytes_eq name k.now) entries) nothing
+
+-- the table says of each name what it stands for by these aliases
+pub record IsMeant (source : List ℕ) (aliases : List Alias) (entries : List (Bor (List ℕ) × Meaning)) : Type 0 where
+  pub each : (name : List ℕ) → meaning_in entries name ≡ meaning_of source aliases name

@@ -1,0 +1,173 @@
+// The arguments of a call, one by one.
+ghost use Rattle.std.specs.Prelude.{◌≡◌, ◌≤◌, ◌<◌, ◌+◌, ◌∷◌, [], ◌&&◌, ◌||◌, not, true, false, length, take, drop, filter, slice_get, Some, None, MatchOption, IfSome};
+ghost use Rattle.rl_sites.specs.Arguments.{opens, closes, lambda_after, parts, arguments_of};
+ghost use Rattle.rl_sites.specs.Walks.{IsTable, argument_size, first_argument, others_from, other_arguments, has_form};
+ghost use Rattle.rl_sites.specs.Flags.{is_named, is_flags_argument, is_starred};
+ghost use Rattle.rl_sites.specs.Marks.{is_name, is_word};
+
+use crate::brackets::{closes, jump_size, opens};
+use crate::mark::Mark;
+use crate::marks::{is_op, is_word, name_at, op_at, rest_from, word_at};
+
+/// A form of arguments that is looked for.
+#[derive(Clone, Copy, Debug)]
+pub enum Form {
+    /// It begins with `*`.
+    Starred,
+    /// It begins with `flags` and a single `=`.
+    FlagsNamed,
+}
+
+/// Whether the marks behind a mark, at the depth of the arguments, are between a `lambda` and its `:`.
+#[tactic(auto, unfolding(crate::specs::Arguments::lambda_after))]
+fn lambda_after(source: &[u8], in_lambda: bool, mark: Mark) -> bool
+    ensures { result ≡ lambda_after source.now in_lambda mark }
+{
+    is_word(source, b"lambda", mark) || (in_lambda && !is_op(source, b":", mark))
+}
+
+#[tactic(auto, unfolding(crate::specs::Arguments::parts))]
+fn parts(source: &[u8], in_lambda: bool, mark: Mark) -> bool
+    ensures { result ≡ parts source.now in_lambda mark }
+{
+    is_op(source, b",", mark) && !in_lambda
+}
+
+/// Whether an argument ends before a mark at its depth.
+fn ends_argument(source: &[u8], in_lambda: bool, mark: Mark) -> bool
+    ensures { result ≡ (not (opens source.now mark) && (closes source.now mark || parts source.now in_lambda mark)) }
+{
+    !opens(source, mark) && (closes(source, mark) || parts(source, in_lambda, mark))
+}
+
+/// How many marks the argument in front has.
+#[tactic(auto, using(crate::proofs::Walking::walks))]
+pub fn argument_size(source: &[u8], rest: &[Mark], sizes: &[usize]) -> usize
+    requires { IsTable source.now rest.now sizes.now }
+    ensures value { result ≡ argument_size source.now 0 false rest.now }
+    ensures within { result ≤ length rest.now }
+{
+    let mut left = rest;
+    let mut in_lambda = false;
+    while let [mark, ..] = left {
+        if ends_argument(source, in_lambda, *mark) {
+            return rest.len() - left.len();
+        }
+        let after = rest_from(left, 1);
+        let inner = jump_size(source, *mark, after, sizes);
+        in_lambda = lambda_after(source, in_lambda, *mark);
+        left = rest_from(after, inner);
+    }
+    rest.len() - left.len()
+}
+
+/// The marks behind the `,` that parts the argument in front from the next one, if there is a next one. `behind` are
+/// the marks behind the argument.
+#[tactic(auto, using(crate::proofs::Walking::others))]
+pub fn other_arguments<'a>(source: &[u8], behind: &'a [Mark]) -> Option<&'a [Mark]>
+    ensures { MatchOption result (others_from source.now behind.now ≡ []) (λ rest. (others_from source.now behind.now ≡ arguments_of source.now rest.now) × (rest.now ≡ drop 1 behind.now) × (0 < length behind.now)) }
+{
+    match behind {
+        [mark, ..] if !closes(source, *mark) => Some(rest_from(behind, 1)),
+        _ => None,
+    }
+}
+
+/// Whether the argument begins with a name and a single `=`.
+#[tactic(auto, unfolding(crate::specs::Flags::is_named))]
+pub fn is_named(source: &[u8], argument: &[Mark]) -> bool
+    ensures { result ≡ is_named source.now is_name argument.now }
+{
+    name_at(argument, 0) && op_at(source, b"=", argument, 1) && !op_at(source, b"=", argument, 2)
+}
+
+#[tactic(auto, unfolding(crate::specs::Flags::is_named))]
+fn is_flags_argument(source: &[u8], argument: &[Mark]) -> bool
+    ensures { result ≡ is_flags_argument source.now argument.now }
+{
+    word_at(source, b"flags", argument, 0)
+        && op_at(source, b"=", argument, 1)
+        && !op_at(source, b"=", argument, 2)
+}
+
+fn has_form(source: &[u8], form: Form, argument: &[Mark]) -> bool
+    ensures { result ≡ has_form source.now form argument.now }
+{
+    match form {
+        Form::Starred => op_at(source, b"*", argument, 0),
+        Form::FlagsNamed => is_flags_argument(source, argument),
+    }
+}
+
+/// The argument in front.
+fn first_argument<'a>(source: &[u8], rest: &'a [Mark], sizes: &[usize]) -> &'a [Mark]
+    requires { IsTable source.now rest.now sizes.now }
+    ensures { result.now ≡ first_argument source.now rest.now }
+{
+    &rest[..argument_size(source, rest, sizes)]
+}
+
+/// The marks behind the first argument.
+fn behind_first<'a>(source: &[u8], rest: &'a [Mark], sizes: &[usize]) -> &'a [Mark]
+    requires { IsTable source.now rest.now sizes.now }
+    ensures { result.now ≡ drop (argument_size source.now 0 false rest.now) rest.now }
+{
+    rest_from(rest, argument_size(source, rest, sizes))
+}
+
+/// An argument that was found, and the marks behind it.
+#[derive(Clone, Copy)]
+pub struct Found<'a> {
+    pub argument: &'a [Mark],
+    pub behind: &'a [Mark],
+}
+
+/// The first of the arguments that has the form.
+#[tactic(auto, using(crate::proofs::Walking::walks))]
+pub fn find_argument<'a>(
+    source: &[u8],
+    form: Form,
+    arguments: &'a [Mark],
+    sizes: &[usize],
+) -> Option<Found<'a>>
+    requires { IsTable source.now arguments.now sizes.now }
+    ensures found { MatchOption result (filter (has_form source.now form) (arguments_of source.now arguments.now) ≡ []) (λ found. filter (has_form source.now form) (arguments_of source.now arguments.now) ≡ found.argument.now ∷ filter (has_form source.now form) (others_from source.now found.behind.now)) }
+    ensures form { IfSome result (λ found. has_form source.now form found.argument.now ≡ true) }
+    ensures table { IfSome result (λ found. IsTable source.now found.behind.now sizes.now) }
+{
+    let mut rest = arguments;
+    'arguments: loop {
+        let argument = first_argument(source, rest, sizes);
+        let behind = behind_first(source, rest, sizes);
+        if has_form(source, form, argument) {
+            return Some(Found { argument, behind });
+        }
+        match other_arguments(source, behind) {
+            Some(others) => rest = others,
+            None => return None,
+        }
+    }
+}
+
+/// The argument at a place.
+#[tactic(auto, using(crate::proofs::Walking::walks))]
+pub fn argument_at<'a>(
+    source: &[u8],
+    place: usize,
+    arguments: &'a [Mark],
+    sizes: &[usize],
+) -> Option<&'a [Mark]>
+    requires { IsTable source.now arguments.now sizes.now }
+    ensures { MatchOption result (slice_get (arguments_of source.now arguments.now) place ≡ None) (λ argument. slice_get (arguments_of source.now arguments.now) place ≡ Some argument.now) }
+{
+    let mut rest = arguments;
+    let mut left = place;
+    while left > 0 {
+        match other_arguments(source, behind_first(source, rest, sizes)) {
+            Some(others) => rest = others,
+            None => return None,
+        }
+        left -= 1;
+    }
+    Some(first_argument(source, rest, sizes))
+}

@@ -1,0 +1,24 @@
+// The calls of the module that take a pattern first.
+
+/// One of the nine calls of Python's module `re` whose first argument is a pattern.
+#[derive(Clone, Copy, Debug, PartialEq, Eq)]
+pub enum Call {
+    /// `compile`
+    Compile,
+    /// `match`
+    Match,
+    /// `search`
+    Search,
+    /// `fullmatch`
+    Fullmatch,
+    /// `findall`
+    Findall,
+    /// `finditer`
+    Finditer,
+    /// `split`
+    Split,
+    /// `sub`
+    Sub,
+    /// `subn`
+    Subn,
+}

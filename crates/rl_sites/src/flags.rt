@@ -1,0 +1,127 @@
+// The flags of a call, by its arguments.
+ghost use Rattle.std.specs.Prelude.{◌≡◌, ◌≤◌, Some, slice_get, length, filter};
+ghost use Rattle.std.specs.List.{list_any};
+ghost use Rattle.rl_sites.specs.Arguments.{arguments_of};
+ghost use Rattle.rl_sites.specs.Walks.{IsTable, others_from, has_form, is_filled};
+ghost use Rattle.rl_sites.specs.Flags.{is_starred, is_flags_argument, position, flags_by, flags_by_place, flags_by_name, flags_of};
+ghost use Rattle.rl_sites.specs.Meanings.{IsMeant};
+
+use crate::arguments::{Form, argument_at, find_argument, is_named, other_arguments};
+use crate::mark::Mark;
+use crate::marks::rest_from;
+use crate::names::Names;
+use crate::terms::{flags_by, no_flags};
+use crate::{Call, SiteFlags};
+
+/// Whether an argument begins with `*`.
+#[tactic(auto, using(crate::proofs::Filters::filters))]
+fn any_starred(source: &[u8], arguments: &[Mark], sizes: &[usize]) -> bool
+    requires { IsTable source.now arguments.now sizes.now }
+    ensures { result ≡ list_any (is_starred source.now) (arguments_of source.now arguments.now) }
+{
+    match find_argument(source, Form::Starred, arguments, sizes) {
+        Some(_) => true,
+        None => false,
+    }
+}
+
+/// Whether an argument of this form is among those behind one.
+#[tactic(auto, using(crate::proofs::Filters::filters))]
+fn has_another(source: &[u8], form: Form, behind: &[Mark], sizes: &[usize]) -> bool
+    requires { IsTable source.now behind.now sizes.now }
+    ensures { result ≡ is_filled (filter (has_form source.now form) (others_from source.now behind.now)) }
+{
+    match other_arguments(source, behind) {
+        None => false,
+        Some(others) => match find_argument(source, form, others, sizes) {
+            Some(_) => true,
+            None => false,
+        },
+    }
+}
+
+/// The place of the flags argument, where no argument is named `flags`.
+fn position(call: Call) -> usize
+    ensures { result ≡ position call }
+{
+    match call {
+        Call::Compile => 1,
+        Call::Match | Call::Search | Call::Fullmatch | Call::Findall | Call::Finditer => 2,
+        Call::Split => 3,
+        Call::Sub | Call::Subn => 4,
+    }
+}
+
+/// The flags by the argument at that place.
+fn flags_placed(source: &[u8], names: &Names<'_>, argument: &[Mark]) -> SiteFlags
+    requires { IsMeant source.now names.now.aliases.items names.now.meanings.entries }
+    ensures { result ≡ flags_by_place source.now names.now.aliases.items (Some argument.now) }
+{
+    if argument.is_empty() || is_named(source, argument) {
+        SiteFlags::Known(no_flags())
+    } else {
+        flags_by(source, names, argument)
+    }
+}
+
+fn flags_by_place(
+    source: &[u8],
+    names: &Names<'_>,
+    call: Call,
+    arguments: &[Mark],
+    sizes: &[usize],
+) -> SiteFlags
+    requires meant { IsMeant source.now names.now.aliases.items names.now.meanings.entries }
+    requires table { IsTable source.now arguments.now sizes.now }
+    ensures { result ≡ flags_by_place source.now names.now.aliases.items (slice_get (arguments_of source.now arguments.now) (position call)) }
+{
+    match argument_at(source, position(call), arguments, sizes) {
+        Some(argument) => flags_placed(source, names, argument),
+        None => SiteFlags::Known(no_flags()),
+    }
+}
+
+/// The flags by the argument named `flags`, or else by the place.
+#[tactic(auto, using(crate::proofs::Filters::filters))]
+fn flags_by_name(
+    source: &[u8],
+    names: &Names<'_>,
+    call: Call,
+    arguments: &[Mark],
+    sizes: &[usize],
+) -> SiteFlags
+    requires meant { IsMeant source.now names.now.aliases.items names.now.meanings.entries }
+    requires table { IsTable source.now arguments.now sizes.now }
+    ensures { result ≡ flags_by_name source.now names.now.aliases.items (filter (is_flags_argument source.now) (arguments_of source.now arguments.now)) (slice_get (arguments_of source.now arguments.now) (position call)) }
+{
+    match find_argument(source, Form::FlagsNamed, arguments, sizes) {
+        None => flags_by_place(source, names, call, arguments, sizes),
+        Some(found) => {
+            if has_another(source, Form::FlagsNamed, found.behind, sizes) {
+                SiteFlags::Unknown
+            } else {
+                flags_by(source, names, rest_from(found.argument, 2))
+            }
+        }
+    }
+}
+
+/// The flags of a call whose arguments these marks begin with.
+#[tactic(auto, unfolding(crate::specs::Flags::flags_of))]
+pub fn flags_of(
+    source: &[u8],
+    names: &Names<'_>,
+    call: Call,
+    arguments: &[Mark],
+    sizes: &[usize],
+) -> SiteFlags
+    requires meant { IsMeant source.now names.now.aliases.items names.now.meanings.entries }
+    requires table { IsTable source.now arguments.now sizes.now }
+    ensures { result ≡ flags_of source.now names.now.aliases.items call (arguments_of source.now arguments.now) }
+{
+    if any_starred(source, arguments, sizes) {
+        SiteFlags::Unknown
+    } else {
+        flags_by_name(source, names, call, arguments, sizes)
+    }
+}

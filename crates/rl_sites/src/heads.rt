@@ -1,0 +1,112 @@
+// The heads of calls.
+ghost use Rattle.std.specs.Prelude.{◌≡◌, ◌≤◌, ◌<◌, ◌&&◌, IsTrue, IfSome, codes, length, slice_get};
+ghost use Rattle.rl_sites.specs.Marks.{is_op, stands};
+ghost use Rattle.rl_sites.specs.Names.{is_module, call_named, call_aliased};
+ghost use Rattle.rl_sites.specs.Sites.{head, call_by, dotted_head, bare_head, head_of};
+ghost use Rattle.rl_sites.specs.Meanings.{IsMeant};
+
+use crate::Call;
+use crate::mark::Mark;
+use crate::marks::op_at;
+use crate::names::{Names, call_aliased, call_named, is_module};
+
+/// The head of a call: what is called, and how many marks there are up to the opening bracket, that one included.
+#[derive(Clone, Copy, Debug)]
+pub struct Head {
+    pub call: Call,
+    pub size: usize,
+}
+
+/// Whether an alias of the module stands in front.
+fn begins_module(source: &[u8], names: &Names<'_>, rest: &[Mark]) -> bool
+    requires { IsMeant source.now names.now.aliases.items names.now.meanings.entries }
+    ensures { result ≡ stands 0 (is_module source.now names.now.aliases.items) rest.now }
+{
+    match rest.get(0) {
+        Some(mark) => is_module(source, names, *mark),
+        None => false,
+    }
+}
+
+/// The call that the mark at a place names itself.
+fn named_at(source: &[u8], rest: &[Mark], at: usize) -> Option<Call>
+    ensures { result ≡ call_by (call_named source.now) (slice_get rest.now at) }
+{
+    match rest.get(at) {
+        Some(mark) => call_named(source, *mark),
+        None => None,
+    }
+}
+
+/// The call that the mark in front is an alias of.
+fn begins_alias(source: &[u8], names: &Names<'_>, rest: &[Mark]) -> Option<Call>
+    requires { IsMeant source.now names.now.aliases.items names.now.meanings.entries }
+    ensures { result ≡ call_by (call_aliased source.now names.now.aliases.items) (slice_get rest.now 0) }
+{
+    match rest.get(0) {
+        Some(mark) => call_aliased(source, names, *mark),
+        None => None,
+    }
+}
+
+fn made_head(size: usize, call: Option<Call>) -> Option<Head>
+    ensures value { result ≡ head size call }
+    ensures size { IfSome result (λ found. found.size ≡ size) }
+{
+    match call {
+        Some(call) => Some(Head { call, size }),
+        None => None,
+    }
+}
+
+/// Whether an alias of the module, `.`, a mark and `(` stand in front.
+fn is_dotted(source: &[u8], names: &Names<'_>, rest: &[Mark]) -> bool
+    requires { IsMeant source.now names.now.aliases.items names.now.meanings.entries }
+    ensures value { result ≡ (stands 0 (is_module source.now names.now.aliases.items) rest.now && stands 1 (is_op source.now (codes ".")) rest.now && stands 3 (is_op source.now (codes "(")) rest.now) }
+    ensures within { IsTrue result → 4 ≤ length rest.now }
+{
+    begins_module(source, names, rest)
+        && op_at(source, b".", rest, 1)
+        && op_at(source, b"(", rest, 3)
+}
+
+/// The head of an alias of the module, `.`, one of the nine names and `(`.
+#[tactic(auto, unfolding(crate::specs::Sites::dotted_head))]
+fn dotted_head(source: &[u8], names: &Names<'_>, rest: &[Mark]) -> Option<Head>
+    requires { IsMeant source.now names.now.aliases.items names.now.meanings.entries }
+    ensures value { result ≡ dotted_head source.now names.now.aliases.items rest.now }
+    ensures within { IfSome result (λ found. found.size ≤ length rest.now) }
+{
+    if is_dotted(source, names, rest) {
+        made_head(4, named_at(source, rest, 2))
+    } else {
+        None
+    }
+}
+
+/// The head of an alias of one of the nine names and `(`.
+#[tactic(auto, unfolding(crate::specs::Sites::bare_head))]
+fn bare_head(source: &[u8], names: &Names<'_>, rest: &[Mark]) -> Option<Head>
+    requires { IsMeant source.now names.now.aliases.items names.now.meanings.entries }
+    ensures value { result ≡ bare_head source.now names.now.aliases.items rest.now }
+    ensures within { IfSome result (λ found. found.size ≤ length rest.now) }
+{
+    if op_at(source, b"(", rest, 1) {
+        made_head(2, begins_alias(source, names, rest))
+    } else {
+        None
+    }
+}
+
+/// The head of the call in front, if there is one.
+#[tactic(auto, unfolding(crate::specs::Sites::head_of))]
+pub fn head_of(source: &[u8], names: &Names<'_>, rest: &[Mark]) -> Option<Head>
+    requires { IsMeant source.now names.now.aliases.items names.now.meanings.entries }
+    ensures value { result ≡ head_of source.now names.now.aliases.items rest.now }
+    ensures within { IfSome result (λ found. found.size ≤ length rest.now) }
+{
+    match dotted_head(source, names, rest) {
+        Some(found) => Some(found),
+        None => bare_head(source, names, rest),
+    }
+}

@@ -1,0 +1,305 @@
+// What names stand for: the module, its nine calls that take a pattern first, and its flags.
+ghost use Rattle.std.specs.Prelude.{◌≡◌, ℕ, List, None, IfOk, OnOk};
+ghost use Rattle.rl_sites.specs.Names.{call_of, flag_of, is_module, call_named, flag_named, call_aliased, flag_aliased};
+ghost use Rattle.rl_sites.specs.Marks.{word_of};
+ghost use Rattle.rl_sites.specs.Meanings.{call_rank, flag_rank, earlier, nothing, joined, own_meaning, meaning_with, meaning_of, meaning_in, IsMeant};
+
+use crate::Call;
+use crate::flag::Flag;
+use crate::imports::Alias;
+use crate::mark::Mark;
+use crate::marks::{is_name, word_of};
+use crate::meaning::Meaning;
+use indexmap::IndexMap;
+use rl_lists::OutOfMemory;
+use std::alloc::Global;
+
+/// What the names of a source stand for.
+#[derive(Drop)]
+pub struct Names<'a> {
+    /// The aliases of the source.
+    pub aliases: Vec<Alias>,
+    /// What each of their names stands for.
+    pub meanings: IndexMap<&'a [u8], Meaning>,
+}
+
+/// The call with this name.
+#[tactic(auto, unfolding(crate::specs::Names::call_of))]
+fn call_of(word: &[u8]) -> Option<Call>
+    ensures { result ≡ call_of word.now }
+{
+    if word == b"compile".as_slice() {
+        Some(Call::Compile)
+    } else if word == b"match".as_slice() {
+        Some(Call::Match)
+    } else if word == b"search".as_slice() {
+        Some(Call::Search)
+    } else if word == b"fullmatch".as_slice() {
+        Some(Call::Fullmatch)
+    } else if word == b"findall".as_slice() {
+        Some(Call::Findall)
+    } else if word == b"finditer".as_slice() {
+        Some(Call::Finditer)
+    } else if word == b"split".as_slice() {
+        Some(Call::Split)
+    } else if word == b"sub".as_slice() {
+        Some(Call::Sub)
+    } else if word == b"subn".as_slice() {
+        Some(Call::Subn)
+    } else {
+        None
+    }
+}
+
+/// The flag with this name.
+#[tactic(auto, unfolding(crate::specs::Names::flag_of))]
+fn flag_of(word: &[u8]) -> Option<Flag>
+    ensures { result ≡ flag_of word.now }
+{
+    if word == b"A".as_slice() {
+        Some(Flag::A)
+    } else if word == b"ASCII".as_slice() {
+        Some(Flag::Ascii)
+    } else if word == b"I".as_slice() {
+        Some(Flag::I)
+    } else if word == b"IGNORECASE".as_slice() {
+        Some(Flag::IgnoreCase)
+    } else if word == b"L".as_slice() {
+        Some(Flag::L)
+    } else if word == b"LOCALE".as_slice() {
+        Some(Flag::Locale)
+    } else if word == b"M".as_slice() {
+        Some(Flag::M)
+    } else if word == b"MULTILINE".as_slice() {
+        Some(Flag::Multiline)
+    } else if word == b"S".as_slice() {
+        Some(Flag::S)
+    } else if word == b"DOTALL".as_slice() {
+        Some(Flag::DotAll)
+    } else if word == b"U".as_slice() {
+        Some(Flag::U)
+    } else if word == b"UNICODE".as_slice() {
+        Some(Flag::Unicode)
+    } else if word == b"X".as_slice() {
+        Some(Flag::X)
+    } else if word == b"VERBOSE".as_slice() {
+        Some(Flag::Verbose)
+    } else if word == b"DEBUG".as_slice() {
+        Some(Flag::Debug)
+    } else if word == b"NOFLAG".as_slice() {
+        Some(Flag::NoFlag)
+    } else {
+        None
+    }
+}
+
+fn call_rank(call: Call) -> u8
+    ensures { result ≡ call_rank call }
+{
+    call as u8
+}
+
+fn flag_rank(flag: Flag) -> u8
+    ensures { result ≡ flag_rank flag }
+{
+    flag as u8
+}
+
+/// The call that comes first in their order.
+fn earlier_call(first: Option<Call>, second: Option<Call>) -> Option<Call>
+    ensures { result ≡ earlier call_rank first second }
+{
+    match first {
+        None => second,
+        Some(a) => match second {
+            None => Some(a),
+            Some(b) => {
+                if call_rank(b) < call_rank(a) {
+                    Some(b)
+                } else {
+                    Some(a)
+                }
+            }
+        },
+    }
+}
+
+/// The flag that comes first in their order.
+fn earlier_flag(first: Option<Flag>, second: Option<Flag>) -> Option<Flag>
+    ensures { result ≡ earlier flag_rank first second }
+{
+    match first {
+        None => second,
+        Some(a) => match second {
+            None => Some(a),
+            Some(b) => {
+                if flag_rank(b) < flag_rank(a) {
+                    Some(b)
+                } else {
+                    Some(a)
+                }
+            }
+        },
+    }
+}
+
+/// The name stands for nothing.
+fn nothing() -> Meaning
+    ensures { result ≡ nothing }
+{
+    Meaning {
+        of_module: false,
+        call: None,
+        flag: None,
+    }
+}
+
+fn joined(first: Meaning, second: Meaning) -> Meaning
+    ensures { result ≡ joined first second }
+{
+    Meaning {
+        of_module: first.of_module || second.of_module,
+        call: earlier_call(first.call, second.call),
+        flag: earlier_flag(first.flag, second.flag),
+    }
+}
+
+/// What an alias gives its name to.
+fn own_meaning(source: &[u8], member: Option<Mark>) -> Meaning
+    ensures { result ≡ own_meaning source.now member }
+{
+    match member {
+        None => Meaning {
+            of_module: true,
+            call: None,
+            flag: None,
+        },
+        Some(mark) => Meaning {
+            of_module: false,
+            call: call_of(word_of(source, mark)),
+            flag: flag_of(word_of(source, mark)),
+        },
+    }
+}
+
+/// What a name stands for in a table.
+fn meaning_in(meanings: &IndexMap<&[u8], Meaning>, name: &[u8]) -> Meaning
+    ensures { result ≡ meaning_in meanings.now.entries name.now }
+{
+    match meanings.get(&name) {
+        Some(meaning) => *meaning,
+        None => nothing(),
+    }
+}
+
+/// Puts an alias into a table.
+fn add_alias<'a>(
+    meanings: &mut IndexMap<&'a [u8], Meaning>,
+    source: &'a [u8],
+    alias: Alias,
+) -> Result<(), OutOfMemory>
+    ensures { OnOk result ((name : List ℕ) → meaning_in meanings.new.entries name ≡ meaning_with source.now alias name (meaning_in meanings.old.entries name)) }
+{
+    let name = word_of(source, alias.name);
+    let meaning = joined(
+        meaning_in(meanings, name),
+        own_meaning(source, alias.member),
+    );
+    meanings.insert(name, meaning)?;
+    Ok(())
+}
+
+/// The table of what the names of these aliases stand for.
+fn meanings_of<'a>(
+    alloc: Global,
+    source: &'a [u8],
+    aliases: &[Alias],
+) -> Result<IndexMap<&'a [u8], Meaning>, OutOfMemory>
+    ensures { IfOk result (λ meanings. IsMeant source.now aliases.now meanings.entries) }
+{
+    let mut meanings = IndexMap::new(alloc);
+    for alias in aliases {
+        add_alias(&mut meanings, source, *alias)?;
+    }
+    Ok(meanings)
+}
+
+/// What the names of a source with these aliases stand for.
+pub fn names_of<'a>(
+    alloc: Global,
+    source: &'a [u8],
+    aliases: Vec<Alias>,
+) -> Result<Names<'a>, OutOfMemory>
+    ensures meant { IfOk result (λ names. IsMeant source.now names.aliases.items names.meanings.entries) }
+    ensures aliases { IfOk result (λ names. names.aliases.items ≡ aliases.items) }
+{
+    let meanings = meanings_of(alloc, source, aliases.as_slice())?;
+    Ok(Names { aliases, meanings })
+}
+
+/// What the text of a mark stands for.
+fn meaning_of(source: &[u8], names: &Names<'_>, mark: Mark) -> Meaning
+    requires { IsMeant source.now names.now.aliases.items names.now.meanings.entries }
+    ensures { result ≡ meaning_of source.now names.now.aliases.items (word_of source.now mark) }
+{
+    meaning_in(&names.meanings, word_of(source, mark))
+}
+
+/// Whether the mark is a name and an alias of the module.
+#[tactic(auto, unfolding(crate::specs::Names::is_module))]
+pub fn is_module(source: &[u8], names: &Names<'_>, mark: Mark) -> bool
+    requires { IsMeant source.now names.now.aliases.items names.now.meanings.entries }
+    ensures { result ≡ is_module source.now names.now.aliases.items mark }
+{
+    is_name(mark) && meaning_of(source, names, mark).of_module
+}
+
+/// The call that the mark names itself.
+#[tactic(auto, unfolding(crate::specs::Names::call_named))]
+pub fn call_named(source: &[u8], mark: Mark) -> Option<Call>
+    ensures { result ≡ call_named source.now mark }
+{
+    if is_name(mark) {
+        call_of(word_of(source, mark))
+    } else {
+        None
+    }
+}
+
+/// The flag that the mark names itself.
+#[tactic(auto, unfolding(crate::specs::Names::flag_named))]
+pub fn flag_named(source: &[u8], mark: Mark) -> Option<Flag>
+    ensures { result ≡ flag_named source.now mark }
+{
+    if is_name(mark) {
+        flag_of(word_of(source, mark))
+    } else {
+        None
+    }
+}
+
+/// The call that the mark is an alias of, the first of several.
+#[tactic(auto, unfolding(crate::specs::Names::call_aliased))]
+pub fn call_aliased(source: &[u8], names: &Names<'_>, mark: Mark) -> Option<Call>
+    requires { IsMeant source.now names.now.aliases.items names.now.meanings.entries }
+    ensures { result ≡ call_aliased source.now names.now.aliases.items mark }
+{
+    if is_name(mark) {
+        meaning_of(source, names, mark).call
+    } else {
+        None
+    }
+}
+
+/// The flag that the mark is an alias of, the first of several.
+#[tactic(auto, unfolding(crate::specs::Names::flag_aliased))]
+pub fn flag_aliased(source: &[u8], names: &Names<'_>, mark: Mark) -> Option<Flag>
+    requires { IsMeant source.now names.now.aliases.items names.now.meanings.entries }
+    ensures { result ≡ flag_aliased source.now names.now.aliases.items mark }
+{
+    if is_name(mark) {
+        meaning_of(source, names, mark).flag
+    } else {
+        None
+    }
+}

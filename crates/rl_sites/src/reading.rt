@@ -1,0 +1,216 @@
+// The sites of a source.
+ghost use Rattle.std.specs.Prelude.{◌≡◌, ◌≤◌, ◌<◌, ◌+◌, ◌-◌, ◌++◌, List, [], length, take, drop, slice_get, not, false, position, IfOk, OnOk, option_to_list, if◌then◌else◌};
+ghost use Rattle.std.specs.List.{prefix_len};
+ghost use Rattle.rl_pylex.specs.Source.{IsTokenList};
+ghost use Rattle.rl_sites.specs.Marks.{is_literal};
+ghost use Rattle.rl_sites.specs.Walks.{IsTable, IsNumbered};
+ghost use Rattle.rl_sites.specs.Arguments.{arguments_of};
+ghost use Rattle.rl_sites.specs.Imports.{aliases_of};
+ghost use Rattle.rl_sites.specs.Sites.{pattern_size, site_of_run, ends_whole, flags_if, site_behind, site_by, site_here, hides, sites_from, sites_of};
+ghost use Rattle.rl_sites.specs.Meanings.{IsMeant};
+
+use crate::brackets::sizes_of;
+use crate::flags::flags_of;
+use crate::heads::head_of;
+use crate::imports::aliases_of;
+use crate::mark::Mark;
+use crate::marks::{is_literal, is_op, is_word, marks_of, op_at, rest_from, word_at};
+use crate::names::{Names, names_of};
+use crate::{Call, Site, SiteFlags, SiteList};
+use rl_lists::OutOfMemory;
+use rl_pylex::TokenList;
+use std::alloc::Global;
+
+/// How many marks `pattern` and `=` take, where they stand in front.
+fn pattern_size(source: &[u8], rest: &[Mark]) -> usize
+    ensures value { result ≡ pattern_size source.now rest.now }
+    ensures within { result ≤ length rest.now }
+{
+    if word_at(source, b"pattern", rest, 0) && op_at(source, b"=", rest, 1) {
+        2
+    } else {
+        0
+    }
+}
+
+fn after_literals(marks: &[Mark]) -> Option<usize>
+    ensures { result ≡ position (λ mark. not (is_literal mark)) marks.now }
+{
+    marks.iter().position(|mark| !is_literal(*mark))
+}
+
+/// How many literals stand in front.
+#[tactic(auto, using(crate::proofs::TermFacts::runs))]
+fn literal_size(marks: &[Mark]) -> usize
+    ensures value { result ≡ prefix_len is_literal marks.now }
+    ensures within { result ≤ length marks.now }
+{
+    after_literals(marks).unwrap_or(marks.len())
+}
+
+/// The first marks.
+#[tactic(auto, using(crate::proofs::Numbers::numbers))]
+fn first(marks: &[Mark], size: usize) -> &[Mark]
+    requires within { size ≤ length marks.now }
+    requires numbered { IsNumbered marks.now }
+    ensures value { result.now ≡ take size marks.now }
+    ensures numbered { IsNumbered result.now }
+{
+    &marks[..size]
+}
+
+/// Whether `,` or `)` stands behind a run of literals.
+#[tactic(auto, unfolding(crate::specs::Sites::ends_whole))]
+fn ends_whole(source: &[u8], rest: &[Mark]) -> bool
+    ensures { result ≡ ends_whole source.now rest.now }
+{
+    op_at(source, b",", rest, 0) || op_at(source, b")", rest, 0)
+}
+
+fn flags_if(
+    whole: bool,
+    source: &[u8],
+    names: &Names<'_>,
+    call: Call,
+    rest: &[Mark],
+    sizes: &[usize],
+) -> SiteFlags
+    requires meant { IsMeant source.now names.now.aliases.items names.now.meanings.entries }
+    requires table { IsTable source.now rest.now sizes.now }
+    ensures { result ≡ flags_if whole source.now names.now.aliases.items call rest.now }
+{
+    if whole {
+        flags_of(source, names, call, rest, sizes)
+    } else {
+        SiteFlags::Unknown
+    }
+}
+
+/// The site whose literals are this run, if it has any.
+#[tactic(auto, using(crate::proofs::Numbers::numbers))]
+fn site_of_run(call: Call, whole: bool, flags: SiteFlags, run: &[Mark]) -> Option<Site>
+    requires { IsNumbered run.now }
+    ensures { result ≡ site_of_run call whole flags (slice_get run.now 0) (slice_get run.now (length run.now - 1)) }
+{
+    match run.first() {
+        None => None,
+        Some(first) => match run.last() {
+            None => None,
+            Some(last) => Some(Site {
+                call,
+                first: first.number,
+                count: last.number.saturating_sub(first.number) + 1,
+                whole,
+                flags,
+            }),
+        },
+    }
+}
+
+/// The site of a call, by the marks behind its opening bracket.
+#[tactic(auto, using(crate::proofs::Numbers::numbers), unfolding(crate::specs::Sites::site_behind))]
+fn site_behind(
+    source: &[u8],
+    names: &Names<'_>,
+    call: Call,
+    rest: &[Mark],
+    sizes: &[usize],
+) -> Option<Site>
+    requires meant { IsMeant source.now names.now.aliases.items names.now.meanings.entries }
+    requires table { IsTable source.now rest.now sizes.now }
+    requires numbered { IsNumbered rest.now }
+    ensures { result ≡ site_behind source.now names.now.aliases.items call rest.now }
+{
+    let run = rest_from(rest, pattern_size(source, rest));
+    let size = literal_size(run);
+    let whole = ends_whole(source, rest_from(run, size));
+    let flags = flags_if(whole, source, names, call, rest, sizes);
+    site_of_run(call, whole, flags, first(run, size))
+}
+
+/// The site that begins in front, if there is one.
+#[tactic(auto, using(crate::proofs::Numbers::numbers))]
+fn site_here(source: &[u8], names: &Names<'_>, rest: &[Mark], sizes: &[usize]) -> Option<Site>
+    requires meant { IsMeant source.now names.now.aliases.items names.now.meanings.entries }
+    requires table { IsTable source.now rest.now sizes.now }
+    requires numbered { IsNumbered rest.now }
+    ensures { result ≡ site_here source.now names.now.aliases.items rest.now }
+{
+    match head_of(source, names, rest) {
+        Some(head) => site_behind(source, names, head.call, rest_from(rest, head.size), sizes),
+        None => None,
+    }
+}
+
+/// Whether no site begins behind the mark.
+#[tactic(auto, unfolding(crate::specs::Sites::hides))]
+fn hides(source: &[u8], mark: Mark) -> bool
+    ensures { result ≡ hides source.now mark }
+{
+    is_op(source, b".", mark) || is_word(source, b"def", mark)
+}
+
+/// Puts the site that begins in front behind the others, if there is one and it isn't hidden.
+fn push_site(
+    sites: &mut SiteList,
+    source: &[u8],
+    names: &Names<'_>,
+    hidden: bool,
+    rest: &[Mark],
+    sizes: &[usize],
+) -> Result<(), OutOfMemory>
+    requires meant { IsMeant source.now names.now.aliases.items names.now.meanings.entries }
+    requires table { IsTable source.now rest.now sizes.now }
+    requires numbered { IsNumbered rest.now }
+    ensures { OnOk result (sites.new ≡ sites.old ++ (if hidden then [] else option_to_list (site_here source.now names.now.aliases.items rest.now))) }
+{
+    if hidden {
+        return Ok(());
+    }
+    if let Some(site) = site_here(source, names, rest, sizes) {
+        sites.push(site)?;
+    }
+    Ok(())
+}
+
+/// The sites among the marks.
+#[tactic(auto, using(crate::proofs::Numbers::numbers))]
+fn sites_among(
+    alloc: Global,
+    source: &[u8],
+    names: &Names<'_>,
+    marks: &[Mark],
+    sizes: &[usize],
+) -> Result<SiteList, OutOfMemory>
+    requires meant { IsMeant source.now names.now.aliases.items names.now.meanings.entries }
+    requires table { IsTable source.now marks.now sizes.now }
+    requires numbered { IsNumbered marks.now }
+    ensures { IfOk result (λ sites. sites ≡ sites_from source.now names.now.aliases.items false marks.now) }
+{
+    let mut sites = SiteList::new(alloc);
+    let mut hidden = false;
+    let mut rest = marks;
+    while let [mark, ..] = rest {
+        push_site(&mut sites, source, names, hidden, rest, sizes)?;
+        hidden = hides(source, *mark);
+        rest = rest_from(rest, 1);
+    }
+    Ok(sites)
+}
+
+/// The sites of a source with these tokens, which are its own: each call of the module `re` by an alias that its
+/// imports make, whose first argument is a run of literals, in the order of their places.
+///
+/// # Errors
+/// [`OutOfMemory`] where memory was refused.
+#[tactic(auto, unfolding(crate::specs::Sites::sites_of))]
+pub fn sites(alloc: Global, source: &[u8], tokens: &TokenList) -> Result<SiteList, OutOfMemory>
+    requires { IsTokenList source.now tokens.now }
+    ensures { IfOk result (λ sites. sites ≡ sites_of source.now tokens.now) }
+{
+    let marks = marks_of(alloc, tokens.as_slice())?;
+    let aliases = aliases_of(alloc, source, marks.as_slice())?;
+    let names = names_of(alloc, source, aliases)?;
+    let sizes = sizes_of(alloc, source, marks.as_slice())?;
+    sites_among(alloc, source, &names, marks.as_slice(), sizes.as_slice())
+}

@@ -1,0 +1,5 @@
+pub mod Paths
+pub mod Order
+pub mod Doing
+pub mod Same
+pub mod Determined

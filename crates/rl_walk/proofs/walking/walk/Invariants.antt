@@ -1,0 +1,14 @@
+use Rattle.std.proofs.Common.{◌≡◌, ◌≤◌, take, map, []}
+use Rattle.rl_walk.specs.Steps.{named}
+use Rattle.rl_walk.specs.Visits.{moment_of}
+use Rattle.rl_walk.specs.Parts.{Does}
+use Rattle.rl_walk.proofs.walking.walk.Given as goal
+
+abbrev pub invariant-loop-path : goal.invariant-loop-path
+invariant-loop-path g l = record {
+  does : Does (map named (map (λ p. p.now) (take l.path-index l.paths)))
+      (moment_of g.T.Tree.told g.T.Tree.fault_count l.initial.tree) (moment_of g.T.Tree.told g.T.Tree.fault_count l.tree)
+      [] l.met (g.V.Visitor.was_told l.initial.visitor) (g.V.Visitor.was_told l.visitor);
+  later : g.T.Tree.fault_count l.initial.tree ≤ g.T.Tree.fault_count l.tree;
+  terms : g.V.Visitor.terms l.visitor ≡ g.V.Visitor.terms l.initial.visitor;
+}

@@ -1,0 +1,105 @@
+-- The visits of a walk over a map, and the calls of the tree that it makes.
+use Rattle.std.specs.Prelude.{◌≡◌, ℕ, ◌<◌, ◌≤◌, Bool, true, false, List, [], ◌∷◌, ◌++◌, take, map, Option, Some}
+use Rattle.std.specs.List.{list_any}
+use Rattle.rl_source.specs.Asked.{call_of}
+use Rattle.rl_source.specs.Faults.{Rose}
+use Rattle.rl_source.specs.NodeMap.{kind_at, children_at, bytes_at}
+use Rattle.rl_source.specs.Told.{Told, after}
+use Rattle.rl_source.specs.declared.nodes.Call.{Call}
+use Rattle.rl_source.specs.declared.nodes.CallName.TheVariants as call
+use Rattle.rl_source.specs.declared.nodes.Child.{Child}
+use Rattle.rl_source.specs.declared.nodes.Kind.{Kind}
+use Rattle.rl_source.specs.declared.nodes.Node.{Node}
+use Rattle.rl_walk.specs.declared.visits.Visit.{Visit}
+use Rattle.rl_walk.specs.declared.visits.Visit.TheVariants.{Source, Unreadable, TooDeep, NotPlain}
+use Rattle.rl_walk.specs.Children.{IsInOrder}
+use Rattle.rl_walk.specs.Steps.{Step, named, file, folder, other, step_for, steps_below, is_met}
+
+-- Over this map, with these things left to do and these paths met, a walk makes these calls of the tree and these visits.
+-- A call holds its mark, which says whether it failed; so the map, what is left to do, the paths met and the marks of the
+-- calls determine the calls and the visits.
+pub data IsWalk (nodes : List Node) : List Step → List (List ℕ) → List Call → List Visit → Type 0 where
+  -- nothing is left to do
+  done : {met : List (List ℕ)} → IsWalk nodes [] met [] []
+  -- the kind of a given path is asked for, each time that it is given
+  unknown : {path : List ℕ} {rest : List Step} {met : List (List ℕ)} {calls : List Call} {visits : List Visit}
+      → IsWalk nodes rest met calls visits
+      → IsWalk nodes (named path ∷ rest) met (call_of call.Kind path true ∷ calls) (Unreadable path ∷ visits)
+  known : {path : List ℕ} {rest : List Step} {met : List (List ℕ)} {calls : List Call} {visits : List Visit} {kind : Kind}
+      → kind_at nodes path ≡ Some kind
+      → IsWalk nodes (step_for kind path ∷ rest) met calls visits
+      → IsWalk nodes (named path ∷ rest) met (call_of call.Kind path false ∷ calls) visits
+  not_plain : {path : List ℕ} {rest : List Step} {met : List (List ℕ)} {calls : List Call} {visits : List Visit}
+      → IsWalk nodes rest met calls visits
+      → IsWalk nodes (other path ∷ rest) met calls (NotPlain path ∷ visits)
+  -- a file that was met is passed over; another one is met and read
+  file_again : {path : List ℕ} {rest : List Step} {met : List (List ℕ)} {calls : List Call} {visits : List Visit}
+      → is_met path met ≡ true
+      → IsWalk nodes rest met calls visits
+      → IsWalk nodes (file path ∷ rest) met calls visits
+  unread : {path : List ℕ} {rest : List Step} {met : List (List ℕ)} {calls : List Call} {visits : List Visit}
+      → is_met path met ≡ false
+      → IsWalk nodes rest (met ++ path ∷ []) calls visits
+      → IsWalk nodes (file path ∷ rest) met (call_of call.Read path true ∷ calls) (Unreadable path ∷ visits)
+  source : {path : List ℕ} {rest : List Step} {met : List (List ℕ)} {calls : List Call} {visits : List Visit} {content : List ℕ}
+      → is_met path met ≡ false
+      → bytes_at nodes path ≡ Some content
+      → IsWalk nodes rest (met ++ path ∷ []) calls visits
+      → IsWalk nodes (file path ∷ rest) met (call_of call.Read path false ∷ calls) (Source path (take 4194305 content) ∷ visits)
+  -- a folder that was met is passed over; another one is met, and entered where it isn't too deep
+  folder_again : {path : List ℕ} {level : ℕ} {rest : List Step} {met : List (List ℕ)} {calls : List Call} {visits : List Visit}
+      → is_met path met ≡ true
+      → IsWalk nodes rest met calls visits
+      → IsWalk nodes (folder path level ∷ rest) met calls visits
+  too_deep : {path : List ℕ} {level : ℕ} {rest : List Step} {met : List (List ℕ)} {calls : List Call} {visits : List Visit}
+      → is_met path met ≡ false
+      → 64 < level
+      → IsWalk nodes rest (met ++ path ∷ []) calls visits
+      → IsWalk nodes (folder path level ∷ rest) met calls (TooDeep path ∷ visits)
+  unlisted : {path : List ℕ} {level : ℕ} {rest : List Step} {met : List (List ℕ)} {calls : List Call} {visits : List Visit}
+      → is_met path met ≡ false
+      → level ≤ 64
+      → IsWalk nodes rest (met ++ path ∷ []) calls visits
+      → IsWalk nodes (folder path level ∷ rest) met (call_of call.Children path true ∷ calls) (Unreadable path ∷ visits)
+  -- the children come in the order of their names, before what was left to do
+  listed : {path : List ℕ} {level : ℕ} {rest : List Step} {met : List (List ℕ)} {calls : List Call} {visits : List Visit} {children sorted : List Child}
+      → is_met path met ≡ false
+      → level ≤ 64
+      → children_at nodes path ≡ Some children
+      → IsInOrder children sorted
+      → IsWalk nodes (steps_below path level sorted ++ rest) (met ++ path ∷ []) calls visits
+      → IsWalk nodes (folder path level ∷ rest) met (call_of call.Children path false ∷ calls) visits
+
+abbrev pub is_unreadable : Visit → Bool
+is_unreadable (Source path content) = false
+is_unreadable (Unreadable path) = true
+is_unreadable (TooDeep path) = false
+is_unreadable (NotPlain path) = false
+
+-- a call failed
+abbrev pub has_failed : List Call → Bool
+has_failed calls = list_any (λ c. c.failed) calls
+
+-- a visit says so
+abbrev pub has_unreadable : List Visit → Bool
+has_unreadable visits = list_any is_unreadable visits
+
+-- a tree as it is at some moment: its map and its trail, where it tells them, and its count of faults
+pub record Moment : Type 0 where
+  pub told : Option Told
+  pub faults : ℕ
+
+abbrev pub moment_of : {T : Type 0} → (T → Option Told) → (T → ℕ) → T → Moment
+moment_of told faults tree = record { told = told tree; faults = faults tree }
+
+-- Between the two moments the tree was walked from the paths on. Where it tells its map and its trail, the trail went on by
+-- the calls of the walk, and these are its visits. The visitor was told of them in this order: `before` and `now` say what
+-- it was told at the two moments.
+pub record Walked (old new : Moment) (paths : List (List ℕ)) (before now : List Visit → Type 0) : Type 0 where
+  pub calls : List Call
+  pub visits : List Visit
+  pub trail : new.told ≡ after calls old.told
+  pub right : (t : Told) → old.told ≡ Some t → IsWalk t.nodes (map named paths) [] calls visits
+  pub told : (earlier : List Visit) → before earlier → now (earlier ++ visits)
+  pub failures : has_unreadable visits ≡ has_failed calls
+  pub cause : has_unreadable visits ≡ true → Rose old.faults new.faults

@@ -1,0 +1,53 @@
+//! What a walk comes to, and who is told of it.
+ghost use Rattle.std.specs.Prelude.{◌≡◌, ◌∷◌, [], ◌++◌, List, OnOk};
+
+use rl_lists::{Items, OutOfMemory};
+use rl_source::{Content, Name};
+
+/// What a walk tells of a path.
+#[derive(Drop)]
+pub enum Visit {
+    /// A source, with its bytes: the first 4,194,305 of its file, or all of them where there are fewer.
+    Source(Name, Content),
+    /// A call of the tree for this path failed.
+    Unreadable(Name),
+    /// A folder more than 64 levels below the path that the walk was given. It isn't entered.
+    TooDeep(Name),
+    /// A path that the walk was given, and that is neither a file nor a folder.
+    NotPlain(Name),
+}
+
+/// A list of visits, in the order of the walk.
+pub type Visits = Items<Visit>;
+
+/// Who is told of the visits of a walk, one after another, and needn't keep them.
+pub trait Visitor {
+    ghost use Rattle.rl_walk.specs.declared.visits.Visit.{Visit};
+
+    // The visitor, as it is now, was told of these visits in this order.
+    ghost was_told: { Self → List Visit → Type 0 };
+    // The terms on which it takes them. No visit changes them.
+    ghost Terms: { Type 0 };
+
+    ghost terms: { Self → Terms };
+
+    /// Takes the next visit.
+    ///
+    /// # Errors
+    /// [`OutOfMemory`] where memory was refused; the walk ends then.
+    fn visit(&mut self, visit: Visit) -> Result<(), OutOfMemory>
+        ensures told { OnOk result ((visits : List Visit) → was_told self.old visits → was_told self.new (visits ++ visit ∷ [])) }
+        ensures terms { terms self.new ≡ terms self.old };
+}
+
+impl Visitor for Visits {
+    ghost was_told = { λ list visits. list ≡ visits };
+
+    ghost Terms = { Unit {0} };
+
+    ghost terms = { λ _. tt };
+
+    fn visit(&mut self, visit: Visit) -> Result<(), OutOfMemory> {
+        self.push(visit)
+    }
+}

@@ -1,0 +1,199 @@
+//! The walk itself.
+ghost use Rattle.std.specs.Prelude.{◌≡◌, ◌≤◌, ◌∷◌, [], ◌+◌, map, OnOk};
+ghost use Rattle.rl_walk.specs.Steps.{named, file, folder, child_steps, steps_below};
+ghost use Rattle.rl_walk.specs.Children.{path_below, IsInOrder};
+ghost use Rattle.rl_walk.specs.Visits.{Walked, moment_of};
+ghost use Rattle.rl_walk.specs.Parts.{Does};
+
+use crate::children::{has_source_name, in_order, path_below};
+use crate::met::Met;
+use crate::visits::{Visit, Visitor};
+use rl_lists::OutOfMemory;
+use rl_source::{Child, Content, Kind, Name, Tree, TreeError};
+use std::alloc::Global;
+
+/// How many bytes of a source are read at most.
+const MOST_BYTES: usize = 4_194_305;
+
+/// The level of the deepest folders that are entered.
+const LAST_LEVEL: u32 = 64;
+
+/// Reads a file, unless it was met.
+fn take_file<T: Tree, V: Visitor>(
+    alloc: Global,
+    path: &str,
+    tree: &mut T,
+    met: &mut Met,
+    visitor: &mut V,
+) -> Result<(), OutOfMemory>
+    ensures does { OnOk result (Does (file path.now ∷ [])
+        (moment_of T.told T.fault_count tree.old) (moment_of T.told T.fault_count tree.new)
+        met.old met.new (V.was_told visitor.old) (V.was_told visitor.new)) }
+    ensures later { T.fault_count tree.old ≤ T.fault_count tree.new }
+    ensures terms { V.terms visitor.new ≡ V.terms visitor.old }
+{
+    if !met.add(path)? {
+        return Ok(());
+    }
+    match tree.read(path, MOST_BYTES) {
+        Ok(bytes) => {
+            let name = Name::from_text(alloc, path)?;
+            visitor.visit(Visit::Source(name, Content::from_vec(bytes)))
+        }
+        Err(TreeError::Failed) => {
+            let unread = Name::from_text(alloc, path)?;
+            visitor.visit(Visit::Unreadable(unread))
+        }
+        Err(TreeError::OutOfMemory) => Err(OutOfMemory),
+    }
+}
+
+/// Enters a folder at a level, unless it was met or is too deep.
+#[cycle(folders)]
+fn enter<T: Tree, V: Visitor>(
+    alloc: Global,
+    path: &str,
+    level: u32,
+    tree: &mut T,
+    met: &mut Met,
+    visitor: &mut V,
+) -> Result<(), OutOfMemory>
+    ensures does { OnOk result (Does (folder path.now level ∷ [])
+        (moment_of T.told T.fault_count tree.old) (moment_of T.told T.fault_count tree.new)
+        met.old met.new (V.was_told visitor.old) (V.was_told visitor.new)) }
+    ensures later { T.fault_count tree.old ≤ T.fault_count tree.new }
+    ensures terms { V.terms visitor.new ≡ V.terms visitor.old }
+{
+    if !met.add(path)? {
+        return Ok(());
+    }
+    if level > LAST_LEVEL {
+        let name = Name::from_text(alloc, path)?;
+        return visitor.visit(Visit::TooDeep(name));
+    }
+    match tree.children(path) {
+        Ok(children) => {
+            let children = in_order(children)?;
+            take_children(alloc, path, level, &children, tree, met, visitor)
+        }
+        Err(TreeError::Failed) => {
+            let unlisted = Name::from_text(alloc, path)?;
+            visitor.visit(Visit::Unreadable(unlisted))
+        }
+        Err(TreeError::OutOfMemory) => Err(OutOfMemory),
+    }
+}
+
+/// Takes the children of a folder at a level in turn.
+#[cycle(folders)]
+fn take_children<T: Tree, V: Visitor>(
+    alloc: Global,
+    path: &str,
+    level: u32,
+    children: &[Child],
+    tree: &mut T,
+    met: &mut Met,
+    visitor: &mut V,
+) -> Result<(), OutOfMemory>
+    requires { level ≤ 64 }
+    ensures does { OnOk result (Does (steps_below path.now level children.now)
+        (moment_of T.told T.fault_count tree.old) (moment_of T.told T.fault_count tree.new)
+        met.old met.new (V.was_told visitor.old) (V.was_told visitor.new)) }
+    ensures later { T.fault_count tree.old ≤ T.fault_count tree.new }
+    ensures terms { V.terms visitor.new ≡ V.terms visitor.old }
+{
+    for child in children {
+        let below = path_below(alloc, path, child.name.as_str())?;
+        take_child(alloc, child, below.as_str(), level + 1, tree, met, visitor)?;
+    }
+    Ok(())
+}
+
+/// Takes a child that stands at a path, at a level.
+#[cycle(folders)]
+fn take_child<T: Tree, V: Visitor>(
+    alloc: Global,
+    child: &Child,
+    path: &str,
+    level: u32,
+    tree: &mut T,
+    met: &mut Met,
+    visitor: &mut V,
+) -> Result<(), OutOfMemory>
+    requires { level ≤ 65 }
+    ensures does { OnOk result (Does (child_steps child.now.kind child.now.name path.now level)
+        (moment_of T.told T.fault_count tree.old) (moment_of T.told T.fault_count tree.new)
+        met.old met.new (V.was_told visitor.old) (V.was_told visitor.new)) }
+    ensures later { T.fault_count tree.old ≤ T.fault_count tree.new }
+    ensures terms { V.terms visitor.new ≡ V.terms visitor.old }
+{
+    match child.kind {
+        Kind::File => {
+            if has_source_name(child.name.as_str()) {
+                take_file(alloc, path, tree, met, visitor)
+            } else {
+                Ok(())
+            }
+        }
+        Kind::Folder => enter(alloc, path, level, tree, met, visitor),
+        Kind::Other => Ok(()),
+    }
+}
+
+/// Takes a path that the walk was given.
+fn take_named<T: Tree, V: Visitor>(
+    alloc: Global,
+    path: &str,
+    tree: &mut T,
+    met: &mut Met,
+    visitor: &mut V,
+) -> Result<(), OutOfMemory>
+    ensures does { OnOk result (Does (named path.now ∷ [])
+        (moment_of T.told T.fault_count tree.old) (moment_of T.told T.fault_count tree.new)
+        met.old met.new (V.was_told visitor.old) (V.was_told visitor.new)) }
+    ensures later { T.fault_count tree.old ≤ T.fault_count tree.new }
+    ensures terms { V.terms visitor.new ≡ V.terms visitor.old }
+{
+    match tree.kind(path) {
+        Ok(Kind::File) => take_file(alloc, path, tree, met, visitor),
+        Ok(Kind::Folder) => enter(alloc, path, 0, tree, met, visitor),
+        Ok(Kind::Other) => {
+            let name = Name::from_text(alloc, path)?;
+            visitor.visit(Visit::NotPlain(name))
+        }
+        Err(TreeError::Failed) => {
+            let unknown = Name::from_text(alloc, path)?;
+            visitor.visit(Visit::Unreadable(unknown))
+        }
+        Err(TreeError::OutOfMemory) => Err(OutOfMemory),
+    }
+}
+
+/// Walks over a tree from each of the paths in turn, and tells the visitor of each visit.
+///
+/// A path that is a file is read, whatever its name. A path that is a folder is entered. The children of a folder are taken
+/// in the order of the bytes of their names: files whose names end in `.py` are read, folders are entered in their place,
+/// and all else is passed over. A folder more than 64 levels below the path isn't entered. A file or a folder whose path
+/// text was met before in this walk is passed over. After a call that failed the walk goes on. At most 4,194,305 bytes of
+/// a file are read.
+///
+/// # Errors
+/// [`OutOfMemory`] where memory was refused; the walk ends then, and the tree may have been read.
+pub fn walk<T: Tree, V: Visitor>(
+    alloc: Global,
+    paths: &[&str],
+    tree: &mut T,
+    visitor: &mut V,
+) -> Result<(), OutOfMemory>
+    ensures walked { OnOk result (Walked
+        (moment_of T.told T.fault_count tree.old) (moment_of T.told T.fault_count tree.new)
+        (map (λ p. p.now) paths.now) (V.was_told visitor.old) (V.was_told visitor.new)) }
+    ensures later { T.fault_count tree.old ≤ T.fault_count tree.new }
+    ensures terms { V.terms visitor.new ≡ V.terms visitor.old }
+{
+    let mut met = Met::new(alloc);
+    for path in paths {
+        take_named(alloc, path, tree, &mut met, visitor)?;
+    }
+    Ok(())
+}
