@@ -1,5 +1,6 @@
 use crate::relint_main;
-use rl_source::{MemSink, MemTree, Nodes, Tree};
+use rl_lists::OutOfMemory;
+use rl_source::{Child, Children, Content, Held, Kind, MemSink, MemTree, Name, Node, Nodes, Tree};
 use std::alloc::{AllocError, Global};
 use std::test::Fail;
 
@@ -189,5 +190,122 @@ fn verdicts_come_first(rt: HostRuntime) -> Result<(), Fail> {
     )?;
     let power = begins(&rt, &["class", "(?:a|a)*"], "exponential\n  family x0 ", 1)?;
     assert!(rt; flat && square && found && power);
+    Ok(())
+}
+
+// The folder `p` has a source that ends within a literal and a good one, the folder `q` has none, and `f.py` has a finding.
+static FILES: [(&str, &str); 4] = [
+    ("p/a.py", "import re\nre.match(\"a\")\nx = \"\"\"abc\n"),
+    ("p/b.py", "import re\nre.fullmatch(\"\", s)\n"),
+    ("q/README.md", "q\n"),
+    ("f.py", "import re\nre.fullmatch(r\"(?:x*)*y\", s)\n"),
+];
+
+static FOLDERS: [(&str, &[&str]); 2] = [("p", &["b.py", "a.py"]), ("q", &["README.md"])];
+
+fn small_map(alloc: Global) -> Result<Nodes, OutOfMemory> {
+    let mut nodes = Nodes::new(alloc);
+    for (path, text) in &FILES {
+        let path = Name::from_text(alloc, path)?;
+        let held = Held::File(Content::from_slice(alloc, text.as_bytes())?);
+        nodes.push(Node { path, held })?;
+    }
+    for (path, names) in &FOLDERS {
+        let mut children = Children::new(alloc);
+        for name in *names {
+            let name = Name::from_text(alloc, name)?;
+            children.push(Child {
+                name,
+                kind: Kind::File,
+            })?;
+        }
+        let path = Name::from_text(alloc, path)?;
+        let held = Held::Folder(children);
+        nodes.push(Node { path, held })?;
+    }
+    Ok(nodes)
+}
+
+struct Check {
+    words: &'static [&'static str],
+    // which calls of the tree fail, how many bytes a write to `out` takes, and which of these writes fail
+    tree_fails: &'static [u64],
+    step: usize,
+    out_fails: &'static [u64],
+    status: u8,
+    out: &'static str,
+}
+
+static CHECKS: [Check; 7] = [
+    Check {
+        words: &["check", "--format", "brief", "p"],
+        tree_fails: &[],
+        step: 99,
+        out_fails: &[],
+        status: 0,
+        out: "p/a.py:3:5: refused unterminated\np/b.py:2:14: fullmatch: degree 0\n2 entries, 0 findings, 1 refused, 0 undecided\n",
+    },
+    Check {
+        words: &["check", "--format", "brief", "p", "none"],
+        tree_fails: &[],
+        step: 99,
+        out_fails: &[],
+        status: 3,
+        out: "p/a.py:3:5: refused unterminated\np/b.py:2:14: fullmatch: degree 0\nnone: unreadable\n3 entries, 0 findings, 2 refused, 0 undecided\n",
+    },
+    Check {
+        words: &["check", "--format", "brief", "p"],
+        tree_fails: &[4],
+        step: 99,
+        out_fails: &[],
+        status: 3,
+        out: "p/a.py:3:5: refused unterminated\np/b.py: unreadable\n2 entries, 0 findings, 2 refused, 0 undecided\n",
+    },
+    Check {
+        words: &["check", "--format=brief", "f.py", "f.py"],
+        tree_fails: &[],
+        step: 99,
+        out_fails: &[],
+        status: 1,
+        out: "f.py:2:14: fullmatch: exponential\n1 entries, 1 findings, 0 refused, 0 undecided\n",
+    },
+    Check {
+        words: &["check", "--format=brief", "f.py", "none"],
+        tree_fails: &[],
+        step: 99,
+        out_fails: &[],
+        status: 3,
+        out: "f.py:2:14: fullmatch: exponential\nnone: unreadable\n2 entries, 1 findings, 1 refused, 0 undecided\n",
+    },
+    Check {
+        words: &["check", "--format", "json", "--report", "1", "q"],
+        tree_fails: &[],
+        step: 99,
+        out_fails: &[],
+        status: 0,
+        out: "{\"entries\":[],\"findings\":0,\"refused\":0,\"undecided\":0,\"version\":1}\n",
+    },
+    Check {
+        words: &["check", "q"],
+        tree_fails: &[],
+        step: 16,
+        out_fails: &[3],
+        status: 4,
+        out: "0 entries, 0 findings, 0 refused",
+    },
+];
+
+#[test]
+fn checks_end_by_their_rows(rt: HostRuntime) -> Result<(), Fail> {
+    for row in &CHECKS {
+        let words = strings(rt.alloc(), row.words)?;
+        let failing = Vec::from_slice(rt.alloc(), row.tree_fails)?;
+        let mut tree = MemTree::new(rt.alloc(), small_map(rt.alloc())?, failing)?;
+        let mut out = sink(rt.alloc(), row.step, row.out_fails)?;
+        let mut err = sink(rt.alloc(), 99, &[])?;
+        let status = relint_main(rt.alloc(), &words, &mut tree, &mut out, &mut err);
+        assert_eq!(rt; out.bytes(), row.out.as_bytes(), "{:?}", row.words);
+        assert_eq!(rt; status, row.status);
+    }
     Ok(())
 }
