@@ -2,6 +2,7 @@
 
 ghost use Rattle.std.specs.Prelude.{◌≡◌, length, All, IfOk};
 
+use crate::graphs::links_of;
 use rl_graph::{Multigraph, Twice, parts_of};
 use rl_lanes::{BitRow, BitTable};
 use rl_lists::OutOfMemory;
@@ -143,6 +144,16 @@ pub fn work_of(rt: &HostRuntime, words: &[String]) -> Result<u64, WorkError> {
     };
     if name == "tokens" {
         return all_tokens(rt, &words[1..]);
+    }
+    if name == "degree" {
+        return match (words.get(1), words.get(2)) {
+            (Some(graph), Some(states)) => links_of(
+                alloc,
+                graph.as_str(),
+                number(states.as_str())?,
+            ),
+            _ => Err(WorkError::Refused),
+        };
     }
     let size = match words.get(1) {
         Some(word) => number(word.as_str())?,

@@ -9,7 +9,8 @@ pub mod RankPaths
 pub mod FallingLaws
 pub mod InnerLaws
 pub mod PairLaws
-pub mod TripleLaws
+pub mod TableLaws
+pub mod RowLaws
 pub mod SearchLaws
 pub mod RankLaws
 pub mod ChainLaws

@@ -1,9 +1,21 @@
 -- The pairs of the parts of the product, put in one by one.
-use Rattle.std.proofs.Common.{◌≡◌, ◌≢◌, ℕ, ◌+◌, ◌*◌, ◌<◌, ◌≤◌, ◌⊎◌, inl, inr, true, false, List, [], ◌∷◌, ◌++◌, length, get_or, refl, sym, ◌∙◌, ap, ap₂, subst, arith, length-set, get_or-set_same, get_or-set_other}
-use Rattle.std.proofs.lemmas.Bool.{cases_eq, cases_lt}
+use Rattle.std.proofs.Common.{◌≡◌, ◌≢◌, ℕ, ◌+◌, ◌*◌, ◌<◌, ◌≤◌, ◌⊎◌, inl, inr, true, false, List, [], ◌∷◌, ◌++◌, length, get_or, ltb, eqb, lt-ltb, eqb-true, eq-eqb, refl, sym, ◌∙◌, ap, ap₂, subst, arith, length-set, get_or-set_same, get_or-set_other}
+use Rattle.std.proofs.lemmas.Bool.{cases_eq, cases_lt, ltb-true, and_parts, and_from}
 use Rattle.std.proofs.lemmas.List.{length_push, get_or_push, get_or_append_left}
 use Rattle.rl_graph.specs.Parts.{PartTable, number_of}
-use Rattle.rl_degree.specs.Pairs.{is_wanted, Lists, row_of, with_pair, IsBarePlaced, IsHeld, IsPlacedUpTo}
+use Rattle.rl_degree.specs.Pairs.{is_wanted, is_member, Lists, row_of, with_pair, IsBarePlaced, IsHeld, IsPlacedUpTo}
+
+-- members
+
+pub member-there : (members places : List ℕ) (x : ℕ) → is_member members places x ≡ true → (get_or places x 0 < length members) × (get_or members (get_or places x 0) 0 ≡ x)
+member-there members places x h =
+    let a = and_parts (ltb (get_or places x 0) (length members)) (eqb (get_or members (get_or places x 0) 0) x) h in
+    (ltb-true (get_or places x 0) (length members) a.0, eqb-true (get_or members (get_or places x 0) 0) x a.1)
+
+pub there-member : (members places : List ℕ) (x : ℕ) → get_or places x 0 < length members → get_or members (get_or places x 0) 0 ≡ x → is_member members places x ≡ true
+there-member members places x h e =
+    and_from (ltb (get_or places x 0) (length members)) (eqb (get_or members (get_or places x 0) 0) x)
+    (lt-ltb (get_or places x 0) (length members) h) (eq-eqb (get_or members (get_or places x 0) 0) x e)
 
 -- the start
 pub placed-bare : (c parts : PartTable) (n : ℕ) (p : Lists) → IsBarePlaced (n * n) p → IsPlacedUpTo c parts n 0 p

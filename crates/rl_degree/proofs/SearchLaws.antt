@@ -1,7 +1,7 @@
--- Splits and the paths of triples.
-use Rattle.std.proofs.Common.{◌≡◌, ℕ, zero, suc, ◌+◌, ◌*◌, ◌/◌, ◌%◌, ◌^◌, ◌<◌, ◌≤◌, ◌⊎◌, inl, inr, Bool, true, false, List, [], ◌∷◌, ◌++◌, length, get_or, ltb, IsTrue, ◌↔◌, Option, Some, None, IfSome, IfNone, is_some, lt-ltb, refl, sym, ◌∙◌, ap, ap₂, subst, arith, mul-le-mul, mul_comm, div-add-mod'}
-use Rattle.std.proofs.lemmas.Bool.{cases_lt, ltb-true, and_parts, and_from}
-use Rattle.std.proofs.lemmas.List.{get_or_push, get_or_append_left}
+-- Splits and the search for their words.
+use Rattle.std.proofs.Common.{◌≡◌, ℕ, zero, suc, ◌+◌, ◌*◌, ◌/◌, ◌%◌, ◌<◌, ◌≤◌, ◌⊎◌, inl, inr, Bool, true, false, List, [], ◌∷◌, ◌++◌, length, get_or, set, ltb, IsTrue, ◌↔◌, Option, Some, None, IfSome, IfNone, is_some, lt-ltb, refl, sym, ◌∙◌, ap, ap₂, subst, arith, div-add-mod'}
+use Rattle.std.proofs.lemmas.Bool.{cases_lt, cases_eq, both_ways, ltb-true, and_parts, and_from}
+use Rattle.std.proofs.lemmas.List.{get_or-set_same, get_or-set_other, length-set}
 use Rattle.std.proofs.lemmas.Nat.{mul-add-lt, div-mul-add, mod-mul-add, div_below, mod_below}
 use Rattle.rl_graph.specs.Paths.{paths, Reaches, OnCycle, IsBounded}
 use Rattle.rl_graph.specs.Graph.{Graph, edges_of, IsWhole}
@@ -10,15 +10,17 @@ use Rattle.rl_graph.specs.Parts.{PartTable, IsParts, number_of, cycle_of}
 use Rattle.rl_graph.specs.Twins.{HasNoTwin, IsSplit}
 use Rattle.rl_graph.proofs.Sums.{total-there}
 use Rattle.rl_graph.proofs.PathLaws.{nil-same, paths-nil, move-path, positive, along_moves, Reaches-move, Reaches-trans, OnCycle-move}
-use Rattle.rl_graph.proofs.GraphLaws.{bounded-whole, edges-letter}
+use Rattle.rl_graph.proofs.GraphLaws.{edges-letter}
 use Rattle.rl_graph.proofs.ProductLaws.{pair_paths, bounded-pairs}
 use Rattle.rl_degree.specs.Inner.{IsInner}
-use Rattle.rl_degree.specs.Pairs.{is_wanted, lists_of, row_of, IsTable}
-use Rattle.rl_degree.specs.Triples.{is_member, triple_moves, IsFit}
+use Rattle.rl_degree.specs.Pairs.{is_wanted, is_member, lists_of, row_of, IsTable}
+use Rattle.rl_degree.specs.Rows.{Stand, field_of, start_stand, has_middle, word_at, behind, IsSearching, IsFurther, IsFollowedUpTo}
+use Rattle.rl_degree.specs.declared.rows.Found.{Found}
 use Rattle.rl_degree.specs.Splits.{HasSplit, IsMark, AreMarks}
 use Rattle.rl_degree.specs.declared.pairs.PairTable.{PairTable}
 use Rattle.rl_degree.proofs.SplitLaws.{split_in_component, split_falls}
-use Rattle.rl_degree.proofs.TripleLaws.{there-member, triple-path, path-triple}
+use Rattle.rl_degree.proofs.PairLaws.{there-member}
+use Rattle.rl_degree.proofs.RowLaws.{searching-start, settle, never-reached}
 
 -- inner moves
 
@@ -90,16 +92,6 @@ pub both-pair : (h : ℕ → ℕ → List ℕ) (n k : ℕ) → IsBounded h n k �
 both-pair h n k b r q w hr hq p s =
     subst (λ (z : ℕ). 1 ≤ z) (sym (pair_paths h n k b r q r q w hr hq hr hq)) (positive (paths h r r w) (paths h q q w) p s)
 
--- one more mark
-pub marks-push : (P : ℕ → Bool → Type 0) (marks : List Bool) (n : ℕ) (b : Bool) → length marks ≡ n → ((k : ℕ) → k < n → P k (get_or marks k false)) → P n b → (k : ℕ) → k < n + 1 → P k (get_or (marks ++ b ∷ []) k false)
-marks-push P marks n b e old here k h = by (cases_lt k n)
-  where
-    by : (k < n) ⊎ (n ≤ k) → P k (get_or (marks ++ b ∷ []) k false)
-    by (inl a) = subst (P k) (sym (get_or_append_left marks (b ∷ []) false k (omega arith))) (old k a)
-    by (inr a) =
-        let d : k ≡ n = omega arith in
-        subst (P k) (sym (get_or_push marks b false k (omega arith))) (subst (λ (z : ℕ). P z b) (sym d) here)
-
 -- in a graph without a twin a split leads to a lower component
 pub split-below : (next : ℕ → ℕ → List ℕ) (n : ℕ) (p : PartTable) → IsParts next n p → HasNoTwin next → (r q : ℕ) (y : List ℕ) → r < n → q < n → IsSplit next r q y → number_of p q < number_of p r
 split-below next n p parts none r q y hr hq s = by (cases_lt (number_of p q) (number_of p r))
@@ -112,6 +104,28 @@ split-below next n p parts none r q y hr hq s = by (cases_lt (number_of p q) (nu
         absurd (split_falls next r q y back.0 none s back.1)
 
 -- tables
+
+-- what a search is for: the split of two states, in the part of their pair
+pub record IsFor (g : Graph) (t : PairTable) (r q part : ℕ) (s : Stand) : Type 0 where
+  pub from_in : r < g.states
+  pub to_in : q < g.states
+  pub wanted : is_wanted t.components t.parts g.states (r * g.states + q) ≡ true
+  pub of_part : part ≡ number_of t.parts (r * g.states + q)
+  pub place : s.place ≡ get_or (lists_of t.placed).places (r * g.states + q) 0
+  pub from : s.from ≡ r
+  pub to : s.to ≡ q
+
+-- it is for the same where something is still to be followed
+pub for-behind : (g : Graph) (t : PairTable) (r q part : ℕ) (s old : Stand) (f : Found) → old ≡ behind f s → IsFor g t r q part old → IsFor g t r q part s
+for-behind g t r q part s old f e is = record {
+  from_in = is.from_in;
+  to_in = is.to_in;
+  wanted = is.wanted;
+  of_part = is.of_part;
+  place = sym (ap (λ (z : Stand). z.place) e) ∙ is.place;
+  from = sym (ap (λ (z : Stand). z.from) e) ∙ is.from;
+  to = sym (ap (λ (z : Stand). z.to) e) ∙ is.to;
+}
 
 module _ (g : Graph) (t : PairTable) (whole : IsWhole g) (table : IsTable g t) where
   abbrev pub product : ℕ → ℕ → List ℕ
@@ -200,32 +214,6 @@ module _ (g : Graph) (t : PairTable) (whole : IsWhole g) (table : IsTable g t) w
         here = ap₂ (λ (r : List ℕ) (z : ℕ). get_or r z 0) e p ∙ held.here;
       }
 
-  pub fit-start : (k : ℕ) (members places : List ℕ) → 0 < g.states → g.states < 65536 → members ≡ row_of (lists_of t.placed) k → places ≡ (lists_of t.placed).places → IsFit t.inner g members places
-  fit-start k members places some small em ep = record {
-    same_states = table.inner.same_states;
-    same_letters = table.inner.same_letters;
-    some = some;
-    small = small;
-    few = table.inner.few;
-    pairs = λ i lt. subst (λ (r : List ℕ). get_or r i 0 < g.states * g.states) (sym em) (table.placed.pairs k i (subst (λ (r : List ℕ). i < length r) em lt));
-    short = omega (arith, ap length em, table.placed.short k);
-    sized = ap length ep ∙ table.placed.size;
-  }
-
-  -- the numbers of triples fit
-  pub start-number : (x m : ℕ) (members places : List ℕ) → IsStart x members places → g.states < 65536 → m < g.states
-      → (get_or places x 0 * g.states + m < length members * g.states + 1) × (get_or places x 0 * g.states + m < 2 ^ 64)
-  start-number x m members places s small hm =
-      let n = g.states in
-      let lt = mul-add-lt (get_or places x 0) n m (length members) s.within hm in
-      let square : n * n ≤ 65535 * 65535 = mul-le-mul (lower n small) (lower n small) in
-      let many : length members ≤ 4294836225 = omega (arith, ap length s.members_are, table.placed.short (number_of t.parts x), square) in
-      let cube : length members * n ≤ 4294836225 * 65535 = mul-le-mul many (lower n small) in
-      (omega (arith, lt, mul_comm (length members) n), omega (arith, lt, cube, mul_comm (length members) n))
-    where
-      lower : (n : ℕ) → n < 65536 → n ≤ 65535
-      lower n h = omega arith
-
   -- the members of the part of a wanted pair stand at their places
   start-members : (x : ℕ) (members places : List ℕ) → x < g.states * g.states → is_wanted t.components t.parts g.states x ≡ true → IsStart x members places
       → (v : ℕ) → Reaches product x v → Reaches product v x → is_member members places v ≡ true
@@ -235,91 +223,133 @@ module _ (g : Graph) (t : PairTable) (whole : IsWhole g) (table : IsTable g t) w
       let there = start-there v (number_of t.parts x) members places hv (part-wanted x v hx to back w) (sym same) s.members_are s.places_are in
       there-member members places v there.within there.here
 
-  -- a path of triples is a split
-  pub path-split : (r q : ℕ) (members places w : List ℕ) → r < g.states → q < g.states → is_wanted t.components t.parts g.states (r * g.states + q) ≡ true → IsStart (r * g.states + q) members places
-      → 1 ≤ paths (triple_moves (edges_of t.inner) (edges_of g) g.states members places) (get_or places (r * g.states + q) 0 * g.states + r) (get_or places (r * g.states + q) 0 * g.states + q) w
-      → IsSplit (edges_of g) r q w
-  path-split r q members places w hr hq wanted s p =
+  -- a word that leads the pair to itself and its first state to its second one is the word of a split
+  path-split : (r q : ℕ) (w : List ℕ) → r < g.states → q < g.states → is_wanted t.components t.parts g.states (r * g.states + q) ≡ true
+      → 1 ≤ paths product (r * g.states + q) (r * g.states + q) w → 1 ≤ paths (edges_of g) r q w → IsSplit (edges_of g) r q w
+  path-split r q w hr hq wanted pair over =
       let n = g.states in
       let x = r * n + q in
       let hx = mul-add-lt r n q n hr hq in
-      let place = get_or places x 0 in
-      let both = triple-path (edges_of t.inner) (edges_of g) n g.letters members places (bounded-whole g whole) place r place q w s.within hr s.within hq p in
       let d = div-mul-add r n q hq in
       let m = mod-mul-add r n q hq in
-      let pair : 1 ≤ paths product x x w = subst (λ (z : ℕ). 1 ≤ paths product z z w) s.here both.0 in
       let sides = pair-reaches x x hx hx w pair in
       let a = and_parts (cycle_of t.parts x) (ltb (number_of t.components (x % n)) (number_of t.components (x / n))) wanted in
       let less = ltb-true (number_of t.components (x % n)) (number_of t.components (x / n)) a.1 in
       record {
         apart = λ e. absurd (omega (arith, less, ap (number_of t.components) (d ∙ (e ∙ sym m))));
         before = subst (λ (z : ℕ). 1 ≤ paths (edges_of g) z z w) d sides.0;
-        over = both.1;
+        over = over;
         behind = subst (λ (z : ℕ). 1 ≤ paths (edges_of g) z z w) m sides.1;
       }
 
-  -- a split is a path of triples
-  pub split-path : (r q : ℕ) (members places y : List ℕ) → r < g.states → q < g.states → is_wanted t.components t.parts g.states (r * g.states + q) ≡ true → IsStart (r * g.states + q) members places
-      → IsSplit (edges_of g) r q y
-      → 1 ≤ paths (triple_moves (edges_of t.inner) (edges_of g) g.states members places) (get_or places (r * g.states + q) 0 * g.states + r) (get_or places (r * g.states + q) 0 * g.states + q) y
-  split-path r q members places y hr hq wanted s split =
-      let n = g.states in
-      let x = r * n + q in
-      let hx = mul-add-lt r n q n hr hq in
-      let pair = both-pair (edges_of t.inner) n g.letters (bounded-inner g t.inner t.components whole table.inner) r q y hr hq (inner r hr split.before) (inner q hq split.behind) in
-      path-triple (edges_of t.inner) (edges_of g) n g.letters members places (bounded-whole g whole) x r x q y hr (start-members x members places hx wanted s) pair split.over
+  -- the word of a split leads the pair to itself
+  split-pair : (r q : ℕ) (y : List ℕ) → r < g.states → q < g.states → IsSplit (edges_of g) r q y → 1 ≤ paths product (r * g.states + q) (r * g.states + q) y
+  split-pair r q y hr hq split =
+      both-pair (edges_of t.inner) g.states g.letters (bounded-inner g t.inner t.components whole table.inner) r q y hr hq (inner r hr split.before) (inner q hq split.behind)
     where
       inner : (p : ℕ) → p < g.states → 1 ≤ paths (edges_of g) p p y → 1 ≤ paths (edges_of t.inner) p p y
       inner p hp h = path-inner g t.inner t.components whole table.components table.inner p p y hp hp refl h
 
+  start-of : (r q part : ℕ) (s : Stand) → IsFor g t r q part s → IsStart (r * g.states + q) (row_of (lists_of t.placed) part) (lists_of t.placed).places
+  start-of r q part s f =
+      start-there (r * g.states + q) part (row_of (lists_of t.placed) part) (lists_of t.placed).places (mul-add-lt r g.states q g.states f.from_in f.to_in) f.wanted f.of_part refl refl
+
+  -- the search begins right
+  pub search-start : (keeps : Bool) (r q part pairs place n : ℕ) (s : Stand) → r < g.states → q < g.states → is_wanted t.components t.parts g.states (r * g.states + q) ≡ true → part ≡ number_of t.parts (r * g.states + q)
+      → place ≡ get_or (lists_of t.placed).places (r * g.states + q) 0 → pairs ≡ length (row_of (lists_of t.placed) part) → n ≡ g.states → s ≡ start_stand keeps n pairs place r q
+      → IsSearching (field_of g t part) s × IsFor g t r q part s
+  search-start keeps r q part pairs place n s hr hq wanted of_part at many en es =
+      let e : s ≡ start_stand keeps g.states pairs place r q = es ∙ ap (λ (z : ℕ). start_stand keeps z pairs place r q) en in
+      let is : IsFor g t r q part (start_stand keeps g.states pairs place r q) = record { from_in = hr; to_in = hq; wanted = wanted; of_part = of_part; place = at; from = refl; to = refl } in
+      let start = start-of r q part (start_stand keeps g.states pairs place r q) is in (
+        subst (IsSearching (field_of g t part)) (sym e) (searching-start (field_of g t part) keeps pairs place r q many (omega (arith, at, many, start.within)) hr),
+        subst (IsFor g t r q part) (sym e) is,
+      )
+
+  -- and goes on right
+  pub search-further : (r q part : ℕ) (s new : Stand) (f : Found) → IsFor g t r q part s → IsFurther (field_of g t part) f s new → IsFollowedUpTo (field_of g t part) f g.letters new
+      → (f.place ≡ s.place → has_middle f s.to ≡ true → ⊥) → IsSearching (field_of g t part) new × IsFor g t r q part new
+  search-further r q part s new f is further all other = (
+    settle (field_of g t part) f new g.letters (λ x l h. (bounded-pairs (edges_of t.inner) g.states g.letters (bounded-inner g t.inner t.components whole table.inner)).letters x l h) further.searching all
+        (λ at fresh. other (at ∙ further.place) (subst (λ (z : ℕ). has_middle f z ≡ true) further.to fresh)),
+    record { from_in = is.from_in; to_in = is.to_in; wanted = is.wanted; of_part = is.of_part; place = further.place ∙ is.place; from = further.from ∙ is.from; to = further.to ∙ is.to },
+  )
+
+  -- a word to what is looked for is that of a split
+  pub search-found : (r q part : ℕ) (s : Stand) (f : Found) → IsFor g t r q part s → (h : IsSearching (field_of g t part) (behind f s)) → f.place ≡ s.place → has_middle f s.to ≡ true
+      → IsSplit (edges_of g) r q (h.found f (inl refl)).word
+  search-found r q part s f is h at fresh =
+      let x = r * g.states + q in
+      let d = h.found f (inl refl) in
+      let start = start-of r q part s is in
+      let here : get_or (row_of (lists_of t.placed) part) s.place 0 ≡ x = ap (λ z. get_or (row_of (lists_of t.placed) part) z 0) is.place ∙ start.here in
+      let there : get_or (row_of (lists_of t.placed) part) f.place 0 ≡ x = ap (λ z. get_or (row_of (lists_of t.placed) part) z 0) at ∙ here in
+      let pair : 1 ≤ paths product x x d.word =
+      subst (λ (z : ℕ). 1 ≤ paths product x z d.word) there (subst (λ (z : ℕ). 1 ≤ paths product z (get_or (row_of (lists_of t.placed) part) f.place 0) d.word) here d.outer) in
+      let over : 1 ≤ paths (edges_of g) r q d.word =
+      subst (λ (z : ℕ). 1 ≤ paths (edges_of g) z q d.word) is.from (subst (λ (z : ℕ). 1 ≤ paths (edges_of g) s.from z d.word) is.to (d.inner s.to fresh)) in
+      path-split r q d.word is.from_in is.to_in is.wanted pair over
+
+  -- that of its step, where steps are kept
+  pub search-word : (r q part : ℕ) (s : Stand) (f : Found) (word : List ℕ) → IsFor g t r q part s → IsSearching (field_of g t part) (behind f s) → f.place ≡ s.place → has_middle f s.to ≡ true
+      → s.keeps ≡ true → word ≡ word_at s.steps f.step → IsSplit (edges_of g) r q word
+  search-word r q part s f word is h at fresh keeps e =
+      subst (IsSplit (edges_of g) r q) ((h.found f (inl refl)).kept keeps ∙ sym e) (search-found r q part s f is h at fresh)
+
+  -- where nothing is left to follow, there is no split
+  pub search-none : (r q part : ℕ) (s : Stand) → IsFor g t r q part s → IsSearching (field_of g t part) s → s.queue ≡ [] → HasSplit (edges_of g) r q → ⊥
+  search-none r q part s is h empty split =
+      let x = r * g.states + q in
+      let start = start-of r q part s is in
+      let over : 1 ≤ paths (edges_of g) s.from s.to split.0 =
+      subst (λ (z : ℕ). 1 ≤ paths (edges_of g) z s.to split.0) (sym is.from) (subst (λ (z : ℕ). 1 ≤ paths (edges_of g) r z split.0) (sym is.to) split.1.over) in
+      never-reached (field_of g t part) s h empty x split.0 (sym is.place)
+      (start-members x (row_of (lists_of t.placed) part) (lists_of t.placed).places (mul-add-lt r g.states q g.states is.from_in is.to_in) is.wanted start)
+      (split-pair r q split.0 is.from_in is.to_in split.1) over
+
   -- marks
 
-  pub split-marked : (marks : List Bool) (r q k : ℕ) → AreMarks g t marks → r < g.states → q < g.states → is_wanted t.components t.parts g.states (r * g.states + q) ≡ true → k ≡ number_of t.parts (r * g.states + q)
-      → IsTrue (get_or marks k false) ↔ HasSplit (edges_of g) r q
-  split-marked marks r q k are hr hq wanted e =
+  pub split-marked : (marks : List (Option Bool)) (r q k : ℕ) (b : Bool) → AreMarks g t marks → r < g.states → q < g.states → is_wanted t.components t.parts g.states (r * g.states + q) ≡ true → k ≡ number_of t.parts (r * g.states + q)
+      → get_or marks k None ≡ Some b → IsTrue b ↔ HasSplit (edges_of g) r q
+  split-marked marks r q k b are hr hq wanted e at =
       let n = g.states in
       let x = r * n + q in
       let hx = mul-add-lt r n q n hr hq in
-      let here = are.right (number_of t.parts x) (table.parts.below x hx) x hx wanted refl in
-      subst (λ (z : ℕ). IsTrue (get_or marks z false) ↔ HasSplit (edges_of g) r q) (sym e)
-      (subst (λ (z : ℕ). IsTrue (get_or marks (number_of t.parts x) false) ↔ HasSplit (edges_of g) r z) (mod-mul-add r n q hq)
-      (subst (λ (z : ℕ). IsTrue (get_or marks (number_of t.parts x) false) ↔ HasSplit (edges_of g) z (x % n)) (div-mul-add r n q hq) here))
+      let here = are.right k b at x hx wanted (sym e) in
+      subst (λ (z : ℕ). IsTrue b ↔ HasSplit (edges_of g) r z) (mod-mul-add r n q hq)
+      (subst (λ (z : ℕ). IsTrue b ↔ HasSplit (edges_of g) z (x % n)) (div-mul-add r n q hq) here)
 
   pub not-wanted : HasNoTwin (edges_of g) → (r q : ℕ) → r < g.states → q < g.states → is_wanted t.components t.parts g.states (r * g.states + q) ≡ false → HasSplit (edges_of g) r q → ⊥
-  not-wanted none r q hr hq e s = let d = split-wanted none r q hr hq s in absurd-true (sym d ∙ e)
-    where
-      absurd-true : true ≡ false → ⊥
-      absurd-true e = cc
+  not-wanted none r q hr hq e s = both_ways (is_wanted t.components t.parts g.states (r * g.states + q)) e (split-wanted none r q hr hq s)
 
-  -- the first member of a part
-  pub record IsFirstOf (k x : ℕ) : Type 0 where
-    pub pair : x < g.states * g.states
-    pub of_part : number_of t.parts x ≡ k
-    pub wanted : is_wanted t.components t.parts g.states x ≡ true
+  -- whether one pair of a part is a split tells it of all of them
+  pub mark-of : HasNoTwin (edges_of g) → (r q k : ℕ) (b : Bool) → r < g.states → q < g.states → k ≡ number_of t.parts (r * g.states + q) → IsTrue b ↔ HasSplit (edges_of g) r q → IsMark g t k b
+  mark-of none r q k b hr hq ek both y hy w e =
+      let n = g.states in
+      let x = r * n + q in
+      let hx = mul-add-lt r n q n hr hq in
+      let same : number_of t.parts x ≡ number_of t.parts y = sym ek ∙ sym e in
+      let at : (IsTrue b → HasSplit (edges_of g) (x / n) (x % n)) × (HasSplit (edges_of g) (x / n) (x % n) → IsTrue b) =
+      subst (λ (z : ℕ). IsTrue b ↔ HasSplit (edges_of g) z (x % n)) (sym (div-mul-add r n q hq)) (subst (λ (z : ℕ). IsTrue b ↔ HasSplit (edges_of g) r z) (sym (mod-mul-add r n q hq)) both) in
+      (λ h. part-splits none x y hx hy same (at.0 h), λ s. at.1 (part-splits none y x hy hx (sym same) s))
 
-  pub first-there : (k : ℕ) (members : List ℕ) → members ≡ row_of (lists_of t.placed) k → 0 < length members → IsFirstOf k (get_or members 0 0)
-  first-there k members e h =
-      let some : 0 < length (row_of (lists_of t.placed) k) = omega (arith, ap length e) in
-      subst (λ (r : List ℕ). IsFirstOf k (get_or r 0 0)) (sym e)
-      (record { pair = table.placed.pairs k 0 some; of_part = table.placed.of_part k 0 some; wanted = table.placed.are_wanted k 0 some })
+  -- what a search answers
+  pub search-tells : (r q : ℕ) (o : Option (List ℕ)) (b : Bool) → b ≡ is_some o → IfSome o (λ w. HasSplit (edges_of g) r q) → IfNone o (HasSplit (edges_of g) r q → ⊥) → IsTrue b ↔ HasSplit (edges_of g) r q
+  search-tells r q (Some w) b e s o = (λ h. s, λ h. e)
+  search-tells r q None b e s o = (λ h. absurd (both_ways b e h), λ h. absurd (o h))
 
-  pub mark-found : HasNoTwin (edges_of g) → (k x : ℕ) → IsFirstOf k x → HasSplit (edges_of g) (x / g.states) (x % g.states) → IsMark g t k true
-  mark-found none k x first s y hy w e =
-      (λ b. part-splits none x y first.pair hy (first.of_part ∙ sym e) s, λ d. refl)
+-- one more mark
+pub marks-set : (g : Graph) (t : PairTable) (marks : List (Option Bool)) (k : ℕ) (b : Bool) → AreMarks g t marks → k < length marks → IsMark g t k b → AreMarks g t (set marks k (Some b))
+marks-set g t marks k b are h here = record {
+  size = length-set marks k (Some b) ∙ are.size;
+  right = λ j c e. by j c e (cases_eq j k);
+}
+  where
+    inside : (c : Bool) → Some b ≡ Some c → b ≡ c
+    inside c e = cc
 
-  pub mark-none : HasNoTwin (edges_of g) → (k x : ℕ) → IsFirstOf k x → (HasSplit (edges_of g) (x / g.states) (x % g.states) → ⊥) → IsMark g t k false
-  mark-none none k x first not_split y hy w e =
-      (λ b. absurd (not-true b), λ s. absurd (not_split (part-splits none y x hy first.pair (e ∙ sym first.of_part) s)))
-    where
-      not-true : false ≡ true → ⊥
-      not-true e = cc
-
-  pub mark-answer : HasNoTwin (edges_of g) → (k x : ℕ) (o : Option (List ℕ)) (b : Bool) → IsFirstOf k x → b ≡ is_some o
-      → IfSome o (λ w. IsSplit (edges_of g) (x / g.states) (x % g.states) w) → IfNone o (HasSplit (edges_of g) (x / g.states) (x % g.states) → ⊥) → IsMark g t k b
-  mark-answer none k x (Some w) b first e s o = subst (IsMark g t k) (sym e) (mark-found none k x first (w, s))
-  mark-answer none k x None b first e s o = subst (IsMark g t k) (sym e) (mark-none none k x first o)
-
-  pub mark-empty : (k : ℕ) → length (row_of (lists_of t.placed) k) ≡ 0 → IsMark g t k false
-  mark-empty k empty y hy w e =
-      let held = table.placed.held y hy w in
-      absurd (omega (arith, held.within, ap (λ z. length (row_of (lists_of t.placed) z)) e, empty))
+    by : (j : ℕ) (c : Bool) → get_or (set marks k (Some b)) j None ≡ Some c → (j ≡ k) ⊎ (j ≡ k → ⊥) → IsMark g t j c
+    by j c e (inr n) = are.right j c (sym (get_or-set_other marks k j (Some b) None n) ∙ e)
+    by j c e (inl f) =
+        let same : b ≡ c = inside c (sym (ap (λ z. get_or (set marks k (Some b)) z None) f ∙ get_or-set_same marks k (Some b) None h) ∙ e) in
+        subst (λ (z : ℕ). IsMark g t z c) (sym f) (subst (IsMark g t k) same here)

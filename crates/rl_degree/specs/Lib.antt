@@ -2,7 +2,8 @@ pub mod Leavers
 pub mod FallingNumbers
 pub mod Inner
 pub mod Pairs
-pub mod Triples
+pub mod Moves
+pub mod Rows
 pub mod Splits
 pub mod Ranks
 pub mod Chains

@@ -1,10 +1,11 @@
 -- The pairs of states that may be splits, by the parts of the product of two copies of the graph of inner moves. The pair of
 -- the states `r` and `q` of a graph with `n` states is the number `r * n + q`.
-use Rattle.std.specs.Prelude.{◌≡◌, ℕ, ◌*◌, ◌/◌, ◌%◌, ◌<◌, ◌≤◌, Bool, true, nat_lt, ◌&&◌, List, [], ◌∷◌, ◌++◌, length, slice_index, slice_index_or, slice_set}
+use Rattle.std.specs.Prelude.{◌≡◌, ℕ, ◌*◌, ◌/◌, ◌%◌, ◌<◌, ◌≤◌, Bool, true, nat_lt, nat_eq, ◌&&◌, List, [], ◌∷◌, ◌++◌, length, slice_index, slice_index_or, slice_set}
 use Rattle.rl_graph.specs.Graph.{Graph, edges_of}
 use Rattle.rl_graph.specs.Product.{pair_moves}
 use Rattle.rl_graph.specs.Parts.{PartTable, IsParts, number_of, cycle_of}
 use Rattle.rl_degree.specs.Inner.{IsInner}
+use Rattle.rl_degree.specs.Moves.{AreMoveTables}
 use Rattle.rl_degree.specs.declared.pairs.Placed.{Placed}
 use Rattle.rl_degree.specs.declared.pairs.PairTable.{PairTable}
 
@@ -32,6 +33,16 @@ with_pair part x p =
       members = slice_set p.members part (row_of p part ++ x ∷ []);
       places = slice_set p.places x (length (row_of p part));
     }
+
+-- the pair stands at its place among the members
+abbrev pub is_member : List ℕ → List ℕ → ℕ → Bool
+is_member members places x =
+    nat_lt (slice_index places x) (length members) && nat_eq (slice_index members (slice_index places x)) x
+
+-- the place of a member
+pub record IsPlace (members places : List ℕ) (x i : ℕ) : Type 0 where
+  pub member : is_member members places x ≡ true
+  pub place : i ≡ slice_index places x
 
 -- no member of any of so many parts
 pub record IsBarePlaced (count : ℕ) (p : Lists) : Type 0 where
@@ -64,3 +75,4 @@ pub record IsTable (g : Graph) (t : PairTable) : Type 0 where
   pub inner : IsInner g t.components t.inner
   pub parts : IsParts (pair_moves (edges_of t.inner) g.states) (g.states * g.states) t.parts
   pub placed : IsPlaced t.components t.parts g.states (lists_of t.placed)
+  pub moves : AreMoveTables g t.moves.items

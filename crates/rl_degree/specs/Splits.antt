@@ -1,5 +1,5 @@
 -- Which pairs of states are splits.
-use Rattle.std.specs.Prelude.{◌≡◌, ℕ, ◌*◌, ◌/◌, ◌%◌, ◌<◌, ◌↔◌, Bool, true, false, IsTrue, List, length, slice_index_or}
+use Rattle.std.specs.Prelude.{◌≡◌, ℕ, ◌*◌, ◌/◌, ◌%◌, ◌<◌, ◌↔◌, Bool, true, IsTrue, Option, Some, None, List, length, slice_index_or}
 use Rattle.rl_graph.specs.Graph.{Graph, edges_of}
 use Rattle.rl_graph.specs.Twins.{IsSplit}
 use Rattle.rl_graph.specs.Parts.{number_of}
@@ -15,7 +15,7 @@ abbrev pub IsMark : Graph → PairTable → ℕ → Bool → Type 0
 IsMark g t k b =
     (x : ℕ) → x < g.states * g.states → is_wanted t.components t.parts g.states x ≡ true → number_of t.parts x ≡ k → IsTrue b ↔ HasSplit (edges_of g) (x / g.states) (x % g.states)
 
--- a mark for each part
-pub record AreMarks (g : Graph) (t : PairTable) (marks : List Bool) : Type 0 where
+-- a mark for each part; those that are known are right
+pub record AreMarks (g : Graph) (t : PairTable) (marks : List (Option Bool)) : Type 0 where
   pub size : length marks ≡ g.states * g.states
-  pub right : (k : ℕ) → k < g.states * g.states → IsMark g t k (slice_index_or marks k false)
+  pub right : (k : ℕ) (b : Bool) → slice_index_or marks k None ≡ Some b → IsMark g t k b

@@ -10,7 +10,7 @@ ghost use Rattle.rl_degree.specs.Chains.{links_of, IsSplitIn, IsChain, AreRanks,
 
 use crate::pairs::{PairTable, table_of};
 use crate::ranks::{Best, all_bests, ranks_of};
-use crate::searches::{split_marks, split_word};
+use crate::searches::split_word;
 use rl_graph::{Components, FoundPath, Multigraph, cycle_through};
 use rl_lists::{Items, OutOfMemory, Ranks, Word};
 use std::alloc::Global;
@@ -148,9 +148,11 @@ const MOST_STATES: u32 = 65_535;
 
 /// A longest chain of splits of a graph without a twin, all ranks and a cycle.
 ///
-/// It takes the parts of the product of two copies of the graph, and for each part that holds pairs of different states on a
-/// cycle it makes one search for one of its pairs (the test for IDA of Weber and Seidl 1991), over triples of states whose
-/// outer ones lie in that part. Ranks and chains go by the components of the graph in their order.
+/// It takes the parts of the product of two copies of the graph, and for a part that holds pairs of different states on a cycle
+/// it makes at most one search for one of its pairs (the test for IDA of Weber and Seidl 1991), over triples of states whose
+/// outer ones lie in that part. For each of its pairs a row of bits holds the middle states, so that a search meets no triple
+/// twice, and a bit stands for each. Ranks and chains go by the components of the graph in their order, and only a split that
+/// lengthens a chain is looked for.
 ///
 /// # Errors
 /// [`OutOfMemory`] where there was no memory for the search or the answer, as for a graph of 65,536 states or more, which has
@@ -168,8 +170,7 @@ pub fn degree(alloc: Global, g: &Multigraph) -> Result<Chain, OutOfMemory>
         return Err(OutOfMemory);
     }
     let table = table_of(alloc, g)?;
-    let marks = split_marks(alloc, g, &table)?;
-    let bests = all_bests(alloc, g, &table, &marks)?;
+    let bests = all_bests(alloc, g, &table)?;
     let ranks = ranks_of(alloc, g, &table.components, &bests)?;
     let links = if ranks.is_empty() {
         Items::new(alloc)

@@ -4,10 +4,11 @@
 mod chains;
 mod inner;
 pub mod laws;
+mod moves;
 mod pairs;
 mod ranks;
+mod rows;
 mod searches;
-mod triples;
 
 pub use chains::{Chain, Loop, Split, Splits, degree};
 

@@ -1,11 +1,13 @@
 //! The pairs of states that may be splits, part by part of the product of two copies of the graph of inner moves.
 
-ghost use Rattle.std.specs.Prelude.{◌≡◌, ℕ, ◌<◌, ◌+◌, ◌*◌, ◌^◌, length, IfOk, OnOk};
+ghost use Rattle.std.specs.Prelude.{◌≡◌, ℕ, ◌<◌, ◌+◌, ◌*◌, ◌^◌, false, length, slice_index, MatchOption, IfOk, OnOk};
 ghost use Rattle.rl_graph.specs.Parts.{number_of};
-ghost use Rattle.rl_degree.specs.Pairs.{is_wanted, lists_of, row_of, with_pair, IsBarePlaced, IsPlaced, IsTable};
+ghost use Rattle.rl_degree.specs.Pairs.{is_wanted, is_member, lists_of, row_of, with_pair, IsBarePlaced, IsPlace, IsPlaced, IsTable};
 
 use crate::inner::inner_graph;
+use crate::moves::move_tables;
 use rl_graph::{Components, Multigraph, Parts, Twice, parts_of};
+use rl_lanes::BitTable;
 use rl_lists::{Items, OutOfMemory};
 use std::alloc::Global;
 
@@ -17,13 +19,15 @@ pub(crate) struct Placed {
     pub(crate) places: Vec<u64>,
 }
 
-/// A graph's components, its inner moves, the parts of the product of two copies of them, and the pairs of each part.
+/// A graph's components, its inner moves, the parts of the product of two copies of them, the pairs of each part, and for each
+/// letter the table of the graph's moves.
 #[derive(Drop)]
 pub(crate) struct PairTable {
     pub(crate) components: Components,
     pub(crate) inner: Multigraph,
     pub(crate) parts: Parts,
     pub(crate) placed: Placed,
+    pub(crate) moves: Vec<BitTable>,
 }
 
 /// The pair of two states.
@@ -41,6 +45,31 @@ impl PairTable {
         ensures { result.now ≡ row_of (lists_of self.now.placed) part }
     {
         self.placed.members[part as usize].as_slice()
+    }
+
+    /// The pair at a place among the pairs of a part.
+    pub(crate) fn pair_at(&self, part: u64, place: usize) -> u64
+        requires part_in { part < length self.now.placed.members.items }
+        requires place_in { place < length (row_of (lists_of self.now.placed) part) }
+        ensures { result ≡ slice_index (row_of (lists_of self.now.placed) part) place }
+    {
+        let members = self.members_of(part);
+        members[place]
+    }
+
+    /// The place of a pair among the pairs of a part, if it is one of them.
+    pub(crate) fn place_in(&self, part: u64, pair: u64) -> Option<usize>
+        requires part_in { part < length self.now.placed.members.items }
+        requires pair_in { pair < length self.now.placed.places.items }
+        ensures { MatchOption result (is_member (row_of (lists_of self.now.placed) part) self.now.placed.places.items pair ≡ false) (IsPlace (row_of (lists_of self.now.placed) part) self.now.placed.places.items pair) }
+    {
+        let members = self.members_of(part);
+        let place = self.placed.places[pair as usize] as usize;
+        if place < members.len() && members[place] == pair {
+            Some(place)
+        } else {
+            None
+        }
     }
 }
 
@@ -121,10 +150,12 @@ pub(crate) fn table_of(alloc: Global, g: &Multigraph) -> Result<PairTable, OutOf
     let _states = inner.states();
     let parts = parts_of(alloc, &Twice { graph: &inner })?;
     let placed = placed_pairs(alloc, &components, &parts, count)?;
+    let moves = move_tables(alloc, g)?;
     Ok(PairTable {
         components,
         inner,
         parts,
         placed,
+        moves,
     })
 }

@@ -1,16 +1,16 @@
 //! The longest chains of splits, component by component in the order in which they are reached from one another.
 
-ghost use Rattle.std.specs.Prelude.{◌≡◌, ℕ, ◌<◌, ◌≤◌, ◌⊎◌, IfOk};
+ghost use Rattle.std.specs.Prelude.{◌≡◌, ℕ, ◌<◌, ◌≤◌, ◌+◌, ◌⊎◌, IfOk, OnOk};
 ghost use Rattle.rl_graph.specs.Graph.{edges_of};
 ghost use Rattle.rl_graph.specs.Parts.{IsParts, number_of};
 ghost use Rattle.rl_graph.specs.Twins.{HasNoTwin};
 ghost use Rattle.rl_degree.specs.Pairs.{IsTable};
-ghost use Rattle.rl_degree.specs.Splits.{AreMarks};
-ghost use Rattle.rl_degree.specs.Ranks.{IsGood, BeatsLetter, BeatsMoves, BeatsSplits, IsBest, AreBests};
+ghost use Rattle.rl_degree.specs.Splits.{HasSplit, AreMarks};
+ghost use Rattle.rl_degree.specs.Ranks.{best_at, IsGood, BeatsLetter, BeatsMoves, BeatsSplits, IsBest, AreBests};
 ghost use Rattle.rl_degree.specs.Chains.{AreRanks};
 
 use crate::pairs::PairTable;
-use crate::searches::is_split;
+use crate::searches::{is_split, no_marks};
 use rl_graph::{Components, Multigraph};
 use rl_lists::{Items, OutOfMemory, Ranks};
 use std::alloc::Global;
@@ -86,57 +86,91 @@ fn best_by_moves(
     best
 }
 
+/// The better one of a chain and those that begin with the split from a state to another one, if that is one. It is looked for
+/// only where such a chain is better.
+fn best_by_split(
+    g: &Multigraph,
+    table: &PairTable,
+    marks: &mut Vec<Option<bool>>,
+    bests: &[Best],
+    state: u32,
+    to: u32,
+    best: Best,
+) -> Result<Best, OutOfMemory>
+    requires few { g.now.states < 65536 }
+    requires table { IsTable g.now table.now }
+    requires no_twin { HasNoTwin (edges_of g.now) }
+    requires marks { AreMarks g.now table.now marks.old.items }
+    requires state_in { state < g.now.states }
+    requires to_in { to < g.now.states }
+    requires bests { AreBests (edges_of g.now) g.now.states table.now.components (number_of table.now.components state) bests.now }
+    requires best { IsGood (edges_of g.now) g.now.states table.now.components bests.now state best }
+    ensures good { IfOk result (IsGood (edges_of g.now) g.now.states table.now.components bests.now state) }
+    ensures least { IfOk result (λ b. best.rank ≤ b.rank) }
+    ensures split { IfOk result (λ b. HasSplit (edges_of g.now) state to → (best_at bests.now (number_of table.now.components to)).rank + 1 ≤ b.rank) }
+    ensures marks { OnOk result (AreMarks g.now table.now marks.new.items) }
+{
+    let component = table.components.of(to);
+    if component >= table.components.of(state) {
+        return Ok(best);
+    }
+    let rest = bests[component as usize];
+    if rest.rank < best.rank {
+        return Ok(best);
+    }
+    if !is_split(g, table, marks, state, to)? {
+        return Ok(best);
+    }
+    Ok(Best {
+        rank: rest.rank + 1,
+        from: state,
+        to,
+    })
+}
+
 /// The better one of a chain and those that begin with a split from a state.
 fn best_by_splits(
     g: &Multigraph,
     table: &PairTable,
-    marks: &[bool],
+    marks: &mut Vec<Option<bool>>,
     bests: &[Best],
     state: u32,
     start: Best,
-) -> Best
+) -> Result<Best, OutOfMemory>
     requires few { g.now.states < 65536 }
     requires table { IsTable g.now table.now }
     requires no_twin { HasNoTwin (edges_of g.now) }
-    requires marks { AreMarks g.now table.now marks.now }
+    requires marks { AreMarks g.now table.now marks.old.items }
     requires state_in { state < g.now.states }
     requires bests { AreBests (edges_of g.now) g.now.states table.now.components (number_of table.now.components state) bests.now }
     requires start { IsGood (edges_of g.now) g.now.states table.now.components bests.now state start }
-    ensures good { IsGood (edges_of g.now) g.now.states table.now.components bests.now state result }
-    ensures least { start.rank ≤ result.rank }
-    ensures splits { BeatsSplits (edges_of g.now) g.now.states table.now.components bests.now state result.rank }
+    ensures good { IfOk result (IsGood (edges_of g.now) g.now.states table.now.components bests.now state) }
+    ensures least { IfOk result (λ b. start.rank ≤ b.rank) }
+    ensures splits { IfOk result (λ b. BeatsSplits (edges_of g.now) g.now.states table.now.components bests.now state b.rank) }
+    ensures marks { OnOk result (AreMarks g.now table.now marks.new.items) }
 {
     let mut best = start;
     for to in 0..g.states() {
-        if is_split(g, table, marks, state, to) {
-            let rest = bests[table.components.of(to) as usize];
-            best = better(
-                best,
-                Best {
-                    rank: rest.rank + 1,
-                    from: state,
-                    to,
-                },
-            );
-        }
+        best = best_by_split(g, table, marks, bests, state, to, best)?;
     }
-    best
+    Ok(best)
 }
 
 /// The best of a component, from those of the lower ones.
 fn best_of(
     g: &Multigraph,
     table: &PairTable,
-    marks: &[bool],
+    marks: &mut Vec<Option<bool>>,
     bests: &[Best],
     component: u32,
-) -> Best
+) -> Result<Best, OutOfMemory>
     requires few { g.now.states < 65536 }
     requires table { IsTable g.now table.now }
     requires no_twin { HasNoTwin (edges_of g.now) }
-    requires marks { AreMarks g.now table.now marks.now }
+    requires marks { AreMarks g.now table.now marks.old.items }
     requires bests { AreBests (edges_of g.now) g.now.states table.now.components component bests.now }
-    ensures { (q : ℕ) → q < g.now.states → number_of table.now.components q ≡ component → IsBest (edges_of g.now) g.now.states table.now.components bests.now q result }
+    ensures best { IfOk result (λ b. (q : ℕ) → q < g.now.states → number_of table.now.components q ≡ component → IsBest (edges_of g.now) g.now.states table.now.components bests.now q b) }
+    ensures marks { OnOk result (AreMarks g.now table.now marks.new.items) }
 {
     let mut best = Best {
         rank: 0,
@@ -146,10 +180,10 @@ fn best_of(
     for state in 0..g.states() {
         if table.components.of(state) == component {
             let by_moves = best_by_moves(g, &table.components, bests, state, best);
-            best = best_by_splits(g, table, marks, bests, state, by_moves);
+            best = best_by_splits(g, table, marks, bests, state, by_moves)?;
         }
     }
-    best
+    Ok(best)
 }
 
 /// The best of each component.
@@ -160,17 +194,16 @@ pub(crate) fn all_bests(
     alloc: Global,
     g: &Multigraph,
     table: &PairTable,
-    marks: &[bool],
 ) -> Result<Vec<Best>, OutOfMemory>
     requires few { g.now.states < 65536 }
     requires table { IsTable g.now table.now }
     requires no_twin { HasNoTwin (edges_of g.now) }
-    requires marks { AreMarks g.now table.now marks.now }
     ensures { IfOk result (λ v. AreBests (edges_of g.now) g.now.states table.now.components g.now.states v.items) }
 {
+    let mut marks = no_marks(alloc, g)?;
     let mut bests = Vec::new(alloc);
     for component in 0..g.states() {
-        let best = best_of(g, table, marks, &bests, component);
+        let best = best_of(g, table, &mut marks, &bests, component)?;
         bests.push(best)?;
     }
     Ok(bests)

@@ -88,3 +88,16 @@ fn rings_out_of_step(rt: HostRuntime) -> Result<(), Fail> {
     assert!(rt; none.links.is_empty());
     Ok(())
 }
+
+/// The same rings with their moves on one letter. A split takes two moves, one of them between the rings.
+#[test]
+fn rings_in_step(rt: HostRuntime) -> Result<(), Fail> {
+    let moves = [(0, 0, 1), (1, 0, 0), (0, 0, 2), (2, 0, 3), (3, 0, 2)];
+    let one = chain_in(rt.alloc(), &moves)?.ok_or("a twin")?;
+    assert_eq!(rt; one.ranks.as_slice(), [1, 1, 0, 0].as_slice());
+    match one.links.as_slice() {
+        [link] => assert_eq!(rt; link.word.as_slice(), [0, 0].as_slice()),
+        _ => return Err(Fail::from("not one link")),
+    }
+    Ok(())
+}

@@ -110,6 +110,13 @@ impl Checker {
         &self.entries
     }
 
+    /// The entries of the visits, as a list of their own.
+    pub fn into_entries(self) -> Entries
+        ensures { result ≡ self.entries }
+    {
+        self.entries
+    }
+
     /// Whether a call of the tree failed so far.
     pub fn has_unread(&self) -> bool
         ensures { result ≡ self.now.has_unread }

@@ -1,32 +1,52 @@
 -- What a run of `check` is to do, by the walk over its paths.
-use Rattle.std.proofs.Common.{◌≡◌, ℕ, List, Result, Ok, Err, IfOk, Some, Bor, map, subst, sym, ap}
+use Rattle.std.proofs.Common.{◌≡◌, ℕ, Bool, List, Option, Result, Ok, Err, IfOk, Bor, map, ap, subst, sym, ◌∙◌}
+use Rattle.std.specs.List.{list_any}
+use Rattle.rl_report.specs.Findings.{is_finding}
+use Rattle.rl_report.specs.declared.report.Entry.{Entry}
+use Rattle.rl_sarif.specs.Keys.{EntryKey}
 use Rattle.rl_judge.specs.declared.settings.Settings.{Settings}
-use Rattle.rl_words.specs.Call.{chosen, check}
+use Rattle.rl_words.specs.Call.{asked}
 use Rattle.rl_words.specs.declared.words.Action.{Action}
 use Rattle.rl_words.specs.declared.words.Action.TheVariants.{Check}
-use Rattle.rl_words.specs.declared.words.Options.{Options}
-use Rattle.rl_lint.specs.Checks.{Checks}
-use Rattle.rl_lint.specs.Endings.{Ending, ending_of}
-use Rattle.rl_lint.specs.Options.{settings_given}
-use Rattle.rl_lint.specs.Planned.{IsPlanned, call_of, walked}
+use Rattle.rl_words.specs.declared.words.ModeWord.{ModeWord}
+use Rattle.rl_lint.specs.CheckEnding.{IsLaidOut}
+use Rattle.rl_lint.specs.Checks.{Checks, IsChecked}
+use Rattle.rl_lint.specs.Endings.{Ending, ending_of, writes}
+use Rattle.rl_lint.specs.Planned.{Acts, walked}
+use Rattle.rl_lint.specs.Shown.{hidden_by, shown_by}
 use Rattle.rl_lint.specs.Uses.{Asking, Text}
 use Rattle.rl_lint.specs.declared.plan.Plan.{Plan}
 
-one-planned : (options : Options) (paths : List (Bor Text)) (tree : Asking) (ending : Ending)
-    → Checks (settings_given (chosen options)) (map (λ p. p.now) paths) tree ending
-    → IsPlanned (Some (call_of (Check paths) options)) tree ending
-one-planned options paths tree ending checks = record {
+pub checks-shown : (s : Settings) (known : Option (List EntryKey)) (paths : List Text) (tree : Asking) (entries shown : List Entry) (hidden : Option ℕ) (text : Text)
+    (finding failed : Bool) → IsChecked s paths tree entries failed → shown ≡ shown_by known entries → hidden ≡ hidden_by known entries
+    → IsLaidOut s.format s hidden shown text → finding ≡ list_any (is_finding s.max_degree) shown → Checks s known paths tree (writes text finding failed)
+checks-shown s known paths tree entries shown hidden text finding failed checked is so_many laid found = record {
+  calls = checked.calls;
+  visits = checked.visits;
+  walked = checked.walked;
+  ends = record {
+    entries = entries;
+    text = text;
+    right = checked.right;
+    layout = subst (λ h. IsLaidOut s.format s h (shown_by known entries) text) so_many (subst (λ es. IsLaidOut s.format s hidden es text) is laid);
+    ends = ap (λ b. writes text b failed) (found ∙ ap (list_any (is_finding s.max_degree)) is)
+        ∙ ap (writes text (list_any (is_finding s.max_degree) (shown_by known entries))) checked.told;
+  };
+}
+
+one_acts : (said : Option ModeWord) (s : Settings) (known : Option (List EntryKey)) (paths : List (Bor Text)) (tree : Asking) (ending : Ending)
+    → Checks s known (map (λ p. p.now) paths) tree ending → Acts said s known (asked (Check paths)) tree ending
+one_acts said s known paths tree ending checks = record {
   seen = walked checks.calls checks.visits;
   saw = checks.walked;
   right = checks.ends;
 }
 
-pub planned-check : {E : Type 0} (result : Result Plan E) (action : Action) (options : Options) (paths given : List (Bor Text)) (s : Settings) (tree : Asking)
-    → action ≡ Check paths → given ≡ paths → s ≡ settings_given (chosen options)
-    → IfOk result (λ plan. Checks s (map (λ p. p.now) given) tree (ending_of plan))
-    → IfOk result (λ plan. IsPlanned (Some (call_of action options)) tree (ending_of plan))
-planned-check (Ok plan) action options paths given s tree is same settings checks =
-    let here = subst (λ x. Checks x (map (λ p. p.now) given) tree (ending_of plan)) settings checks in
-    let there = subst (λ ps. Checks (settings_given (chosen options)) (map (λ p. p.now) ps) tree (ending_of plan)) same here in
-    subst (λ a. IsPlanned (Some (call_of a options)) tree (ending_of plan)) (sym is) (one-planned options paths tree (ending_of plan) there)
-planned-check (Err error) action options paths given s tree is same settings checks = tt
+pub check_acts : {E : Type 0} (result : Result Plan E) (said : Option ModeWord) (s : Settings) (known : Option (List EntryKey)) (action : Action) (paths given : List (Bor Text)) (tree : Asking)
+    → action ≡ Check paths → given ≡ paths
+    → IfOk result (λ plan. Checks s known (map (λ p. p.now) given) tree (ending_of plan))
+    → IfOk result (λ plan. Acts said s known (asked action) tree (ending_of plan))
+check_acts (Ok plan) said s known action paths given tree is same checks =
+    let here = subst (λ ps. Checks s known (map (λ p. p.now) ps) tree (ending_of plan)) same checks in
+    subst (λ a. Acts said s known (asked a) tree (ending_of plan)) (sym is) (one_acts said s known paths tree (ending_of plan) here)
+check_acts (Err error) said s known action paths given tree is same checks = tt

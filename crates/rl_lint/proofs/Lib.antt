@@ -1,4 +1,9 @@
 mod CheckLemmas
 mod CodeLemmas
+mod KnownLemmas
 mod LineLemmas
 mod PlanLemmas
+mod PlannedLemmas
+mod RefusalLemmas
+mod SettledLemmas
+mod ShownLemmas

@@ -1,5 +1,5 @@
 -- How a run ends, and the table of statuses.
-use Rattle.std.specs.Prelude.{◌≡◌, ◌⊎◌, ℕ, Bool, [], codes, if◌then◌else◌}
+use Rattle.std.specs.Prelude.{◌≡◌, ◌⊎◌, ℕ, Bool, true, false, [], codes, if◌then◌else◌}
 use Rattle.std.specs.Io.KnownBytes.{Appends, Keeps}
 use Rattle.std.specs.String.{string_bytes}
 use Rattle.rl_source.specs.Faults.{Rose}
@@ -8,12 +8,14 @@ use Rattle.rl_lint.specs.Uses.{Text, Use, Tells}
 use Rattle.rl_lint.specs.declared.plan.Message.{Message}
 use Rattle.rl_lint.specs.declared.plan.Message.TheVariants.{Fixed, Made}
 use Rattle.rl_lint.specs.declared.plan.Plan.{Plan}
-use Rattle.rl_lint.specs.declared.plan.Plan.TheVariants.{Refuses, Writes}
+use Rattle.rl_lint.specs.declared.plan.Plan.TheVariants.{Refuses, Unreadable, Writes}
 
 -- what a run is to do, by its words and by what the tree answered
 pub data Ending : Type 0 where
   -- tells this
   refuses : Text → Ending
+  -- tells this, since a call of the tree failed whose answer is needed
+  unreadable : Text → Ending
   -- writes this; the flags say whether it has a finding, and whether a call of the tree failed
   writes : Text → Bool → Bool → Ending
 
@@ -23,7 +25,20 @@ message_text (Made text) = string_bytes text
 
 abbrev pub ending_of : Plan → Ending
 ending_of (Refuses message) = refuses (message_text message)
+ending_of (Unreadable message) = unreadable (message_text message)
 ending_of (Writes text finding failed) = writes text finding failed
+
+-- whether something is refused
+abbrev pub is_refusal : Ending → Bool
+is_refusal (refuses message) = true
+is_refusal (unreadable message) = false
+is_refusal (writes text finding failed) = false
+
+-- whether a call of the tree failed
+abbrev pub has_fault : Ending → Bool
+has_fault (refuses message) = false
+has_fault (unreadable message) = true
+has_fault (writes text finding failed) = failed
 
 -- of a run that wrote all that it had to write, by whether that has a finding, and whether a call of the tree failed
 abbrev pub status_of : Bool → Bool → ℕ
@@ -39,4 +54,5 @@ IsWritten text finding failed out err status =
 -- the statuses, with what the sinks gained
 abbrev pub EndsBy : Ending → Use → Use → ℕ → Type 0
 EndsBy (refuses message) out err status = (status ≡ 2) × Keeps out.old out.new × Tells message err
+EndsBy (unreadable message) out err status = (status ≡ 3) × Keeps out.old out.new × Tells message err
 EndsBy (writes text finding failed) out err status = IsWritten text finding failed out err status

@@ -4,7 +4,11 @@ pub mod Texts
 pub mod Readings
 pub mod CostEnding
 pub mod ClassEnding
+pub mod SampleEnding
 pub mod Options
+pub mod Settled
+pub mod Known
+pub mod Shown
 pub mod Walks
 pub mod CheckEnding
 pub mod Checks

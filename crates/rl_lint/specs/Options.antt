@@ -1,4 +1,4 @@
--- What the options stand for, each of them with its default.
+-- Which settings are in force: the values of the options, over those of the settings file, over the defaults.
 use Rattle.std.specs.Prelude.{ℕ, Option, Some, None}
 use Rattle.rl_syntax.specs.declared.re.Mode.{Mode}
 use Rattle.rl_syntax.specs.declared.re.Mode.TheVariants as mode
@@ -6,6 +6,7 @@ use Rattle.rl_report.specs.declared.layouts.Format.TheVariants.{Text as in_text,
 use Rattle.rl_judge.specs.declared.settings.Layout.{Layout}
 use Rattle.rl_judge.specs.declared.settings.Layout.TheVariants.{Report, Sarif}
 use Rattle.rl_judge.specs.declared.settings.Settings.{Settings}
+use Rattle.rl_settings.specs.declared.settings.FileSettings.{FileSettings}
 use Rattle.rl_words.specs.Call.{Chosen}
 use Rattle.rl_words.specs.declared.words.FormatWord.{FormatWord}
 use Rattle.rl_words.specs.declared.words.FormatWord.TheVariants as layout
@@ -13,7 +14,7 @@ use Rattle.rl_words.specs.declared.words.ModeWord.{ModeWord}
 use Rattle.rl_words.specs.declared.words.ModeWord.TheVariants as word
 use Rattle.rl_lint.specs.ClassEnding.{Limits}
 
--- the number of an option, or its default
+-- the number that is said, or its default
 abbrev pub number_given : Option ℕ → ℕ → ℕ
 number_given None default = default
 number_given (Some n) default = n
@@ -23,7 +24,7 @@ mode_of word.Fullmatch = mode.Fullmatch
 mode_of word.Match = mode.Match
 mode_of word.Search = mode.Search
 
--- the mode that an option says, or its default
+-- the mode that is said, or its default
 abbrev pub mode_given : Option ModeWord → Mode → Mode
 mode_given None default = default
 mode_given (Some given) default = mode_of given
@@ -34,21 +35,39 @@ layout_of layout.Brief = Report Brief
 layout_of layout.Json = Report Json
 layout_of layout.Sarif = Sarif
 
-abbrev pub layout_given : Option FormatWord → Layout
-layout_given None = Report in_text
-layout_given (Some given) = layout_of given
+-- the layout that is said, or its default
+abbrev pub layout_given : Option FormatWord → Layout → Layout
+layout_given None default = default
+layout_given (Some given) default = layout_of given
 
--- the limits that the options give: a degree up to 2 is no finding, and 600 live pairs are looked at, unless they say otherwise
-abbrev pub limits_given : Chosen → Limits
-limits_given options = record { max_degree = number_given options.max_degree 2; max_pairs = number_given options.max_pairs 600 }
+-- where nothing else is said, a call of `compile` counts as a search, a degree up to 2 is no finding, 600 live pairs are looked
+-- at, and the report is in text and of version 2
+abbrev pub default_settings : Settings
+default_settings = record { compile_as = mode.Search; max_degree = 2; max_pairs = 600; format = Report in_text; report = 2 }
 
--- the settings that the options give: a call of `compile` counts as a search, the report is in text and of version 2, and the
--- limits are the same, unless they say otherwise
-abbrev pub settings_given : Chosen → Settings
-settings_given options = record {
-  compile_as = mode_given options.mode mode.Search;
-  max_degree = number_given options.max_degree 2;
-  max_pairs = number_given options.max_pairs 600;
-  format = layout_given options.format;
-  report = number_given options.report 2;
+-- the settings with these values in their place
+abbrev pub with_values : FileSettings → Settings → Settings
+with_values values s = record {
+  compile_as = mode_given values.compile_as s.compile_as;
+  max_degree = number_given values.max_degree s.max_degree;
+  max_pairs = number_given values.max_pairs s.max_pairs;
+  format = layout_given values.format s.format;
+  report = number_given values.report s.report;
 }
+
+-- what the options give, in the terms of a settings file
+abbrev pub values_of : Chosen → FileSettings
+values_of options = record {
+  compile_as = options.mode;
+  max_degree = options.max_degree;
+  max_pairs = options.max_pairs;
+  format = options.format;
+  report = options.report;
+}
+
+-- the settings in force: a value given by an option wins
+abbrev pub in_force : Chosen → Settings → Settings
+in_force options start = with_values (values_of options) start
+
+abbrev pub limits_of : Settings → Limits
+limits_of s = record { max_degree = s.max_degree; max_pairs = s.max_pairs }

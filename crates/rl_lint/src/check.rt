@@ -1,16 +1,19 @@
 //! The action `check`.
-ghost use Rattle.std.specs.Prelude.{◌≡◌, ◌≢◌, ◌≤◌, All, map, IfOk};
+ghost use Rattle.std.specs.Prelude.{◌≡◌, ◌≤◌, All, map, IfOk};
 ghost use Rattle.rl_judge.specs.RightEntries.{IsValid};
 ghost use Rattle.rl_report.specs.Layouts.{IsOfItsUniverse};
+ghost use Rattle.rl_report.specs.Reports.{report_text};
 ghost use Rattle.rl_lint.specs.Checks.{Checks, IsChecked};
 ghost use Rattle.rl_lint.specs.CheckEnding.{IsLaidOut};
 ghost use Rattle.rl_lint.specs.Endings.{ending_of};
 ghost use Rattle.rl_lint.specs.Uses.{asking_of};
 
 use crate::plan::Plan;
+use crate::shown::{Shown, shown_by};
 use rl_judge::{Checker, Layout, Settings, status_of};
 use rl_lists::{Bytes, OutOfMemory};
-use rl_report::{Entries, render};
+use rl_report::{Format, render, render_shown};
+use rl_sarif::{KnownKeys, sarif};
 use rl_source::Tree;
 use rl_walk::walk;
 use std::alloc::Global;
@@ -35,30 +38,58 @@ fn checked<T: Tree>(
     Ok(checker)
 }
 
-/// The report on these entries in the layout of the settings.
+/// The report on the entries that are shown, in a format.
 ///
 /// # Errors
 /// [`OutOfMemory`] where memory was refused.
-fn laid_out(alloc: Global, entries: &Entries, settings: &Settings) -> Result<Bytes, OutOfMemory>
+fn report(
+    alloc: Global,
+    shown: &Shown,
+    format: Format,
+    settings: &Settings,
+) -> Result<Bytes, OutOfMemory>
     requires valid { IsValid settings.now }
-    requires layout { settings.now.format ≢ Layout.Sarif }
-    requires universe { All IsOfItsUniverse entries.now }
-    ensures { IfOk result (IsLaidOut settings.now.format settings.now entries.now) }
+    requires universe { All IsOfItsUniverse shown.now.entries }
+    ensures { IfOk result (λ text. text ≡ report_text format settings.now.max_degree settings.now.max_pairs
+        settings.now.report shown.now.hidden shown.now.entries) }
 {
-    match settings.format {
-        Layout::Report(format) => render(
-            alloc,
-            entries,
-            format,
-            settings.max_degree,
-            settings.max_pairs,
-            settings.report,
+    let entries = &shown.entries;
+    let Settings {
+        max_degree,
+        max_pairs,
+        report,
+        ..
+    } = *settings;
+    match shown.hidden {
+        None => render(alloc, entries, format, max_degree, max_pairs, report),
+        Some(hidden) => render_shown(
+            alloc, entries, hidden, format, max_degree, max_pairs, report,
         ),
-        Layout::Sarif => unreachable!(),
     }
 }
 
-/// What `check` is to do for these paths under these settings. The tree is walked from the paths on.
+/// The report on the entries that are shown, in the layout of the settings.
+///
+/// # Errors
+/// [`OutOfMemory`] where memory was refused.
+fn laid_out(alloc: Global, shown: &Shown, settings: &Settings) -> Result<Bytes, OutOfMemory>
+    requires valid { IsValid settings.now }
+    requires universe { All IsOfItsUniverse shown.now.entries }
+    ensures { IfOk result (IsLaidOut settings.now.format settings.now shown.now.hidden shown.now.entries) }
+{
+    match settings.format {
+        Layout::Report(format) => report(alloc, shown, format, settings),
+        Layout::Sarif => sarif(
+            alloc,
+            &shown.entries,
+            settings.max_degree,
+            settings.max_pairs,
+        ),
+    }
+}
+
+/// What `check` is to do for these paths under these settings, with the keys of a baseline where there is one. The tree is
+/// walked from the paths on.
 ///
 /// # Errors
 /// [`OutOfMemory`] where memory was refused; the tree may have been read.
@@ -66,19 +97,21 @@ pub fn check_plan<T: Tree>(
     alloc: Global,
     paths: &[&str],
     settings: Settings,
+    known: Option<KnownKeys>,
     tree: &mut T,
 ) -> Result<Plan, OutOfMemory>
-    requires valid { IsValid settings }
-    requires layout { settings.format ≢ Layout.Sarif }
-    ensures checks { IfOk result (λ plan. Checks settings (map (λ p. p.now) paths.now)
+    requires { IsValid settings }
+    ensures checks { IfOk result (λ plan. Checks settings known (map (λ p. p.now) paths.now)
         (asking_of T.told T.fault_count tree.old tree.new) (ending_of plan)) }
     ensures later { T.fault_count tree.old ≤ T.fault_count tree.new }
 {
     let checker = checked(alloc, paths, settings, tree)?;
-    let text = laid_out(alloc, checker.entries(), &settings)?;
+    let failed = checker.has_unread();
+    let shown = shown_by(alloc, checker.into_entries(), known)?;
+    let text = laid_out(alloc, &shown, &settings)?;
     Ok(Plan::Writes {
         text,
-        finding: status_of(checker.entries(), &settings) == 1,
-        failed: checker.has_unread(),
+        finding: status_of(&shown.entries, &settings) == 1,
+        failed,
     })
 }

@@ -5,14 +5,23 @@ mod check;
 mod class;
 mod codes;
 mod cost;
+mod known;
 mod line;
 mod options;
 mod plan;
 mod run;
+mod sample;
+mod settings;
+mod settled;
+mod shown;
 #[cfg(test)]
 mod tests;
 mod texts;
 mod told;
 mod word;
 
+pub use rl_judge::{Layout, Settings, judge, status_of};
+pub use rl_sample::sample_source;
+pub use rl_settings::SettingsError;
 pub use run::relint_main;
+pub use settings::settings_from;

@@ -1,15 +1,17 @@
-//! What the options stand for, each of them with its default.
-ghost use Rattle.std.specs.Prelude.{◌≡◌, ◌≢◌, Some};
-ghost use Rattle.rl_words.specs.Call.{Call, HasRanges, chosen};
+//! Values of options and of settings files, in the place of others.
+ghost use Rattle.std.specs.Prelude.{◌≡◌};
+ghost use Rattle.rl_words.specs.Call.{chosen};
+ghost use Rattle.rl_settings.specs.Settings.{HasRanges};
 ghost use Rattle.rl_judge.specs.RightEntries.{IsValid};
-ghost use Rattle.rl_lint.specs.Options.{layout_given, mode_given, number_given, settings_given};
+ghost use Rattle.rl_lint.specs.Options.{in_force, layout_given, mode_given, number_given, values_of, with_values};
 
 use rl_judge::{Layout, Settings};
 use rl_report::Format;
+use rl_settings::FileSettings;
 use rl_syntax::Mode;
 use rl_words::{FormatWord, ModeWord, Options};
 
-/// The mode of an option, or its default.
+/// The mode that is given, or its default.
 pub fn mode_given(word: Option<ModeWord>, default: Mode) -> Mode
     ensures { result ≡ mode_given word default }
 {
@@ -21,34 +23,62 @@ pub fn mode_given(word: Option<ModeWord>, default: Mode) -> Mode
     }
 }
 
-/// The number of an option, or its default.
-pub fn number_given(number: Option<u32>, default: u32) -> u32
+/// The number that is given, or its default.
+fn number_given(number: Option<u32>, default: u32) -> u32
     ensures { result ≡ number_given number default }
 {
     number.unwrap_or(default)
 }
 
-/// The layout of an option, or its default.
-fn layout_given(word: Option<FormatWord>) -> Layout
-    ensures { result ≡ layout_given word }
+/// The layout that is given, or its default.
+fn layout_given(word: Option<FormatWord>, default: Layout) -> Layout
+    ensures { result ≡ layout_given word default }
 {
     match word {
-        None | Some(FormatWord::Text) => Layout::Report(Format::Text),
+        None => default,
+        Some(FormatWord::Text) => Layout::Report(Format::Text),
         Some(FormatWord::Brief) => Layout::Report(Format::Brief),
         Some(FormatWord::Json) => Layout::Report(Format::Json),
         Some(FormatWord::Sarif) => Layout::Sarif,
     }
 }
 
-/// The settings of a report that the options give.
-pub fn settings_given(options: &Options) -> Settings
-    ensures { result ≡ settings_given (chosen options.now) }
+/// The settings with these values in their place.
+pub fn with_values(values: &FileSettings, start: &Settings) -> Settings
+    requires ranges { HasRanges values.now }
+    requires valid { IsValid start.now }
+    ensures value { result ≡ with_values values.now start.now }
+    ensures valid { IsValid result }
 {
     Settings {
-        compile_as: mode_given(options.mode, Mode::Search),
-        max_degree: number_given(options.max_degree, 2),
-        max_pairs: number_given(options.max_pairs, 600),
-        format: layout_given(options.format),
-        report: number_given(options.report, 2),
+        compile_as: mode_given(values.compile_as, start.compile_as),
+        max_degree: number_given(values.max_degree, start.max_degree),
+        max_pairs: number_given(values.max_pairs, start.max_pairs),
+        format: layout_given(values.format, start.format),
+        report: number_given(values.report, start.report),
     }
+}
+
+/// What the options give, in the terms of a settings file.
+fn values_of(options: &Options) -> FileSettings
+    ensures { result ≡ values_of (chosen options.now) }
+{
+    FileSettings {
+        compile_as: options.mode,
+        max_degree: options.max_degree,
+        max_pairs: options.max_pairs,
+        format: options.format,
+        report: options.report,
+    }
+}
+
+/// The settings in force: those to start with, with the values of the options in their place.
+pub fn in_force(options: &Options, start: &Settings) -> Settings
+    requires ranges { HasRanges (values_of (chosen options.now)) }
+    requires valid { IsValid start.now }
+    ensures value { result ≡ in_force (chosen options.now) start.now }
+    ensures valid { IsValid result }
+{
+    let values = values_of(options);
+    with_values(&values, start)
 }

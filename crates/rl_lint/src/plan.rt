@@ -1,22 +1,27 @@
 //! What a run is to do, worked out before anything is written.
-ghost use Rattle.std.specs.Prelude.{◌≡◌, ◌≤◌, false, map, IfOk, Some};
+ghost use Rattle.std.specs.Prelude.{◌≡◌, ◌≤◌, false, map, option_map, true, IfOk, Some};
 ghost use Rattle.std.specs.String.{string_bytes};
-ghost use Rattle.rl_words.specs.Built.{IsIn};
-ghost use Rattle.rl_words.specs.Call.{HasRanges, asked};
+ghost use Rattle.rl_judge.specs.RightEntries.{IsValid};
+ghost use Rattle.rl_source.specs.Faults.{Rose};
+ghost use Rattle.rl_words.specs.Call.{HasActionRanges, HasRanges, asked, chosen};
 ghost use Rattle.rl_words.specs.Given.{given_by};
-ghost use Rattle.rl_words.specs.declared.built.TheConstants.{BUILT};
-ghost use Rattle.rl_lint.specs.Endings.{ending_of, message_text};
-ghost use Rattle.rl_lint.specs.Planned.{IsPlanned, asks_check, call_of, is_check};
+ghost use Rattle.rl_lint.specs.Endings.{ending_of, has_fault, is_refusal, message_text};
+ghost use Rattle.rl_lint.specs.Planned.{Acts, HasRefusedFile, IsActionPlanned, IsPlanned, asks_check, asks_tree, baseline_of, call_of, is_check};
 ghost use Rattle.rl_lint.specs.Uses.{asking_of};
 
 use crate::check::check_plan;
 use crate::class::class_plan;
 use crate::cost::cost_plan;
-use crate::options::{mode_given, number_given, settings_given};
+use crate::known::{Known, known_by};
+use crate::options::{in_force, mode_given};
+use crate::sample::sample_plan;
+use crate::settled::{Settled, settle};
+use rl_judge::Settings;
 use rl_lists::{Bytes, OutOfMemory};
+use rl_sarif::KnownKeys;
 use rl_source::Tree;
 use rl_syntax::Mode;
-use rl_words::{Action, Options, WordsError, read_words, usage_text};
+use rl_words::{Action, ModeWord, Options, WordsError, read_words, usage_text};
 use std::alloc::Global;
 
 /// A message for the error output.
@@ -45,6 +50,8 @@ impl Message {
 pub enum Plan {
     /// To refuse what it was asked for, with this message.
     Refuses(Message),
+    /// To tell this message, since a file that it needs couldn't be read.
+    Unreadable(Message),
     /// To write this text, and to say by its status whether that has a finding, and whether a call of the tree failed.
     Writes {
         text: Bytes,
@@ -53,50 +60,110 @@ pub enum Plan {
     },
 }
 
-/// What a run is to do for this action with these options.
+/// What a run is to do for this action, in the mode that is given and under these settings, with the keys of a baseline where
+/// there is one.
 ///
 /// # Errors
 /// [`OutOfMemory`] where memory was refused; in `check` the tree may have been read.
 fn action_plan<T: Tree>(
     alloc: Global,
     action: Action,
-    options: &Options,
+    mode: Option<ModeWord>,
+    settings: Settings,
+    known: Option<KnownKeys>,
     tree: &mut T,
 ) -> Result<Plan, OutOfMemory>
-    requires is_in { IsIn BUILT (call_of action options.now) }
-    requires ranges { HasRanges (call_of action options.now) }
-    ensures planned { IfOk result (λ plan. IsPlanned (Some (call_of action.entry options.now))
+    requires ranges { HasActionRanges (asked action) }
+    requires valid { IsValid settings }
+    ensures acts { IfOk result (λ plan. Acts mode settings known (asked action.entry)
         (asking_of T.told T.fault_count tree.old tree.new) (ending_of plan)) }
     ensures trail { is_check (asked action.entry) ≡ false → T.told tree.new ≡ T.told tree.old }
     ensures later { T.fault_count tree.old ≤ T.fault_count tree.new }
 {
     match action {
-        Action::Check { paths } => {
-            check_plan(alloc, paths.as_slice(), settings_given(options), tree)
-        }
+        Action::Check { paths } => { check_plan(alloc, paths.as_slice(), settings, known, tree) },
         Action::Cost { pattern, text } => {
-            cost_plan(
-                alloc,
-                pattern,
-                text,
-                mode_given(options.mode, Mode::Fullmatch),
-            )
+            cost_plan(alloc, pattern, text, mode_given(mode, Mode::Fullmatch))
         }
         Action::Class { pattern } => class_plan(
             alloc,
             pattern,
-            mode_given(options.mode, Mode::Fullmatch),
-            number_given(options.max_degree, 2),
-            number_given(options.max_pairs, 600),
+            mode_given(mode, Mode::Fullmatch),
+            settings.max_degree,
+            settings.max_pairs,
         ),
+        Action::Sample { seed, count } => sample_plan(alloc, seed, count, &settings),
         _ => Ok(Plan::Refuses(Message::Fixed(usage_text()))),
     }
 }
 
-/// What a run with these words is to do. `check` walks over the tree, and no other action asks it anything.
+/// The path of the baseline that the action reads: no action but `check` reads one.
+fn baseline_of<'a>(action: &Action, options: &Options<'a>) -> Option<&'a str>
+    ensures { option_map (λ p. p.now) result ≡ baseline_of (asked action.now) (chosen options.now) }
+{
+    match action {
+        Action::Check { .. } => options.baseline,
+        _ => None,
+    }
+}
+
+/// What a run is to do for this action with these options, under these settings. The baseline comes first.
 ///
 /// # Errors
-/// [`OutOfMemory`] where memory was refused; in `check` the tree may have been read.
+/// [`OutOfMemory`] where memory was refused; the tree may have been read.
+fn baseline_plan<T: Tree>(
+    alloc: Global,
+    action: Action,
+    options: &Options,
+    settings: Settings,
+    tree: &mut T,
+) -> Result<Plan, OutOfMemory>
+    requires ranges { HasActionRanges (asked action) }
+    requires valid { IsValid settings }
+    ensures planned { IfOk result (λ plan. IsActionPlanned (call_of action.entry options.now) settings
+        (asking_of T.told T.fault_count tree.old tree.new) (ending_of plan)) }
+    ensures trail { is_check (asked action.entry) ≡ false → T.told tree.new ≡ T.told tree.old }
+    ensures later { T.fault_count tree.old ≤ T.fault_count tree.new }
+{
+    match known_by(alloc, baseline_of(&action, options), tree)? {
+        Known::Unread => Ok(Plan::Unreadable(Message::Fixed("relint: baseline unreadable\n"))),
+        Known::Refused => Ok(Plan::Refuses(Message::Fixed("relint: baseline refused\n"))),
+        Known::Taken(known) => action_plan(alloc, action, options.mode, settings, known, tree),
+    }
+}
+
+/// What a run is to do for this action with these options. The settings come first, and the values of the
+/// options take their place.
+///
+/// # Errors
+/// [`OutOfMemory`] where memory was refused; the tree may have been read.
+fn call_plan<T: Tree>(
+    alloc: Global,
+    action: Action,
+    options: &Options,
+    tree: &mut T,
+) -> Result<Plan, OutOfMemory>
+    requires { HasRanges (call_of action options.now) }
+    ensures planned { IfOk result (λ plan. IsPlanned (Some (call_of action.entry options.now))
+        (asking_of T.told T.fault_count tree.old tree.new) (ending_of plan)) }
+    ensures trail { asks_tree (Some (call_of action.entry options.now)) ≡ false → T.told tree.new ≡ T.told tree.old }
+    ensures later { T.fault_count tree.old ≤ T.fault_count tree.new }
+{
+    match settle(alloc, options.settings, tree)? {
+        Settled::Unread => Ok(Plan::Unreadable(Message::Fixed("relint: settings unreadable\n"))),
+        Settled::Refused => Ok(Plan::Refuses(Message::Fixed("relint: settings refused\n"))),
+        Settled::Taken(start) => {
+            let settings = in_force(options, &start);
+            baseline_plan(alloc, action, options, settings, tree)
+        }
+    }
+}
+
+/// What a run with these words is to do. A settings file is read where the words name one, `check` reads its baseline
+/// where they name one and then walks over the tree, and nothing else is asked of it.
+///
+/// # Errors
+/// [`OutOfMemory`] where memory was refused; the tree may have been read.
 pub fn plan_of<T: Tree>(
     alloc: Global,
     words: &Vec<String>,
@@ -104,11 +171,16 @@ pub fn plan_of<T: Tree>(
 ) -> Result<Plan, OutOfMemory>
     ensures planned { IfOk result (λ plan. IsPlanned (given_by (map string_bytes words.now.items))
         (asking_of T.told T.fault_count tree.old tree.new) (ending_of plan)) }
-    ensures trail { asks_check (given_by (map string_bytes words.now.items)) ≡ false → T.told tree.new ≡ T.told tree.old }
+    ensures cause { IfOk result (λ plan. has_fault (ending_of plan) ≡ true
+        → Rose (T.fault_count tree.old) (T.fault_count tree.new)) }
+    ensures refused { IfOk result (λ plan. asks_check (given_by (map string_bytes words.now.items)) ≡ true
+        → is_refusal (ending_of plan) ≡ true
+        → HasRefusedFile (given_by (map string_bytes words.now.items)) (T.told tree.old)) }
+    ensures trail { asks_tree (given_by (map string_bytes words.now.items)) ≡ false → T.told tree.new ≡ T.told tree.old }
     ensures later { T.fault_count tree.old ≤ T.fault_count tree.new }
 {
     match read_words(alloc, words) {
-        Ok(words) => action_plan(alloc, words.action, &words.options, tree),
+        Ok(words) => call_plan(alloc, words.action, &words.options, tree),
         Err(WordsError::Invalid) => Ok(Plan::Refuses(Message::Fixed(usage_text()))),
         Err(WordsError::OutOfMemory) => Err(OutOfMemory),
     }

@@ -1,6 +1,7 @@
-use crate::relint_main;
+use crate::{Layout, Settings, relint_main, settings_from};
 use rl_lists::OutOfMemory;
 use rl_source::{Child, Children, Content, Held, Kind, MemSink, MemTree, Name, Node, Nodes, Tree};
+use rl_syntax::Mode;
 use std::alloc::{AllocError, Global};
 use std::test::Fail;
 
@@ -16,7 +17,7 @@ struct Row {
     err: &'static str,
 }
 
-static ROWS: [Row; 13] = [
+static ROWS: [Row; 15] = [
     Row {
         words: &["cost", "", ""],
         step: 99,
@@ -103,13 +104,31 @@ static ROWS: [Row; 13] = [
         err: "relint: refused lookaround at 0\n",
     },
     Row {
+        words: &["sample", "1", "10"],
+        step: 99,
+        out_fails: &[],
+        err_fails: &[],
+        status: 1,
+        out: "10 entries, 2 findings, 0 refused, 0 undecided\n",
+        err: "",
+    },
+    Row {
+        words: &["sample", "--format=json", "--max-degree=3", "1", "10"],
+        step: 30,
+        out_fails: &[2],
+        err_fails: &[],
+        status: 4,
+        out: "10 entries, 1 findings, 0 refu",
+        err: "relint: write fault\n",
+    },
+    Row {
         words: &[],
         step: 99,
         out_fails: &[],
         err_fails: &[],
         status: 2,
         out: "",
-        err: "usage: relint check [OPTIONS] PATH..\n       relint class [OPTIONS] PATTERN\n       relint cost [OPTIONS] PATTERN TEXT\n",
+        err: "usage: relint check [OPTIONS] PATH..\n       relint class [OPTIONS] PATTERN\n       relint cost [OPTIONS] PATTERN TEXT\n       relint sample [OPTIONS] SEED COUNT\n",
     },
     Row {
         words: &["cost"],
@@ -193,12 +212,14 @@ fn verdicts_come_first(rt: HostRuntime) -> Result<(), Fail> {
     Ok(())
 }
 
-// The folder `p` has a source that ends within a literal and a good one, the folder `q` has none, and `f.py` has a finding.
-static FILES: [(&str, &str); 4] = [
+// The folder `p` has a source that ends within a literal and a good one, the folder `q` has none, and `f.py`
+// and `my s.py` have a finding.
+static FILES: [(&str, &str); 5] = [
     ("p/a.py", "import re\nre.match(\"a\")\nx = \"\"\"abc\n"),
     ("p/b.py", "import re\nre.fullmatch(\"\", s)\n"),
     ("q/README.md", "q\n"),
     ("f.py", "import re\nre.fullmatch(r\"(?:x*)*y\", s)\n"),
+    ("my s.py", "import re\nre.fullmatch(r\"(?:x*)*y\", s)\n"),
 ];
 
 static FOLDERS: [(&str, &[&str]); 2] = [("p", &["b.py", "a.py"]), ("q", &["README.md"])];
@@ -236,7 +257,7 @@ struct Check {
     out: &'static str,
 }
 
-static CHECKS: [Check; 7] = [
+static CHECKS: [Check; 8] = [
     Check {
         words: &["check", "--format", "brief", "p"],
         tree_fails: &[],
@@ -286,6 +307,14 @@ static CHECKS: [Check; 7] = [
         out: "{\"entries\":[],\"findings\":0,\"refused\":0,\"undecided\":0,\"version\":1}\n",
     },
     Check {
+        words: &["check", "--format", "sarif", "my s.py"],
+        tree_fails: &[],
+        step: 99,
+        out_fails: &[],
+        status: 1,
+        out: "{\"runs\":[{\"columnKind\":\"unicodeCodePoints\",\"results\":[{\"locations\":[{\"physicalLocation\":{\"artifactLocation\":{\"uri\":\"my%20s.py\"},\"region\":{\"startColumn\":14,\"startLine\":2}}}],\"message\":{\"text\":\"fullmatch: exponential\"},\"ruleId\":\"exponential\"}],\"tool\":{\"driver\":{\"name\":\"relint\"}}}],\"version\":\"2.1.0\"}\n",
+    },
+    Check {
         words: &["check", "q"],
         tree_fails: &[],
         step: 16,
@@ -307,5 +336,230 @@ fn checks_end_by_their_rows(rt: HostRuntime) -> Result<(), Fail> {
         assert_eq!(rt; out.bytes(), row.out.as_bytes(), "{:?}", row.words);
         assert_eq!(rt; status, row.status);
     }
+    Ok(())
+}
+
+static SETTINGS_FILES: [(&str, &str); 9] = [
+    ("pairs.toml", "max-pairs = 0\n"),
+    ("colour.toml", "colour = 1\n"),
+    ("version.toml", "report = 3\n"),
+    ("degree.toml", "max-degree = 1\nformat = \"brief\"\n"),
+    ("d.py", "import re\nre.fullmatch(r\"a*a*\", s)\n"),
+    ("no.json", "[]"),
+    (
+        "d.json",
+        "{\"entries\":[{\"call\":\"fullmatch\",\"degree\":2,\"kind\":\"degree\",\"path\":\"d.py\"}],\"version\":1}",
+    ),
+    (
+        "m.json",
+        "{\"entries\":[{\"call\":\"fullmatch\",\"degree\":2,\"kind\":\"degree\",\"path\":\"dd.py\"}],\"version\":2}",
+    ),
+    (
+        "dd.py",
+        "import re\nre.fullmatch(r\"a*a*\", s)\nre.fullmatch(r\"a*a*\", s)\n",
+    ),
+];
+
+struct SettingsRow {
+    words: &'static [&'static str],
+    // which calls of the tree fail, and which writes to `err` fail
+    tree_fails: &'static [u64],
+    err_fails: &'static [u64],
+    status: u8,
+    out: &'static str,
+    err: &'static str,
+}
+
+static SETTINGS: [SettingsRow; 16] = [
+    SettingsRow {
+        words: &["check", "--settings", "pairs.toml", "d.py"],
+        tree_fails: &[],
+        err_fails: &[],
+        status: 2,
+        out: "",
+        err: "relint: settings refused\n",
+    },
+    SettingsRow {
+        words: &["check", "--settings", "colour.toml", "d.py"],
+        tree_fails: &[],
+        err_fails: &[1],
+        status: 2,
+        out: "",
+        err: "",
+    },
+    SettingsRow {
+        words: &["cost", "--settings", "version.toml", "", ""],
+        tree_fails: &[],
+        err_fails: &[],
+        status: 2,
+        out: "",
+        err: "relint: settings refused\n",
+    },
+    SettingsRow {
+        words: &["check", "--settings", "none.toml", "d.py"],
+        tree_fails: &[],
+        err_fails: &[],
+        status: 3,
+        out: "",
+        err: "relint: settings unreadable\n",
+    },
+    SettingsRow {
+        words: &["class", "--settings", "degree.toml", "("],
+        tree_fails: &[1],
+        err_fails: &[2],
+        status: 3,
+        out: "",
+        err: "relin",
+    },
+    SettingsRow {
+        words: &["check", "--settings", "degree.toml", "d.py"],
+        tree_fails: &[],
+        err_fails: &[],
+        status: 1,
+        out: "d.py:2:14: fullmatch: degree 2\n1 entries, 1 findings, 0 refused, 0 undecided\n",
+        err: "",
+    },
+    SettingsRow {
+        words: &[
+            "check",
+            "--settings",
+            "degree.toml",
+            "--max-degree=2",
+            "d.py",
+        ],
+        tree_fails: &[],
+        err_fails: &[],
+        status: 0,
+        out: "d.py:2:14: fullmatch: degree 2\n1 entries, 0 findings, 0 refused, 0 undecided\n",
+        err: "",
+    },
+    SettingsRow {
+        words: &["check", "--settings", "degree.toml", "d.py"],
+        tree_fails: &[3],
+        err_fails: &[],
+        status: 3,
+        out: "d.py: unreadable\n1 entries, 0 findings, 1 refused, 0 undecided\n",
+        err: "",
+    },
+    SettingsRow {
+        words: &["sample", "--settings", "degree.toml", "1", "10"],
+        tree_fails: &[],
+        err_fails: &[],
+        status: 1,
+        out: "10 entries, 6 findings, 0 refused, 0 undecided\n",
+        err: "",
+    },
+    SettingsRow {
+        words: &["check", "--format=brief", "--baseline", "d.json", "d.py"],
+        tree_fails: &[],
+        err_fails: &[],
+        status: 0,
+        out: "0 entries, 0 findings, 0 refused, 0 undecided, 1 hidden\n",
+        err: "",
+    },
+    SettingsRow {
+        words: &[
+            "check",
+            "--format=brief",
+            "--max-degree=1",
+            "--baseline=m.json",
+            "dd.py",
+        ],
+        tree_fails: &[],
+        err_fails: &[],
+        status: 1,
+        out: "dd.py:3:14: fullmatch: degree 2\n1 entries, 1 findings, 0 refused, 0 undecided, 1 hidden\n",
+        err: "",
+    },
+    SettingsRow {
+        words: &["check", "--format=json", "--baseline=d.json", "d.py"],
+        tree_fails: &[],
+        err_fails: &[],
+        status: 0,
+        out: "{\"entries\":[],\"findings\":0,\"refused\":0,\"undecided\":0,\"version\":2}\n",
+        err: "",
+    },
+    SettingsRow {
+        words: &["check", "--baseline", "no.json", "d.py"],
+        tree_fails: &[],
+        err_fails: &[],
+        status: 2,
+        out: "",
+        err: "relint: baseline refused\n",
+    },
+    SettingsRow {
+        words: &[
+            "check",
+            "--settings=degree.toml",
+            "--baseline",
+            "d.json",
+            "d.py",
+        ],
+        tree_fails: &[2],
+        err_fails: &[],
+        status: 3,
+        out: "",
+        err: "relint: baseline unreadable\n",
+    },
+    SettingsRow {
+        words: &["cost", "--baseline", "no.json", "a*", "aa"],
+        tree_fails: &[],
+        err_fails: &[],
+        status: 0,
+        out: "steps 5 matched\n",
+        err: "",
+    },
+    SettingsRow {
+        words: &["cost", "--settings", "degree.toml", "a*", "aa"],
+        tree_fails: &[],
+        err_fails: &[],
+        status: 0,
+        out: "steps 5 matched\n",
+        err: "",
+    },
+];
+
+fn settings_map(alloc: Global) -> Result<Nodes, OutOfMemory> {
+    let mut nodes = Nodes::new(alloc);
+    for (path, text) in &SETTINGS_FILES {
+        let path = Name::from_text(alloc, path)?;
+        let held = Held::File(Content::from_slice(alloc, text.as_bytes())?);
+        nodes.push(Node { path, held })?;
+    }
+    Ok(nodes)
+}
+
+#[test]
+fn settings_and_baselines_come_first(rt: HostRuntime) -> Result<(), Fail> {
+    for row in &SETTINGS {
+        let words = strings(rt.alloc(), row.words)?;
+        let failing = Vec::from_slice(rt.alloc(), row.tree_fails)?;
+        let mut tree = MemTree::new(rt.alloc(), settings_map(rt.alloc())?, failing)?;
+        let mut out = sink(rt.alloc(), 99, &[])?;
+        let mut err = sink(rt.alloc(), 5, row.err_fails)?;
+        let status = relint_main(rt.alloc(), &words, &mut tree, &mut out, &mut err);
+        assert_eq!(rt; out.bytes(), row.out.as_bytes(), "{:?}", row.words);
+        assert_eq!(rt; err.bytes(), row.err.as_bytes());
+        assert_eq!(rt; status, row.status);
+    }
+    Ok(())
+}
+
+#[test]
+fn settings_take_the_place_of_others(rt: HostRuntime) -> Result<(), Fail> {
+    let bytes = Vec::from_slice(rt.alloc(), b"max-pairs = 7\nreport = 1\n")?;
+    let start = Settings {
+        compile_as: Mode::Match,
+        max_degree: 5,
+        max_pairs: 600,
+        format: Layout::Sarif,
+        report: 2,
+    };
+    let settings = settings_from(rt.alloc(), &bytes, &start).expect(&rt, "settings");
+    assert_eq!(rt; settings.max_pairs, 7);
+    assert_eq!(rt; settings.report, 1);
+    assert_eq!(rt; settings.max_degree, 5);
+    assert_eq!(rt; settings.compile_as, Mode::Match);
+    assert_eq!(rt; settings.format, Layout::Sarif);
     Ok(())
 }

@@ -1,7 +1,7 @@
 mod PlaceLemmas
 mod FamilyLemmas
 mod LineLemmas
-mod Ascii
+pub mod Ascii
 mod CountLemmas
 mod ValueLemmas
 mod NoFloats

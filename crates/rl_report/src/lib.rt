@@ -12,6 +12,7 @@ mod report;
 mod verdicts;
 
 pub use layouts::{Format, render, render_shown};
+pub use lines::summary_line;
 pub use names::{
     call_name, feature_name, lexing_cause, limit_name, limit_number, literal_cause, pattern_cause,
     verdict_kind,

@@ -1,5 +1,5 @@
 //! The lines of a report as text.
-ghost use Rattle.std.specs.Prelude.{◌≡◌, ◌∷◌, ◌++◌, All, IfOk, IfSome, OnOk, option_map};
+ghost use Rattle.std.specs.Prelude.{◌≡◌, ◌∷◌, ◌++◌, All, IfOk, IfSome, None, OnOk, option_map};
 ghost use Rattle.std.specs.List.{flat_map};
 ghost use Rattle.rl_ranges.specs.Text.{IsText};
 ghost use Rattle.rl_report.specs.Findings.{becomes_of, suggestion_of, verdict_of};
@@ -10,7 +10,7 @@ use crate::counts::{findings, refusals, undecided};
 use crate::names::call_name;
 use crate::pieces::{push_number, push_place, push_quoted, push_text};
 use crate::places::Place;
-use crate::report::{Entry, Mark, Marks, Outcome};
+use crate::report::{Entries, Entry, Mark, Marks, Outcome};
 use crate::verdicts::{push_family, push_verdict};
 use rl_lists::{Bytes, Codes, OutOfMemory};
 use rl_sites::Call;
@@ -351,13 +351,13 @@ fn push_hidden(alloc: Global, out: &mut Vec<u8>, hidden: Option<usize>) -> Resul
 fn push_counts(
     alloc: Global,
     out: &mut Vec<u8>,
-    terms: Terms,
+    max_degree: u32,
     entries: &[Entry],
 ) -> Result<(), OutOfMemory>
-    ensures { OnOk result (out.new.items ≡ out.old.items ++ counts_text terms.max_degree entries.now) }
+    ensures { OnOk result (out.new.items ≡ out.old.items ++ counts_text max_degree entries.now) }
 {
     let all = entries.len();
-    let found = findings(entries, terms.max_degree);
+    let found = findings(entries, max_degree);
     let refused = refusals(entries);
     let passed = undecided(entries);
     let text = format!(in alloc;
@@ -370,13 +370,13 @@ fn push_counts(
 fn push_last(
     alloc: Global,
     out: &mut Vec<u8>,
-    terms: Terms,
+    max_degree: u32,
     entries: &[Entry],
     hidden: Option<usize>,
 ) -> Result<(), OutOfMemory>
-    ensures { OnOk result (out.new.items ≡ out.old.items ++ last_line terms.max_degree hidden entries.now) }
+    ensures { OnOk result (out.new.items ≡ out.old.items ++ last_line max_degree hidden entries.now) }
 {
-    push_counts(alloc, out, terms, entries)?;
+    push_counts(alloc, out, max_degree, entries)?;
     push_hidden(alloc, out, hidden)?;
     push_text(out, "\n")?;
     Ok(())
@@ -394,7 +394,7 @@ pub fn brief_report(
 {
     let mut out = Vec::new(alloc);
     push_heads(alloc, &mut out, entries, terms.max_pairs)?;
-    push_last(alloc, &mut out, terms, entries, hidden)?;
+    push_last(alloc, &mut out, terms.max_degree, entries, hidden)?;
     Ok(Bytes::from_vec(out))
 }
 
@@ -411,6 +411,19 @@ pub fn text_report(
 {
     let mut out = Vec::new(alloc);
     push_entries(alloc, &mut out, terms, entries)?;
-    push_last(alloc, &mut out, terms, entries, hidden)?;
+    push_last(alloc, &mut out, terms.max_degree, entries, hidden)?;
+    Ok(Bytes::from_vec(out))
+}
+
+/// The last line of the text layout of the entries: how many they are, and how many of them are findings, are refused and
+/// are undecided. A degree above `max_degree` is a finding.
+///
+/// # Errors
+/// [`OutOfMemory`] where memory was refused.
+pub fn summary_line(alloc: Global, entries: &Entries, max_degree: u32) -> Result<Bytes, OutOfMemory>
+    ensures { IfOk result (λ bytes. bytes ≡ last_line max_degree None entries.now) }
+{
+    let mut out = Vec::new(alloc);
+    push_last(alloc, &mut out, max_degree, entries.as_slice(), None)?;
     Ok(Bytes::from_vec(out))
 }

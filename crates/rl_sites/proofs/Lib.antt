@@ -6,3 +6,4 @@ mod TermFacts
 mod Filters
 mod Numbers
 mod Tabled
+mod NoAliases

@@ -29,8 +29,8 @@ call_by names (Some mark) = names mark
 -- an alias of the module, `.`, one of the nine names and `(`
 unfoldable pub dotted_head : List ℕ → List Alias → List Mark → Option Head
 dotted_head source aliases rest =
-    if stands 0 (is_module source aliases) rest && stands 1 (is_op source (codes ".")) rest
-    && stands 3 (is_op source (codes "(")) rest
+    if stands 1 (is_op source (codes ".")) rest && stands 3 (is_op source (codes "(")) rest
+    && stands 0 (is_module source aliases) rest
     then head 4 (call_by (call_named source) (slice_get rest 2)) else None
 
 -- an alias of one of the nine names and `(`

@@ -62,12 +62,12 @@ fn made_head(size: usize, call: Option<Call>) -> Option<Head>
 /// Whether an alias of the module, `.`, a mark and `(` stand in front.
 fn is_dotted(source: &[u8], names: &Names<'_>, rest: &[Mark]) -> bool
     requires { IsMeant source.now names.now.aliases.items names.now.meanings.entries }
-    ensures value { result ≡ (stands 0 (is_module source.now names.now.aliases.items) rest.now && stands 1 (is_op source.now (codes ".")) rest.now && stands 3 (is_op source.now (codes "(")) rest.now) }
+    ensures value { result ≡ (stands 1 (is_op source.now (codes ".")) rest.now && stands 3 (is_op source.now (codes "(")) rest.now && stands 0 (is_module source.now names.now.aliases.items) rest.now) }
     ensures within { IsTrue result → 4 ≤ length rest.now }
 {
-    begins_module(source, names, rest)
-        && op_at(source, b".", rest, 1)
+    op_at(source, b".", rest, 1)
         && op_at(source, b"(", rest, 3)
+        && begins_module(source, names, rest)
 }
 
 /// The head of an alias of the module, `.`, one of the nine names and `(`.

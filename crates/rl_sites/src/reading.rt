@@ -12,7 +12,7 @@ ghost use Rattle.rl_sites.specs.Meanings.{IsMeant};
 use crate::brackets::sizes_of;
 use crate::flags::flags_of;
 use crate::heads::head_of;
-use crate::imports::aliases_of;
+use crate::imports::{Alias, aliases_of};
 use crate::mark::Mark;
 use crate::marks::{is_literal, is_op, is_word, marks_of, op_at, rest_from, word_at};
 use crate::names::{Names, names_of};
@@ -198,6 +198,25 @@ fn sites_among(
     Ok(sites)
 }
 
+/// The sites among the marks, by the aliases of their source. A source that makes none has no sites.
+#[tactic(auto, using(crate::proofs::NoAliases::no_sites))]
+fn sites_by(
+    alloc: Global,
+    source: &[u8],
+    aliases: Vec<Alias>,
+    marks: &[Mark],
+) -> Result<SiteList, OutOfMemory>
+    requires { IsNumbered marks.now }
+    ensures { IfOk result (λ sites. sites ≡ sites_from source.now aliases.items false marks.now) }
+{
+    if aliases.is_empty() {
+        return Ok(SiteList::new(alloc));
+    }
+    let names = names_of(alloc, source, aliases)?;
+    let sizes = sizes_of(alloc, source, marks)?;
+    sites_among(alloc, source, &names, marks, sizes.as_slice())
+}
+
 /// The sites of a source with these tokens, which are its own: each call of the module `re` by an alias that its
 /// imports make, whose first argument is a run of literals, in the order of their places.
 ///
@@ -210,7 +229,5 @@ pub fn sites(alloc: Global, source: &[u8], tokens: &TokenList) -> Result<SiteLis
 {
     let marks = marks_of(alloc, tokens.as_slice())?;
     let aliases = aliases_of(alloc, source, marks.as_slice())?;
-    let names = names_of(alloc, source, aliases)?;
-    let sizes = sizes_of(alloc, source, marks.as_slice())?;
-    sites_among(alloc, source, &names, marks.as_slice(), sizes.as_slice())
+    sites_by(alloc, source, aliases, marks.as_slice())
 }

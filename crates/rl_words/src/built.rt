@@ -30,13 +30,13 @@ pub const BUILT: Built = Built {
     check: true,
     class: true,
     cost: true,
-    sample: false,
+    sample: true,
     prove: false,
     verify: false,
     compare: false,
-    settings: false,
-    baseline: false,
-    sarif: false,
+    settings: true,
+    baseline: true,
+    sarif: true,
 };
 
 /// The actions, in the order in which the usage text shows them.

@@ -15,4 +15,5 @@ pub use built::{ActionName, BUILT, Built};
 pub use error::WordsError;
 pub use read::read_words;
 pub use usage::usage_text;
+pub use values::{format_of, mode_of};
 pub use words::{Action, FormatWord, ModeWord, Options, Paths, Words};

@@ -35,7 +35,7 @@ pub(crate) fn number_of(digits: usize, low: u32, high: u32, text: &str) -> Optio
 }
 
 /// The mode of a word.
-pub(crate) fn mode_of(word: &str) -> Option<ModeWord>
+pub fn mode_of(word: &str) -> Option<ModeWord>
     ensures { result ≡ mode_of word.now }
 {
     match word {
@@ -47,7 +47,7 @@ pub(crate) fn mode_of(word: &str) -> Option<ModeWord>
 }
 
 /// The layout of a word; `has_sarif` says whether `sarif` is one.
-pub(crate) fn format_of(has_sarif: bool, word: &str) -> Option<FormatWord>
+pub fn format_of(has_sarif: bool, word: &str) -> Option<FormatWord>
     ensures { result ≡ format_of has_sarif word.now }
 {
     match word {

@@ -17,7 +17,7 @@ struct Taken {
     max_pairs: Option<u32>,
 }
 
-static TAKEN: [Taken; 6] = [
+static TAKEN: [Taken; 7] = [
     Taken {
         words: &["cost", "a*", "aa"],
         mode: None,
@@ -43,6 +43,12 @@ static TAKEN: [Taken; 6] = [
         max_pairs: None,
     },
     Taken {
+        words: &["cost", "a*", "--format=sarif", "aa"],
+        mode: None,
+        format: Some(FormatWord::Sarif),
+        max_pairs: None,
+    },
+    Taken {
         words: &["cost", "a*", "aa", "--max-pairs=000600"],
         mode: None,
         format: None,
@@ -56,7 +62,7 @@ static TAKEN: [Taken; 6] = [
     },
 ];
 
-static REFUSED: [&[&str]; 22] = [
+static REFUSED: [&[&str]; 23] = [
     &[],
     &["cost"],
     &["cost", "a*"],
@@ -74,6 +80,7 @@ static REFUSED: [&[&str]; 22] = [
     &["cost", "a*", "aa", "--report=3"],
     &["cost", "a*", "aa", "--settings="],
     &["cost", "a*", "aa", "--baseline="],
+    &["sample", "1", "0"],
     &["cost", "-a", "aa"],
     &["--help"],
     &["cost", "a*", "aa", "-h"],
@@ -98,6 +105,20 @@ fn takes_cost(rt: HostRuntime) -> Result<(), Fail> {
         assert_eq!(rt; read.options.max_degree, None);
         assert_eq!(rt; read.options.report, None);
     }
+    Ok(())
+}
+
+#[test]
+fn takes_sample(rt: HostRuntime) -> Result<(), Fail> {
+    let words = strings(rt.alloc(), &["sample", "--settings=s.toml", "7", "20000"])?;
+    let read = read_words(rt.alloc(), &words)?;
+    match read.action {
+        Action::Sample { seed, count } => {
+            assert!(rt; seed == 7 && count == 20_000);
+        }
+        _ => assert!(rt; false, "another action"),
+    }
+    assert_eq!(rt; read.options.settings, Some("s.toml"));
     Ok(())
 }
 

@@ -15,4 +15,5 @@ returns c =
       inner = c.in_ok-inner.ensures;
       parts = subst (λ (z : ℕ). IsParts (pair_moves (edges_of h) z) (z * z) c.in_ok-parts.parts) c.in_ok-inner.ensures.same_states c.in_ok-parts.ensures;
       placed = subst (λ (z : ℕ). IsPlaced c.in_ok-components.components c.in_ok-parts.parts z (lists_of c.in_ok-placed.placed)) n c.in_ok-placed.ensures;
+      moves = c.in_ok-moves.ensures;
     }

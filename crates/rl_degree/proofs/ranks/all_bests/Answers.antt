@@ -13,6 +13,9 @@ loop-component-preserved c =
     let p = c.args.table.now.components in
     let k = c.loop-component.component in
     let bests = c.loop-component.bests.items in
-    let b = c.best_of-best.result in
-    let here = subst (λ (l : List Best). (q : ℕ) → q < g.states → number_of p q ≡ k → IsBest next g.states p l q b) c.deref.ensures.value c.best_of-best.ensures in
-    subst (AreBests next g.states p (k + 1)) (sym c.in_ok-push.ensures.items) (bests-more next g.states p k bests b c.requires.table.components c.requires.no_twin c.loop-component.invariant here)
+    let b = c.in_ok-best.best in
+    let here = subst (λ (l : List Best). (q : ℕ) → q < g.states → number_of p q ≡ k → IsBest next g.states p l q b) c.deref.ensures.value c.in_ok-best.ensures.best in
+    record {
+      bests = subst (AreBests next g.states p (k + 1)) (sym c.in_ok-push.ensures.items) (bests-more next g.states p k bests b c.requires.table.components c.requires.no_twin c.loop-component.invariant.bests here);
+      marks = c.in_ok-best.ensures.marks;
+    }

@@ -1,5 +1,6 @@
 use Rattle.std.proofs.Common.{◌≤◌}
 use Rattle.rl_graph.specs.Graph.{edges_of}
+use Rattle.rl_degree.specs.Splits.{AreMarks}
 use Rattle.rl_degree.specs.Ranks.{IsGood, BeatsSplits}
 use Rattle.rl_degree.proofs.ranks.best_by_splits.Given as goal
 
@@ -8,4 +9,5 @@ invariant-loop-to l = record {
   good : IsGood (edges_of l.g) l.g.states l.table.components l.bests l.state l.best;
   least : l.initial.best.rank ≤ l.best.rank;
   splits : BeatsSplits (edges_of l.g) l.to l.table.components l.bests l.state l.best.rank;
+  marks : AreMarks l.g l.table l.marks.items;
 }

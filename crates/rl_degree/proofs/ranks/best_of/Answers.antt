@@ -7,7 +7,7 @@ use Rattle.rl_degree.specs.Splits.{HasSplit}
 use Rattle.rl_degree.specs.Ranks.{best_at}
 use Rattle.rl_degree.proofs.RankLaws.{good-same, moves-raised, splits-raised}
 use Rattle.rl_degree.proofs.ranks.best_of.Goals as goal
-use Rattle.rl_degree.proofs.ranks.best_of.Goals.{then-of-component, else-of-component}
+use Rattle.rl_degree.proofs.ranks.best_of.Goals.{then-of-component+in_ok-best, else-of-component}
 
 -- what holds of the states below `k` and of `k`
 each-below : (P : ℕ → Type 0) (number : ℕ → ℕ) (k c : ℕ) → ((q : ℕ) → q < k → number q ≡ c → P q) → (number k ≡ c → P k) → (q : ℕ) → q < k + 1 → number q ≡ c → P q
@@ -30,24 +30,26 @@ loop-state-preserved c =
     let i = c.loop-state.invariant in
     let hk : k < n = omega (arith, c.states-state-end.ensures.number) in
     elim c.if-of-component.branch [
-      | then-of-component w ↦
+      | then-of-component+in_ok-best w ↦
           let same : number_of p k ≡ c.args.component = sym c.of.ensures ∙ w.if-of-component.true in
-          let r = w.best_by_splits-best.result in
+          let r = w.in_ok-best.best in
           let m = w.best_by_moves-by_moves.result in
-          rw w.best-is (record {
-            good = λ q hq e. good-same next n p bests q k r c.requires.table.components hq hk (e ∙ sym same) w.best_by_splits-best.ensures.good;
+          rw (w.best-is, w.marks-is) (record {
+            good = λ q hq e. good-same next n p bests q k r c.requires.table.components hq hk (e ∙ sym same) w.in_ok-best.ensures.good;
             moves = each-below (λ q. (l x : ℕ) → Has x (next q l) → number_of p x < number_of p q → (best_at bests (number_of p x)).rank ≤ r.rank) (number_of p) k c.args.component
-                (λ q h e. moves-raised next p bests q c.loop-state.best.rank r.rank (i.moves q h e) (omega (arith, w.best_by_moves-by_moves.ensures.least, w.best_by_splits-best.ensures.least)))
-                (λ e. moves-raised next p bests k m.rank r.rank w.best_by_moves-by_moves.ensures.moves w.best_by_splits-best.ensures.least);
+                (λ q h e. moves-raised next p bests q c.loop-state.best.rank r.rank (i.moves q h e) (omega (arith, w.best_by_moves-by_moves.ensures.least, w.in_ok-best.ensures.least)))
+                (λ e. moves-raised next p bests k m.rank r.rank w.best_by_moves-by_moves.ensures.moves w.in_ok-best.ensures.least);
             splits = each-below (λ q. (t : ℕ) → t < n → HasSplit next q t → (best_at bests (number_of p t)).rank + 1 ≤ r.rank) (number_of p) k c.args.component
-                (λ q h e. splits-raised next n p bests q c.loop-state.best.rank r.rank (i.splits q h e) (omega (arith, w.best_by_moves-by_moves.ensures.least, w.best_by_splits-best.ensures.least)))
-                (λ e. w.best_by_splits-best.ensures.splits);
+                (λ q h e. splits-raised next n p bests q c.loop-state.best.rank r.rank (i.splits q h e) (omega (arith, w.best_by_moves-by_moves.ensures.least, w.in_ok-best.ensures.least)))
+                (λ e. w.in_ok-best.ensures.splits);
+            marks = w.in_ok-best.ensures.marks;
           })
       | else-of-component w ↦
           let other : number_of p k ≡ c.args.component → ⊥ = λ e. w.if-of-component.false (c.of.ensures ∙ e) in
-          rw w.best-is (record {
+          rw (w.best-is, w.marks-is) (record {
             good = i.good;
             moves = each-below (λ q. (l x : ℕ) → Has x (next q l) → number_of p x < number_of p q → (best_at bests (number_of p x)).rank ≤ c.loop-state.best.rank) (number_of p) k c.args.component i.moves (λ e. absurd (other e));
             splits = each-below (λ q. (t : ℕ) → t < n → HasSplit next q t → (best_at bests (number_of p t)).rank + 1 ≤ c.loop-state.best.rank) (number_of p) k c.args.component i.splits (λ e. absurd (other e));
+            marks = i.marks;
           })
     ]

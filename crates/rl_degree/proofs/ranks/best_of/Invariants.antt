@@ -1,6 +1,7 @@
 use Rattle.std.proofs.Common.{ℕ, ◌≡◌, ◌<◌}
 use Rattle.rl_graph.specs.Graph.{edges_of}
 use Rattle.rl_graph.specs.Parts.{number_of}
+use Rattle.rl_degree.specs.Splits.{AreMarks}
 use Rattle.rl_degree.specs.Ranks.{IsGood, BeatsMoves, BeatsSplits}
 use Rattle.rl_degree.proofs.ranks.best_of.Given as goal
 
@@ -9,4 +10,5 @@ invariant-loop-state l = record {
   good : (q : ℕ) → q < l.g.states → number_of l.table.components q ≡ l.component → IsGood (edges_of l.g) l.g.states l.table.components l.bests q l.best;
   moves : (q : ℕ) → q < l.state → number_of l.table.components q ≡ l.component → BeatsMoves (edges_of l.g) l.table.components l.bests q l.best.rank;
   splits : (q : ℕ) → q < l.state → number_of l.table.components q ≡ l.component → BeatsSplits (edges_of l.g) l.g.states l.table.components l.bests q l.best.rank;
+  marks : AreMarks l.g l.table l.marks.items;
 }

@@ -6,8 +6,8 @@ use Rattle.rl_sites.proofs.reading.sites.Goals as goal
 pub marks_of-requires : goal.marks_of-requires
 marks_of-requires c = omega (arith, few_tokens c.args.source.now c.args.tokens.now c.requires, ap length c.as_slice.ensures)
 
-pub sites_among-requires-clause-numbered : goal.sites_among-requires-clause-numbered
-sites_among-requires-clause-numbered c =
+pub sites_by-requires : goal.sites_by-requires
+sites_by-requires c =
     let few : length c.as_slice.result.now ≤ 4194304 =
     omega (arith, few_tokens c.args.source.now c.args.tokens.now c.requires, ap length c.as_slice.ensures) in
-    numbered_all c.as_slice.result.now c.as_slice-4.result.now few (c.as_slice-4.ensures.value ∙ c.in_ok-marks.ensures)
+    numbered_all c.as_slice.result.now c.as_slice-3.result.now few (c.as_slice-3.ensures.value ∙ c.in_ok-marks.ensures)

@@ -1,0 +1,49 @@
+//! The moves of a graph as tables of bits.
+
+ghost use Rattle.std.specs.Prelude.{◌≡◌, ◌<◌, ◌+◌, IfOk};
+ghost use Rattle.rl_degree.specs.Moves.{IsMoveTable, IsMoveTableUpTo, AreMoveTables};
+
+use rl_graph::Multigraph;
+use rl_lanes::BitTable;
+use rl_lists::OutOfMemory;
+use std::alloc::Global;
+
+/// Marks the targets of a state's moves on a letter in its row of the letter's table.
+fn mark_moves(table: &mut BitTable, g: &Multigraph, state: u32, letter: u32)
+    requires state_in { state < g.now.states }
+    requires letter_in { letter < g.now.letters }
+    requires so_far { IsMoveTableUpTo g.now letter state table.old }
+    ensures { IsMoveTableUpTo g.now letter (state + 1) table.new }
+{
+    let targets = g.edges(state, letter);
+    for place in 0..targets.len() {
+        table.set(state as usize, targets[place] as usize, true);
+    }
+}
+
+/// The table of a letter: the row of each state holds the targets of its moves on the letter.
+fn move_table(alloc: Global, g: &Multigraph, letter: u32) -> Result<BitTable, OutOfMemory>
+    requires { letter < g.now.letters }
+    ensures { IfOk result (IsMoveTable g.now letter) }
+{
+    let count = g.states() as usize;
+    let mut table = BitTable::zeros(alloc, count, count)?;
+    for state in 0..g.states() {
+        mark_moves(&mut table, g, state, letter);
+    }
+    Ok(table)
+}
+
+/// The table of each letter of a graph.
+///
+/// # Errors
+/// [`OutOfMemory`] where there was no memory for them.
+pub(crate) fn move_tables(alloc: Global, g: &Multigraph) -> Result<Vec<BitTable>, OutOfMemory>
+    ensures { IfOk result (λ v. AreMoveTables g.now v.items) }
+{
+    let mut tables = Vec::new(alloc);
+    for letter in 0..g.letters() {
+        tables.push(move_table(alloc, g, letter)?)?;
+    }
+    Ok(tables)
+}

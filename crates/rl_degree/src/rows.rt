@@ -1,0 +1,267 @@
+//! The search for the word of a split, by rows of states. It goes over triples of states that go side by side on the same
+//! letters. The outer two are a pair of a part of the product; for each of these pairs a row of bits holds the middle states
+//! that were met beside it. What was met at once stays together, so that a step moves a whole row.
+
+ghost use Rattle.std.specs.Prelude.{◌≡◌, ◌<◌, ◌≤◌, ◌*◌, [], true, false, length, replicate, slice_index_or, IfOk, OnOk, IfSome, IfNone};
+ghost use Rattle.rl_degree.specs.Pairs.{IsTable};
+ghost use Rattle.rl_degree.specs.Rows.{field_of, stand_of, start_stand, number_of_new, steps_with, has_middle, behind, word_at, IsRooted, IsReached, IsSearching, IsImage, IsFurther, IsFollowedOn, IsFollowedUpTo};
+
+use crate::pairs::PairTable;
+use rl_graph::{Multigraph, NextStates, Twice};
+use rl_lanes::BitRow;
+use rl_lists::{Items, OutOfMemory, Word};
+use std::alloc::Global;
+use std::collections::VecDeque;
+
+/// A search has at most so many steps, so that their numbers fit.
+const MOST_STEPS: usize = 4_294_967_295;
+
+/// A step of a search: the step that it follows, and the letter. The steps are numbered from 1; the number 0 stands for the
+/// start.
+#[derive(Clone, Copy)]
+struct Step {
+    from: u32,
+    letter: u32,
+}
+
+/// What a step found: a pair, by its place among the members of the part, and the middle states that are new beside it.
+#[derive(Drop)]
+pub(crate) struct Found {
+    step: u32,
+    place: usize,
+    middle: BitRow,
+}
+
+/// A search for a word that leads a pair of states to itself and one middle state to another one: for each pair of the part
+/// the middle states that were seen beside it, the steps, and what they found that was not followed yet. A search that is not
+/// asked for the word keeps no step, so that it has no more than a few bits for each triple.
+#[derive(Drop)]
+pub(crate) struct Search {
+    keeps: bool,
+    place: usize,
+    from: u32,
+    to: u32,
+    seen: Vec<BitRow>,
+    steps: Vec<Step>,
+    queue: VecDeque<Found>,
+}
+
+/// So many rows of a number of bits that hold false.
+fn empty_rows(alloc: Global, rows: usize, len: usize) -> Result<Vec<BitRow>, OutOfMemory>
+    ensures { IfOk result (λ v. v.items ≡ replicate rows (replicate len false)) }
+{
+    let mut seen = Vec::with_capacity(alloc, rows)?;
+    for _row in 0..rows {
+        seen.push(BitRow::zeros(alloc, len)?)?;
+    }
+    Ok(seen)
+}
+
+impl Search {
+    /// A search over a part of so many pairs of a graph with so many states. It begins with the pair at a place and the middle
+    /// state `from`, and looks for that pair with the middle state `to`.
+    ///
+    /// # Errors
+    /// [`OutOfMemory`] where there was no memory for the rows.
+    pub(crate) fn new(
+        alloc: Global,
+        keeps: bool,
+        states: u32,
+        pairs: usize,
+        place: usize,
+        from: u32,
+        to: u32,
+    ) -> Result<Search, OutOfMemory>
+        requires place_in { place < pairs }
+        requires from_in { from < states }
+        ensures { IfOk result (λ s. stand_of s ≡ start_stand keeps states pairs place from to) }
+    {
+        let len = states as usize;
+        let mut seen = empty_rows(alloc, pairs, len)?;
+        seen[place].set(from as usize, true);
+        let mut middle = BitRow::zeros(alloc, len)?;
+        middle.set(from as usize, true);
+        let mut queue = VecDeque::new(alloc);
+        queue.push_back(Found {
+            step: 0,
+            place,
+            middle,
+        })?;
+        Ok(Search {
+            keeps,
+            place,
+            from,
+            to,
+            seen,
+            steps: Vec::new(alloc),
+            queue,
+        })
+    }
+
+    /// What was found first and not followed yet.
+    pub(crate) fn next(&mut self) -> Option<Found>
+        ensures found { IfSome result (λ f. stand_of self.old ≡ behind f (stand_of self.new)) }
+        ensures none { IfNone result ((stand_of self.old).queue ≡ []) }
+    {
+        self.queue.pop_front()
+    }
+
+    /// Whether what was found has what is looked for.
+    pub(crate) fn is_goal(&self, found: &Found) -> bool
+        requires { self.now.to < length found.now.middle }
+        ensures yes { result ≡ true → (found.now.place ≡ self.now.place) × (has_middle found.now self.now.to ≡ true) }
+        ensures no { result ≡ false → found.now.place ≡ self.now.place → has_middle found.now self.now.to ≡ true → ⊥ }
+    {
+        found.place == self.place && found.middle.get(self.to as usize)
+    }
+
+    /// Keeps one more step, and answers its number. Where no step is kept it is 0.
+    fn add_step(&mut self, from: u32, letter: u32) -> Result<u32, OutOfMemory>
+        ensures number { IfOk result (λ k. k ≡ number_of_new (stand_of self.old)) }
+        ensures steps { OnOk result (stand_of self.new ≡ record (stand_of self.old) { steps = steps_with from letter (stand_of self.old) }) }
+    {
+        if !self.keeps {
+            return Ok(0);
+        }
+        if self.steps.len() >= MOST_STEPS {
+            return Err(OutOfMemory);
+        }
+        self.steps.push(Step { from, letter })?;
+        Ok(self.steps.len() as u32)
+    }
+
+    /// Meets middle states beside the pair at a place, by a letter from a step. Those that are new go into the queue.
+    fn reach(
+        &mut self,
+        from: u32,
+        letter: u32,
+        place: usize,
+        image: &BitRow,
+    ) -> Result<(), OutOfMemory>
+        requires place_in { place < length self.old.seen.items }
+        requires wide { length (slice_index_or self.old.seen.items place []) ≡ length image.now }
+        ensures { OnOk result (IsReached from letter place image.now (stand_of self.old) (stand_of self.new)) }
+    {
+        if image.is_subset(&self.seen[place]) {
+            return Ok(());
+        }
+        let mut middle = image.copy()?;
+        middle.subtract(&self.seen[place]);
+        let step = self.add_step(from, letter)?;
+        self.queue.push_back(Found {
+            step,
+            place,
+            middle,
+        })?;
+        self.seen[place].or_into(image);
+        Ok(())
+    }
+
+    /// Meets the middle states of a row beside each pair that the pair of what was found moves to on a letter.
+    fn spread(
+        &mut self,
+        g: &Multigraph,
+        table: &PairTable,
+        part: u64,
+        found: &Found,
+        letter: u32,
+        image: &BitRow,
+    ) -> Result<(), OutOfMemory>
+        requires table { IsTable g.now table.now }
+        requires part_in { part < g.now.states * g.now.states }
+        requires letter_in { letter < g.now.letters }
+        requires searching { IsSearching (field_of g.now table.now part) (behind found.now (stand_of self.old)) }
+        requires image { IsImage (field_of g.now table.now part) found.now letter image.now }
+        ensures { OnOk result (IsFurther (field_of g.now table.now part) found.now (stand_of self.old) (stand_of self.new) × IsFollowedOn (field_of g.now table.now part) found.now letter (stand_of self.new)) }
+    {
+        let _states = g.states();
+        let pairs = Twice {
+            graph: &table.inner,
+        };
+        let pair = table.pair_at(part, found.place);
+        for number in 0..pairs.count(pair, letter) {
+            let next = pairs.target(pair, letter, number);
+            if let Some(place) = table.place_in(part, next) {
+                self.reach(found.step, letter, place, image)?;
+            }
+        }
+        Ok(())
+    }
+
+    /// Follows what was found on a letter.
+    fn follow_on(
+        &mut self,
+        g: &Multigraph,
+        table: &PairTable,
+        part: u64,
+        found: &Found,
+        letter: u32,
+        image: &mut BitRow,
+    ) -> Result<(), OutOfMemory>
+        requires table { IsTable g.now table.now }
+        requires part_in { part < g.now.states * g.now.states }
+        requires letter_in { letter < g.now.letters }
+        requires searching { IsSearching (field_of g.now table.now part) (behind found.now (stand_of self.old)) }
+        requires wide { length image.old ≡ g.now.states }
+        ensures further { OnOk result (IsFurther (field_of g.now table.now part) found.now (stand_of self.old) (stand_of self.new)) }
+        ensures followed { OnOk result (IsFollowedOn (field_of g.now table.now part) found.now letter (stand_of self.new)) }
+        ensures same_width { length image.new ≡ length image.old }
+    {
+        let _states = g.states();
+        let pairs = Twice {
+            graph: &table.inner,
+        };
+        let pair = table.pair_at(part, found.place);
+        if pairs.count(pair, letter) == 0 {
+            return Ok(());
+        }
+        table.moves[letter as usize].image(&found.middle, image);
+        self.spread(g, table, part, found, letter, image)
+    }
+
+    /// Follows what was found on all letters.
+    ///
+    /// # Errors
+    /// [`OutOfMemory`] where there was no memory for what is found.
+    pub(crate) fn follow(
+        &mut self,
+        g: &Multigraph,
+        table: &PairTable,
+        part: u64,
+        found: &Found,
+        image: &mut BitRow,
+    ) -> Result<(), OutOfMemory>
+        requires table { IsTable g.now table.now }
+        requires part_in { part < g.now.states * g.now.states }
+        requires searching { IsSearching (field_of g.now table.now part) (behind found.now (stand_of self.old)) }
+        requires wide { length image.old ≡ g.now.states }
+        ensures further { OnOk result (IsFurther (field_of g.now table.now part) found.now (stand_of self.old) (stand_of self.new)) }
+        ensures followed { OnOk result (IsFollowedUpTo (field_of g.now table.now part) found.now g.now.letters (stand_of self.new)) }
+        ensures same_width { length image.new ≡ length image.old }
+    {
+        for letter in 0..g.letters() {
+            self.follow_on(g, table, part, found, letter, image)?;
+        }
+        Ok(())
+    }
+
+    /// The letters of the steps from the start to the one that found something.
+    ///
+    /// # Errors
+    /// [`OutOfMemory`] where there was no memory for the word.
+    pub(crate) fn word_to(&self, alloc: Global, found: &Found) -> Result<Word, OutOfMemory>
+        requires rooted { IsRooted self.now.steps.items }
+        requires step_in { found.now.step ≤ length self.now.steps.items }
+        ensures { IfOk result (λ w. w ≡ word_at self.now.steps.items found.now.step) }
+    {
+        let mut letters = Vec::new(alloc);
+        let mut at = found.step;
+        while at > 0 {
+            let step = self.steps[at as usize - 1];
+            letters.push(step.letter)?;
+            at = step.from;
+        }
+        letters.reverse();
+        Ok(Items::from_vec(letters))
+    }
+}

@@ -1,0 +1,10 @@
+pub mod ImageLaws
+pub mod ClosedLaws
+pub mod CheckLaws
+pub mod SideLaws
+pub mod VisitLaws
+pub mod SearchLaws
+pub mod TextLaws
+pub mod RunLaws
+pub mod ApartLaws
+pub mod ReaderLaws

@@ -1,0 +1,6 @@
+use Rattle.rl_equiv.specs.Searching.{state_of}
+use Rattle.rl_equiv.proofs.SearchLaws.{IsExpanding}
+use Rattle.rl_equiv.proofs.searching.Search.expand.Given as goal
+
+abbrev pub invariant-loop-letter : goal.invariant-loop-letter
+invariant-loop-letter l = IsExpanding l.joint.first l.joint.second (state_of l.fn.self) (state_of l.self) l.place l.letter

@@ -1,0 +1,107 @@
+//! Whether a relation is closed.
+
+ghost use Rattle.std.specs.Prelude.{◌≡◌, ◌↔◌, ◌<◌, ◌≤◌, true, IsTrue, length, IfOk, Contains};
+ghost use Rattle.rl_syntax.specs.Tree.{tree_of, IsOver};
+ghost use Rattle.rl_equiv.specs.SetPairs.{set_pairs, IsKept, IsClosed};
+ghost use Rattle.rl_equiv.specs.Languages.{SameLanguage};
+ghost use Rattle.rl_equiv.specs.Limits.{AreWithin};
+ghost use Rattle.rl_equiv.specs.Joined.{pairs_of, ShareLetters};
+
+use crate::error::SameError;
+use crate::joint::Joint;
+use crate::pair::{Relation, SetPair};
+use crate::walks::{are_proper, ends_in, image_in, walk_from};
+use rl_lists::OutOfMemory;
+use rl_prio::Prio;
+use rl_ranges::Universe;
+use rl_syntax::Re;
+use std::alloc::Global;
+
+/// Whether the list has the pair of two sets.
+fn has_pair(relation: &[SetPair], first: &[u32], second: &[u32]) -> bool
+    ensures { IsTrue result ↔ Contains relation.now (record { first = first.now; second = second.now }) }
+{
+    for pair in relation {
+        if pair.first.as_slice() == first && pair.second.as_slice() == second {
+            return true;
+        }
+    }
+    false
+}
+
+/// Whether the sets of a set pair hold no other states than the start and those of places.
+fn is_proper(a: &Prio, b: &Prio, pair: &SetPair) -> bool
+    ensures { result ≡ (pairs_of a.now b.now).proper pair.now }
+{
+    let first = are_proper(a, &pair.first);
+    let second = are_proper(b, &pair.second);
+    first && second
+}
+
+/// Whether a set pair is proper, shows no difference and has its next ones in the list.
+fn keeps(
+    alloc: Global,
+    a: &Prio,
+    b: &Prio,
+    relation: &[SetPair],
+    pair: &SetPair,
+) -> Result<bool, OutOfMemory>
+    requires { ShareLetters a.now b.now }
+    ensures { IfOk result (λ ok. IsTrue ok ↔ IsKept (pairs_of a.now b.now) relation.now pair.now) }
+{
+    if !is_proper(a, b, pair) {
+        return Ok(false);
+    }
+    let mut first = walk_from(alloc, a, &pair.first)?;
+    let mut second = walk_from(alloc, b, &pair.second)?;
+    let ended = ends_in(&mut first, a)?;
+    let also_ended = ends_in(&mut second, b)?;
+    if ended != also_ended {
+        return Ok(false);
+    }
+    let end = a.letters().count();
+    for letter in 0..end {
+        let left = image_in(&mut first, a, letter)?;
+        let right = image_in(&mut second, b, letter)?;
+        if !has_pair(relation, left.as_slice(), right.as_slice()) {
+            return Ok(false);
+        }
+    }
+    Ok(true)
+}
+
+/// Whether a list of set pairs of two automata is closed.
+fn is_closed(alloc: Global, a: &Prio, b: &Prio, relation: &[SetPair]) -> Result<bool, OutOfMemory>
+    requires { ShareLetters a.now b.now }
+    ensures { IfOk result (λ ok. IsTrue ok ↔ IsClosed (pairs_of a.now b.now) relation.now) }
+{
+    if !has_pair(relation, &[0], &[0]) {
+        return Ok(false);
+    }
+    for pair in relation {
+        if !keeps(alloc, a, b, relation, pair)? {
+            return Ok(false);
+        }
+    }
+    Ok(true)
+}
+
+/// Whether two trees, each as fullmatch, are within the limits of their sizes, letters and moves, and a relation of their set
+/// pairs is closed: it holds the pair of their starts, the next pair of each of its members on each letter, and no member that
+/// shows a difference. Then both trees span the same texts of the universe.
+///
+/// # Errors
+/// [`OutOfMemory`] where there was no memory for the automata or the sets.
+pub fn check(alloc: Global, a: &Re, b: &Re, u: Universe, r: &Relation) -> Result<bool, OutOfMemory>
+    requires first_inside { IsOver u (tree_of a.now) }
+    requires second_inside { IsOver u (tree_of b.now) }
+    ensures closed { IfOk result (λ ok. IsTrue ok
+        ↔ (AreWithin u (tree_of a.now) (tree_of b.now) × IsClosed (set_pairs u (tree_of a.now) (tree_of b.now)) r.now)) }
+    ensures same { IfOk result (λ ok. IsTrue ok → SameLanguage u (tree_of a.now) (tree_of b.now)) }
+{
+    match Joint::new(alloc, a, b, u) {
+        Ok(joint) => is_closed(alloc, &joint.first, &joint.second, r.as_slice()),
+        Err(SameError::OutOfMemory) => Err(OutOfMemory),
+        Err(_) => Ok(false),
+    }
+}

@@ -1,0 +1,42 @@
+//! Whether two trees span the same texts.
+
+ghost use Rattle.std.specs.Prelude.{◌≡◌, ◌≤◌, IfOk, IfErr, OnOk};
+ghost use Rattle.rl_syntax.specs.Tree.{tree_of, IsOver};
+ghost use Rattle.rl_equiv.specs.SetPairs.{set_pairs};
+ghost use Rattle.rl_equiv.specs.Languages.{IsTold};
+ghost use Rattle.rl_equiv.specs.Limits.{AreWithin, IsPassed};
+ghost use Rattle.rl_equiv.specs.Numbering.{IsAnswer};
+
+use crate::error::SameError;
+use crate::joint::Joint;
+use crate::sameness::Sameness;
+use crate::searching::Search;
+use rl_ranges::Universe;
+use rl_syntax::Re;
+use std::alloc::Global;
+
+/// Whether two trees, each as fullmatch, span the same texts of the universe, by their first set pairs, `limit` at most.
+///
+/// [`Sameness::Equal`] has all their set pairs; [`check`](crate::check) accepts them. [`Sameness::Apart`] has a text that one of
+/// the trees alone spans. [`Sameness::Passed`] comes where more set pairs are reached than the limit and none of the first ones
+/// shows a difference.
+///
+/// # Errors
+/// [`SameError::Size`] where one of the trees has more than 4,000 nodes, else [`SameError::Letters`] where there are more than
+/// 128 letters, else [`SameError::Moves`] where one of the trees has a list of more than 256 items. [`SameError::OutOfMemory`]
+/// where there was no memory.
+pub fn same(alloc: Global, a: &Re, b: &Re, u: Universe, limit: u32) -> Result<Sameness, SameError>
+    requires first_inside { IsOver u (tree_of a.now) }
+    requires second_inside { IsOver u (tree_of b.now) }
+    requires some { 1 ≤ limit }
+    requires low { limit ≤ 20000 }
+    ensures within { OnOk result (AreWithin u (tree_of a.now) (tree_of b.now)) }
+    ensures passed { IfErr result (IsPassed u (tree_of a.now) (tree_of b.now)) }
+    ensures answer { IfOk result (IsAnswer (set_pairs u (tree_of a.now) (tree_of b.now)) limit) }
+    ensures told { IfOk result (IsTold u (tree_of a.now) (tree_of b.now)) }
+{
+    let joint = Joint::new(alloc, a, b, u)?;
+    let mut search = Search::new(alloc, &joint, limit)?;
+    let found = search.run(alloc, &joint)?;
+    Ok(found)
+}

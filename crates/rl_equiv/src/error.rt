@@ -1,0 +1,28 @@
+//! Why two trees aren't compared.
+
+ghost use Rattle.std.specs.Prelude.{◌≡◌};
+
+use rl_lists::OutOfMemory;
+
+/// Why two trees aren't compared.
+#[derive(Clone, Copy, Debug, PartialEq, Eq)]
+pub enum SameError {
+    /// One of the trees has more than 4,000 nodes.
+    Size,
+    /// The sizes are within their limit, and the sets of both trees tell more than 128 letters apart.
+    Letters,
+    /// Sizes and letters are within their limits, and a list of items of one of the trees has more than 256.
+    Moves,
+    /// Memory was refused.
+    OutOfMemory,
+}
+
+impl From<OutOfMemory> for SameError {
+    ghost use Rattle.rl_equiv.specs.declared.error.SameError.TheVariants as error;
+
+    ghost from_gives = { λ _ e. e ≡ error.OutOfMemory };
+
+    fn from(_: OutOfMemory) -> Self {
+        SameError::OutOfMemory
+    }
+}

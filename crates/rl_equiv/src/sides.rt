@@ -1,0 +1,87 @@
+//! The walk over the sets of one of two automata that are read side by side.
+
+ghost use Rattle.std.specs.Prelude.{◌≡◌, ◌≢◌, ◌<◌, ◌≤◌, [], ◌∷◌, length, All, Contains, IfOk, OnOk};
+ghost use Rattle.rl_prio.specs.Automaton.{letters_count, accepting_state, dead_state};
+ghost use Rattle.rl_sets.specs.Live.{image};
+ghost use Rattle.rl_sets.specs.Walk.{set_at, set_of, IsMadeFor};
+ghost use Rattle.rl_equiv.specs.Joined.{ends};
+ghost use Rattle.rl_equiv.specs.Searching.{IsReader, IsSide, Gets};
+
+use rl_lists::OutOfMemory;
+use rl_prio::Prio;
+use rl_sets::{SetWalk, SetsError};
+use std::alloc::Global;
+
+/// The number of the set of the listed states.
+fn put(walk: &mut SetWalk, a: &Prio, members: &Vec<u32>) -> Result<u32, OutOfMemory>
+    requires made { IsMadeFor walk.old a.now }
+    requires states { All (λ q. (q < a.now.states) × (q ≢ dead_state a.now)) members.now.items }
+    requires room { length walk.old.sets < walk.old.limit }
+    ensures { IfOk result (Gets a.now walk.old walk.new (set_of a.now members.now.items)) }
+{
+    match walk.intern(a, members) {
+        Ok(number) => Ok(number),
+        Err(SetsError::OutOfMemory) => Err(OutOfMemory),
+        Err(SetsError::Sets) => unreachable!(),
+    }
+}
+
+/// A walk that may get three sets more than `limit`, with the sets that the end letter gives, and the number of the set of the
+/// start.
+pub(crate) fn start_side(alloc: Global, a: &Prio, limit: u32) -> Result<(SetWalk, u32), OutOfMemory>
+    requires reads { IsReader a.now }
+    requires some { 1 ≤ limit }
+    requires low { limit ≤ 20000 }
+    ensures side { IfOk result (λ r. IsSide a.now limit 1 r.0) }
+    ensures inside { IfOk result (λ r. r.1 < length r.0.sets) }
+    ensures start { IfOk result (λ r. set_at r.0 r.1 ≡ 0 ∷ []) }
+{
+    let mut walk = SetWalk::new(alloc, a, limit + 3)?;
+    let none = Vec::new(alloc);
+    put(&mut walk, a, &none)?;
+    let accepting = vec![in alloc; a.states() - 2]?;
+    put(&mut walk, a, &accepting)?;
+    let first = vec![in alloc; 0]?;
+    let start = put(&mut walk, a, &first)?;
+    Ok((walk, start))
+}
+
+/// The number of the image of a set on a letter.
+pub(crate) fn step_to(
+    walk: &mut SetWalk,
+    a: &Prio,
+    set: u32,
+    letter: u32,
+) -> Result<u32, OutOfMemory>
+    requires made { IsMadeFor walk.old a.now }
+    requires set_in { set < length walk.old.sets }
+    requires letter_in { letter ≤ letters_count a.now }
+    requires room { length walk.old.sets < walk.old.limit }
+    ensures { IfOk result (Gets a.now walk.old walk.new (image a.now (set_at walk.old set) letter)) }
+{
+    match walk.step(a, set, letter) {
+        Ok(number) => Ok(number),
+        Err(SetsError::OutOfMemory) => Err(OutOfMemory),
+        Err(SetsError::Sets) => unreachable!(),
+    }
+}
+
+/// Whether the end letter leads a set to the accepting state. Its image is one of the two sets that are there from the start.
+pub(crate) fn ends_at(walk: &mut SetWalk, a: &Prio, set: u32) -> Result<bool, OutOfMemory>
+    requires made { IsMadeFor walk.old a.now }
+    requires reads { IsReader a.now }
+    requires set_in { set < length walk.old.sets }
+    requires has_none { Contains walk.old.sets (set_of a.now []) }
+    requires has_end { Contains walk.old.sets (set_of a.now (accepting_state a.now ∷ [])) }
+    ensures ends { IfOk result (λ ended. ended ≡ ends a.now (set_at walk.old set)) }
+    ensures made { OnOk result (IsMadeFor walk.new a.now) }
+    ensures limit { OnOk result (walk.new.limit ≡ walk.old.limit) }
+    ensures sets { OnOk result (walk.new.sets ≡ walk.old.sets) }
+{
+    let number = match walk.step(a, set, a.letters().count()) {
+        Ok(number) => number,
+        Err(SetsError::OutOfMemory) => return Err(OutOfMemory),
+        Err(SetsError::Sets) => unreachable!(),
+    };
+    Ok(walk.holds(number, a.states() - 2))
+}

@@ -1,0 +1,80 @@
+//! Walks from one set of states.
+
+ghost use Rattle.std.specs.Prelude.{◌≡◌, ◌+◌, ◌<◌, ◌≤◌, true, length, IfOk, OnOk};
+ghost use Rattle.rl_prio.specs.Automaton.{letters_count, accepting_state};
+ghost use Rattle.rl_sets.specs.Live.{image};
+ghost use Rattle.rl_sets.specs.Walk.{set_at, set_of};
+ghost use Rattle.rl_equiv.specs.Joined.{all_proper, ends};
+ghost use Rattle.rl_equiv.specs.Walks.{IsBegun, GoesOn};
+
+use rl_lists::{Members, OutOfMemory};
+use rl_prio::Prio;
+use rl_sets::{SetWalk, SetsError};
+use std::alloc::Global;
+
+/// The most sets that a walk may have.
+const MOST_SETS: u32 = 20_003;
+
+/// Whether the members are the start and states of places.
+pub(crate) fn are_proper(a: &Prio, set: &Members) -> bool
+    ensures { result ≡ all_proper a.now set.now }
+{
+    let accepting = a.states() - 2;
+    set.as_slice().iter().all(|state| *state < accepting)
+}
+
+/// A walk that has the one set alone.
+pub(crate) fn walk_from(alloc: Global, a: &Prio, set: &Members) -> Result<SetWalk, OutOfMemory>
+    requires { all_proper a.now set.now ≡ true }
+    ensures begun { IfOk result (IsBegun a.now) }
+    ensures one { IfOk result (λ w. length w.sets ≡ 1) }
+    ensures set { IfOk result (λ w. set_at w 0 ≡ set_of a.now set.now) }
+{
+    let _states = a.states();
+    let mut walk = SetWalk::new(alloc, a, MOST_SETS)?;
+    let members = Vec::from_slice(alloc, set.as_slice())?;
+    match walk.intern(a, &members) {
+        Ok(_) => Ok(walk),
+        Err(SetsError::OutOfMemory) => Err(OutOfMemory),
+        Err(SetsError::Sets) => unreachable!(),
+    }
+}
+
+/// The number of the image of a walk's first set on a letter.
+fn step_in(walk: &mut SetWalk, a: &Prio, letter: u32) -> Result<u32, OutOfMemory>
+    requires begun { IsBegun a.now walk.old }
+    requires room { length walk.old.sets < 20003 }
+    requires letter_in { letter ≤ letters_count a.now }
+    ensures image { IfOk result (λ n. set_at walk.new n ≡ image a.now (set_at walk.old 0) letter) }
+    ensures inside { IfOk result (λ n. n < length walk.new.sets) }
+    ensures on { OnOk result (GoesOn a.now walk.old walk.new) }
+{
+    match walk.step(a, 0, letter) {
+        Ok(number) => Ok(number),
+        Err(SetsError::OutOfMemory) => Err(OutOfMemory),
+        Err(SetsError::Sets) => unreachable!(),
+    }
+}
+
+/// The image of a walk's first set on a letter.
+pub(crate) fn image_in(walk: &mut SetWalk, a: &Prio, letter: u32) -> Result<Members, OutOfMemory>
+    requires begun { IsBegun a.now walk.old }
+    requires room { length walk.old.sets < 20003 }
+    requires letter_in { letter ≤ letters_count a.now }
+    ensures image { IfOk result (λ set. set ≡ image a.now (set_at walk.old 0) letter) }
+    ensures on { OnOk result (GoesOn a.now walk.old walk.new) }
+{
+    let number = step_in(walk, a, letter)?;
+    walk.members(number)
+}
+
+/// Whether the end letter leads a walk's first set to the accepting state.
+pub(crate) fn ends_in(walk: &mut SetWalk, a: &Prio) -> Result<bool, OutOfMemory>
+    requires begun { IsBegun a.now walk.old }
+    requires room { length walk.old.sets < 20003 }
+    ensures ends { IfOk result (λ ended. ended ≡ ends a.now (set_at walk.old 0)) }
+    ensures on { OnOk result (GoesOn a.now walk.old walk.new) }
+{
+    let number = step_in(walk, a, a.letters().count())?;
+    Ok(walk.holds(number, a.states() - 2))
+}

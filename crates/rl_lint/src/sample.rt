@@ -1,0 +1,41 @@
+//! The action `sample`.
+ghost use Rattle.std.specs.Prelude.{◌<◌, ◌≤◌, ◌^◌, IfOk};
+ghost use Rattle.rl_judge.specs.RightEntries.{IsValid};
+ghost use Rattle.rl_lint.specs.Endings.{ending_of};
+ghost use Rattle.rl_lint.specs.SampleEnding.{IsSampleEnding};
+
+use crate::plan::Plan;
+use rl_judge::{Settings, judge, status_of};
+use rl_lists::OutOfMemory;
+use rl_report::summary_line;
+use rl_sample::sample_source;
+use rl_source::Name;
+use std::alloc::Global;
+
+/// What `sample` is to do: it judges the sampled source, as a file `sample.py`, and writes the last line of its report in
+/// text.
+///
+/// # Errors
+/// [`OutOfMemory`] where memory was refused.
+pub fn sample_plan(
+    alloc: Global,
+    seed: u32,
+    count: u32,
+    settings: &Settings,
+) -> Result<Plan, OutOfMemory>
+    requires seed { seed < 2 ^ 31 }
+    requires some { 1 ≤ count }
+    requires few { count ≤ 20000 }
+    requires valid { IsValid settings.now }
+    ensures { IfOk result (λ plan. IsSampleEnding settings.now seed count (ending_of plan)) }
+{
+    let source = sample_source(alloc, seed, count)?;
+    let path = Name::from_text(alloc, "sample.py")?;
+    let entries = judge(alloc, &path, source.as_slice(), settings)?;
+    let text = summary_line(alloc, &entries, settings.max_degree)?;
+    Ok(Plan::Writes {
+        text,
+        finding: status_of(&entries, settings) == 1,
+        failed: false,
+    })
+}

@@ -1,0 +1,33 @@
+//! The settings that a settings file gives.
+ghost use Rattle.std.specs.Prelude.{◌≡◌, IfOk, IsErrOf, None, Some, option_map};
+ghost use Rattle.rl_settings.specs.Settings.{settings_told};
+ghost use Rattle.rl_judge.specs.RightEntries.{IsValid};
+ghost use Rattle.rl_lint.specs.Options.{with_values};
+ghost use Rattle.rl_lint.specs.Settled.{settings_of};
+
+use crate::options::with_values;
+use rl_judge::Settings;
+use rl_settings::{SettingsError, read_settings};
+use std::alloc::Global;
+
+/// The settings with the values of the keys that a settings file with these bytes has in their place.
+///
+/// # Errors
+/// [`SettingsError::Refused`] exactly where the bytes are no TOML document, a key isn't one of `compile-as`, `max-degree`,
+/// `max-pairs`, `format` and `report`, or a key doesn't take its value; [`SettingsError::OutOfMemory`] where memory was
+/// refused.
+pub fn settings_from(
+    alloc: Global,
+    bytes: &Vec<u8>,
+    start: &Settings,
+) -> Result<Settings, SettingsError>
+    requires { IsValid start.now }
+    ensures ok { IfOk result (λ s. settings_of bytes.now.items start.now ≡ Some s) }
+    ensures valid { IfOk result IsValid }
+    ensures refused { IsErrOf result SettingsError.Refused → settings_told bytes.now.items ≡ None }
+{
+    match read_settings(alloc, bytes.as_slice()) {
+        Ok(values) => Ok(with_values(&values, start)),
+        Err(error) => Err(error),
+    }
+}

@@ -1,0 +1,28 @@
+//! The numbers of the generator, and the patterns that they choose.
+ghost use Rattle.std.specs.Prelude.{◌≡◌, ◌<◌, ◌^◌};
+ghost use Rattle.rl_sample.specs.Generator.{next_value, pattern_of};
+
+/// The number that follows a number of the generator.
+pub fn next_value(value: u32) -> u32
+    requires { value < 2 ^ 31 }
+    ensures follows { result ≡ next_value value }
+    ensures below { result < 2 ^ 31 }
+{
+    ((u64::from(value) * 1_103_515_245 + 12_345) % 2_147_483_648) as u32
+}
+
+/// The text of the pattern that a number of the generator chooses.
+pub fn pattern_of(value: u32) -> &'static str
+    ensures { result.now ≡ pattern_of value }
+{
+    match value / 65_536 % 8 {
+        0 => "[a-z]+",
+        1 => "abc",
+        2 => "(?:a|a)*",
+        3 => "a*a*",
+        4 => "a*a*a*",
+        5 => "(?=a)b",
+        6 => "\\d+\\.\\d+",
+        _ => "(?:a*)*",
+    }
+}

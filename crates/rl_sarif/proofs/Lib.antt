@@ -1,0 +1,13 @@
+mod KeyLemmas
+mod TallyLemmas
+mod NameLemmas
+mod UriLemmas
+mod ReadingLemmas
+mod ResultLemmas
+mod SelfKnown
+mod NamesKnown
+mod KeysBack
+mod LineEnd
+mod Writable
+mod ReportWritable
+mod OwnBaseline

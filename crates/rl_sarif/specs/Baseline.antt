@@ -1,0 +1,117 @@
+-- What a baseline holds: a report in JSON, read as the keys of its entries. Members that aren't named here are passed over.
+use Rattle.std.specs.Prelude.{◌≡◌, ℕ, ◌≤◌, ◌^◌, Bool, false, ◌||◌, ◌==◌, nat_lt, List, [], ◌∷◌, Option, Some, None, option_map, option_and_then, codes, find, length, IsUtf8, if◌then◌else◌}
+use Rattle.std.specs.Option.{option_map_or}
+use Rattle.std.specs.Str.{bytes_eq}
+use Rattle.serde_json.specs.Data.{Data, Items, no_items, item}
+use Rattle.serde_json.specs.Find.{get, as_array, as_number, as_str, as_u64}
+use Rattle.serde_json.specs.Read.{read}
+use Rattle.rl_report.specs.Names.{Text}
+use Rattle.rl_sarif.specs.Keys.{EntryKey, Subject}
+
+-- ---- the names that a baseline may hold
+
+abbrev pub call_names : List Text
+call_names =
+    codes "compile" ∷ codes "match" ∷ codes "search" ∷ codes "fullmatch" ∷ codes "findall" ∷ codes "finditer" ∷ codes "split"
+    ∷ codes "sub" ∷ codes "subn" ∷ []
+
+abbrev pub kind_names : List Text
+kind_names =
+    codes "degree" ∷ codes "exponential" ∷ codes "undecided" ∷ codes "refused" ∷ codes "unreadable" ∷ codes "too-deep-folder"
+    ∷ codes "not-plain" ∷ []
+
+abbrev pub limit_names : List Text
+limit_names = codes "size" ∷ codes "letters" ∷ codes "moves" ∷ codes "sets" ∷ codes "pairs" ∷ []
+
+-- the causes of refusals. The last two stand in older reports
+abbrev pub cause_names : List Text
+cause_names =
+    codes "not-utf8" ∷ codes "coding" ∷ codes "unterminated" ∷ codes "file-too-long" ∷ codes "stray-code"
+    ∷ codes "not-whole" ∷ codes "flags-unknown"
+    ∷ codes "f-string" ∷ codes "mixed" ∷ codes "bad-escape" ∷ codes "named-escape" ∷ codes "not-ascii"
+    ∷ codes "syntax" ∷ codes "too-deep" ∷ codes "too-long"
+    ∷ codes "locale" ∷ codes "flag-clash" ∷ codes "duplicate-name" ∷ codes "code-too-large" ∷ codes "reversed-range"
+    ∷ codes "repeat-too-large" ∷ codes "repeat-order" ∷ codes "possessive" ∷ codes "backreference" ∷ codes "lookaround"
+    ∷ codes "conditional" ∷ codes "atomic" ∷ codes "inner-anchor"
+    ∷ codes "word-boundary" ∷ codes "multiline-anchor" ∷ []
+
+-- the text, where it is one of the names
+abbrev pub one_of : List Text → Text → Option Text
+one_of names text = find (λ name. bytes_eq name text) names
+
+-- ---- the members of an object
+
+abbrev pub text_at : Text → Data → Option Text
+text_at key d = option_and_then as_str (get key d)
+
+abbrev pub name_at : List Text → Text → Data → Option Text
+name_at names key d = option_and_then (one_of names) (text_at key d)
+
+abbrev pub number_at : Text → Data → Option ℕ
+number_at key d = option_and_then as_u64 (option_and_then as_number (get key d))
+
+-- ---- an entry
+
+-- what is told beside the call and the kind
+abbrev pub plain : Option Text → Text → Subject
+plain call kind = record { call = call; kind = kind; degree = None; limit = None; cause = None }
+
+abbrev pub fitting : ℕ → Option ℕ
+fitting n = if nat_lt n (2 ^ 32) then Some n else None
+
+abbrev pub with_degree : Option Text → Text → Data → Option Subject
+with_degree call kind d =
+    option_map (λ n. record (plain call kind) { degree = Some n }) (option_and_then fitting (number_at (codes "degree") d))
+
+abbrev pub with_limit : Option Text → Text → Data → Option Subject
+with_limit call kind d = option_map (λ name. record (plain call kind) { limit = Some name }) (name_at limit_names (codes "limit") d)
+
+abbrev pub with_cause : Option Text → Text → Data → Option Subject
+with_cause call kind d = option_map (λ name. record (plain call kind) { cause = Some name }) (name_at cause_names (codes "cause") d)
+
+-- a degree has its number, an undecided entry its limit, and a refusal its cause
+abbrev pub subject_of_kind : Option Text → Text → Data → Option Subject
+subject_of_kind call kind d =
+    if bytes_eq kind (codes "degree") then with_degree call kind d
+    else (if bytes_eq kind (codes "undecided") then with_limit call kind d
+    else (if bytes_eq kind (codes "refused") then with_cause call kind d else Some (plain call kind)))
+
+-- the call, where one is there. It has to be one of the nine then
+abbrev pub call_found : Option Data → Option (Option Text)
+call_found None = Some None
+call_found (Some d) = option_map Some (option_and_then (one_of call_names) (as_str d))
+
+abbrev pub subject_read : Data → Option Subject
+subject_read d =
+    option_and_then (λ call. option_and_then (λ kind. subject_of_kind call kind d) (name_at kind_names (codes "kind") d))
+    (call_found (get (codes "call") d))
+
+-- the key of an entry, where it has the form of one
+abbrev pub key_read : Data → Option EntryKey
+key_read d =
+    option_and_then (λ subject. option_map (λ path. record { path = path; subject = subject }) (text_at (codes "path") d))
+    (subject_read d)
+
+-- ---- the report
+
+-- the keys of the entries in order, where each has its form
+abbrev pub keys_read : Items → Option (List EntryKey)
+keys_read no_items = Some []
+keys_read (item d ds) = option_and_then (λ key. option_map (λ keys. key ∷ keys) (keys_read ds)) (key_read d)
+
+-- the report has a version, and it is 1 or 2
+abbrev pub is_version : Option ℕ → Bool
+is_version version = option_map_or (λ n. n == 1 || n == 2) version false
+
+abbrev pub report_keys : Data → Option (List EntryKey)
+report_keys d =
+    if is_version (number_at (codes "version") d)
+    then option_and_then keys_read (option_and_then as_array (get (codes "entries") d)) else None
+
+-- The bytes are a report of at most 64 MiB, whose entries have these keys
+pub record IsBaseline (bytes : List ℕ) (keys : List EntryKey) : Type 0 where
+  pub small : length bytes ≤ 67108864
+  pub utf8 : IsUtf8 bytes
+  pub value : Data
+  pub reads : read bytes ≡ Some value
+  pub holds : report_keys value ≡ Some keys

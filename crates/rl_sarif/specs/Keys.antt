@@ -1,0 +1,71 @@
+-- What an entry is known by.
+use Rattle.std.specs.Prelude.{ℕ, Bool, ◌&&◌, Option, Some, None, option_map, option_and_then, nat_eq, string_bytes}
+use Rattle.std.specs.Option.{option_eq}
+use Rattle.std.specs.Str.{bytes_eq}
+use Rattle.rl_syntax.specs.declared.verdict.Verdict.{Verdict}
+use Rattle.rl_syntax.specs.declared.verdict.Verdict.TheVariants.{Degree, Expo, Undecided}
+use Rattle.rl_report.specs.declared.report.Entry.{Entry}
+use Rattle.rl_report.specs.Findings.{verdict_of}
+use Rattle.rl_report.specs.Names.{Text, call_name, cause_name, kind_name, limit_name}
+use Rattle.rl_sarif.specs.declared.key.About.{About}
+use Rattle.rl_sarif.specs.declared.key.Key.{Key}
+
+-- What is told of a path: the name of a call, the name of a kind, and a degree, the name of a limit or the name of a cause.
+-- What isn't told isn't there
+pub record Subject : Type 0 where
+  pub call : Option Text
+  pub kind : Text
+  pub degree : Option ℕ
+  pub limit : Option Text
+  pub cause : Option Text
+
+-- a path and what is told of it
+pub record EntryKey : Type 0 where
+  pub path : Text
+  pub subject : Subject
+
+abbrev pub degree_of : Verdict → Option ℕ
+degree_of (Degree d family) = Some d
+degree_of (Expo family) = None
+degree_of (Undecided limit) = None
+
+abbrev pub limit_of : Verdict → Option Text
+limit_of (Degree d family) = None
+limit_of (Expo family) = None
+limit_of (Undecided limit) = Some (limit_name limit)
+
+abbrev pub subject_of : Entry → Subject
+subject_of e = record {
+  call = option_map call_name e.call;
+  kind = kind_name e.outcome;
+  degree = option_and_then degree_of (verdict_of e.outcome);
+  limit = option_and_then limit_of (verdict_of e.outcome);
+  cause = cause_name e.outcome;
+}
+
+-- the key of an entry
+abbrev pub key_of : Entry → EntryKey
+key_of e = record { path = e.path; subject = subject_of e }
+
+-- whether all parts are the same
+abbrev pub same_subject : Subject → Subject → Bool
+same_subject a b =
+    option_eq bytes_eq a.call b.call && (bytes_eq a.kind b.kind && (option_eq nat_eq a.degree b.degree
+    && (option_eq bytes_eq a.limit b.limit && option_eq bytes_eq a.cause b.cause)))
+
+abbrev pub same_key : EntryKey → EntryKey → Bool
+same_key a b = bytes_eq a.path b.path && same_subject a.subject b.subject
+
+-- ---- what the structs hold
+
+abbrev pub subject_in : About → Subject
+subject_in a = record {
+  call = option_map (λ n. n.now) a.call;
+  kind = a.kind.now;
+  degree = a.degree;
+  limit = option_map (λ n. n.now) a.limit;
+  cause = option_map (λ n. n.now) a.cause;
+}
+
+abbrev pub key_in : Key → EntryKey
+key_in k = record { path = string_bytes k.path; subject = subject_in k.about }

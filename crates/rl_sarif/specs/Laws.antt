@@ -1,0 +1,54 @@
+-- The law that a report in JSON is a baseline that holds the keys of its entries.
+use Rattle.std.specs.Prelude.{◌≡◌, ◌≢◌, ℕ, ◌≤◌, ◌<◌, ◌^◌, ◌⊎◌, List, map, length, All, IfSome, IsUtf8, ⊤}
+use Rattle.rl_pattern.specs.declared.parsing.PatError.TheVariants as pattern_error
+use Rattle.rl_pylex.specs.declared.fault.LexError.TheVariants as lex_error
+use Rattle.rl_pystr.specs.declared.fault.StrError.TheVariants as str_error
+use Rattle.rl_syntax.specs.declared.verdict.Verdict.{Verdict}
+use Rattle.rl_syntax.specs.declared.verdict.Verdict.TheVariants.{Degree, Expo, Undecided}
+use Rattle.rl_report.specs.declared.places.Place.{Place}
+use Rattle.rl_report.specs.declared.report.Entry.{Entry}
+use Rattle.rl_report.specs.declared.report.Outcome.{Outcome}
+use Rattle.rl_report.specs.declared.report.Outcome.TheVariants as outcome
+use Rattle.rl_report.specs.Document.{json_report}
+use Rattle.rl_report.specs.Findings.{becomes_of, verdict_of}
+use Rattle.rl_sarif.specs.Baseline.{IsBaseline}
+use Rattle.rl_sarif.specs.Keys.{key_of}
+
+abbrev pub FitsPlace : Place → Type 0
+FitsPlace p = (p.line < 2 ^ 32) × (p.column < 2 ^ 32)
+
+abbrev pub FitsVerdict : Verdict → Type 0
+FitsVerdict (Degree d family) = d < 2 ^ 32
+FitsVerdict (Expo family) = ⊤
+FitsVerdict (Undecided limit) = ⊤
+
+-- want of memory is no outcome
+abbrev pub IsAnswer : Outcome → Type 0
+IsAnswer outcome.Unreadable = ⊤
+IsAnswer outcome.TooDeepFolder = ⊤
+IsAnswer outcome.NotPlain = ⊤
+IsAnswer (outcome.Source e) = e ≢ lex_error.OutOfMemory
+IsAnswer outcome.NotWhole = ⊤
+IsAnswer (outcome.Literal e) = e ≢ str_error.OutOfMemory
+IsAnswer outcome.FlagsUnknown = ⊤
+IsAnswer (outcome.Pattern e) = e ≢ pattern_error.OutOfMemory
+IsAnswer (outcome.Judged verdict suggestion becomes) = ⊤
+
+-- what the types of an entry's parts say of it, and that its outcome is an answer
+pub record IsSound (e : Entry) : Type 0 where
+  pub path : IsUtf8 e.path
+  pub at : IfSome e.at FitsPlace
+  pub fault : IfSome e.fault FitsPlace
+  pub dropped : All (λ m. FitsPlace m.at) e.marks.dropped
+  pub merged : All (λ m. FitsPlace m.at) e.marks.merged
+  pub passed : All (λ m. FitsPlace m.at) e.marks.passed
+  pub verdict : IfSome (verdict_of e.outcome) FitsVerdict
+  pub becomes : IfSome (becomes_of e.outcome) FitsVerdict
+  pub answer : IsAnswer e.outcome
+
+-- a report in JSON, of version 1 or 2 and at most 64 MiB, holds the keys of its entries
+abbrev pub IsOwnBaseline : ℕ → ℕ → ℕ → List Entry → Type 0
+IsOwnBaseline max_degree max_pairs report entries =
+    max_pairs < 2 ^ 32 → (report ≡ 1) ⊎ (report ≡ 2) → length entries < 2 ^ 64 → All IsSound entries
+    → length (json_report max_degree max_pairs report entries) ≤ 67108864
+    → IsBaseline (json_report max_degree max_pairs report entries) (map key_of entries)

@@ -1,0 +1,101 @@
+-- A report as a document of SARIF 2.1.0.
+use Rattle.std.specs.Prelude.{ℕ, ◌/◌, ◌%◌, Bool, true, ◌&&◌, ◌||◌, ◌==◌, nat_lt, nat_le, List, [], ◌∷◌, ◌++◌, map, filter, Option, Some, None, codes, if◌then◌else◌}
+use Rattle.std.specs.List.{flat_map}
+use Rattle.std.specs.Fmt.{digit_glyph}
+use Rattle.serde_json.specs.Data.{Data, Members, string, array, object, no_members, put}
+use Rattle.serde_json.specs.View.{items_of}
+use Rattle.serde_json.specs.Written.{compact_text}
+use Rattle.rl_syntax.specs.declared.verdict.Verdict.{Verdict}
+use Rattle.rl_syntax.specs.declared.verdict.Verdict.TheVariants.{Degree, Expo, Undecided}
+use Rattle.rl_report.specs.declared.places.Place.{Place}
+use Rattle.rl_report.specs.declared.report.Entry.{Entry}
+use Rattle.rl_report.specs.Document.{whole}
+use Rattle.rl_report.specs.Findings.{verdict_of}
+use Rattle.rl_report.specs.Layouts.{call_text, outcome_text}
+use Rattle.rl_report.specs.Names.{Text, kind_name}
+
+-- ---- the path as a relative URI
+
+abbrev pub is_letter : ℕ → Bool
+is_letter c = (nat_le 65 c && nat_le c 90) || (nat_le 97 c && nat_le c 122)
+
+abbrev pub is_digit : ℕ → Bool
+is_digit c = nat_le 48 c && nat_le c 57
+
+-- an ASCII letter, a digit, `-`, `.`, `_`, `~` or `/`
+abbrev pub is_kept : ℕ → Bool
+is_kept c = is_letter c || (is_digit c || (c == 45 || (c == 46 || (c == 95 || (c == 126 || c == 47)))))
+
+-- the byte itself, or `%` and two hexadecimal digits in upper case
+abbrev pub uri_byte : ℕ → Text
+uri_byte c = if is_kept c then c ∷ [] else 37 ∷ digit_glyph true (c / 16) ∷ digit_glyph true (c % 16) ∷ []
+
+abbrev pub uri_text : Text → Text
+uri_text path = flat_map uri_byte path
+
+-- ---- the results
+
+-- the head line of an entry without its path, its place and the line end
+abbrev pub message_text : ℕ → Entry → Text
+message_text max_pairs e = call_text e.call ++ outcome_text max_pairs e (verdict_of e.outcome)
+
+abbrev pub artifact_data : Text → Data
+artifact_data path = object (put (codes "uri") (string (uri_text path)) no_members)
+
+abbrev pub region_data : Place → Data
+region_data p = object (put (codes "startLine") (whole p.line) (put (codes "startColumn") (whole p.column) no_members))
+
+-- the members that are there, and the region of an entry that has a place
+abbrev pub region_members : Option Place → Members → Members
+region_members None ms = ms
+region_members (Some p) ms = put (codes "region") (region_data p) ms
+
+abbrev pub physical_data : Entry → Data
+physical_data e = object (region_members e.at (put (codes "artifactLocation") (artifact_data e.path) no_members))
+
+abbrev pub location_data : Entry → Data
+location_data e = object (put (codes "physicalLocation") (physical_data e) no_members)
+
+abbrev pub message_data : Text → Data
+message_data text = object (put (codes "text") (string text) no_members)
+
+abbrev pub result_data : ℕ → Entry → Data
+result_data max_pairs e =
+    object (put (codes "ruleId") (string (kind_name e.outcome))
+    (put (codes "message") (message_data (message_text max_pairs e))
+    (put (codes "locations") (array (items_of (location_data e ∷ []))) no_members)))
+
+-- every outcome but a degree that is no finding
+abbrev pub is_told : ℕ → Option Verdict → Bool
+is_told max_degree None = true
+is_told max_degree (Some (Degree d family)) = nat_lt max_degree d
+is_told max_degree (Some (Expo family)) = true
+is_told max_degree (Some (Undecided limit)) = true
+
+abbrev pub is_result : ℕ → Entry → Bool
+is_result max_degree e = is_told max_degree (verdict_of e.outcome)
+
+abbrev pub results_data : ℕ → ℕ → List Entry → Data
+results_data max_degree max_pairs entries =
+    array (items_of (map (result_data max_pairs) (filter (is_result max_degree) entries)))
+
+-- ---- the document
+
+abbrev pub tool_data : Data
+tool_data = object (put (codes "driver") (object (put (codes "name") (string (codes "relint")) no_members)) no_members)
+
+-- a run of the tool, whose columns count codes
+abbrev pub run_data : Data → Data
+run_data results =
+    object (put (codes "tool") tool_data
+    (put (codes "results") results (put (codes "columnKind") (string (codes "unicodeCodePoints")) no_members)))
+
+abbrev pub document_data : Data → Data
+document_data results =
+    object (put (codes "version") (string (codes "2.1.0"))
+    (put (codes "runs") (array (items_of (run_data results ∷ []))) no_members))
+
+-- The document on the entries, by the greatest degree that is no finding and the limit of the pairs: one line
+abbrev pub sarif_text : ℕ → ℕ → List Entry → Text
+sarif_text max_degree max_pairs entries =
+    compact_text (document_data (results_data max_degree max_pairs entries)) ++ codes "\n"

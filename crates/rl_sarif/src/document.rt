@@ -1,0 +1,130 @@
+//! A report as a document of SARIF 2.1.0.
+ghost use Rattle.std.specs.Prelude.{◌≡◌, ◌++◌, IfOk, codes, false, option_map};
+ghost use Rattle.serde_json.specs.View.{view};
+ghost use Rattle.serde_json.specs.Written.{compact_text, has_float};
+ghost use Rattle.rl_sarif.specs.Sarif.{document_data, is_told, location_data, physical_data, result_data, results_data, run_data, sarif_text, tool_data};
+
+use crate::message::message;
+use crate::uri::uri_of;
+use rl_lists::{Bytes, OutOfMemory};
+use rl_report::{Entries, Entry};
+use rl_syntax::Verdict;
+use serde_json::{Map, Value, json, put};
+use std::alloc::Global;
+
+fn physical_value(alloc: Global, entry: &Entry) -> Result<Value, OutOfMemory>
+    ensures { IfOk result (λ v. view v ≡ physical_data entry.now) }
+{
+    let uri = uri_of(alloc, entry.path.as_str())?;
+    match entry.at {
+        None => Ok(json!(in alloc; {"artifactLocation": {"uri": uri}})?),
+        Some(place) => Ok(json!(in alloc; {
+            "artifactLocation": {"uri": uri},
+            "region": {"startColumn": place.column, "startLine": place.line}
+        })?),
+    }
+}
+
+fn location_value(alloc: Global, entry: &Entry) -> Result<Value, OutOfMemory>
+    ensures { IfOk result (λ v. view v ≡ location_data entry.now) }
+{
+    let physical = physical_value(alloc, entry)?;
+    Ok(json!(in alloc; {"physicalLocation": physical})?)
+}
+
+fn result_value(alloc: Global, entry: &Entry, max_pairs: u32) -> Result<Value, OutOfMemory>
+    ensures { IfOk result (λ v. view v ≡ result_data max_pairs entry.now) }
+{
+    let location = location_value(alloc, entry)?;
+    let text = message(alloc, entry, max_pairs)?;
+    let rule = entry.outcome.kind();
+    Ok(json!(in alloc; {
+        "locations": [location],
+        "message": {"text": text},
+        "ruleId": rule
+    })?)
+}
+
+/// Whether the outcome is anything but a degree that is no finding.
+fn is_told(verdict: Option<&Verdict>, max_degree: u32) -> bool
+    ensures { result ≡ is_told max_degree (option_map (λ v. v.now) verdict.entry) }
+{
+    match verdict {
+        Some(Verdict::Degree(degree, _)) => *degree > max_degree,
+        _ => true,
+    }
+}
+
+#[tactic(auto, using(crate::proofs::ResultLemmas::results))]
+fn results_value(
+    alloc: Global,
+    entries: &[Entry],
+    max_degree: u32,
+    max_pairs: u32,
+) -> Result<Value, OutOfMemory>
+    ensures { IfOk result (λ v. view v ≡ results_data max_degree max_pairs entries.now) }
+{
+    let mut values = Vec::new(alloc);
+    for entry in entries {
+        if is_told(entry.outcome.verdict(), max_degree) {
+            let value = result_value(alloc, entry, max_pairs)?;
+            values.push(value)?;
+        }
+    }
+    Ok(Value::Array(values))
+}
+
+fn tool_value(alloc: Global) -> Result<Value, OutOfMemory>
+    ensures { IfOk result (λ v. view v ≡ tool_data) }
+{
+    Ok(json!(in alloc; {"driver": {"name": "relint"}})?)
+}
+
+fn run_value(alloc: Global, results: Value) -> Result<Value, OutOfMemory>
+    ensures { IfOk result (λ v. view v ≡ run_data (view results)) }
+{
+    let columns = Value::try_from_str(alloc, "unicodeCodePoints")?;
+    let tool = tool_value(alloc)?;
+    let mut members = Map::new(alloc);
+    put(&mut members, alloc, "columnKind", columns)?;
+    put(&mut members, alloc, "results", results)?;
+    put(&mut members, alloc, "tool", tool)?;
+    Ok(Value::Object(members))
+}
+
+fn document_value(alloc: Global, results: Value) -> Result<Value, OutOfMemory>
+    ensures { IfOk result (λ v. view v ≡ document_data (view results)) }
+{
+    let run = run_value(alloc, results)?;
+    Ok(json!(in alloc; {"runs": [run], "version": "2.1.0"})?)
+}
+
+/// A value as one line.
+fn line_of(alloc: Global, value: &Value) -> Result<Vec<u8>, OutOfMemory>
+    requires { has_float (view value.now) ≡ false }
+    ensures { IfOk result (λ line. line.items ≡ compact_text (view value.now) ++ codes "\n") }
+{
+    let mut line = value.to_vec(alloc)?;
+    line.push(b'\n')?;
+    Ok(line)
+}
+
+/// The report as a document of SARIF 2.1.0, one line with the keys in the order of their bytes. Its results are the entries
+/// in order, without those whose verdict is a degree up to `max_degree`. `max_pairs` is the limit of the live pairs.
+///
+/// # Errors
+/// [`OutOfMemory`] where memory was refused.
+#[tactic(auto, using(crate::proofs::ResultLemmas::plain))]
+pub fn sarif(
+    alloc: Global,
+    entries: &Entries,
+    max_degree: u32,
+    max_pairs: u32,
+) -> Result<Bytes, OutOfMemory>
+    ensures { IfOk result (λ bytes. bytes ≡ sarif_text max_degree max_pairs entries.now) }
+{
+    let results = results_value(alloc, entries.as_slice(), max_degree, max_pairs)?;
+    let document = document_value(alloc, results)?;
+    let line = line_of(alloc, &document)?;
+    Ok(Bytes::from_vec(line))
+}

@@ -1,0 +1,116 @@
+//! What an entry is known by.
+ghost use Rattle.std.specs.Prelude.{◌≡◌, IfOk, option_and_then, option_map};
+ghost use Rattle.rl_report.specs.Names.{call_name};
+ghost use Rattle.rl_sarif.specs.Keys.{degree_of, key_in, key_of, limit_of, subject_in, subject_of};
+
+use rl_lists::OutOfMemory;
+use rl_report::{Entry, call_name, limit_name};
+use rl_sites::Call;
+use rl_syntax::Verdict;
+use std::alloc::{AllocError, Global};
+use std::marker::Model;
+
+/// What is told of a path, by the names of a report.
+#[derive(Clone, Copy, PartialEq, Eq, Hash)]
+pub struct About {
+    /// The name of the call, where there is one.
+    pub(crate) call: Option<&'static str>,
+    /// The name of the kind.
+    pub(crate) kind: &'static str,
+    /// The degree, for that kind.
+    pub(crate) degree: Option<u32>,
+    /// The name of the limit that was passed, for that kind.
+    pub(crate) limit: Option<&'static str>,
+    /// The name of the cause, for a refusal.
+    pub(crate) cause: Option<&'static str>,
+}
+
+/// The key of an entry: its path and what is told of it.
+#[derive(PartialEq, Eq, Hash, Drop)]
+pub struct Key {
+    pub(crate) path: String,
+    pub(crate) about: About,
+}
+
+fn named(call: Option<Call>) -> Option<&'static str>
+    ensures { option_map (λ n. n.now) result ≡ option_map call_name call }
+{
+    match call {
+        None => None,
+        Some(call) => Some(call_name(call)),
+    }
+}
+
+fn degree_of(verdict: Option<&Verdict>) -> Option<u32>
+    ensures { result ≡ option_and_then degree_of (option_map (λ v. v.now) verdict.entry) }
+{
+    match verdict {
+        Some(Verdict::Degree(degree, _)) => Some(*degree),
+        _ => None,
+    }
+}
+
+fn limit_of(verdict: Option<&Verdict>) -> Option<&'static str>
+    ensures { option_map (λ n. n.now) result ≡ option_and_then limit_of (option_map (λ v. v.now) verdict.entry) }
+{
+    match verdict {
+        Some(Verdict::Undecided(limit)) => Some(limit_name(*limit)),
+        _ => None,
+    }
+}
+
+impl About {
+    /// What is told of an entry.
+    pub(crate) fn of(entry: &Entry) -> About
+        ensures { subject_in result ≡ subject_of entry.now }
+    {
+        let outcome = &entry.outcome;
+        About {
+            call: named(entry.call),
+            kind: outcome.kind(),
+            degree: degree_of(outcome.verdict()),
+            limit: limit_of(outcome.verdict()),
+            cause: outcome.cause(),
+        }
+    }
+}
+
+impl Key {
+    /// The key of an entry.
+    pub(crate) fn of(alloc: Global, entry: &Entry) -> Result<Key, OutOfMemory>
+        ensures { IfOk result (λ key. key_in key ≡ key_of entry.now) }
+    {
+        let path = String::from_str(alloc, entry.path.as_str())?;
+        Ok(Key {
+            path,
+            about: About::of(entry),
+        })
+    }
+}
+
+impl Clone for Key {
+    ghost is_clone = { λ key copy. key_in copy ≡ key_in key };
+
+    fn clone(&self) -> Result<Key, AllocError> {
+        let path = self.path.clone()?;
+        Ok(Key {
+            path,
+            about: self.about,
+        })
+    }
+}
+
+/// A baseline as read, which contracts see as the list of its keys, in order.
+#[derive(Drop)]
+pub struct KnownKeys {
+    pub(crate) keys: Vec<Key>,
+}
+
+impl Model for KnownKeys {
+    ghost use Rattle.std.specs.Prelude.{List, map};
+    ghost use Rattle.rl_sarif.specs.Keys.{EntryKey, key_in};
+
+    ghost Value = { List EntryKey };
+
+    ghost view = { λ k. map key_in k.keys.items };
+}

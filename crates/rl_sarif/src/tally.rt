@@ -1,0 +1,53 @@
+//! A tally of keys: how often each is left.
+ghost use Rattle.std.specs.Prelude.{◌≡◌, ◌+◌, ◌-◌, ◌<◌, ◌^◌, IfOk, OnOk, map, nat_lt};
+ghost use Rattle.rl_sarif.specs.Keys.{key_in};
+ghost use Rattle.rl_sarif.specs.Known.{times};
+ghost use Rattle.rl_sarif.specs.Tally.{Holds, left, one_if_same};
+
+use crate::key::Key;
+use indexmap::IndexMap;
+use rl_lists::OutOfMemory;
+use std::alloc::Global;
+
+/// How often each key is left.
+pub(crate) type Tally = IndexMap<Key, usize>;
+
+fn left(tally: &Tally, key: &Key) -> usize
+    ensures { result ≡ left tally.now (key_in key.now) }
+{
+    tally.get(key).copied().unwrap_or(0)
+}
+
+/// Counts a key once more.
+fn add(tally: &mut Tally, key: Key) -> Result<(), OutOfMemory>
+    requires { left tally.old (key_in key) + 1 < 2 ^ 64 }
+    ensures { OnOk result (Holds tally.new (λ q. left tally.old q + one_if_same q (key_in key))) }
+{
+    let count = left(tally, &key);
+    tally.insert(key, count + 1)?;
+    Ok(())
+}
+
+/// Takes a key out once, and says whether it was left.
+pub(crate) fn take(tally: &mut Tally, key: Key) -> Result<bool, OutOfMemory>
+    ensures taken { IfOk result (λ taken. taken ≡ nat_lt 0 (left tally.old (key_in key))) }
+    ensures rest { OnOk result (Holds tally.new (λ q. left tally.old q - one_if_same q (key_in key))) }
+{
+    let count = left(tally, &key);
+    if count == 0 {
+        return Ok(false);
+    }
+    tally.insert(key, count - 1)?;
+    Ok(true)
+}
+
+/// How often each key is among the keys.
+pub(crate) fn tally_of(alloc: Global, keys: &[Key]) -> Result<Tally, OutOfMemory>
+    ensures { IfOk result (λ tally. Holds tally (times (map key_in keys.now))) }
+{
+    let mut tally = Tally::new(alloc);
+    for key in keys {
+        add(&mut tally, key.clone()?)?;
+    }
+    Ok(tally)
+}

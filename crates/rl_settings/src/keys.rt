@@ -1,0 +1,85 @@
+//! The keys of the document.
+ghost use Rattle.std.specs.Prelude.{◌≡◌, IfSome, option_map};
+ghost use Rattle.toml.specs.Data.{get_member};
+ghost use Rattle.toml.specs.View.{table_view, view};
+ghost use Rattle.rl_words.specs.Call.{IsBetween};
+ghost use Rattle.rl_settings.specs.Values.{format_in, mode_in, number_in};
+ghost use Rattle.rl_settings.specs.Settings.{HasRanges, has_known_keys, is_known, table_told, told};
+
+use crate::FileSettings;
+use crate::values::{format_in, mode_in, number_in};
+use rl_words::{FormatWord, ModeWord};
+use toml::{Table, Value};
+
+// Whether a settings file may have this key.
+fn is_known(key: &str) -> bool
+    ensures { result ≡ is_known key.now }
+{
+    matches!(
+        key,
+        "compile-as" | "max-degree" | "max-pairs" | "format" | "report"
+    )
+}
+
+// Whether the table has no other keys.
+fn has_known_keys(table: &Table) -> bool
+    ensures { result ≡ has_known_keys (table_view table.now) }
+{
+    table.keys().all(|key| is_known(key.as_str()))
+}
+
+// The value at a key.
+fn value_at<'a>(table: &'a Table, key: &str) -> Option<&'a Value>
+    ensures { option_map (λ v. view v.now) result
+        ≡ get_member key.now (table_view table.entry.now) }
+{
+    table.get(key)
+}
+
+// In each of these `Some(None)` says that the table lacks the key, and `None` that its value is
+// refused.
+
+fn mode_told(table: &Table, key: &str) -> Option<Option<ModeWord>>
+    ensures { result ≡ told key.now mode_in (table_view table.now) }
+{
+    match value_at(table, key) {
+        Some(value) => Some(Some(mode_in(value)?)),
+        None => Some(None),
+    }
+}
+
+fn format_told(table: &Table, key: &str) -> Option<Option<FormatWord>>
+    ensures { result ≡ told key.now format_in (table_view table.now) }
+{
+    match value_at(table, key) {
+        Some(value) => Some(Some(format_in(value)?)),
+        None => Some(None),
+    }
+}
+
+fn number_told(table: &Table, key: &str, low: u32, high: u32) -> Option<Option<u32>>
+    ensures value { result ≡ told key.now (number_in low high) (table_view table.now) }
+    ensures range { IfSome result (λ n. IfSome n (IsBetween low high)) }
+{
+    match value_at(table, key) {
+        Some(value) => Some(Some(number_in(low, high, value)?)),
+        None => Some(None),
+    }
+}
+
+/// What a table says, or `None` where it is refused.
+pub(crate) fn table_told(table: &Table) -> Option<FileSettings>
+    ensures value { result ≡ table_told (table_view table.now) }
+    ensures ranges { IfSome result HasRanges }
+{
+    if !has_known_keys(table) {
+        return None;
+    }
+    Some(FileSettings {
+        compile_as: mode_told(table, "compile-as")?,
+        max_degree: number_told(table, "max-degree", 0, 999_999)?,
+        max_pairs: number_told(table, "max-pairs", 1, 1000)?,
+        format: format_told(table, "format")?,
+        report: number_told(table, "report", 1, 2)?,
+    })
+}

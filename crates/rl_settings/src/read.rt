@@ -1,0 +1,42 @@
+//! The settings file as a whole.
+ghost use Rattle.std.specs.Prelude.{◌≡◌, None, Some, IfOk, IsErrOf};
+ghost use Rattle.toml.specs.View.{table_view};
+ghost use Rattle.rl_settings.specs.Settings.{HasRanges, document_of, settings_told};
+
+use crate::keys::table_told;
+use crate::{FileSettings, SettingsError};
+use std::alloc::Global;
+use toml::Table;
+
+// The document that the bytes are.
+fn document_of(alloc: Global, bytes: &[u8]) -> Result<Table, SettingsError>
+    ensures ok { IfOk result (λ table. document_of bytes.now ≡ Some (table_view table)) }
+    ensures refused { IsErrOf result SettingsError.Refused → document_of bytes.now ≡ None }
+{
+    match toml::table_from_slice(alloc, bytes) {
+        Ok(table) => Ok(table),
+        Err(fault) if fault.is_memory() => Err(SettingsError::OutOfMemory),
+        Err(_) => Err(SettingsError::Refused),
+    }
+}
+
+/// What the bytes of a settings file say.
+///
+/// # Errors
+/// [`SettingsError::Refused`] exactly where the bytes are no TOML document, a key isn't one of the
+/// five, or a key doesn't take its value; [`SettingsError::OutOfMemory`] where memory was refused.
+#[tactic(auto, unfolding(crate::specs::Settings::settings_told))]
+pub fn read_settings(alloc: Global, bytes: &[u8]) -> Result<FileSettings, SettingsError>
+    ensures ok { IfOk result (λ settings. settings_told bytes.now ≡ Some settings) }
+    ensures ranges { IfOk result HasRanges }
+    ensures refused { IsErrOf result SettingsError.Refused → settings_told bytes.now ≡ None }
+{
+    let table = document_of(alloc, bytes)?;
+    match table_told(&table) {
+        Some(settings) => Ok(settings),
+        None => Err(SettingsError::Refused),
+    }
+}
+
+#[cfg(test)]
+mod tests;
