@@ -257,7 +257,7 @@ struct Check {
     out: &'static str,
 }
 
-static CHECKS: [Check; 8] = [
+static CHECKS: [Check; 13] = [
     Check {
         words: &["check", "--format", "brief", "p"],
         tree_fails: &[],
@@ -321,6 +321,46 @@ static CHECKS: [Check; 8] = [
         out_fails: &[3],
         status: 4,
         out: "0 entries, 0 findings, 0 refused",
+    },
+    Check {
+        words: &["check", "--format", "brief", "p"],
+        tree_fails: &[1],
+        step: 99,
+        out_fails: &[],
+        status: 3,
+        out: "p: unreadable\n1 entries, 0 findings, 1 refused, 0 undecided\n",
+    },
+    Check {
+        words: &["check", "--format", "brief", "p"],
+        tree_fails: &[2],
+        step: 99,
+        out_fails: &[],
+        status: 3,
+        out: "p: unreadable\n1 entries, 0 findings, 1 refused, 0 undecided\n",
+    },
+    Check {
+        words: &["check", "--format", "brief", "p"],
+        tree_fails: &[3],
+        step: 99,
+        out_fails: &[],
+        status: 3,
+        out: "p/a.py: unreadable\np/b.py:2:14: fullmatch: degree 0\n2 entries, 0 findings, 1 refused, 0 undecided\n",
+    },
+    Check {
+        words: &["check", "q"],
+        tree_fails: &[],
+        step: 1,
+        out_fails: &[1],
+        status: 4,
+        out: "",
+    },
+    Check {
+        words: &["check", "q"],
+        tree_fails: &[],
+        step: 1,
+        out_fails: &[46],
+        status: 4,
+        out: "0 entries, 0 findings, 0 refused, 0 undecided",
     },
 ];
 
