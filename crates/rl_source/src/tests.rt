@@ -172,7 +172,7 @@ fn joined(rt: &HostRuntime, folder: &str, name: &str) -> Result<String, AllocErr
 
 // A folder of this run's own, with two files.
 fn folder_on_disk(rt: &HostRuntime, name: &str) -> io::Result<String> {
-    let folder = format!(in rt.alloc(); "/tmp/rl_source-{name}-{}", process::id(rt.process()))?;
+    let folder = format!(in rt.alloc(); "rl_source-{name}-{}", process::id(rt.process()))?;
     fs::create_dir(rt, folder.as_str())?;
     fs::write(
         rt,
