@@ -81,6 +81,21 @@ fn slow_rings(alloc: Global, size: u32) -> Result<Multigraph, OutOfMemory> {
     Ok(graph)
 }
 
+/// A component of twenty states, the first of which has two moves on one letter into it, with a path of the other states behind
+/// it. No other state lies on a cycle.
+fn tail(alloc: Global, states: u32) -> Result<Multigraph, OutOfMemory> {
+    let mut graph = Multigraph::new(alloc, states, 2)?;
+    link(&mut graph, 0, 0, 1)?;
+    link(&mut graph, 0, 0, 2)?;
+    link(&mut graph, 1, 1, 3)?;
+    link(&mut graph, 2, 0, 3)?;
+    for state in 3..states {
+        link(&mut graph, state, 0, state.saturating_add(1))?;
+    }
+    link(&mut graph, 19, 1, 0)?;
+    Ok(graph)
+}
+
 /// The number of links of a longest chain of a graph, whose length is 0 where the graph has a twin.
 fn links(alloc: Global, graph: &Multigraph) -> Result<u64, WorkError> {
     match twin(alloc, graph)? {
@@ -112,6 +127,8 @@ pub fn links_of(alloc: Global, name: &str, states: u32) -> Result<u64, WorkError
         )?
     } else if name == "slow-rings" {
         slow_rings(alloc, third)?
+    } else if name == "tail" {
+        tail(alloc, states)?
     } else {
         return Err(WorkError::Refused);
     };

@@ -7,7 +7,7 @@
 //! | `closed TIMES` | the word class of text is closed under case |
 //! | `image SIZE TIMES` | the image of a full row over a square table is taken, so many times |
 //! | `parts STATES` | the parts of the product of two copies of a ring are found |
-//! | `degree GRAPH STATES` | a longest chain of splits is found in a `chain` of loops, in `stars`, `two-rings`, `three-rings` or `slow-rings` |
+//! | `degree GRAPH STATES` | a longest chain of splits is found in a `chain` of loops, in `stars`, `two-rings`, `three-rings`, `slow-rings` or a component with a `tail` |
 //!
 //! It prints one number that depends on the work. With other words, or where a file isn't read, it prints nothing and ends
 //! with status 2, and where memory was refused with status 5.

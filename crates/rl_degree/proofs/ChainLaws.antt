@@ -9,11 +9,11 @@ use Rattle.rl_graph.specs.Twins.{IsSplit, Link, ChainFrom}
 use Rattle.rl_graph.proofs.Sums.{total-there}
 use Rattle.rl_graph.proofs.PathLaws.{Reaches-self}
 use Rattle.rl_graph.proofs.GraphLaws.{bounded-whole}
-use Rattle.rl_degree.specs.Ranks.{best_at, IsFirst, IsGood, AreBests}
+use Rattle.rl_degree.specs.internal.Ranks.{best_at, IsFirst, IsGood, AreBests}
 use Rattle.rl_degree.specs.Chains.{link_of, links_of, IsChain, AreRanks, HasNoCycle}
 use Rattle.rl_degree.specs.declared.chains.Split.{Split}
 use Rattle.rl_degree.specs.declared.ranks.Best.{Best}
-use Rattle.rl_degree.proofs.InnerLaws.{move-state}
+use Rattle.rl_kernel.proofs.InnerLaws.{move-state}
 use Rattle.rl_degree.proofs.RankLaws.{best-bound}
 
 -- the first link of a chain that has one

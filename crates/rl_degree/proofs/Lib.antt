@@ -7,8 +7,8 @@ pub mod WithoutSplit
 pub mod SplitLaws
 pub mod RankPaths
 pub mod FallingLaws
-pub mod InnerLaws
 pub mod PairLaws
+pub mod KernelLaws
 pub mod TableLaws
 pub mod RowLaws
 pub mod SearchLaws

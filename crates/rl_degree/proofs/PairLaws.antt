@@ -1,24 +1,12 @@
 -- The pairs of the parts of the product, put in one by one.
-use Rattle.std.proofs.Common.{◌≡◌, ◌≢◌, ℕ, ◌+◌, ◌*◌, ◌<◌, ◌≤◌, ◌⊎◌, inl, inr, true, false, List, [], ◌∷◌, ◌++◌, length, get_or, ltb, eqb, lt-ltb, eqb-true, eq-eqb, refl, sym, ◌∙◌, ap, ap₂, subst, arith, length-set, get_or-set_same, get_or-set_other}
-use Rattle.std.proofs.lemmas.Bool.{cases_eq, cases_lt, ltb-true, and_parts, and_from}
+use Rattle.std.proofs.Common.{◌≡◌, ◌≢◌, ℕ, ◌+◌, ◌*◌, ◌<◌, ◌≤◌, ◌⊎◌, inl, inr, true, false, List, [], ◌∷◌, ◌++◌, length, get_or, refl, sym, ◌∙◌, ap, ap₂, subst, arith, length-set, get_or-set_same, get_or-set_other}
+use Rattle.std.proofs.lemmas.Bool.{cases_eq, cases_lt}
 use Rattle.std.proofs.lemmas.List.{length_push, get_or_push, get_or_append_left}
 use Rattle.rl_graph.specs.Parts.{PartTable, number_of}
-use Rattle.rl_degree.specs.Pairs.{is_wanted, is_member, Lists, row_of, with_pair, IsBarePlaced, IsHeld, IsPlacedUpTo}
-
--- members
-
-pub member-there : (members places : List ℕ) (x : ℕ) → is_member members places x ≡ true → (get_or places x 0 < length members) × (get_or members (get_or places x 0) 0 ≡ x)
-member-there members places x h =
-    let a = and_parts (ltb (get_or places x 0) (length members)) (eqb (get_or members (get_or places x 0) 0) x) h in
-    (ltb-true (get_or places x 0) (length members) a.0, eqb-true (get_or members (get_or places x 0) 0) x a.1)
-
-pub there-member : (members places : List ℕ) (x : ℕ) → get_or places x 0 < length members → get_or members (get_or places x 0) 0 ≡ x → is_member members places x ≡ true
-there-member members places x h e =
-    and_from (ltb (get_or places x 0) (length members)) (eqb (get_or members (get_or places x 0) 0) x)
-    (lt-ltb (get_or places x 0) (length members) h) (eq-eqb (get_or members (get_or places x 0) 0) x e)
+use Rattle.rl_degree.specs.internal.Pairs.{is_wanted, Lists, row_of, with_pair, IsBarePlaced, IsHeld, IsPlacedUpTo}
 
 -- the start
-pub placed-bare : (c parts : PartTable) (n : ℕ) (p : Lists) → IsBarePlaced (n * n) p → IsPlacedUpTo c parts n 0 p
+pub placed-bare : (c : List ℕ) (parts : PartTable) (n : ℕ) (p : Lists) → IsBarePlaced (n * n) p → IsPlacedUpTo c parts n 0 p
 placed-bare c parts n p b = record {
   rows = b.rows;
   size = b.size;
@@ -101,7 +89,7 @@ held-new parts p x h k =
       here = ap₂ (λ (r : List ℕ) (z : ℕ). get_or r z 0) f e ∙ get_or_push (row_of p part) x 0 (length (row_of p part)) refl;
     }
 
-pub placed-more : (c parts : PartTable) (n x : ℕ) (p : Lists) → x < n * n → number_of parts x < n * n → is_wanted c parts n x ≡ true → IsPlacedUpTo c parts n x p → IsPlacedUpTo c parts n (x + 1) (with_pair (number_of parts x) x p)
+pub placed-more : (c : List ℕ) (parts : PartTable) (n x : ℕ) (p : Lists) → x < n * n → number_of parts x < n * n → is_wanted c parts n x ≡ true → IsPlacedUpTo c parts n x p → IsPlacedUpTo c parts n (x + 1) (with_pair (number_of parts x) x p)
 placed-more c parts n x p lt below w o =
     let part = number_of parts x in
     let h : part < length p.members = omega (arith, o.rows) in
@@ -119,7 +107,7 @@ placed-more c parts n x p lt below w o =
     by y small wy (inr ne) = held-stays parts p (number_of parts x) x y (omega (arith, o.rows)) ne (o.held y (omega arith) wy)
     by y small wy (inl e) = subst (IsHeld parts (with_pair (number_of parts x) x p)) (sym e) (held-new parts p x (omega (arith, o.rows)) (omega (arith, o.size)))
 
-pub placed-passed : (c parts : PartTable) (n x : ℕ) (p : Lists) → is_wanted c parts n x ≡ false → IsPlacedUpTo c parts n x p → IsPlacedUpTo c parts n (x + 1) p
+pub placed-passed : (c : List ℕ) (parts : PartTable) (n x : ℕ) (p : Lists) → is_wanted c parts n x ≡ false → IsPlacedUpTo c parts n x p → IsPlacedUpTo c parts n (x + 1) p
 placed-passed c parts n x p w o = record {
   rows = o.rows;
   size = o.size;
@@ -133,3 +121,14 @@ placed-passed c parts n x p w o = record {
     by : (y : ℕ) → y < x + 1 → is_wanted c parts n y ≡ true → (y ≡ x) ⊎ (y ≢ x) → IsHeld parts p y
     by y small wy (inr ne) = o.held y (omega arith) wy
     by y small wy (inl e) = let f : true ≡ false = sym wy ∙ (ap (is_wanted c parts n) e ∙ w) in cc
+
+-- where there is a pair there is a state
+pub some-pair : (n x : ℕ) → x < n * n → 0 < n
+some-pair n x h = by (cases_lt 0 n)
+  where
+    by : (0 < n) ⊎ (n ≤ 0) → 0 < n
+    by (inl k) = k
+    by (inr k) = let e : n ≡ 0 = omega arith in absurd (none (rw e at h))
+      where
+        none : x < 0 * 0 → ⊥
+        none h = omega arith

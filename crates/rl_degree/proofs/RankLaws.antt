@@ -7,8 +7,8 @@ use Rattle.rl_graph.specs.Parts.{PartTable, IsParts, number_of}
 use Rattle.rl_graph.specs.Twins.{HasNoTwin, IsSplit, Link, ChainFrom, IsRank}
 use Rattle.rl_graph.proofs.Sums.{at-has, at-short, at-get_or}
 use Rattle.rl_graph.proofs.PathLaws.{along_moves, Reaches-self, Reaches-move, Reaches-trans}
-use Rattle.rl_degree.specs.Splits.{HasSplit}
-use Rattle.rl_degree.specs.Ranks.{best_at, no_best, IsFirst, IsGood, BeatsLetter, BeatsMoves, BeatsSplits, IsBest, AreBests}
+use Rattle.rl_degree.specs.internal.Splits.{HasSplit}
+use Rattle.rl_degree.specs.internal.Ranks.{best_at, no_best, IsFirst, IsGood, BeatsLetter, BeatsMoves, BeatsSplits, IsBest, AreBests}
 use Rattle.rl_degree.specs.declared.ranks.Best.{Best}
 use Rattle.rl_degree.proofs.SearchLaws.{split-below}
 

@@ -10,13 +10,13 @@ use Rattle.rl_graph.specs.Paths.{total, one, Has, paths, Reaches}
 use Rattle.rl_graph.specs.Graph.{Graph}
 use Rattle.rl_graph.proofs.Sums.{total-there, Has-left, Has-last, Has-push, at-has, at-short, at-get_or}
 use Rattle.rl_graph.proofs.PathLaws.{nil-same, paths-nil, through_one, positive, move-path, Reaches-move, Reaches-trans}
-use Rattle.rl_degree.specs.Pairs.{is_member}
-use Rattle.rl_degree.specs.Moves.{cell, with_cell, IsMoveTable}
-use Rattle.rl_degree.specs.Rows.{Field, field_of, Stand, has_middle, row_with, start_stand, number_of_new, words_from, word_at, IsRooted, reached, IsReached, behind, IsFound, Waits, IsPassed, IsSearching, work_of, IsFurther, IsImage, IsFollowedOn, IsFollowedUpTo}
+use Rattle.rl_kernel.specs.Members.{is_member}
+use Rattle.rl_degree.specs.internal.Moves.{cell, with_cell, IsMoveTable}
+use Rattle.rl_degree.specs.internal.Rows.{Field, field_of, Stand, has_middle, row_with, start_stand, number_of_new, words_from, word_at, IsRooted, reached, IsReached, behind, IsFound, Waits, IsPassed, IsSearching, work_of, IsFurther, IsImage, IsFollowedOn, IsFollowedUpTo}
 use Rattle.rl_degree.specs.declared.pairs.PairTable.{PairTable}
 use Rattle.rl_degree.specs.declared.rows.Step.{Step}
 use Rattle.rl_degree.specs.declared.rows.Found.{Found}
-use Rattle.rl_degree.proofs.PairLaws.{member-there}
+use Rattle.rl_kernel.proofs.MemberLaws.{member-there}
 use Rattle.rl_degree.proofs.TableLaws.{cell-one_back, cell-one_here, cell-none, cell-or_back, cell-or_here, cell-or_stays}
 
 -- words

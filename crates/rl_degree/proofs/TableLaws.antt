@@ -8,7 +8,7 @@ use Rattle.rl_lanes.proofs.ImageLemmas.{row_lengths-set}
 use Rattle.rl_graph.specs.Paths.{Has}
 use Rattle.rl_graph.specs.Graph.{Graph, edges_of, IsWhole}
 use Rattle.rl_graph.proofs.Sums.{at-has, at-short, at-get_or, Has-get_or}
-use Rattle.rl_degree.specs.Moves.{cell, with_cell, IsMoveTableUpTo}
+use Rattle.rl_degree.specs.internal.Moves.{cell, with_cell, IsMoveTableUpTo}
 
 -- one more bit
 

@@ -1,9 +1,4 @@
+pub mod internal
 pub mod Leavers
 pub mod FallingNumbers
-pub mod Inner
-pub mod Pairs
-pub mod Moves
-pub mod Rows
-pub mod Splits
-pub mod Ranks
 pub mod Chains

@@ -4,8 +4,8 @@ ghost use Rattle.std.specs.Prelude.{◌≡◌, ℕ, ◌<◌, ◌≤◌, List, le
 ghost use Rattle.rl_graph.specs.Graph.{edges_of};
 ghost use Rattle.rl_graph.specs.Parts.{IsParts, cycle_of, number_of};
 ghost use Rattle.rl_graph.specs.Twins.{HasNoTwin, Link, ChainFrom};
-ghost use Rattle.rl_degree.specs.Pairs.{IsTable};
-ghost use Rattle.rl_degree.specs.Ranks.{AreBests, best_at};
+ghost use Rattle.rl_degree.specs.internal.Pairs.{IsTable};
+ghost use Rattle.rl_degree.specs.internal.Ranks.{AreBests, best_at};
 ghost use Rattle.rl_degree.specs.Chains.{links_of, IsSplitIn, IsChain, AreRanks, IsLoop, HasNoCycle};
 
 use crate::pairs::{PairTable, table_of};
@@ -148,9 +148,10 @@ const MOST_STATES: u32 = 65_535;
 
 /// A longest chain of splits of a graph without a twin, all ranks and a cycle.
 ///
-/// It takes the parts of the product of two copies of the graph, and for a part that holds pairs of different states on a cycle
-/// it makes at most one search for one of its pairs (the test for IDA of Weber and Seidl 1991), over triples of states whose
-/// outer ones lie in that part. For each of its pairs a row of bits holds the middle states, so that a search meets no triple
+/// A split leads from a state on a cycle to one in another component. Where two components have such states, it takes the parts
+/// of the product of two copies of the moves between these states that stay in a component, and for a part that holds pairs of
+/// different states on a cycle it makes at most one search for one of its pairs (the test for IDA of Weber and Seidl 1991), over
+/// triples of states whose outer ones lie in that part. For each of its pairs a row of bits holds the middle states, so that a search meets no triple
 /// twice, and a bit stands for each. Ranks and chains go by the components of the graph in their order, and only a split that
 /// lengthens a chain is looked for.
 ///

@@ -2,7 +2,7 @@
 #![tactic(auto)]
 
 mod chains;
-mod inner;
+mod kernel;
 pub mod laws;
 mod moves;
 mod pairs;

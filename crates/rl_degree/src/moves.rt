@@ -1,7 +1,7 @@
 //! The moves of a graph as tables of bits.
 
 ghost use Rattle.std.specs.Prelude.{◌≡◌, ◌<◌, ◌+◌, IfOk};
-ghost use Rattle.rl_degree.specs.Moves.{IsMoveTable, IsMoveTableUpTo, AreMoveTables};
+ghost use Rattle.rl_degree.specs.internal.Moves.{IsMoveTable, IsMoveTableUpTo, AreMoveTables};
 
 use rl_graph::Multigraph;
 use rl_lanes::BitTable;

@@ -2,11 +2,13 @@
 
 ghost use Rattle.std.specs.Prelude.{◌≡◌, ℕ, ◌<◌, ◌+◌, ◌*◌, ◌^◌, false, length, slice_index, MatchOption, IfOk, OnOk};
 ghost use Rattle.rl_graph.specs.Parts.{number_of};
-ghost use Rattle.rl_degree.specs.Pairs.{is_wanted, is_member, lists_of, row_of, with_pair, IsBarePlaced, IsPlace, IsPlaced, IsTable};
+ghost use Rattle.rl_kernel.specs.Members.{is_member, IsPlace};
+ghost use Rattle.rl_degree.specs.internal.Pairs.{is_wanted, lists_of, row_of, with_pair, IsBarePlaced, IsPlaced, IsTable};
 
-use crate::inner::inner_graph;
+use crate::kernel::kernel_of;
 use crate::moves::move_tables;
 use rl_graph::{Components, Multigraph, Parts, Twice, parts_of};
+use rl_kernel::{Kernel, inner_graph};
 use rl_lanes::BitTable;
 use rl_lists::{Items, OutOfMemory};
 use std::alloc::Global;
@@ -19,11 +21,12 @@ pub(crate) struct Placed {
     pub(crate) places: Vec<u64>,
 }
 
-/// A graph's components, its inner moves, the parts of the product of two copies of them, the pairs of each part, and for each
-/// letter the table of the graph's moves.
+/// A graph's components, the states that a split may join, their inner moves, the parts of the product of two copies of these,
+/// the pairs of each part, and for each letter the table of the graph's moves; no table where no state is one of those states.
 #[derive(Drop)]
 pub(crate) struct PairTable {
     pub(crate) components: Components,
+    pub(crate) kernel: Kernel,
     pub(crate) inner: Multigraph,
     pub(crate) parts: Parts,
     pub(crate) placed: Placed,
@@ -75,15 +78,15 @@ impl PairTable {
 
 /// Whether a pair lies on a cycle of the product, and its second state in a component that may be reached from the first
 /// one's, but not the other way round.
-pub(crate) fn wanted(components: &Components, parts: &Parts, count: u64, pair: u64) -> bool
+pub(crate) fn wanted(levels: &[u32], parts: &Parts, count: u64, pair: u64) -> bool
     requires pair_in { pair < count * count }
     requires few { count < 2 ^ 32 }
-    requires components_size { length components.now.numbers ≡ count }
+    requires levels_size { length levels.now ≡ count }
     requires parts_size { length parts.now.numbers ≡ count * count }
-    ensures { result ≡ is_wanted components.now parts.now count pair }
+    ensures { result ≡ is_wanted levels.now parts.now count pair }
 {
-    let first = components.of((pair / count) as u32);
-    let second = components.of((pair % count) as u32);
+    let first = levels[(pair / count) as usize];
+    let second = levels[(pair % count) as usize];
     parts.on_cycle(pair) && second < first
 }
 
@@ -117,20 +120,20 @@ impl Placed {
 /// The wanted pairs by parts.
 fn placed_pairs(
     alloc: Global,
-    components: &Components,
+    levels: &[u32],
     parts: &Parts,
     count: u64,
 ) -> Result<Placed, OutOfMemory>
     requires few { count < 2 ^ 32 }
-    requires components_size { length components.now.numbers ≡ count }
+    requires levels_size { length levels.now ≡ count }
     requires parts_size { length parts.now.numbers ≡ count * count }
     requires parts_below { (x : ℕ) → x < count * count → number_of parts.now x < count * count }
-    ensures { IfOk result (λ p. IsPlaced components.now parts.now count (lists_of p)) }
+    ensures { IfOk result (λ p. IsPlaced levels.now parts.now count (lists_of p)) }
 {
     let pairs = count * count;
     let mut placed = Placed::new(alloc, pairs as usize)?;
     for pair in 0..pairs {
-        if wanted(components, parts, count, pair) {
+        if wanted(levels, parts, count, pair) {
             placed.put(parts.of(pair), pair)?;
         }
     }
@@ -144,15 +147,20 @@ fn placed_pairs(
 pub(crate) fn table_of(alloc: Global, g: &Multigraph) -> Result<PairTable, OutOfMemory>
     ensures { IfOk result (IsTable g.now) }
 {
-    let count = u64::from(g.states());
     let components = g.components()?;
-    let inner = inner_graph(alloc, g, &components)?;
-    let _states = inner.states();
+    let kernel = kernel_of(alloc, &components, g.states())?;
+    let inner = inner_graph(alloc, g, &components, &kernel)?;
+    let count = u64::from(inner.states());
     let parts = parts_of(alloc, &Twice { graph: &inner })?;
-    let placed = placed_pairs(alloc, &components, &parts, count)?;
-    let moves = move_tables(alloc, g)?;
+    let placed = placed_pairs(alloc, &kernel.levels, &parts, count)?;
+    let moves = if count > 0 {
+        move_tables(alloc, g)?
+    } else {
+        Vec::new(alloc)
+    };
     Ok(PairTable {
         components,
+        kernel,
         inner,
         parts,
         placed,

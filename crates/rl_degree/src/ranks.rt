@@ -4,9 +4,9 @@ ghost use Rattle.std.specs.Prelude.{◌≡◌, ℕ, ◌<◌, ◌≤◌, ◌+◌,
 ghost use Rattle.rl_graph.specs.Graph.{edges_of};
 ghost use Rattle.rl_graph.specs.Parts.{IsParts, number_of};
 ghost use Rattle.rl_graph.specs.Twins.{HasNoTwin};
-ghost use Rattle.rl_degree.specs.Pairs.{IsTable};
-ghost use Rattle.rl_degree.specs.Splits.{HasSplit, AreMarks};
-ghost use Rattle.rl_degree.specs.Ranks.{best_at, IsGood, BeatsLetter, BeatsMoves, BeatsSplits, IsBest, AreBests};
+ghost use Rattle.rl_degree.specs.internal.Pairs.{IsTable};
+ghost use Rattle.rl_degree.specs.internal.Splits.{HasSplit, AreMarks};
+ghost use Rattle.rl_degree.specs.internal.Ranks.{best_at, IsGood, BeatsLetter, BeatsMoves, BeatsSplits, IsBest, AreBests};
 ghost use Rattle.rl_degree.specs.Chains.{AreRanks};
 
 use crate::pairs::PairTable;
@@ -200,7 +200,7 @@ pub(crate) fn all_bests(
     requires no_twin { HasNoTwin (edges_of g.now) }
     ensures { IfOk result (λ v. AreBests (edges_of g.now) g.now.states table.now.components g.now.states v.items) }
 {
-    let mut marks = no_marks(alloc, g)?;
+    let mut marks = no_marks(alloc, table)?;
     let mut bests = Vec::new(alloc);
     for component in 0..g.states() {
         let best = best_of(g, table, &mut marks, &bests, component)?;

@@ -3,8 +3,8 @@
 //! that were met beside it. What was met at once stays together, so that a step moves a whole row.
 
 ghost use Rattle.std.specs.Prelude.{◌≡◌, ◌<◌, ◌≤◌, ◌*◌, [], true, false, length, replicate, slice_index_or, IfOk, OnOk, IfSome, IfNone};
-ghost use Rattle.rl_degree.specs.Pairs.{IsTable};
-ghost use Rattle.rl_degree.specs.Rows.{field_of, stand_of, start_stand, number_of_new, steps_with, has_middle, behind, word_at, IsRooted, IsReached, IsSearching, IsImage, IsFurther, IsFollowedOn, IsFollowedUpTo};
+ghost use Rattle.rl_degree.specs.internal.Pairs.{IsTable};
+ghost use Rattle.rl_degree.specs.internal.Rows.{field_of, stand_of, start_stand, number_of_new, steps_with, has_middle, behind, word_at, IsRooted, IsReached, IsSearching, IsImage, IsFurther, IsFollowedOn, IsFollowedUpTo};
 
 use crate::pairs::PairTable;
 use rl_graph::{Multigraph, NextStates, Twice};
@@ -168,7 +168,7 @@ impl Search {
         image: &BitRow,
     ) -> Result<(), OutOfMemory>
         requires table { IsTable g.now table.now }
-        requires part_in { part < g.now.states * g.now.states }
+        requires part_in { part < table.now.inner.states * table.now.inner.states }
         requires letter_in { letter < g.now.letters }
         requires searching { IsSearching (field_of g.now table.now part) (behind found.now (stand_of self.old)) }
         requires image { IsImage (field_of g.now table.now part) found.now letter image.now }
@@ -199,7 +199,7 @@ impl Search {
         image: &mut BitRow,
     ) -> Result<(), OutOfMemory>
         requires table { IsTable g.now table.now }
-        requires part_in { part < g.now.states * g.now.states }
+        requires part_in { part < table.now.inner.states * table.now.inner.states }
         requires letter_in { letter < g.now.letters }
         requires searching { IsSearching (field_of g.now table.now part) (behind found.now (stand_of self.old)) }
         requires wide { length image.old ≡ g.now.states }
@@ -232,7 +232,7 @@ impl Search {
         image: &mut BitRow,
     ) -> Result<(), OutOfMemory>
         requires table { IsTable g.now table.now }
-        requires part_in { part < g.now.states * g.now.states }
+        requires part_in { part < table.now.inner.states * table.now.inner.states }
         requires searching { IsSearching (field_of g.now table.now part) (behind found.now (stand_of self.old)) }
         requires wide { length image.old ≡ g.now.states }
         ensures further { OnOk result (IsFurther (field_of g.now table.now part) found.now (stand_of self.old) (stand_of self.new)) }

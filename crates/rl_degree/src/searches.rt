@@ -3,8 +3,8 @@
 ghost use Rattle.std.specs.Prelude.{◌≡◌, ◌<◌, ◌+◌, ◌*◌, ◌↔◌, true, replicate, IfOk, OnOk, IfSome, IfNone, IsTrue};
 ghost use Rattle.rl_graph.specs.Graph.{edges_of};
 ghost use Rattle.rl_graph.specs.Twins.{HasNoTwin, IsSplit};
-ghost use Rattle.rl_degree.specs.Pairs.{IsTable, is_wanted};
-ghost use Rattle.rl_degree.specs.Splits.{HasSplit, AreMarks};
+ghost use Rattle.rl_degree.specs.internal.Pairs.{IsTable};
+ghost use Rattle.rl_degree.specs.internal.Splits.{HasSplit, IsPairFor, AreMarks};
 
 use crate::pairs::{PairTable, pair_of, wanted};
 use crate::rows::Search;
@@ -12,6 +12,33 @@ use rl_graph::Multigraph;
 use rl_lanes::BitRow;
 use rl_lists::{OutOfMemory, Word};
 use std::alloc::Global;
+
+/// The number of the pair of two states, `None` only where they are no split.
+fn pair_for(g: &Multigraph, table: &PairTable, from: u32, to: u32) -> Option<u64>
+    requires table { IsTable g.now table.now }
+    requires no_twin { HasNoTwin (edges_of g.now) }
+    requires from_in { from < g.now.states }
+    requires to_in { to < g.now.states }
+    ensures pair { IfSome result (IsPairFor table.now from to) }
+    ensures none { IfNone result (HasSplit (edges_of g.now) from to → ⊥) }
+{
+    let _states = g.states();
+    let count = u64::from(table.inner.states());
+    let first = match table.kernel.place_of(from) {
+        Some(place) => place,
+        None => return None,
+    };
+    let second = match table.kernel.place_of(to) {
+        Some(place) => place,
+        None => return None,
+    };
+    let pair = pair_of(count, first, second);
+    if wanted(&table.kernel.levels, &table.parts, count, pair) {
+        Some(pair)
+    } else {
+        None
+    }
+}
 
 /// A word of the split of a wanted pair of states, `None` exactly where the pair is no split. Where the steps of the search are
 /// not kept the word is empty, and only whether there is one tells something.
@@ -23,20 +50,20 @@ fn search_for(
     g: &Multigraph,
     table: &PairTable,
     keeps: bool,
+    pair: u64,
     from: u32,
     to: u32,
 ) -> Result<Option<Word>, OutOfMemory>
-    requires few { g.now.states < 65536 }
     requires table { IsTable g.now table.now }
+    requires no_twin { HasNoTwin (edges_of g.now) }
     requires from_in { from < g.now.states }
     requires to_in { to < g.now.states }
-    requires pair { is_wanted table.now.components table.now.parts g.now.states (from * g.now.states + to) ≡ true }
+    requires pair { IsPairFor table.now from to pair }
     ensures word { keeps ≡ true → IfOk result (λ o. IfSome o (λ w. IsSplit (edges_of g.now) from to w)) }
     ensures found { IfOk result (λ o. IfSome o (λ _. HasSplit (edges_of g.now) from to)) }
     ensures none { IfOk result (λ o. IfNone o (HasSplit (edges_of g.now) from to → ⊥)) }
 {
-    let count = u64::from(g.states());
-    let pair = pair_of(count, from, to);
+    let _states = g.states();
     let part = table.parts.of(pair);
     let place = table.placed.places[pair as usize] as usize;
     let pairs = table.members_of(part).len();
@@ -52,7 +79,7 @@ fn search_for(
     Ok(None)
 }
 
-/// A word of the split of a wanted pair of states, `None` exactly where the pair is no split.
+/// A word of the split of two states, `None` exactly where they are no split.
 ///
 /// # Errors
 /// [`OutOfMemory`] where there was no memory for the search or the word.
@@ -63,26 +90,28 @@ pub(crate) fn split_word(
     from: u32,
     to: u32,
 ) -> Result<Option<Word>, OutOfMemory>
-    requires few { g.now.states < 65536 }
     requires table { IsTable g.now table.now }
+    requires no_twin { HasNoTwin (edges_of g.now) }
     requires from_in { from < g.now.states }
     requires to_in { to < g.now.states }
-    requires pair { is_wanted table.now.components table.now.parts g.now.states (from * g.now.states + to) ≡ true }
     ensures found { IfOk result (λ o. IfSome o (λ w. IsSplit (edges_of g.now) from to w)) }
     ensures none { IfOk result (λ o. IfNone o (HasSplit (edges_of g.now) from to → ⊥)) }
 {
-    search_for(alloc, g, table, true, from, to)
+    match pair_for(g, table, from, to) {
+        Some(pair) => search_for(alloc, g, table, true, pair, from, to),
+        None => Ok(None),
+    }
 }
 
 /// For each part that nothing is known of it.
 ///
 /// # Errors
 /// [`OutOfMemory`] where there was no memory for the marks.
-pub(crate) fn no_marks(alloc: Global, g: &Multigraph) -> Result<Vec<Option<bool>>, OutOfMemory>
-    requires { g.now.states < 65536 }
-    ensures { IfOk result (λ v. v.items ≡ replicate (g.now.states * g.now.states) None) }
+pub(crate) fn no_marks(alloc: Global, table: &PairTable) -> Result<Vec<Option<bool>>, OutOfMemory>
+    requires { table.now.inner.states < 65536 }
+    ensures { IfOk result (λ v. v.items ≡ replicate (table.now.inner.states * table.now.inner.states) None) }
 {
-    let count = g.states() as usize;
+    let count = table.inner.states() as usize;
     let marks = vec![in alloc; None; count * count]?;
     Ok(marks)
 }
@@ -98,7 +127,6 @@ pub(crate) fn is_split(
     from: u32,
     to: u32,
 ) -> Result<bool, OutOfMemory>
-    requires few { g.now.states < 65536 }
     requires table { IsTable g.now table.now }
     requires no_twin { HasNoTwin (edges_of g.now) }
     requires marks { AreMarks g.now table.now marks.old.items }
@@ -107,17 +135,17 @@ pub(crate) fn is_split(
     ensures split { IfOk result (λ b. IsTrue b ↔ HasSplit (edges_of g.now) from to) }
     ensures marks { OnOk result (AreMarks g.now table.now marks.new.items) }
 {
-    let count = u64::from(g.states());
-    let pair = pair_of(count, from, to);
-    if !wanted(&table.components, &table.parts, count, pair) {
-        return Ok(false);
-    }
+    let _states = g.states();
+    let pair = match pair_for(g, table, from, to) {
+        Some(pair) => pair,
+        None => return Ok(false),
+    };
     let part = table.parts.of(pair) as usize;
     if let Some(known) = marks[part] {
         return Ok(known);
     }
     let alloc = *marks.allocator();
-    let split = search_for(alloc, g, table, false, from, to)?.is_some();
+    let split = search_for(alloc, g, table, false, pair, from, to)?.is_some();
     marks[part] = Some(split);
     Ok(split)
 }

@@ -1,16 +1,12 @@
--- A fork is a twin, and a twin has a fork: it is walked to its first difference. A graph has no twin where no part of
--- the product holds the pair of a state with itself and the pair of the targets of two moves of that state.
-use Rattle.std.proofs.Common.{◌≡◌, ◌≢◌, ◌∙◌, ap₂, ℕ, ◌+◌, ◌*◌, ◌<◌, ◌≤◌, ◌⊎◌, inl, inr, List, [], ◌∷◌, ◌++◌, length, Some, slice_get, refl, sym, ap, subst, arith}
+-- A fork is a twin, and a twin has a fork: it is walked to its first difference.
+use Rattle.std.proofs.Common.{◌≡◌, ◌≢◌, ◌∙◌, ap₂, ℕ, ◌<◌, ◌≤◌, ◌⊎◌, inl, inr, List, [], ◌∷◌, ◌++◌, Some, slice_get, refl, sym, ap, subst, arith}
 use Rattle.std.proofs.lemmas.Bool.{cases_eq, cases_lt, cases_order}
-use Rattle.std.proofs.lemmas.Nat.{mul-add-lt}
-use Rattle.rl_graph.specs.Paths.{paths, led, IsPath, IsBounded, Reaches, Has}
+use Rattle.rl_graph.specs.Paths.{paths, led, IsPath, IsBounded, Has}
 use Rattle.rl_graph.specs.Twins.{IsTwin, HasNoTwin}
-use Rattle.rl_graph.specs.Product.{pair_moves}
 use Rattle.rl_graph.specs.Parts.{PartTable, IsParts, number_of}
 use Rattle.rl_graph.proofs.Sums.{total-two, Has-at}
 use Rattle.rl_graph.proofs.PathLaws.{paths-nil, through_one, positive, move-path, Reaches-move, along_moves}
 use Rattle.rl_graph.proofs.TwinPaths.{onto-some, path-counts, two-there, twin-count}
-use Rattle.rl_graph.proofs.ProductLaws.{pair_paths, step-pair}
 use Rattle.rl_expo.specs.Forks.{IsFork, AnyFork}
 
 -- a fork is a twin
@@ -103,55 +99,32 @@ move-in next n k s l i m b e = (b.targets s l m (Has-at (next s l) i m e), by (c
 pub path-end : (next : ℕ → ℕ → List ℕ) (n k s t : ℕ) (w : List ℕ) → IsBounded next n k → s < n → 1 ≤ paths next s t w → t < n
 path-end next n k s t w b h p = along_moves (λ m. m < n) next (λ q l m i j. b.targets q l m j) s t w h p
 
--- a fork and the product: the pair of the targets and the pair of the state reach each other
-pub fork_reaches : (next : ℕ → ℕ → List ℕ) (n k r l i j x y : ℕ) (w : List ℕ) → IsBounded next n k → r < n → IsFork next r l i j x y w → Reaches (pair_moves next n) (x * n + y) (r * n + r) × Reaches (pair_moves next n) (r * n + r) (x * n + y)
-fork_reaches next n k r l i j x y w b hr f =
-    let hx = move-in next n k r l i x b f.one_move in
-    let hy = move-in next n k r l j y b f.other_move in
-    let back : 1 ≤ paths (pair_moves next n) (x * n + y) (r * n + r) w =
-    omega (arith, pair_paths next n k b x y r r w hx.0 hy.0 hr hr, positive (paths next x r w) (paths next y r w) f.one_back f.other_back) in (
-      (w, back),
-      Reaches-move (pair_moves next n) (r * n + r) (x * n + y) l (Has-at (pair_moves next n (r * n + r) l) (i * length (next r l) + j) (x * n + y) (step-pair next n r r l i j x y hr f.one_move f.other_move)),
-    )
-
 -- a fork that starts in the graph
 pub fork-start : (next : ℕ → ℕ → List ℕ) (n k r l i j x y : ℕ) (w : List ℕ) → IsBounded next n k → IsFork next r l i j x y w → r < n
 fork-start next n k r l i j x y w b f = path-end next n k x r w b (move-in next n k r l i x b f.one_move).0 f.one_back
 
--- where no part of the product holds the pair of a state with itself and the pair of the targets of two moves of that
--- state on one letter, there is no twin
-pub no_twin_by_parts : (next : ℕ → ℕ → List ℕ) (n k : ℕ) (p : PartTable) → IsBounded next n k → IsParts (pair_moves next n) (n * n) p
-    → ((r l i j x y : ℕ) → r < n → l < k → i < j → slice_get (next r l) i ≡ Some x → slice_get (next r l) j ≡ Some y → number_of p (x * n + y) ≢ number_of p (r * n + r)) → HasNoTwin next
-no_twin_by_parts next n k p b parts none = no_fork-no_twin next (λ f. any f.state f.letter f.first f.second f.one f.other f.word f.forks (cases_order f.first f.second))
+-- the targets of a fork lie in the part of its state
+pub fork-part : (next : ℕ → ℕ → List ℕ) (n k : ℕ) (p : PartTable) → IsBounded next n k → IsParts next n p → (r l i x : ℕ) (w : List ℕ) → r < n → slice_get (next r l) i ≡ Some x → 1 ≤ paths next x r w → number_of p x ≡ number_of p r
+fork-part next n k p b parts r l i x w hr e back =
+    (parts.same x r (move-in next n k r l i x b e).0 hr).1 ((w, back), Reaches-move next r x l (Has-at (next r l) i x e))
+
+-- it is enough to refute the forks whose first move has the smaller number
+pub fork-ordered : (next : ℕ → ℕ → List ℕ) (c : ℕ) (p : PartTable) → ((r l i j x y : ℕ) (w : List ℕ) → number_of p r ≡ c → i < j → IsFork next r l i j x y w → ⊥) → (f : AnyFork next) → number_of p f.state ≡ c → ⊥
+fork-ordered next c p less f at = any f.state f.letter f.first f.second f.one f.other f.word at f.forks (cases_order f.first f.second)
   where
-    less : (r l i j x y : ℕ) (w : List ℕ) → i < j → IsFork next r l i j x y w → ⊥
-    less r l i j x y w lt f =
-        let hr = fork-start next n k r l i j x y w b f in
-        let hx = move-in next n k r l i x b f.one_move in
-        let hy = move-in next n k r l j y b f.other_move in
-        none r l i j x y hr hx.1 lt f.one_move f.other_move
-        ((parts.same (x * n + y) (r * n + r) (mul-add-lt x n y n hx.0 hy.0) (mul-add-lt r n r n hr hr)).1 (fork_reaches next n k r l i j x y w b hr f))
+    any : (r l i j x y : ℕ) (w : List ℕ) → number_of p r ≡ c → IsFork next r l i j x y w → (i ≡ j) ⊎ ((i < j) ⊎ (j < i)) → ⊥
+    any r l i j x y w at f (inl e) = f.apart e
+    any r l i j x y w at f (inr (inl h)) = less r l i j x y w at h f
+    any r l i j x y w at f (inr (inr h)) = less r l j i y x w at h (fork-turned next r l i j x y w f)
 
-    any : (r l i j x y : ℕ) (w : List ℕ) → IsFork next r l i j x y w → (i ≡ j) ⊎ ((i < j) ⊎ (j < i)) → ⊥
-    any r l i j x y w f (inl e) = f.apart e
-    any r l i j x y w f (inr (inl h)) = less r l i j x y w h f
-    any r l i j x y w f (inr (inr h)) = less r l j i y x w h (fork-turned next r l i j x y w f)
-
--- where no two moves of a state on one letter both stay in the state's part of the graph, there is no twin
-pub no_twin_by_components : (next : ℕ → ℕ → List ℕ) (n k : ℕ) (p : PartTable) → IsBounded next n k → IsParts next n p
-    → ((r l i j x y : ℕ) → r < n → l < k → i < j → slice_get (next r l) i ≡ Some x → slice_get (next r l) j ≡ Some y → number_of p x ≡ number_of p r → number_of p y ≡ number_of p r → ⊥) → HasNoTwin next
-no_twin_by_components next n k p b parts none = no_fork-no_twin next (λ f. any f.state f.letter f.first f.second f.one f.other f.word f.forks (cases_order f.first f.second))
+-- where no two moves of a state of a part on one letter both stay in the part, no fork begins there
+pub no_fork_by_components : (next : ℕ → ℕ → List ℕ) (n k c : ℕ) (p : PartTable) → IsBounded next n k → IsParts next n p
+    → ((r l i j x y : ℕ) → r < n → l < k → number_of p r ≡ c → i < j → slice_get (next r l) i ≡ Some x → slice_get (next r l) j ≡ Some y → number_of p x ≡ number_of p r → number_of p y ≡ number_of p r → ⊥)
+    → (f : AnyFork next) → number_of p f.state ≡ c → ⊥
+no_fork_by_components next n k c p b parts none = fork-ordered next c p less
   where
-    same_part : (r l i x : ℕ) (w : List ℕ) → r < n → slice_get (next r l) i ≡ Some x → 1 ≤ paths next x r w → number_of p x ≡ number_of p r
-    same_part r l i x w hr e back =
-        (parts.same x r (move-in next n k r l i x b e).0 hr).1 ((w, back), Reaches-move next r x l (Has-at (next r l) i x e))
-
-    less : (r l i j x y : ℕ) (w : List ℕ) → i < j → IsFork next r l i j x y w → ⊥
-    less r l i j x y w lt f =
+    less : (r l i j x y : ℕ) (w : List ℕ) → number_of p r ≡ c → i < j → IsFork next r l i j x y w → ⊥
+    less r l i j x y w at lt f =
         let hr = fork-start next n k r l i j x y w b f in
-        none r l i j x y hr (move-in next n k r l i x b f.one_move).1 lt f.one_move f.other_move (same_part r l i x w hr f.one_move f.one_back) (same_part r l j y w hr f.other_move f.other_back)
-
-    any : (r l i j x y : ℕ) (w : List ℕ) → IsFork next r l i j x y w → (i ≡ j) ⊎ ((i < j) ⊎ (j < i)) → ⊥
-    any r l i j x y w f (inl e) = f.apart e
-    any r l i j x y w f (inr (inl h)) = less r l i j x y w h f
-    any r l i j x y w f (inr (inr h)) = less r l j i y x w h (fork-turned next r l i j x y w f)
+        none r l i j x y hr (move-in next n k r l i x b f.one_move).1 at lt f.one_move f.other_move
+        (fork-part next n k p b parts r l i x w hr f.one_move f.one_back) (fork-part next n k p b parts r l j y w hr f.other_move f.other_back)

@@ -1,3 +1,4 @@
 pub mod ForkLaws
 pub mod SearchLaws
+pub mod BlockLaws
 pub mod SplitLaws

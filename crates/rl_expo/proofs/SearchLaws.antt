@@ -1,23 +1,16 @@
 -- From the answers of the search for a fork to twins.
-use Rattle.std.proofs.Common.{◌≡◌, ap, ap₂, ℕ, ◌+◌, ◌*◌, ◌<◌, ◌≤◌, ◌⊎◌, inl, inr, List, get_or, ◌∙◌, subst, arith}
+use Rattle.std.proofs.Common.{◌≡◌, ap, ℕ, ◌+◌, ◌*◌, ◌<◌, ◌≤◌, ◌⊎◌, inl, inr, List, get_or, ◌∙◌, subst, arith}
 use Rattle.std.proofs.lemmas.Bool.{cases_lt}
 use Rattle.std.proofs.lemmas.Nat.{mul-add-lt}
 use Rattle.std.specs.List.{All}
 use Rattle.rl_graph.specs.Graph.{Graph, edges_of, IsWhole}
-use Rattle.rl_graph.specs.Product.{pair_moves}
 use Rattle.rl_graph.specs.Parts.{PartTable, IsParts, number_of}
-use Rattle.rl_graph.specs.Twins.{HasNoTwin}
 use Rattle.rl_graph.proofs.Sums.{at-short, at-get_or, Has-get_or}
 use Rattle.rl_graph.proofs.GraphLaws.{bounded-whole}
 use Rattle.rl_expo.specs.declared.forks.Fork.{Fork}
-use Rattle.rl_expo.specs.Search.{AreMoves, IsInPart, NoneMeets, LeadsBack, targets_of, Stays, NoTwoStay, NoneStay}
-use Rattle.rl_expo.proofs.ForkLaws.{no_twin_by_parts, no_twin_by_components}
-
-pub none_meets-no_twin : (g : Graph) (p : PartTable) → IsWhole g → IsParts (pair_moves (edges_of g) g.states) (g.states * g.states) p → ((r l : ℕ) → r < g.states → l < g.letters → NoneMeets g p r l) → HasNoTwin (edges_of g)
-none_meets-no_twin g p w parts none =
-    no_twin_by_parts (edges_of g) g.states g.letters p (bounded-whole g w) parts
-    (λ r l i j x y hr hl lt ex ey e. none r l hr hl i j lt (at-short (edges_of g r l) j y ey)
-    (ap₂ (λ a b. number_of p (a * g.states + b)) (at-get_or (edges_of g r l) i x 0 ex) (at-get_or (edges_of g r l) j y 0 ey) ∙ e))
+use Rattle.rl_expo.specs.Search.{AreMoves, targets_of, Stays, NoTwoStay, NoneStay}
+use Rattle.rl_expo.specs.internal.Blocks.{HasNoForkIn}
+use Rattle.rl_expo.proofs.ForkLaws.{no_fork_by_components}
 
 pub targets-in : (g : Graph) (f : Fork) → IsWhole g → AreMoves g f → targets_of g f < g.states * g.states
 targets-in g f w m =
@@ -25,17 +18,13 @@ targets-in g f w m =
     (w.targets f.state f.letter (get_or (edges_of g f.state f.letter) f.first 0) (Has-get_or (edges_of g f.state f.letter) f.first 0 (omega (arith, m.order, m.number_in))))
     (w.targets f.state f.letter (get_or (edges_of g f.state f.letter) f.second 0) (Has-get_or (edges_of g f.state f.letter) f.second 0 m.number_in))
 
-pub in_part-back : (g : Graph) (p : PartTable) (f : Fork) → IsWhole g → IsParts (pair_moves (edges_of g) g.states) (g.states * g.states) p → AreMoves g f → IsInPart g p f → LeadsBack g f
-in_part-back g p f w parts m e =
-    ((parts.same (targets_of g f) (f.state * g.states + f.state) (targets-in g f w m) (mul-add-lt f.state g.states f.state g.states m.state_in m.state_in)).0 e).0
-
 pub row-in : (g : Graph) (r l : ℕ) → IsWhole g → All (λ m. m < g.states) (edges_of g r l)
 row-in g r l w k d lt = w.targets r l (get_or (edges_of g r l) k d) (Has-get_or (edges_of g r l) k d lt)
 
-pub none_stay-no_twin : (g : Graph) (p : PartTable) → IsWhole g → IsParts (edges_of g) g.states p → ((r l : ℕ) → r < g.states → l < g.letters → NoneStay g p r l) → HasNoTwin (edges_of g)
-none_stay-no_twin g p w parts none =
-    no_twin_by_components (edges_of g) g.states g.letters p (bounded-whole g w) parts
-    (λ r l i j x y hr hl lt ex ey a b. none r l hr hl i j lt (at-short (edges_of g r l) j y ey)
+pub none_stay-no_fork : (g : Graph) (p : PartTable) (c : ℕ) → IsWhole g → IsParts (edges_of g) g.states p → ((r l : ℕ) → r < g.states → l < g.letters → number_of p r ≡ c → NoneStay g p r l) → HasNoForkIn (edges_of g) p c
+none_stay-no_fork g p c w parts none =
+    no_fork_by_components (edges_of g) g.states g.letters c p (bounded-whole g w) parts
+    (λ r l i j x y hr hl at lt ex ey a b. none r l hr hl at i j lt (at-short (edges_of g r l) j y ey)
     (ap (number_of p) (at-get_or (edges_of g r l) i x 0 ex) ∙ a)
     (ap (number_of p) (at-get_or (edges_of g r l) j y 0 ey) ∙ b))
 

@@ -1,2 +1,3 @@
 pub mod Forks
 pub mod Search
+pub mod internal

@@ -12,14 +12,6 @@ use Rattle.rl_expo.specs.declared.twins.TwinPaths.{TwinPaths}
 abbrev pub pair_at : ℕ → List ℕ → ℕ → ℕ → ℕ
 pair_at n row i j = slice_index row i * n + slice_index row j
 
--- that pair lies in the part `own`
-abbrev pub Meets : PartTable → ℕ → ℕ → List ℕ → ℕ → ℕ → Type 0
-Meets p n own row i j = number_of p (pair_at n row i j) ≡ own
-
--- the part of the pair of a state with itself
-abbrev pub own_part : Graph → PartTable → ℕ → ℕ
-own_part g p r = number_of p (r * g.states + r)
-
 -- two moves of a state on a letter, the smaller number first
 pub record AreMoves (g : Graph) (f : Fork) : Type 0 where
   pub state_in : f.state < g.states
@@ -30,15 +22,6 @@ pub record AreMoves (g : Graph) (f : Fork) : Type 0 where
 -- the pair of the targets of the two moves
 abbrev pub targets_of : Graph → Fork → ℕ
 targets_of g f = pair_at g.states (edges_of g f.state f.letter) f.first f.second
-
--- the pair of the targets lies in the part of the state's own pair
-abbrev pub IsInPart : Graph → PartTable → Fork → Type 0
-IsInPart g p f = number_of p (targets_of g f) ≡ own_part g p f.state
-
--- no two moves of a state on a letter have their targets in the part of the state's own pair
-abbrev pub NoneMeets : Graph → PartTable → ℕ → ℕ → Type 0
-NoneMeets g p r l =
-    (i j : ℕ) → i < j → j < length (edges_of g r l) → Meets p g.states (own_part g p r) (edges_of g r l) i j → ⊥
 
 -- the pair of the targets leads back to the state's own pair
 abbrev pub LeadsBack : Graph → Fork → Type 0

@@ -1,9 +1,12 @@
-//! The search for two moves of a state on one letter from whose targets one word leads back.
+//! The search for two moves of a state on one letter from whose targets one word leads back, among some states of a graph.
 
-ghost use Rattle.std.specs.Prelude.{◌≡◌, ℕ, ◌<◌, ◌*◌, ◌^◌, length, All, IfSome, IfNone};
-ghost use Rattle.rl_expo.specs.Search.{Meets, NoneMeets, AreMoves, IsInPart};
+ghost use Rattle.std.specs.Prelude.{◌≡◌, ℕ, ◌+◌, ◌<◌, ◌*◌, ◌^◌, length, slice_index, All, IfSome, IfNone, IsTrue, ◌↔◌};
+ghost use Rattle.rl_kernel.specs.Seats.{seats_of, state_at};
+ghost use Rattle.rl_expo.specs.Search.{AreMoves};
+ghost use Rattle.rl_expo.specs.internal.Meeting.{Meets, NoneMeets, IsMet};
 
 use rl_graph::{Multigraph, Parts};
+use rl_kernel::Kernel;
 
 /// Two moves of a state on a letter, by their numbers, the smaller one first.
 #[derive(Clone, Copy)]
@@ -18,39 +21,68 @@ pub struct Fork {
     pub second: u32,
 }
 
-/// A move before the move `second` of a row whose target, paired with the target of `second`, lies in the part `own` of
-/// the product.
-fn partner(row: &[u32], parts: &Parts, count: u64, own: u64, second: usize) -> Option<usize>
+/// The pair of two places.
+fn pair_of(count: u64, one: u32, other: u32) -> u64
+    requires { count < 2 ^ 32 }
+    ensures { result ≡ one * count + other }
+{
+    u64::from(one) * count + u64::from(other)
+}
+
+/// Whether two states are of the kernel and their pair lies in a part of the product.
+fn meets(kernel: &Kernel, parts: &Parts, own: u64, one: u32, other: u32) -> bool
+    requires one_in { one < length kernel.now.places.items }
+    requires other_in { other < length kernel.now.places.items }
+    requires few { length kernel.now.states.items < 2 ^ 32 }
+    requires size { length parts.now.numbers ≡ length kernel.now.states.items * length kernel.now.states.items }
+    ensures { IsTrue result ↔ Meets (seats_of kernel.now) parts.now own one other }
+{
+    let count = kernel.states.len() as u64;
+    match kernel.place_of(one) {
+        Some(first) => match kernel.place_of(other) {
+            Some(second) => parts.of(pair_of(count, first, second)) == own,
+            None => false,
+        },
+        None => false,
+    }
+}
+
+/// A move before the move `second` of a row whose target meets that of `second` in a part of the product.
+fn partner(row: &[u32], kernel: &Kernel, parts: &Parts, own: u64, second: usize) -> Option<usize>
     requires second_in { second < length row.now }
-    requires few { count < 2 ^ 32 }
-    requires targets { All (λ m. m < count) row.now }
-    requires size { length parts.now.numbers ≡ count * count }
-    ensures found { IfSome result (λ i. (i < second) × Meets parts.now count own row.now i second) }
-    ensures none { IfNone result ((i : ℕ) → i < second → Meets parts.now count own row.now i second → ⊥) }
+    requires targets { All (λ m. m < length kernel.now.places.items) row.now }
+    requires few { length kernel.now.states.items < 2 ^ 32 }
+    requires size { length parts.now.numbers ≡ length kernel.now.states.items * length kernel.now.states.items }
+    ensures found { IfSome result (λ i. (i < second) × Meets (seats_of kernel.now) parts.now own (slice_index row.now i) (slice_index row.now second)) }
+    ensures none { IfNone result ((i : ℕ) → i < second → Meets (seats_of kernel.now) parts.now own (slice_index row.now i) (slice_index row.now second) → ⊥) }
 {
     for first in 0..second {
-        let pair = u64::from(row[first]) * count + u64::from(row[second]);
-        if parts.of(pair) == own {
+        if meets(kernel, parts, own, row[first], row[second]) {
             return Some(first);
         }
     }
     None
 }
 
-/// Two moves of a state on a letter whose targets lie, as a pair, in the part of the state's pair with itself.
-fn fork_on(g: &Multigraph, parts: &Parts, state: u32, letter: u32) -> Option<Fork>
-    requires state_in { state < g.now.states }
+/// Two moves on a letter of the state at a place whose targets meet in the part of the state's pair with itself.
+fn fork_on(g: &Multigraph, kernel: &Kernel, parts: &Parts, place: u32, letter: u32) -> Option<Fork>
+    requires place_in { place < length kernel.now.states.items }
     requires letter_in { letter < g.now.letters }
-    requires size { length parts.now.numbers ≡ g.now.states * g.now.states }
+    requires state_in { state_at (seats_of kernel.now) place < g.now.states }
+    requires places { length kernel.now.places.items ≡ g.now.states }
+    requires few { length kernel.now.states.items < 2 ^ 32 }
+    requires size { length parts.now.numbers ≡ length kernel.now.states.items * length kernel.now.states.items }
     ensures moves { IfSome result (AreMoves g.now) }
-    ensures found { IfSome result (IsInPart g.now parts.now) }
-    ensures none { IfNone result (NoneMeets g.now parts.now state letter) }
+    ensures found { IfSome result (IsMet g.now (seats_of kernel.now) parts.now) }
+    ensures none { IfNone result (NoneMeets g.now (seats_of kernel.now) parts.now place letter) }
 {
-    let count = u64::from(g.states());
-    let own = parts.of(u64::from(state) * count + u64::from(state));
+    let _states = g.states();
+    let count = kernel.states.len() as u64;
+    let own = parts.of(pair_of(count, place, place));
+    let state = kernel.states[place as usize];
     let row = g.edges(state, letter);
     for second in 0..row.len() {
-        if let Some(first) = partner(row, parts, count, own, second) {
+        if let Some(first) = partner(row, kernel, parts, own, second) {
             return Some(Fork {
                 state,
                 letter,
@@ -62,31 +94,37 @@ fn fork_on(g: &Multigraph, parts: &Parts, state: u32, letter: u32) -> Option<For
     None
 }
 
-/// Two such moves of a state on any letter.
-fn fork_from(g: &Multigraph, parts: &Parts, state: u32) -> Option<Fork>
-    requires state_in { state < g.now.states }
-    requires size { length parts.now.numbers ≡ g.now.states * g.now.states }
+/// Two such moves of the state at a place on any letter.
+fn fork_from(g: &Multigraph, kernel: &Kernel, parts: &Parts, place: u32) -> Option<Fork>
+    requires place_in { place < length kernel.now.states.items }
+    requires state_in { state_at (seats_of kernel.now) place < g.now.states }
+    requires places { length kernel.now.places.items ≡ g.now.states }
+    requires few { length kernel.now.states.items < 2 ^ 32 }
+    requires size { length parts.now.numbers ≡ length kernel.now.states.items * length kernel.now.states.items }
     ensures moves { IfSome result (AreMoves g.now) }
-    ensures found { IfSome result (IsInPart g.now parts.now) }
-    ensures none { IfNone result ((l : ℕ) → l < g.now.letters → NoneMeets g.now parts.now state l) }
+    ensures found { IfSome result (IsMet g.now (seats_of kernel.now) parts.now) }
+    ensures none { IfNone result ((l : ℕ) → l < g.now.letters → NoneMeets g.now (seats_of kernel.now) parts.now place l) }
 {
     for letter in 0..g.letters() {
-        if let Some(fork) = fork_on(g, parts, state, letter) {
+        if let Some(fork) = fork_on(g, kernel, parts, place, letter) {
             return Some(fork);
         }
     }
     None
 }
 
-/// Two such moves of any state.
-pub fn fork_in(g: &Multigraph, parts: &Parts) -> Option<Fork>
-    requires size { length parts.now.numbers ≡ g.now.states * g.now.states }
+/// Two such moves of any state of the kernel.
+pub fn fork_among(g: &Multigraph, kernel: &Kernel, parts: &Parts) -> Option<Fork>
+    requires states_in { (i : ℕ) → i < length kernel.now.states.items → state_at (seats_of kernel.now) i < g.now.states }
+    requires places { length kernel.now.places.items ≡ g.now.states }
+    requires few { length kernel.now.states.items < 2 ^ 32 }
+    requires size { length parts.now.numbers ≡ length kernel.now.states.items * length kernel.now.states.items }
     ensures moves { IfSome result (AreMoves g.now) }
-    ensures found { IfSome result (IsInPart g.now parts.now) }
-    ensures none { IfNone result ((r l : ℕ) → r < g.now.states → l < g.now.letters → NoneMeets g.now parts.now r l) }
+    ensures found { IfSome result (IsMet g.now (seats_of kernel.now) parts.now) }
+    ensures none { IfNone result ((i l : ℕ) → i < length kernel.now.states.items → l < g.now.letters → NoneMeets g.now (seats_of kernel.now) parts.now i l) }
 {
-    for state in 0..g.states() {
-        if let Some(fork) = fork_from(g, parts, state) {
+    for place in 0..kernel.states.len() as u32 {
+        if let Some(fork) = fork_from(g, kernel, parts, place) {
             return Some(fork);
         }
     }

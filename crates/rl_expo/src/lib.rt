@@ -1,6 +1,7 @@
 //! Twins of a multigraph: two different paths from a state back to it on one word.
 #![tactic(auto)]
 
+mod blocks;
 mod forks;
 mod stays;
 mod twins;

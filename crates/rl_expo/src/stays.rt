@@ -1,10 +1,14 @@
-//! A quick test on the components of a graph, before the product of two copies is searched: a twin begins with two moves
+//! A quick test on the components of a graph, before the product of two copies of one is searched: a twin begins with two moves
 //! of a state on one letter that both stay in the state's component.
 
-ghost use Rattle.std.specs.Prelude.{◌≡◌, ℕ, ◌<◌, length, false};
+ghost use Rattle.std.specs.Prelude.{◌≡◌, ℕ, ◌<◌, length, false, IfOk};
+ghost use Rattle.rl_graph.specs.Parts.{number_of};
 ghost use Rattle.rl_expo.specs.Search.{NoneStay};
+ghost use Rattle.rl_expo.specs.internal.Blocks.{AreForking, AreForkingUpTo};
 
 use rl_graph::{Components, Multigraph};
+use rl_lists::OutOfMemory;
+use std::alloc::Global;
 
 /// Whether two moves of a state on a letter, parallel ones among them, stay in the state's component.
 fn stays_twice(g: &Multigraph, components: &Components, state: u32, letter: u32) -> bool
@@ -41,15 +45,24 @@ fn stays_twice_from(g: &Multigraph, components: &Components, state: u32) -> bool
     false
 }
 
-/// Whether any state has such moves.
-pub fn has_inner_moves(g: &Multigraph, components: &Components) -> bool
+/// For each component whether one of its states has such moves.
+///
+/// # Errors
+/// [`OutOfMemory`] where there was no memory for the marks.
+pub fn forking(
+    alloc: Global,
+    g: &Multigraph,
+    components: &Components,
+) -> Result<Vec<bool>, OutOfMemory>
     requires size { length components.now.numbers ≡ g.now.states }
-    ensures { result ≡ false → (r l : ℕ) → r < g.now.states → l < g.now.letters → NoneStay g.now components.now r l }
+    requires below { (q : ℕ) → q < g.now.states → number_of components.now q < g.now.states }
+    ensures { IfOk result (λ v. AreForking g.now components.now v.items) }
 {
+    let mut marks = vec![in alloc; false; g.states() as usize]?;
     for state in 0..g.states() {
         if stays_twice_from(g, components, state) {
-            return true;
+            marks[components.of(state) as usize] = true;
         }
     }
-    false
+    Ok(marks)
 }

@@ -1,4 +1,4 @@
-//! Twins, by the parts of the product of two copies of a graph.
+//! Twins, by the parts of the products of two copies of the components of a graph.
 
 ghost use Rattle.std.specs.Prelude.{◌≡◌, ℕ, ◌+◌, ◌*◌, ◌<◌, List, [], length, All, IfOk, OnOk, IfSome, IfNone};
 ghost use Rattle.rl_graph.specs.Graph.{edges_of};
@@ -7,9 +7,10 @@ ghost use Rattle.rl_graph.specs.Product.{pair_moves};
 ghost use Rattle.rl_graph.specs.Twins.{IsTwin, HasNoTwin};
 ghost use Rattle.rl_expo.specs.Search.{AreMoves, LeadsBack, AreSides, IsLonger, targets_of};
 
-use crate::forks::{Fork, fork_in};
-use crate::stays::has_inner_moves;
-use rl_graph::{FoundPath, Multigraph, Twice, parts_of, path_between};
+use crate::blocks::fork_in;
+use crate::forks::Fork;
+use crate::stays::forking;
+use rl_graph::{FoundPath, Multigraph, Twice, path_between};
 use rl_lists::{Items, OutOfMemory, Path, Word};
 use std::alloc::Global;
 
@@ -140,10 +141,10 @@ fn twin_of(alloc: Global, g: &Multigraph, fork: Fork) -> Result<Option<TwinPaths
 
 /// A twin of a graph; `None` exactly where the graph has none.
 ///
-/// It takes the parts of the product of two copies of the graph, and two moves of a state on one letter whose targets
-/// lie, as a pair, in the part of the state's pair with itself (the test for EDA of Weber and Seidl 1991). The time and
-/// the memory are linear in the product. Where no state has two moves on one letter that stay in its component, there
-/// is no twin, and the time and the memory are linear in the graph.
+/// A twin lies in one component. For each component with a state that has two moves on one letter that stay there, it takes the
+/// parts of the product of two copies of the component, and two moves of a state on one letter whose targets lie, as a pair, in
+/// the part of the state's pair with itself (the test for EDA of Weber and Seidl 1991). The time and the memory are linear in
+/// the graph and in these products; a twin that was found takes a search over pairs of states of the whole graph.
 ///
 /// # Errors
 /// [`OutOfMemory`] where there was no memory for the search or the twin.
@@ -155,12 +156,8 @@ pub fn twin(alloc: Global, g: &Multigraph) -> Result<Option<TwinPaths>, OutOfMem
     ensures no_paths { IfOk result (λ o. IfNone o ((q : ℕ) (w p r : List ℕ) → IsTwin (edges_of g.now) q w p r → ⊥)) }
 {
     let components = g.components()?;
-    let _states = g.states();
-    if !has_inner_moves(g, &components) {
-        return Ok(None);
-    }
-    let parts = parts_of(alloc, &Twice { graph: g })?;
-    match fork_in(g, &parts) {
+    let marks = forking(alloc, g, &components)?;
+    match fork_in(alloc, g, &components, &marks)? {
         Some(fork) => twin_of(alloc, g, fork),
         None => Ok(None),
     }

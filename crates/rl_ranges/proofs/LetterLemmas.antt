@@ -188,12 +188,12 @@ TellsApart-more sets s n stretches held pieces stretches' least least' t held_is
     }
 
 -- too many pieces are too many letters
-pub pieces_many : (sets : List (ℕ → Bool)) (s : ℕ → Bool) (more : List (ℕ → Bool)) (n : ℕ) (stretches held pieces : List (ℕ × ℕ)) (least : List ℕ) → TellsApart stretches least sets n
+pub pieces_many : (sets : List (ℕ → Bool)) (s : ℕ → Bool) (n : ℕ) (stretches held pieces : List (ℕ × ℕ)) (least : List ℕ) → TellsApart stretches least sets n
     → ((c : ℕ) → c < n → letter_from 0 held c ≡ (if s c then 1 else 0)) → ((c : ℕ) → letter_from 0 pieces c ≡ 2 * letter_from 0 stretches c + letter_from 0 held c)
-    → 128 < length (firsts (same_value pieces) n) → 128 < length (classes ((sets ++ s ∷ []) ++ more) n)
-pieces_many sets s more n stretches held pieces least t held_is pieces_is many =
+    → 128 < length (firsts (same_value pieces) n) → 128 < length (classes (sets ++ s ∷ []) n)
+pieces_many sets s n stretches held pieces least t held_is pieces_is many =
     let same = firsts-congr (same_value pieces) (alike (sets ++ s ∷ [])) n (pieces_tell sets s n stretches held pieces least t held_is pieces_is) in
-    omega (arith, ap length same, ap length (classes-firsts (sets ++ s ∷ []) n), classes-append (sets ++ s ∷ []) more n)
+    omega (arith, ap length same, ap length (classes-firsts (sets ++ s ∷ []) n))
 
 -- the finished table
 pub IsLetters-from : (sets : List (ℕ → Bool)) (n : ℕ) (t : LetterTable) (least : List ℕ) → TellsApart t.stretches least sets n → t.codes ≡ n → 126 < n → length t.samples ≡ length least

@@ -6,3 +6,4 @@ pub mod Case
 pub mod Images
 pub mod Letters
 pub mod Numbering
+pub mod internal

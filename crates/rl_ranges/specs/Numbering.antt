@@ -1,7 +1,7 @@
 -- Numbering. Codes that are alike share a number; the numbers go up in the order of the least codes.
 use Rattle.std.specs.Prelude.{◌≡◌, ℕ, ◌<◌, ◌≤◌, ◌⊎◌, suc, zero, Bool, ◌==◌, nat_lt, List, [], ◌∷◌, ◌++◌, length, Option, Some, None, slice_set, if◌then◌else◌}
 use Rattle.std.specs.List.{list_any}
-use Rattle.rl_ranges.specs.Letters.{alike, letter_from, place_where}
+use Rattle.rl_ranges.specs.Letters.{alike, classes, letter_from, place_where}
 use Rattle.rl_ranges.specs.Building.{range_at}
 
 -- the codes below `n` that are like no code before them, rising
@@ -50,6 +50,16 @@ pub record TellsApart (stretches : List (ℕ × ℕ)) (least : List ℕ) (sets :
   pub few : length least ≤ 128
   pub same_firsts : least ≡ firsts (alike sets) count
   pub same_number : (c : ℕ) → c < count → letter_from 0 stretches c ≡ place_where (alike sets c) (firsts (alike sets) count)
+
+-- whatever the old numbering tells apart, the new one tells apart with some more sets
+abbrev pub TellsMore : List (ℕ × ℕ) → List ℕ → List (ℕ × ℕ) → List ℕ → List (ℕ → Bool) → ℕ → Type 0
+TellsMore stretches least stretches' least' more count =
+    (sets : List (ℕ → Bool)) → TellsApart stretches least sets count → TellsApart stretches' least' (sets ++ more) count
+
+-- with some more sets there are more than 128 letters
+abbrev pub HasTooMany : List (ℕ × ℕ) → List ℕ → List (ℕ → Bool) → ℕ → Type 0
+HasTooMany stretches least more count =
+    (sets : List (ℕ → Bool)) → TellsApart stretches least sets count → 128 < length (classes (sets ++ more) count)
 
 -- the sample of a value, of the plain codes from `low` on: the least one of the value, or the value's least code where none is
 abbrev pub IsPreferred : List (ℕ × ℕ) → ℕ → ℕ → ℕ → ℕ → Type 0

@@ -1,10 +1,11 @@
 //! The letters of a list of sets: codes that no set of the list tells apart are one letter.
 
-ghost use Rattle.std.specs.Prelude.{◌≡◌, ◌<◌, ◌≤◌, ℕ, All, IfOk, IfErr, length, map, slice_index_or};
+ghost use Rattle.std.specs.Prelude.{◌≡◌, ◌<◌, ◌≤◌, ℕ, All, IfOk, IfErr, [], ◌∷◌, length, map, slice_index_or};
 ghost use Rattle.rl_ranges.specs.Text.{code_count};
 ghost use Rattle.rl_ranges.specs.Codes.{has, IsInside};
 ghost use Rattle.rl_ranges.specs.Letters.{LetterTable, IsLetters, classes, letter_at};
-ghost use Rattle.rl_ranges.specs.Numbering.{Covers, ValuesBelow, IsPreferred};
+ghost use Rattle.rl_ranges.specs.Numbering.{Covers, ValuesBelow, IsPreferred, IsTable, TellsMore, HasTooMany};
+ghost use Rattle.rl_ranges.specs.internal.Order.{is_wide, picked};
 
 use crate::code_set::CodeSet;
 use crate::stretches::{Numbering, edges, numbered, value_at, zipped};
@@ -93,21 +94,17 @@ impl Letters {
         ensures too_many { IfErr result (λ e. e ≡ LettersError.TooMany
             → 128 < length (classes (map has sets.now.items) (code_count universe))) }
     {
-        let count = universe.count();
-        let mut known = Numbering {
+        let start = Numbering {
             stretches: Vec::from_slice(alloc, &[(0, 0)])?,
             least: Vec::from_slice(alloc, &[0])?,
         };
-        for set in sets {
-            let held = edges(alloc, set.as_ranges(), count)?;
-            let pieces = zipped(alloc, &known.stretches, &held, count)?;
-            known = numbered(alloc, &pieces, 2 * known.least.len(), count)?;
-        }
-        let Numbering { stretches, least } = known;
+        // sets of many ranges come last, so that their many stretches aren't merged again with each set of few
+        let narrow = refined_by(alloc, start, sets, false, universe)?;
+        let Numbering { stretches, least } = refined_by(alloc, narrow, sets, true, universe)?;
         let mut samples = least;
         prefer_plain(&mut samples, &stretches);
         Ok(Letters {
-            codes: count,
+            codes: universe.count(),
             stretches,
             samples,
         })
@@ -136,6 +133,65 @@ impl Letters {
     {
         self.samples[letter as usize]
     }
+}
+
+/// Whether a set has so many ranges that it is taken after the others.
+fn is_wide(set: &CodeSet) -> bool
+    ensures { result ≡ is_wide set.now }
+{
+    set.as_ranges().len() > 32
+}
+
+/// The numbering that tells codes apart where the known one does, or where the set holds one of them alone.
+///
+/// # Errors
+/// [`LettersError::TooMany`] exactly where it has more than 128 numbers, [`LettersError::OutOfMemory`] where there was no
+/// memory for it.
+fn refined(
+    alloc: Global,
+    known: &Numbering,
+    set: &CodeSet,
+    universe: Universe,
+) -> Result<Numbering, LettersError>
+    requires table { IsTable (code_count universe) known.now.stretches.items known.now.least.items }
+    requires inside { IsInside universe set.now }
+    ensures table { IfOk result (λ n. IsTable (code_count universe) n.stretches.items n.least.items) }
+    ensures ok { IfOk result (λ n. TellsMore known.now.stretches.items known.now.least.items n.stretches.items n.least.items (has set.now ∷ []) (code_count universe)) }
+    ensures too_many { IfErr result (λ e. e ≡ LettersError.TooMany
+        → HasTooMany known.now.stretches.items known.now.least.items (has set.now ∷ []) (code_count universe)) }
+{
+    let count = universe.count();
+    let held = edges(alloc, set.as_ranges(), count)?;
+    let pieces = zipped(alloc, &known.stretches, &held, count)?;
+    numbered(alloc, &pieces, 2 * known.least.len(), count)
+}
+
+/// The numbering refined by the sets of a list that are wide, or by those that aren't.
+///
+/// # Errors
+/// [`LettersError::TooMany`] exactly where it has more than 128 numbers, [`LettersError::OutOfMemory`] where there was no
+/// memory for it.
+fn refined_by(
+    alloc: Global,
+    first: Numbering,
+    sets: &Vec<CodeSet>,
+    wide: bool,
+    universe: Universe,
+) -> Result<Numbering, LettersError>
+    requires table { IsTable (code_count universe) first.stretches.items first.least.items }
+    requires inside { All (IsInside universe) sets.now.items }
+    ensures table { IfOk result (λ n. IsTable (code_count universe) n.stretches.items n.least.items) }
+    ensures ok { IfOk result (λ n. TellsMore first.stretches.items first.least.items n.stretches.items n.least.items (picked wide sets.now.items) (code_count universe)) }
+    ensures too_many { IfErr result (λ e. e ≡ LettersError.TooMany
+        → HasTooMany first.stretches.items first.least.items (picked wide sets.now.items) (code_count universe)) }
+{
+    let mut known = first;
+    for set in sets {
+        if is_wide(set) == wide {
+            known = refined(alloc, &known, set, universe)?;
+        }
+    }
+    Ok(known)
 }
 
 /// Puts the least code from 0x20 to 0x7E of each value in place of its least code, where there is one.

@@ -4,21 +4,12 @@ use Rattle.std.proofs.lemmas.List.Elements.{All-push}
 use Rattle.rl_graph.specs.Graph.{edges_of}
 use Rattle.rl_graph.specs.Parts.{number_of}
 use Rattle.rl_graph.specs.Twins.{Link, ChainFrom}
-use Rattle.rl_degree.specs.Ranks.{best_at}
+use Rattle.rl_degree.specs.internal.Ranks.{best_at}
 use Rattle.rl_degree.specs.Chains.{links_of, IsSplitIn}
 use Rattle.rl_degree.specs.declared.chains.Split.{Split}
 use Rattle.rl_degree.specs.declared.ranks.Best.{Best}
-use Rattle.rl_degree.proofs.SearchLaws.{split-wanted}
 use Rattle.rl_degree.proofs.ChainLaws.{first-there, chain-more}
 use Rattle.rl_degree.proofs.chains.chain_from.Goals as goal
-
-pub split_word-requires-clause-pair : goal.split_word-requires-clause-pair
-split_word-requires-clause-pair c =
-    let g = c.args.g.now in
-    let t = c.args.table.now in
-    let i = c.loop-best.invariant in
-    let f = first-there (edges_of g) g.states t.components c.args.bests.now c.loop-best.state c.loop-best.best c.requires.bests c.requires.table.components i.state_in i.best c.loop-best-test.true in
-    split-wanted g t c.states-states.ensures.whole c.requires.table c.requires.no_twin c.loop-best.best.from c.loop-best.best.to f.from_in f.to_in f.split
 
 pub unreachable-requires : goal.unreachable-requires
 unreachable-requires c =

@@ -2,7 +2,7 @@ use Rattle.std.proofs.Common.{◌≡◌, ◌+◌, ◌<◌, List, ◌++◌, lengt
 use Rattle.rl_graph.specs.Graph.{edges_of}
 use Rattle.rl_graph.specs.Parts.{number_of}
 use Rattle.rl_graph.specs.Twins.{Link, ChainFrom}
-use Rattle.rl_degree.specs.Ranks.{best_at}
+use Rattle.rl_degree.specs.internal.Ranks.{best_at}
 use Rattle.rl_degree.specs.Chains.{links_of, IsSplitIn}
 use Rattle.rl_degree.proofs.chains.chain_from.Given as goal
 

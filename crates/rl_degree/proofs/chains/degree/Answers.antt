@@ -1,7 +1,7 @@
 use Rattle.std.proofs.Common.{◌≡◌, ◌<◌, ◌≤◌, ℕ, List, length, get_or, sym, ◌∙◌, ap, subst, arith}
 use Rattle.std.proofs.lemmas.Bool.{eqb-true}
 use Rattle.rl_graph.specs.Parts.{number_of}
-use Rattle.rl_degree.specs.Ranks.{best_at}
+use Rattle.rl_degree.specs.internal.Ranks.{best_at}
 use Rattle.rl_degree.specs.declared.ranks.Best.{Best}
 use Rattle.rl_degree.proofs.ChainLaws.{longest-there}
 use Rattle.rl_degree.proofs.chains.degree.Goals as goal

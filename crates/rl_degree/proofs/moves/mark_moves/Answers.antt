@@ -1,7 +1,7 @@
 use Rattle.std.proofs.Common.{ℕ, ◌≡◌, ◌+◌, List, [], length, get_or, sym, ap, ◌∙◌, subst, arith}
 use Rattle.rl_graph.specs.Graph.{edges_of}
 use Rattle.rl_graph.proofs.Sums.{Has-get_or}
-use Rattle.rl_degree.specs.Moves.{with_cell}
+use Rattle.rl_degree.specs.internal.Moves.{with_cell}
 use Rattle.rl_degree.proofs.TableLaws.{IsMarkedUpTo, marked-more, marked-all}
 use Rattle.rl_degree.proofs.moves.mark_moves.Goals as goal
 

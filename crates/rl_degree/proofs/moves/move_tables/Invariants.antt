@@ -1,5 +1,5 @@
 use Rattle.std.proofs.Common.{◌≡◌, ℕ, ◌<◌, [], length, get_or}
-use Rattle.rl_degree.specs.Moves.{IsMoveTable}
+use Rattle.rl_degree.specs.internal.Moves.{IsMoveTable}
 use Rattle.rl_degree.proofs.moves.move_tables.Given as goal
 
 abbrev pub invariant-loop-letter : goal.invariant-loop-letter

@@ -1,13 +1,13 @@
 use Rattle.std.proofs.Common.{◌≡◌, ◌+◌, ◌<◌, ◌*◌, sym, ◌∙◌, subst, arith}
 use Rattle.rl_graph.specs.Parts.{number_of}
-use Rattle.rl_degree.specs.Pairs.{lists_of, with_pair, IsPlacedUpTo}
+use Rattle.rl_degree.specs.internal.Pairs.{lists_of, with_pair, IsPlacedUpTo}
 use Rattle.rl_degree.proofs.PairLaws.{placed-more, placed-passed}
 use Rattle.rl_degree.proofs.pairs.placed_pairs.Goals as goal
 use Rattle.rl_degree.proofs.pairs.placed_pairs.Goals.{then-wanted+in_ok-put, else-wanted}
 
 pub loop-pair-preserved : goal.loop-pair-preserved
 loop-pair-preserved c =
-    let components = c.args.components.now in
+    let components = c.args.levels.now in
     let parts = c.args.parts.now in
     let n = c.args.count in
     let x = c.loop-pair.pair in

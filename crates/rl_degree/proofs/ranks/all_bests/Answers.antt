@@ -1,7 +1,7 @@
 use Rattle.std.proofs.Common.{◌≡◌, ◌+◌, ◌<◌, ℕ, List, sym, subst}
 use Rattle.rl_graph.specs.Graph.{edges_of}
 use Rattle.rl_graph.specs.Parts.{number_of}
-use Rattle.rl_degree.specs.Ranks.{IsBest, AreBests}
+use Rattle.rl_degree.specs.internal.Ranks.{IsBest, AreBests}
 use Rattle.rl_degree.specs.declared.ranks.Best.{Best}
 use Rattle.rl_degree.proofs.RankLaws.{bests-more}
 use Rattle.rl_degree.proofs.ranks.all_bests.Goals as goal

@@ -1,6 +1,6 @@
 use Rattle.rl_graph.specs.Graph.{edges_of}
-use Rattle.rl_degree.specs.Splits.{AreMarks}
-use Rattle.rl_degree.specs.Ranks.{AreBests}
+use Rattle.rl_degree.specs.internal.Splits.{AreMarks}
+use Rattle.rl_degree.specs.internal.Ranks.{AreBests}
 use Rattle.rl_degree.proofs.ranks.all_bests.Given as goal
 
 abbrev pub invariant-loop-component : goal.invariant-loop-component

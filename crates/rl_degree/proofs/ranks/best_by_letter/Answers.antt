@@ -2,7 +2,7 @@ use Rattle.std.proofs.Common.{◌≡◌, ◌<◌, ◌≤◌, ℕ, List, length, 
 use Rattle.rl_graph.specs.Graph.{edges_of}
 use Rattle.rl_graph.specs.Parts.{number_of}
 use Rattle.rl_graph.proofs.Sums.{Has-get_or}
-use Rattle.rl_degree.specs.Ranks.{best_at, IsGood}
+use Rattle.rl_degree.specs.internal.Ranks.{best_at, IsGood}
 use Rattle.rl_degree.proofs.RankLaws.{good-better, good-move, first-more, first-all}
 use Rattle.rl_degree.proofs.ranks.best_by_letter.Goals as goal
 use Rattle.rl_degree.proofs.ranks.best_by_letter.Goals.{then-component-own, else-component-own}

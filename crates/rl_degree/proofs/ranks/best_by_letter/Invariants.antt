@@ -1,6 +1,6 @@
 use Rattle.std.proofs.Common.{◌≤◌}
 use Rattle.rl_graph.specs.Graph.{edges_of}
-use Rattle.rl_degree.specs.Ranks.{IsGood}
+use Rattle.rl_degree.specs.internal.Ranks.{IsGood}
 use Rattle.rl_degree.proofs.RankLaws.{BeatsFirst}
 use Rattle.rl_degree.proofs.ranks.best_by_letter.Given as goal
 

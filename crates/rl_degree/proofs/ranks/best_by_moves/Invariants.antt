@@ -1,6 +1,6 @@
 use Rattle.std.proofs.Common.{ℕ, ◌<◌, ◌≤◌}
 use Rattle.rl_graph.specs.Graph.{edges_of}
-use Rattle.rl_degree.specs.Ranks.{IsGood, BeatsLetter}
+use Rattle.rl_degree.specs.internal.Ranks.{IsGood, BeatsLetter}
 use Rattle.rl_degree.proofs.ranks.best_by_moves.Given as goal
 
 abbrev pub invariant-loop-letter : goal.invariant-loop-letter

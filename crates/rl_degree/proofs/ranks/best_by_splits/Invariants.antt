@@ -1,7 +1,7 @@
 use Rattle.std.proofs.Common.{◌≤◌}
 use Rattle.rl_graph.specs.Graph.{edges_of}
-use Rattle.rl_degree.specs.Splits.{AreMarks}
-use Rattle.rl_degree.specs.Ranks.{IsGood, BeatsSplits}
+use Rattle.rl_degree.specs.internal.Splits.{AreMarks}
+use Rattle.rl_degree.specs.internal.Ranks.{IsGood, BeatsSplits}
 use Rattle.rl_degree.proofs.ranks.best_by_splits.Given as goal
 
 abbrev pub invariant-loop-to : goal.invariant-loop-to

@@ -3,8 +3,8 @@ use Rattle.std.proofs.lemmas.Bool.{cases_lt}
 use Rattle.rl_graph.specs.Graph.{edges_of}
 use Rattle.rl_graph.specs.Paths.{Has}
 use Rattle.rl_graph.specs.Parts.{number_of}
-use Rattle.rl_degree.specs.Splits.{HasSplit}
-use Rattle.rl_degree.specs.Ranks.{best_at}
+use Rattle.rl_degree.specs.internal.Splits.{HasSplit}
+use Rattle.rl_degree.specs.internal.Ranks.{best_at}
 use Rattle.rl_degree.proofs.RankLaws.{good-same, moves-raised, splits-raised}
 use Rattle.rl_degree.proofs.ranks.best_of.Goals as goal
 use Rattle.rl_degree.proofs.ranks.best_of.Goals.{then-of-component+in_ok-best, else-of-component}

@@ -1,8 +1,8 @@
 use Rattle.std.proofs.Common.{ℕ, ◌≡◌, ◌<◌}
 use Rattle.rl_graph.specs.Graph.{edges_of}
 use Rattle.rl_graph.specs.Parts.{number_of}
-use Rattle.rl_degree.specs.Splits.{AreMarks}
-use Rattle.rl_degree.specs.Ranks.{IsGood, BeatsMoves, BeatsSplits}
+use Rattle.rl_degree.specs.internal.Splits.{AreMarks}
+use Rattle.rl_degree.specs.internal.Ranks.{IsGood, BeatsMoves, BeatsSplits}
 use Rattle.rl_degree.proofs.ranks.best_of.Given as goal
 
 abbrev pub invariant-loop-state : goal.invariant-loop-state

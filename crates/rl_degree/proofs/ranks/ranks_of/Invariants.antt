@@ -1,6 +1,6 @@
 use Rattle.std.proofs.Common.{ℕ, ◌≡◌, ◌<◌, length, get_or}
 use Rattle.rl_graph.specs.Parts.{number_of}
-use Rattle.rl_degree.specs.Ranks.{best_at}
+use Rattle.rl_degree.specs.internal.Ranks.{best_at}
 use Rattle.rl_degree.proofs.ranks.ranks_of.Given as goal
 
 abbrev pub invariant-loop-state : goal.invariant-loop-state

@@ -1,13 +1,15 @@
 use Rattle.std.proofs.Common.{◌≡◌, length}
-use Rattle.rl_degree.specs.Rows.{field_of, stand_of, work_of, IsSearching}
+use Rattle.rl_degree.specs.internal.Rows.{field_of, stand_of, work_of, IsSearching}
 use Rattle.rl_degree.proofs.SearchLaws.{IsFor}
 use Rattle.rl_degree.proofs.searches.search_for.Given as goal
 
 abbrev pub invariant-loop-found : goal.invariant-loop-found
 invariant-loop-found l = record {
   searching : IsSearching (field_of l.g l.table l.part) (stand_of l.search);
-  asked : IsFor l.g l.table l.from l.to l.part (stand_of l.search);
+  asked : IsFor l.g l.table l.pair l.part (stand_of l.search);
   keeps : l.search.keeps ≡ l.keeps;
+  from : l.search.from ≡ l.from;
+  to : l.search.to ≡ l.to;
   wide : length l.image ≡ l.g.states;
 }
 

@@ -1,5 +1,5 @@
 use Rattle.std.proofs.Common.{◌∙◌}
-use Rattle.rl_degree.specs.Rows.{field_of, stand_of}
+use Rattle.rl_degree.specs.internal.Rows.{field_of, stand_of}
 use Rattle.rl_degree.proofs.RowLaws.{further-more, followed-more}
 use Rattle.rl_degree.proofs.rows.Search.follow.Goals as goal
 

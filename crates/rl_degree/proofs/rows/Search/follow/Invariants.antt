@@ -1,5 +1,5 @@
 use Rattle.std.proofs.Common.{◌≡◌, length}
-use Rattle.rl_degree.specs.Rows.{field_of, stand_of, IsFurther, IsFollowedUpTo}
+use Rattle.rl_degree.specs.internal.Rows.{field_of, stand_of, IsFurther, IsFollowedUpTo}
 use Rattle.rl_degree.proofs.rows.Search.follow.Given as goal
 
 abbrev pub invariant-loop-letter : goal.invariant-loop-letter

@@ -1,11 +1,11 @@
-use Rattle.std.proofs.Common.{ℕ, ◌≡◌, true, false, length, get_or, refl, inl, sym, ◌∙◌, ap, ap₂, subst, arith}
+use Rattle.std.proofs.Common.{ℕ, ◌≡◌, true, false, length, get_or, refl, inl, sym, ◌∙◌, ap, subst, arith}
 use Rattle.rl_graph.specs.Paths.{Has}
 use Rattle.rl_graph.specs.Graph.{edges_of}
 use Rattle.rl_graph.specs.Product.{pair_moves}
 use Rattle.rl_graph.proofs.Sums.{Has-get_or}
-use Rattle.rl_degree.specs.Pairs.{is_member}
-use Rattle.rl_degree.specs.Moves.{cell}
-use Rattle.rl_degree.specs.Rows.{field_of, stand_of, IsReached}
+use Rattle.rl_kernel.specs.Members.{is_member}
+use Rattle.rl_degree.specs.internal.Moves.{cell}
+use Rattle.rl_degree.specs.internal.Rows.{field_of, stand_of, IsReached}
 use Rattle.rl_degree.proofs.RowLaws.{further-more, reach-further, spread-more, spread-passed, spread-all}
 use Rattle.rl_degree.proofs.rows.Search.spread.Goals as goal
 use Rattle.rl_degree.proofs.rows.Search.spread.Goals.{in-Some+in_ok-reach, in_default}
@@ -26,9 +26,9 @@ loop-number-preserved c =
     let old = stand_of c.loop-number.self in
     let i = c.loop-number.invariant in
     let row = d.pairs (get_or d.members f.place 0) l in
-    let same = λ (k : ℕ). ap₂ (λ (n z : ℕ). get_or (pair_moves (edges_of t.inner) n z l) k 0) c.requires.table.inner.same_states c.pair_at-pair.ensures in
+    let same = λ (k : ℕ). ap (λ (z : ℕ). get_or (pair_moves (edges_of t.inner) t.inner.states z l) k 0) c.pair_at-pair.ensures in
     let long : length row ≡ c.count-number-end.result =
-    sym (c.count-number-end.ensures ∙ ap₂ (λ (n z : ℕ). length (pair_moves (edges_of t.inner) n z l)) c.requires.table.inner.same_states c.pair_at-pair.ensures) in
+    sym (c.count-number-end.ensures ∙ ap (λ (z : ℕ). length (pair_moves (edges_of t.inner) t.inner.states z l)) c.pair_at-pair.ensures) in
     let at : y ≡ get_or row number 0 = c.target-next.ensures.target ∙ same number in
     let has : Has y row = subst (λ (z : ℕ). Has z row) (sym at) (Has-get_or row number 0 (omega arith)) in
     elim c.match-place_in.branch [
@@ -58,5 +58,5 @@ returns c =
     let l = c.args.letter in
     let row = d.pairs (get_or d.members f.place 0) l in
     let long : length row ≡ c.count-number-end.result =
-    sym (c.count-number-end.ensures ∙ ap₂ (λ (n z : ℕ). length (pair_moves (edges_of t.inner) n z l)) c.requires.table.inner.same_states c.pair_at-pair.ensures) in
+    sym (c.count-number-end.ensures ∙ ap (λ (z : ℕ). length (pair_moves (edges_of t.inner) t.inner.states z l)) c.pair_at-pair.ensures) in
     (c.loop-number.invariant.further, spread-all d f l c.loop-number.number c.args.image.now (stand_of c.loop-number.self) c.requires.image (omega arith) c.loop-number.invariant.spread)

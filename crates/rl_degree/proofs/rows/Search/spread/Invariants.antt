@@ -1,4 +1,4 @@
-use Rattle.rl_degree.specs.Rows.{field_of, stand_of, IsFurther}
+use Rattle.rl_degree.specs.internal.Rows.{field_of, stand_of, IsFurther}
 use Rattle.rl_degree.proofs.RowLaws.{IsSpreadUpTo}
 use Rattle.rl_degree.proofs.rows.Search.spread.Given as goal
 

@@ -1,0 +1,30 @@
+-- The moves of a graph on one letter as a table of bits: the row of each state holds the targets of its moves.
+use Rattle.std.specs.Prelude.{◌≡◌, ℕ, ◌<◌, ◌↔◌, Bool, true, false, List, [], length, All, slice_index_or, slice_set}
+use Rattle.rl_graph.specs.Paths.{Has}
+use Rattle.rl_graph.specs.Graph.{Graph, edges_of}
+
+-- the bit at a place of a row of a table; a place past the end holds false
+abbrev pub cell : List (List Bool) → ℕ → ℕ → Bool
+cell rows i k = slice_index_or (slice_index_or rows i []) k false
+
+-- the rows with one more bit that holds true
+abbrev pub with_cell : List (List Bool) → ℕ → ℕ → List (List Bool)
+with_cell rows i k = slice_set rows i (slice_set (slice_index_or rows i []) k true)
+
+-- the rows hold the moves on the letter
+pub record IsMoveTable (g : Graph) (letter : ℕ) (rows : List (List Bool)) : Type 0 where
+  pub high : length rows ≡ g.states
+  pub wide : All (λ row. length row ≡ g.states) rows
+  pub moves : (q t : ℕ) → (cell rows q t ≡ true) ↔ Has t (edges_of g q letter)
+
+-- the rows hold the moves of the states before `end`, and no others
+pub record IsMoveTableUpTo (g : Graph) (letter end : ℕ) (rows : List (List Bool)) : Type 0 where
+  pub high : length rows ≡ g.states
+  pub wide : All (λ row. length row ≡ g.states) rows
+  pub moves : (q t : ℕ) → cell rows q t ≡ true → Has t (edges_of g q letter)
+  pub all : (q t : ℕ) → q < end → Has t (edges_of g q letter) → cell rows q t ≡ true
+
+-- a table for each letter
+pub record AreMoveTables (g : Graph) (tables : List (List (List Bool))) : Type 0 where
+  pub size : length tables ≡ g.letters
+  pub right : (l : ℕ) → l < g.letters → IsMoveTable g l (slice_index_or tables l [])

@@ -1,0 +1,71 @@
+-- The pairs of states that may be splits, by the parts of the product of two copies of the graph of inner moves. The pair of
+-- the states `r` and `q` of a graph with `n` states is the number `r * n + q`.
+use Rattle.std.specs.Prelude.{◌≡◌, ℕ, ◌*◌, ◌/◌, ◌%◌, ◌<◌, ◌≤◌, Bool, true, nat_lt, ◌&&◌, List, [], ◌∷◌, ◌++◌, length, slice_index, slice_index_or, slice_set}
+use Rattle.rl_graph.specs.Graph.{Graph, edges_of}
+use Rattle.rl_graph.specs.Product.{pair_moves}
+use Rattle.rl_graph.specs.Parts.{PartTable, IsParts, number_of, cycle_of}
+use Rattle.rl_kernel.specs.Seats.{seats_of}
+use Rattle.rl_degree.specs.internal.Kernel.{IsKernel}
+use Rattle.rl_kernel.specs.Inner.{IsInner}
+use Rattle.rl_degree.specs.internal.Moves.{AreMoveTables}
+use Rattle.rl_degree.specs.declared.pairs.Placed.{Placed}
+use Rattle.rl_degree.specs.declared.pairs.PairTable.{PairTable}
+
+-- the pair lies on a cycle of the product, and its second state is in a lower component than its first; `levels` are the
+-- numbers of the components
+abbrev pub is_wanted : List ℕ → PartTable → ℕ → ℕ → Bool
+is_wanted levels parts n x = cycle_of parts x && nat_lt (slice_index levels (x % n)) (slice_index levels (x / n))
+
+-- the members of each part, and the place of each pair among the members of its part
+pub record Lists : Type 0 where
+  pub members : List (List ℕ)
+  pub places : List ℕ
+
+abbrev pub lists_of : Placed → Lists
+lists_of p = record { members = p.members.items; places = p.places.items }
+
+-- the members of a part
+abbrev pub row_of : Lists → ℕ → List ℕ
+row_of p k = slice_index_or p.members k []
+
+-- one more member of a part
+abbrev pub with_pair : ℕ → ℕ → Lists → Lists
+with_pair part x p =
+    record {
+      members = slice_set p.members part (row_of p part ++ x ∷ []);
+      places = slice_set p.places x (length (row_of p part));
+    }
+
+-- no member of any of so many parts
+pub record IsBarePlaced (count : ℕ) (p : Lists) : Type 0 where
+  pub rows : length p.members ≡ count
+  pub size : length p.places ≡ count
+  pub empty : (k : ℕ) → row_of p k ≡ []
+
+-- the pair stands at its place among the members of its part
+pub record IsHeld (parts : PartTable) (p : Lists) (x : ℕ) : Type 0 where
+  pub within : slice_index p.places x < length (row_of p (number_of parts x))
+  pub here : slice_index (row_of p (number_of parts x)) (slice_index p.places x) ≡ x
+
+-- the wanted ones of the pairs below `end` are held, and the members are pairs of their part
+pub record IsPlacedUpTo (levels : List ℕ) (parts : PartTable) (n end : ℕ) (p : Lists) : Type 0 where
+  pub rows : length p.members ≡ n * n
+  pub size : length p.places ≡ n * n
+  pub held : (x : ℕ) → x < end → is_wanted levels parts n x ≡ true → IsHeld parts p x
+  pub pairs : (k i : ℕ) → i < length (row_of p k) → slice_index (row_of p k) i < n * n
+  pub of_part : (k i : ℕ) → i < length (row_of p k) → number_of parts (slice_index (row_of p k) i) ≡ k
+  pub are_wanted : (k i : ℕ) → i < length (row_of p k) → is_wanted levels parts n (slice_index (row_of p k) i) ≡ true
+  pub short : (k : ℕ) → length (row_of p k) ≤ end
+
+-- all wanted pairs are held
+abbrev pub IsPlaced : List ℕ → PartTable → ℕ → Lists → Type 0
+IsPlaced levels parts n p = IsPlacedUpTo levels parts n (n * n) p
+
+-- the tables are right for the graph. A state of a pair is a place among the states that a split may join
+pub record IsTable (g : Graph) (t : PairTable) : Type 0 where
+  pub components : IsParts (edges_of g) g.states t.components
+  pub kernel : IsKernel t.components g.states (seats_of t.kernel)
+  pub inner : IsInner g t.components (seats_of t.kernel) t.inner
+  pub parts : IsParts (pair_moves (edges_of t.inner) t.inner.states) (t.inner.states * t.inner.states) t.parts
+  pub placed : IsPlaced t.kernel.levels.items t.parts t.inner.states (lists_of t.placed)
+  pub moves : 0 < t.inner.states → AreMoveTables g t.moves.items

@@ -1,0 +1,53 @@
+-- The longest chains of splits, component by component. A component that is reached from another one has the smaller number.
+use Rattle.std.specs.Prelude.{◌≡◌, ℕ, ◌+◌, ◌<◌, ◌≤◌, ◌⊎◌, List, length, slice_index_or}
+use Rattle.rl_graph.specs.Paths.{Has, Reaches}
+use Rattle.rl_graph.specs.Parts.{PartTable, number_of}
+use Rattle.rl_degree.specs.internal.Splits.{HasSplit}
+use Rattle.rl_degree.specs.declared.ranks.Best.{Best}
+
+-- no chain
+abbrev pub no_best : Best
+no_best = record { rank = 0; from = 0; to = 0 }
+
+-- the best of a component
+abbrev pub best_at : List Best → ℕ → Best
+best_at bests k = slice_index_or bests k no_best
+
+-- the first link of a chain from the state `q`, with one link more than the best of the component that it leads to
+pub record IsFirst (next : ℕ → ℕ → List ℕ) (n : ℕ) (p : PartTable) (bests : List Best) (q : ℕ) (b : Best) : Type 0 where
+  pub from_in : b.from < n
+  pub to_in : b.to < n
+  pub reached : Reaches next q b.from
+  pub split : HasSplit next b.from b.to
+  pub rest : (best_at bests (number_of p b.to)).rank + 1 ≡ b.rank
+
+-- the best is that of a chain from the state, and has no more links than there are lower components
+pub record IsGood (next : ℕ → ℕ → List ℕ) (n : ℕ) (p : PartTable) (bests : List Best) (q : ℕ) (b : Best) : Type 0 where
+  pub small : b.rank ≤ number_of p q
+  pub chain : (b.rank ≡ 0) ⊎ IsFirst next n p bests q b
+
+-- no move of the state on the letter `l` leads to a lower component with a better chain
+abbrev pub BeatsLetter : (ℕ → ℕ → List ℕ) → PartTable → List Best → ℕ → ℕ → ℕ → Type 0
+BeatsLetter next p bests q l d =
+    (m : ℕ) → Has m (next q l) → number_of p m < number_of p q → (best_at bests (number_of p m)).rank ≤ d
+
+-- no move of the state does
+abbrev pub BeatsMoves : (ℕ → ℕ → List ℕ) → PartTable → List Best → ℕ → ℕ → Type 0
+BeatsMoves next p bests q d = (l : ℕ) → BeatsLetter next p bests q l d
+
+-- no split from the state to one below `end` begins a better chain
+abbrev pub BeatsSplits : (ℕ → ℕ → List ℕ) → ℕ → PartTable → List Best → ℕ → ℕ → Type 0
+BeatsSplits next end p bests q d =
+    (t : ℕ) → t < end → HasSplit next q t → (best_at bests (number_of p t)).rank + 1 ≤ d
+
+-- the best is right for the state: there is a chain of so many links from it, and none with more begins with a move to a
+-- lower component or with a split
+pub record IsBest (next : ℕ → ℕ → List ℕ) (n : ℕ) (p : PartTable) (bests : List Best) (q : ℕ) (b : Best) : Type 0 where
+  pub good : IsGood next n p bests q b
+  pub moves : BeatsMoves next p bests q b.rank
+  pub splits : BeatsSplits next n p bests q b.rank
+
+-- the bests of the components are right for the states of the first `end` components
+pub record AreBests (next : ℕ → ℕ → List ℕ) (n : ℕ) (p : PartTable) (end : ℕ) (bests : List Best) : Type 0 where
+  pub size : length bests ≡ end
+  pub right : (q : ℕ) → q < n → number_of p q < end → IsBest next n p bests q (best_at bests (number_of p q))

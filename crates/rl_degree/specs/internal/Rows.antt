@@ -1,0 +1,172 @@
+-- A search for a word that leads a pair of states to itself and one middle state to another one, by rows of middle states.
+use Rattle.std.specs.Prelude.{◌≡◌, ℕ, ◌+◌, ◌<◌, ◌≤◌, ◌⊎◌, ◌↔◌, Bool, true, false, not, List, [], ◌∷◌, ◌++◌, length, replicate, slice_index, slice_index_or, slice_set, if◌then◌else◌}
+use Rattle.rl_lanes.specs.Rows.{list_or, list_and_not, IsSubset, HasOther}
+use Rattle.rl_graph.specs.Paths.{total, one, Has, paths}
+use Rattle.rl_graph.specs.Graph.{Graph, edges_of}
+use Rattle.rl_graph.specs.Product.{pair_moves}
+use Rattle.rl_kernel.specs.Members.{is_member}
+use Rattle.rl_degree.specs.internal.Pairs.{lists_of, row_of}
+use Rattle.rl_degree.specs.internal.Moves.{cell, with_cell}
+use Rattle.rl_degree.specs.declared.pairs.PairTable.{PairTable}
+use Rattle.rl_degree.specs.declared.rows.Step.{Step}
+use Rattle.rl_degree.specs.declared.rows.Found.{Found}
+use Rattle.rl_degree.specs.declared.rows.Search.{Search}
+
+-- what a search goes over: how many states there are, the moves of the middle state, those of the outer pair, the pairs of
+-- the part, and the place of each pair among them
+pub record Field : Type 0 where
+  pub states : ℕ
+  pub next : ℕ → ℕ → List ℕ
+  pub pairs : ℕ → ℕ → List ℕ
+  pub members : List ℕ
+  pub places : List ℕ
+
+-- the field of a part of the product
+abbrev pub field_of : Graph → PairTable → ℕ → Field
+field_of g t part =
+    record {
+      states = g.states;
+      next = edges_of g;
+      pairs = pair_moves (edges_of t.inner) t.inner.states;
+      members = row_of (lists_of t.placed) part;
+      places = (lists_of t.placed).places;
+    }
+
+-- the lists of a search, whether it keeps its steps, the pair that it is for by its place, and the middle states that it leads
+-- from and to
+pub record Stand : Type 0 where
+  pub keeps : Bool
+  pub place : ℕ
+  pub from : ℕ
+  pub to : ℕ
+  pub seen : List (List Bool)
+  pub steps : List Step
+  pub queue : List Found
+
+abbrev pub stand_of : Search → Stand
+stand_of s =
+    record {
+      keeps = s.keeps;
+      place = s.place;
+      from = s.from;
+      to = s.to;
+      seen = s.seen.items;
+      steps = s.steps.items;
+      queue = s.queue.items;
+    }
+
+-- the middle state is among those that were found
+abbrev pub has_middle : Found → ℕ → Bool
+has_middle f m = slice_index_or f.middle m false
+
+-- the row with one state
+abbrev pub row_with : ℕ → ℕ → List Bool
+row_with n m = slice_set (replicate n false) m true
+
+-- the start: the middle state is seen beside the pair, and waits
+abbrev pub start_stand : Bool → ℕ → ℕ → ℕ → ℕ → ℕ → Stand
+start_stand keeps states pairs place from to =
+    record {
+      keeps = keeps;
+      place = place;
+      from = from;
+      to = to;
+      seen = with_cell (replicate pairs (replicate states false)) place from;
+      steps = [];
+      queue = record { step = 0; place = place; middle = row_with states from } ∷ [];
+    }
+
+-- the words of the steps behind those of the ones before
+abbrev pub words_from : List (List ℕ) → List Step → List (List ℕ)
+words_from words [] = words
+words_from words (s ∷ steps) = words_from (words ++ (slice_index_or words s.from [] ++ s.letter ∷ []) ∷ []) steps
+
+-- the word of a step: that of the step that it follows, and its letter. The start, the number 0, has the empty word
+abbrev pub word_at : List Step → ℕ → List ℕ
+word_at steps k = slice_index_or (words_from ([] ∷ []) steps) k []
+
+-- each step follows an earlier one, or the start
+abbrev pub IsRooted : List Step → Type 0
+IsRooted steps = (k : ℕ) (s : Step) → k < length steps → (slice_index_or steps k s).from ≤ k
+
+-- one more step, where they are kept
+abbrev pub steps_with : ℕ → ℕ → Stand → List Step
+steps_with from letter s = if s.keeps then s.steps ++ record { from = from; letter = letter } ∷ [] else s.steps
+
+-- its number
+abbrev pub number_of_new : Stand → ℕ
+number_of_new s = if s.keeps then length s.steps + 1 else 0
+
+-- the middle states of a row that were not seen beside the pair at a place are found there
+abbrev pub reached : ℕ → ℕ → ℕ → List Bool → Stand → Stand
+reached from letter place image s =
+    record s {
+      seen = slice_set s.seen place (list_or (slice_index_or s.seen place []) image);
+      steps = steps_with from letter s;
+      queue = s.queue ++ record { step = number_of_new s; place = place; middle = list_and_not image (slice_index_or s.seen place []) } ∷ [];
+    }
+
+-- the same unless all of them were seen
+abbrev pub IsReached : ℕ → ℕ → ℕ → List Bool → Stand → Stand → Type 0
+IsReached from letter place image old new =
+    (IsSubset image (slice_index_or old.seen place []) × (new ≡ old)) ⊎ (HasOther image (slice_index_or old.seen place []) × (new ≡ reached from letter place image old))
+
+-- the stand with something that is still to be followed
+abbrev pub behind : Found → Stand → Stand
+behind f s = record s { queue = f ∷ s.queue }
+
+-- what was found lies in the field, and some word leads to it, that of its step where steps are kept
+pub record IsFound (d : Field) (s : Stand) (f : Found) : Type 0 where
+  pub place_in : f.place < length d.members
+  pub step_in : f.step ≤ length s.steps
+  pub wide : length f.middle ≡ d.states
+  pub word : List ℕ
+  pub outer : 1 ≤ paths d.pairs (slice_index d.members s.place) (slice_index d.members f.place) word
+  pub inner : (m : ℕ) → has_middle f m ≡ true → 1 ≤ paths d.next s.from m word
+  pub kept : s.keeps ≡ true → word ≡ word_at s.steps f.step
+
+-- a middle state beside the pair at a place waits in the queue
+abbrev pub Waits : Stand → ℕ → ℕ → Type 0
+Waits s i m = (f : Found) × Has f s.queue × (f.place ≡ i) × (has_middle f m ≡ true)
+
+-- what the pair and the middle state move to on a letter was seen, where it stays in the part
+abbrev pub IsPassed : Field → Stand → ℕ → ℕ → ℕ → Type 0
+IsPassed d s l i m =
+    (y k : ℕ) → Has y (d.pairs (slice_index d.members i) l) → is_member d.members d.places y ≡ true → Has k (d.next m l) → cell s.seen (slice_index d.places y) k ≡ true
+
+-- where a search stands: what was seen waits, or what it moves to was seen; what is looked for has not been met, unless it waits
+pub record IsSearching (d : Field) (s : Stand) : Type 0 where
+  pub high : length s.seen ≡ length d.members
+  pub wide : (i : ℕ) → i < length d.members → length (slice_index_or s.seen i []) ≡ d.states
+  pub rooted : IsRooted s.steps
+  pub found : (f : Found) → Has f s.queue → IsFound d s f
+  pub start : cell s.seen s.place s.from ≡ true
+  pub settled : (i m : ℕ) → cell s.seen i m ≡ true → Waits s i m ⊎ ((l : ℕ) → IsPassed d s l i m)
+  pub goal : cell s.seen s.place s.to ≡ true → Waits s s.place s.to
+
+-- how much is left to do: each state that was not seen is found at most once
+abbrev pub work_of : Stand → ℕ
+work_of s = total (λ row. total (λ b. one (not b)) row) s.seen + length s.queue
+
+-- the search has come further while it follows what was found
+pub record IsFurther (d : Field) (f : Found) (old new : Stand) : Type 0 where
+  pub keeps : new.keeps ≡ old.keeps
+  pub place : new.place ≡ old.place
+  pub from : new.from ≡ old.from
+  pub to : new.to ≡ old.to
+  pub searching : IsSearching d (behind f new)
+  pub grows : (i m : ℕ) → cell old.seen i m ≡ true → cell new.seen i m ≡ true
+  pub work : work_of new ≤ work_of old
+
+-- the row holds what the middle states that were found move to on a letter
+pub record IsImage (d : Field) (f : Found) (l : ℕ) (image : List Bool) : Type 0 where
+  pub wide : length image ≡ d.states
+  pub moves : (k : ℕ) → (slice_index_or image k false ≡ true) ↔ ((m : ℕ) × (has_middle f m ≡ true) × Has k (d.next m l))
+
+-- what was found was followed on a letter
+abbrev pub IsFollowedOn : Field → Found → ℕ → Stand → Type 0
+IsFollowedOn d f l s = (m : ℕ) → has_middle f m ≡ true → IsPassed d s l f.place m
+
+-- what was found was followed on the letters below `end`
+abbrev pub IsFollowedUpTo : Field → Found → ℕ → Stand → Type 0
+IsFollowedUpTo d f end s = (l : ℕ) → l < end → IsFollowedOn d f l s

@@ -1,0 +1,70 @@
+//! The states that a split may join.
+
+ghost use Rattle.std.specs.Prelude.{◌≡◌, ℕ, ◌<◌, true, false, length, IfOk};
+ghost use Rattle.rl_graph.specs.Parts.{number_of, cycle_of};
+ghost use Rattle.rl_kernel.specs.Seats.{seats_of};
+ghost use Rattle.rl_degree.specs.internal.Kernel.{IsOneComponent, IsKernel, IsKernelUpTo};
+
+use rl_graph::Components;
+use rl_kernel::Kernel;
+use rl_lists::OutOfMemory;
+use std::alloc::Global;
+
+/// Whether all states on cycles are in the component with a number.
+fn is_alone(components: &Components, count: u32, number: u32) -> bool
+    requires size { length components.now.numbers ≡ count }
+    ensures { result ≡ true → IsOneComponent components.now count number }
+{
+    for state in 0..count {
+        if components.on_cycle(state) && components.of(state) != number {
+            return false;
+        }
+    }
+    true
+}
+
+/// Whether states of two components may lie on cycles.
+fn has_two(components: &Components, count: u32) -> bool
+    requires size { length components.now.numbers ≡ count }
+    ensures { result ≡ false → (r q : ℕ) → r < count → q < count → cycle_of components.now r ≡ true → cycle_of components.now q ≡ true → number_of components.now r ≡ number_of components.now q }
+{
+    for state in 0..count {
+        if components.on_cycle(state) {
+            return !is_alone(components, count, components.of(state));
+        }
+    }
+    false
+}
+
+/// The states on cycles.
+fn all_on_cycles(alloc: Global, components: &Components, count: u32) -> Result<Kernel, OutOfMemory>
+    requires size { length components.now.numbers ≡ count }
+    ensures { IfOk result (λ k. IsKernelUpTo components.now count count (seats_of k)) }
+{
+    let mut kernel = Kernel::new(alloc, count)?;
+    for state in 0..count {
+        if components.on_cycle(state) {
+            kernel.put(state, components.of(state))?;
+        }
+    }
+    Ok(kernel)
+}
+
+/// The states that a split may join: those on cycles, where two components have some, and else none.
+///
+/// # Errors
+/// [`OutOfMemory`] where there was no memory for them.
+pub(crate) fn kernel_of(
+    alloc: Global,
+    components: &Components,
+    count: u32,
+) -> Result<Kernel, OutOfMemory>
+    requires size { length components.now.numbers ≡ count }
+    ensures { IfOk result (λ k. IsKernel components.now count (seats_of k)) }
+{
+    if has_two(components, count) {
+        all_on_cycles(alloc, components, count)
+    } else {
+        Kernel::new(alloc, count)
+    }
+}

@@ -1,0 +1,23 @@
+-- Which components a fork may begin in. For private clauses.
+use Rattle.std.specs.Prelude.{◌≡◌, ℕ, ◌<◌, Bool, false, List, length, slice_index_or}
+use Rattle.rl_graph.specs.Graph.{Graph}
+use Rattle.rl_graph.specs.Parts.{PartTable, number_of}
+use Rattle.rl_expo.specs.Forks.{AnyFork}
+use Rattle.rl_expo.specs.Search.{NoneStay}
+
+-- a mark for each component: where it is false, none of its states below `end` has two moves on one letter that stay there
+pub record AreForkingUpTo (g : Graph) (p : PartTable) (end : ℕ) (marks : List Bool) : Type 0 where
+  pub size : length marks ≡ g.states
+  pub right : (r l : ℕ) → r < end → l < g.letters → slice_index_or marks (number_of p r) false ≡ false → NoneStay g p r l
+
+-- the same for all states
+abbrev pub AreForking : Graph → PartTable → List Bool → Type 0
+AreForking g p marks = AreForkingUpTo g p g.states marks
+
+-- no fork begins in the component
+abbrev pub HasNoForkIn : (ℕ → ℕ → List ℕ) → PartTable → ℕ → Type 0
+HasNoForkIn next p c = (f : AnyFork next) → number_of p f.state ≡ c → ⊥
+
+-- there is no fork
+abbrev pub HasNoFork : (ℕ → ℕ → List ℕ) → Type 0
+HasNoFork next = AnyFork next → ⊥

@@ -1,0 +1,78 @@
+//! The search for such moves component by component: a fork, and the word that leads back, lie in one component.
+
+ghost use Rattle.std.specs.Prelude.{◌≡◌, ◌==◌, length, IfOk, IfSome, IfNone};
+ghost use Rattle.rl_graph.specs.Graph.{edges_of};
+ghost use Rattle.rl_graph.specs.Parts.{IsParts, number_of};
+ghost use Rattle.rl_kernel.specs.Seats.{seats_of, HoldsUpTo};
+ghost use Rattle.rl_expo.specs.Forks.{AnyFork};
+ghost use Rattle.rl_expo.specs.Search.{AreMoves, LeadsBack};
+ghost use Rattle.rl_expo.specs.internal.Blocks.{AreForking, HasNoForkIn, HasNoFork};
+
+use crate::forks::{Fork, fork_among};
+use rl_graph::{Components, Multigraph, Twice, parts_of};
+use rl_kernel::{Kernel, inner_graph};
+use rl_lists::OutOfMemory;
+use std::alloc::Global;
+
+/// The states of a component.
+fn states_of(
+    alloc: Global,
+    components: &Components,
+    count: u32,
+    number: u32,
+) -> Result<Kernel, OutOfMemory>
+    requires size { length components.now.numbers ≡ count }
+    ensures { IfOk result (λ k. HoldsUpTo (λ q. number_of components.now q == number) components.now count count (seats_of k)) }
+{
+    let mut kernel = Kernel::new(alloc, count)?;
+    for state in 0..count {
+        if components.of(state) == number {
+            kernel.put(state, number)?;
+        }
+    }
+    Ok(kernel)
+}
+
+/// Two moves of a state of a component from whose targets one word leads back.
+fn fork_of(
+    alloc: Global,
+    g: &Multigraph,
+    components: &Components,
+    number: u32,
+) -> Result<Option<Fork>, OutOfMemory>
+    requires parts { IsParts (edges_of g.now) g.now.states components.now }
+    ensures moves { IfOk result (λ o. IfSome o (AreMoves g.now)) }
+    ensures back { IfOk result (λ o. IfSome o (LeadsBack g.now)) }
+    ensures none { IfOk result (λ o. IfNone o (HasNoForkIn (edges_of g.now) components.now number)) }
+{
+    let states = states_of(alloc, components, g.states(), number)?;
+    let inner = inner_graph(alloc, g, components, &states)?;
+    let parts = parts_of(alloc, &Twice { graph: &inner })?;
+    Ok(fork_among(g, &states, &parts))
+}
+
+/// Two such moves of a state of any component that is marked.
+///
+/// # Errors
+/// [`OutOfMemory`] where there was no memory for the search.
+pub fn fork_in(
+    alloc: Global,
+    g: &Multigraph,
+    components: &Components,
+    marks: &[bool],
+) -> Result<Option<Fork>, OutOfMemory>
+    requires parts { IsParts (edges_of g.now) g.now.states components.now }
+    requires marks { AreForking g.now components.now marks.now }
+    ensures moves { IfOk result (λ o. IfSome o (AreMoves g.now)) }
+    ensures back { IfOk result (λ o. IfSome o (LeadsBack g.now)) }
+    ensures none { IfOk result (λ o. IfNone o (HasNoFork (edges_of g.now))) }
+{
+    for number in 0..g.states() {
+        if marks[number as usize] {
+            if let Some(fork) = fork_of(alloc, g, components, number)? {
+                return Ok(Some(fork));
+            }
+        }
+    }
+    Ok(None)
+}

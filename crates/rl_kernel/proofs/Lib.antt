@@ -1,0 +1,4 @@
+pub mod MemberLaws
+pub mod SeatLaws
+pub mod InnerLaws
+pub mod InnerPaths

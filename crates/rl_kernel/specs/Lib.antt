@@ -1,0 +1,4 @@
+pub mod Members
+pub mod Seats
+pub mod Inner
+pub mod internal

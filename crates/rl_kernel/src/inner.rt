@@ -1,0 +1,102 @@
+//! The moves of a graph between some of its states that stay in the component of their state. A path from such a state back to it
+//! has no others, where all states of its component are there.
+
+ghost use Rattle.std.specs.Prelude.{◌≡◌, ℕ, ◌<◌, ◌+◌, ◌^◌, false, length, IfOk, OnOk, MatchOption};
+ghost use Rattle.rl_graph.specs.Parts.{number_of};
+ghost use Rattle.rl_kernel.specs.Members.{is_member, IsPlace};
+ghost use Rattle.rl_kernel.specs.Seats.{seats_of, AreSeats};
+ghost use Rattle.rl_kernel.specs.Inner.{IsInner};
+ghost use Rattle.rl_kernel.specs.internal.Growing.{IsInnerUpTo};
+
+use crate::kernel::Kernel;
+use rl_graph::{Components, Multigraph};
+use rl_lists::OutOfMemory;
+use std::alloc::Global;
+
+/// No more moves than this are kept of a state on a letter. A graph has no more.
+const MOST_MOVES: usize = 4_294_967_295;
+
+/// The place of a state, if it is in the component with a number.
+fn place_within(components: &Components, kernel: &Kernel, own: u32, state: u32) -> Option<u32>
+    requires size { state < length components.now.numbers }
+    requires state_in { state < length kernel.now.places.items }
+    ensures { MatchOption result (number_of components.now state ≡ own → is_member kernel.now.states.items kernel.now.places.items state ≡ false) (λ i. (number_of components.now state ≡ own) × IsPlace kernel.now.states.items kernel.now.places.items state i) }
+{
+    if components.of(state) != own {
+        return None;
+    }
+    kernel.place_of(state)
+}
+
+/// Adds the inner moves of the state at a place on a letter.
+fn add_inner_on(
+    inner: &mut Multigraph,
+    g: &Multigraph,
+    components: &Components,
+    kernel: &Kernel,
+    place: u32,
+    letter: u32,
+) -> Result<(), OutOfMemory>
+    requires place_in { place < length kernel.now.states.items }
+    requires letter_in { letter < g.now.letters }
+    requires size { length components.now.numbers ≡ g.now.states }
+    requires seats { AreSeats components.now g.now.states g.now.states (seats_of kernel.now) }
+    requires so_far { IsInnerUpTo g.now components.now (seats_of kernel.now) place letter inner.old }
+    ensures { OnOk result (IsInnerUpTo g.now components.now (seats_of kernel.now) place (letter + 1) inner.new) }
+{
+    let state = kernel.states[place as usize];
+    let own = kernel.levels[place as usize];
+    let row = g.edges(state, letter);
+    for number in 0..row.len() {
+        if let Some(next) = place_within(components, kernel, own, row[number]) {
+            if inner.edges(place, letter).len() >= MOST_MOVES {
+                return Err(OutOfMemory);
+            }
+            inner.add(place, letter, next)?;
+        }
+    }
+    Ok(())
+}
+
+/// Adds the inner moves of the state at a place.
+fn add_inner_from(
+    inner: &mut Multigraph,
+    g: &Multigraph,
+    components: &Components,
+    kernel: &Kernel,
+    place: u32,
+) -> Result<(), OutOfMemory>
+    requires place_in { place < length kernel.now.states.items }
+    requires size { length components.now.numbers ≡ g.now.states }
+    requires seats { AreSeats components.now g.now.states g.now.states (seats_of kernel.now) }
+    requires so_far { IsInnerUpTo g.now components.now (seats_of kernel.now) place 0 inner.old }
+    ensures { OnOk result (IsInnerUpTo g.now components.now (seats_of kernel.now) (place + 1) 0 inner.new) }
+{
+    for letter in 0..g.letters() {
+        add_inner_on(inner, g, components, kernel, place, letter)?;
+    }
+    Ok(())
+}
+
+/// The graph of the inner moves: its states are the places of the kernel, and its letters those of the graph.
+///
+/// # Errors
+/// [`OutOfMemory`] where there was no memory for the graph.
+pub fn inner_graph(
+    alloc: Global,
+    g: &Multigraph,
+    components: &Components,
+    kernel: &Kernel,
+) -> Result<Multigraph, OutOfMemory>
+    requires size { length components.now.numbers ≡ g.now.states }
+    requires seats { AreSeats components.now g.now.states g.now.states (seats_of kernel.now) }
+    ensures { IfOk result (λ h. IsInner g.now components.now (seats_of kernel.now) h) }
+{
+    let _states = g.states();
+    let count = kernel.states.len() as u32;
+    let mut inner = Multigraph::new(alloc, count, g.letters())?;
+    for place in 0..count {
+        add_inner_from(&mut inner, g, components, kernel, place)?;
+    }
+    Ok(inner)
+}

@@ -1,0 +1,66 @@
+//! Some states of a graph.
+
+ghost use Rattle.std.specs.Prelude.{◌≡◌, ◌<◌, ◌^◌, false, length, MatchOption, IfOk, OnOk};
+ghost use Rattle.rl_kernel.specs.Members.{is_member, IsPlace};
+ghost use Rattle.rl_kernel.specs.Seats.{seats_of, with_seat, IsBareSeats};
+
+use rl_lists::OutOfMemory;
+use std::alloc::Global;
+
+/// Some states of a graph in order, the number of the component of each of them, and for each state of the graph its place among
+/// them. The place of a state that isn't one of them has no meaning.
+#[derive(Drop)]
+pub struct Kernel {
+    /// The states.
+    pub states: Vec<u32>,
+    /// The numbers of their components.
+    pub levels: Vec<u32>,
+    /// The place of each state of the graph.
+    pub places: Vec<u32>,
+}
+
+impl Kernel {
+    /// No state of so many.
+    ///
+    /// # Errors
+    /// [`OutOfMemory`] where there was no memory for the places.
+    pub fn new(alloc: Global, count: u32) -> Result<Kernel, OutOfMemory>
+        ensures { IfOk result (λ k. IsBareSeats count (seats_of k)) }
+    {
+        let places = vec![in alloc; 0; count as usize]?;
+        Ok(Kernel {
+            states: Vec::new(alloc),
+            levels: Vec::new(alloc),
+            places,
+        })
+    }
+
+    /// Puts a state with the number of its component behind the others.
+    ///
+    /// # Errors
+    /// [`OutOfMemory`] where there was no memory for the state; the list is of no use then.
+    pub fn put(&mut self, state: u32, level: u32) -> Result<(), OutOfMemory>
+        requires state_in { state < length self.old.places.items }
+        requires short { length self.old.states.items < 2 ^ 32 }
+        ensures { OnOk result (seats_of self.new ≡ with_seat state level (seats_of self.old)) }
+    {
+        let place = self.states.len() as u32;
+        self.states.push(state)?;
+        self.levels.push(level)?;
+        self.places[state as usize] = place;
+        Ok(())
+    }
+
+    /// The place of a state, if it is one of them.
+    pub fn place_of(&self, state: u32) -> Option<u32>
+        requires state_in { state < length self.now.places.items }
+        ensures { MatchOption result (is_member self.now.states.items self.now.places.items state ≡ false) (IsPlace self.now.states.items self.now.places.items state) }
+    {
+        let place = self.places[state as usize];
+        if (place as usize) < self.states.len() && self.states[place as usize] == state {
+            Some(place)
+        } else {
+            None
+        }
+    }
+}
