@@ -8,8 +8,9 @@ use Rattle.rl_sets.specs.Live.{image, refuses}
 use Rattle.rl_sets.proofs.LiveLemmas.{refuses-image, refuses-nothing}
 use Rattle.rl_equiv.specs.declared.pair.SetPair.{SetPair}
 use Rattle.rl_equiv.specs.declared.searching.Way.{Way}
-use Rattle.rl_equiv.specs.Joined.{ends, pairs_of}
-use Rattle.rl_equiv.specs.Searching.{AreReaders, State, no_way, pair_at, IsNext, IsSearch, Leads, start, onward, sample_of, IsApart}
+use Rattle.rl_equiv.specs.SetPairs.{differs}
+use Rattle.rl_equiv.specs.internal.Machines.{ends, pairs_of}
+use Rattle.rl_equiv.specs.internal.Searching.{AreReaders, State, no_way, pair_at, IsNext, IsSearch, Leads, start, onward, sample_of, IsApart}
 use Rattle.rl_equiv.proofs.ClosedLaws.{proper-free, first-proper, second-proper, same-ends}
 use Rattle.rl_equiv.proofs.RunLaws.{found-proper}
 
@@ -74,7 +75,7 @@ module _ (a b : Automaton) (readers : AreReaders a b) (s : State) (search : IsSe
   not-same false true e = absurd (false≢true (sym e))
   not-same false false e = refl
 
-  pub apart-is : (k : ℕ) (text : List ℕ) → k < length s.keys → (pairs_of a b).differs (pair_at s k) ≡ true → (word : List ℕ) × Leads s.ways k word × (text ≡ map (sample_of a) word) → IsApart a b text
+  pub apart-is : (k : ℕ) (text : List ℕ) → k < length s.keys → differs (pairs_of a b) (pair_at s k) ≡ true → (word : List ℕ) × Leads s.ways k word × (text ≡ map (sample_of a) word) → IsApart a b text
   apart-is k text lt apart h =
       let l = lead-is k h.0 lt h.1 in
       record {

@@ -10,11 +10,12 @@ use Rattle.rl_prio.specs.Automaton.{Automaton, letters_count, accepting_state}
 use Rattle.rl_sets.specs.Live.{holds, image}
 use Rattle.rl_sets.specs.Walk.{Walk, set_at, set_of}
 use Rattle.rl_equiv.specs.declared.pair.SetPair.{SetPair}
-use Rattle.rl_equiv.specs.SetPairs.{SetPairs, set_pairs, IsKept, IsClosed}
+use Rattle.rl_equiv.specs.SetPairs.{SetPairs, differs, set_pairs, IsKept, IsClosed}
 use Rattle.rl_equiv.specs.Languages.{SameLanguage}
 use Rattle.rl_equiv.specs.Limits.{AreWithin}
-use Rattle.rl_equiv.specs.Joined.{StandTogether, ShareLetters, pair_on, ends, all_proper, pairs_of}
-use Rattle.rl_equiv.specs.Walks.{IsBegun, GoesOn}
+use Rattle.rl_equiv.specs.Joined.{StandTogether}
+use Rattle.rl_equiv.specs.internal.Machines.{ShareLetters, pair_on, ends, all_proper, pairs_of}
+use Rattle.rl_equiv.specs.internal.Walks.{IsBegun, GoesOn}
 use Rattle.rl_equiv.proofs.ImageLaws.{first_count, same_count, pairs_of-trees, image-set}
 use Rattle.rl_equiv.proofs.ClosedLaws.{not-false, true-beq, first-proper, second-proper, ends-same, same-ends, next-in, in-next, closed-same}
 
@@ -57,7 +58,7 @@ module _ (a b : Automaton) (relation : List SetPair) (p : SetPair) (proper : (pa
       not-beq x y apart (r.0 ∙ ends-same a b p k.no_difference ∙ sym r.1)
 
   pub ends-agree : (v w : Walk) (x y : Bool) → set_at v 0 ≡ set_of a p.first → set_at w 0 ≡ set_of b p.second → x ≡ ends a (set_at v 0) → y ≡ ends b (set_at w 0)
-      → not (beq x y) ≡ false → (pairs_of a b).differs p ≡ false
+      → not (beq x y) ≡ false → differs (pairs_of a b) p ≡ false
   ends-agree v w x y f g e h agree =
       let r = ends-read v w x y f g e h in
       same-ends a b p (sym r.0 ∙ beq-not x y agree ∙ r.1)
@@ -103,7 +104,7 @@ module _ (a b : Automaton) (relation : List SetPair) (p : SetPair) (proper : (pa
           let here : letter ≡ l = omega arith in
           subst (λ (k : ℕ). Contains relation (pair_on a b p k)) here (subst (Contains relation) (sym (next-read v w letter x y n e e')) in')
 
-  pub next-all : (v w : Walk) (letter : ℕ) → AreNext a b relation p v w letter → letters_count a ≤ letter → (pairs_of a b).differs p ≡ false → IsKept (pairs_of a b) relation p
+  pub next-all : (v w : Walk) (letter : ℕ) → AreNext a b relation p v w letter → letters_count a ≤ letter → differs (pairs_of a b) p ≡ false → IsKept (pairs_of a b) relation p
   next-all v w letter n le same = record {
     is_proper = proper;
     no_difference = same;

@@ -22,9 +22,10 @@ use Rattle.rl_prio.proofs.MatchLemmas.{matched_to_end}
 use Rattle.rl_sets.specs.Live.{accepts, below, holds, image, refuses}
 use Rattle.rl_sets.proofs.LiveLemmas.{refuses-image, refuses-nothing}
 use Rattle.rl_equiv.specs.declared.pair.SetPair.{SetPair}
-use Rattle.rl_equiv.specs.SetPairs.{joint_sets, first_pair, SetPairs, set_pairs, IsKept, IsClosed}
+use Rattle.rl_equiv.specs.SetPairs.{joint_sets, first_pair, SetPairs, differs, set_pairs, IsKept, IsClosed}
 use Rattle.rl_equiv.specs.Languages.{SameLanguage}
-use Rattle.rl_equiv.specs.Joined.{StandTogether, pair_on, ends, all_proper, pairs_of}
+use Rattle.rl_equiv.specs.Joined.{StandTogether}
+use Rattle.rl_equiv.specs.internal.Machines.{pair_on, ends, all_proper, pairs_of}
 use Rattle.rl_equiv.proofs.ImageLaws.{length-below, get_or-below, same_count, below-proper, pairs_of-trees}
 
 -- a state accepts exactly what its walk has a hit on
@@ -79,11 +80,11 @@ module _ (a b : Automaton) where
   unfolding pairs_of
   second-proper p e = (and_parts (all_proper a p.first) (all_proper b p.second) e).1
 
-  pub ends-same : (p : SetPair) → (pairs_of a b).differs p ≡ false → ends a p.first ≡ ends b p.second
+  pub ends-same : (p : SetPair) → differs (pairs_of a b) p ≡ false → ends a p.first ≡ ends b p.second
   unfolding pairs_of
   ends-same p e = beq-true (ends a p.first) (ends b p.second) (not-false (beq (ends a p.first) (ends b p.second)) e)
 
-  pub same-ends : (p : SetPair) → ends a p.first ≡ ends b p.second → (pairs_of a b).differs p ≡ false
+  pub same-ends : (p : SetPair) → ends a p.first ≡ ends b p.second → differs (pairs_of a b) p ≡ false
   unfolding pairs_of
   same-ends p e = ap not (true-beq (ends a p.first) (ends b p.second) e)
 

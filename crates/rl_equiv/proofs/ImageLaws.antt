@@ -1,7 +1,6 @@
 -- Laws of images: those of an automaton that stands for a tree are those of the tree.
 use Rattle.std.proofs.Common.{◌≡◌, ◌≢◌, ◌∙◌, All, ℕ, zero, suc, ◌/◌, ◌<◌, ◌≤◌, inl, inr, List, [], ◌∷◌, ◌++◌, length, get_or, map, filter, Bool, true, not, ◌&&◌, nat_lt, eqb, eqb-true, slice_get, refl, sym, ap, ap₂, subst, arith}
 use Rattle.std.specs.List.{list_any, list_all}
-use Rattle.std.proofs.Math.Bool.{beq}
 use Rattle.std.proofs.lemmas.Bool.{cases_lt, cond-false, le-ltb, and_parts, or_cases, ltb-true, false≢true}
 use Rattle.std.proofs.lemmas.List.Elements.{All-cons}
 use Rattle.std.proofs.lemmas.List.{map-append, get_or_push, get_or_append_left, length-map, length_push}
@@ -22,7 +21,8 @@ use Rattle.rl_sets.proofs.SetLemmas.{same_tests, any-there, any-from}
 use Rattle.rl_sets.proofs.LiveLemmas.{found_in, found_from}
 use Rattle.rl_equiv.specs.declared.pair.SetPair.{SetPair}
 use Rattle.rl_equiv.specs.SetPairs.{joint_sets, image_over, set_pairs}
-use Rattle.rl_equiv.specs.Joined.{StandTogether, pair_on, ends, all_proper, pairs_of}
+use Rattle.rl_equiv.specs.Joined.{StandTogether}
+use Rattle.rl_equiv.specs.internal.Machines.{pair_on, ends, all_proper, pairs_of}
 
 -- the numbers below `n`, in order
 
@@ -128,7 +128,8 @@ module _ (u : Universe) (s t : Tree) (a b : Automaton) (st : StandTogether u s t
       let e = λ (p : SetPair). map-below (pair_on a b p) (λ letter. next letter p) (letters_count a) (next_same p) ∙ ap (λ (k : ℕ). map (λ letter. next letter p) (below k)) first_count in
       λ i. record {
         nexts = λ p. e p i;
-        differs = λ p. not (beq (first_ends p.first i) (second_ends p.second i));
+        ends_first = λ p. first_ends p.first i;
+        ends_second = λ p. second_ends p.second i;
         proper = λ p. list_all (λ q. nat_lt q (first_accepting i)) p.first && list_all (λ q. nat_lt q (second_accepting i)) p.second;
       }
 

@@ -1,3 +1,4 @@
+pub mod FoundLaws
 pub mod ImageLaws
 pub mod ClosedLaws
 pub mod CheckLaws
@@ -8,3 +9,9 @@ pub mod TextLaws
 pub mod RunLaws
 pub mod ApartLaws
 pub mod ReaderLaws
+pub mod WordLaws
+pub mod ReadLaws
+pub mod SeenLaws
+pub mod RegionLaws
+pub mod ToldLaws
+pub mod IndexLaws

@@ -32,8 +32,9 @@ use Rattle.rl_equiv.specs.Languages.{IsIn, IsOfOne, IsTold}
 use Rattle.rl_equiv.specs.Numbering.{IsAnswer}
 use Rattle.rl_equiv.specs.declared.sameness.Sameness.{Sameness}
 use Rattle.rl_equiv.specs.declared.sameness.Sameness.TheVariants.{Equal, Apart, Passed}
-use Rattle.rl_equiv.specs.Joined.{StandTogether, all_proper, pairs_of}
-use Rattle.rl_equiv.specs.Searching.{IsReader, AreReaders, sample_of, IsApart, TellsApart}
+use Rattle.rl_equiv.specs.Joined.{StandTogether}
+use Rattle.rl_equiv.specs.internal.Machines.{all_proper, pairs_of}
+use Rattle.rl_equiv.specs.internal.Searching.{IsReader, AreReaders, sample_of, IsApart, TellsApart}
 use Rattle.rl_equiv.proofs.ImageLaws.{moves-all, same_count, pairs_of-trees}
 use Rattle.rl_equiv.proofs.ClosedLaws.{letters-same, matched-refuses, closed-same}
 
@@ -157,7 +158,7 @@ are-readers u s t a b st = record {
 -- ---- texts
 
 -- the letters of the samples of letters are these letters
-samples-back : (u : Universe) (s t : Tree) (a b : Automaton) → StandTogether u s t a b → (word : List ℕ) → All (λ l. l < letters_count a) word
+pub samples-back : (u : Universe) (s t : Tree) (a b : Automaton) → StandTogether u s t a b → (word : List ℕ) → All (λ l. l < letters_count a) word
     → IsText u (map (sample_of a) word) × (map (letter_at a.table) (map (sample_of a) word) ≡ word)
 samples-back u s t a b st [] small = (All-nil (λ c. c < code_count u), refl)
 samples-back u s t a b st (l ∷ word) small =

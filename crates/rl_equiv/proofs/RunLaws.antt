@@ -1,26 +1,26 @@
 -- Laws of the whole search: what its answers say of the order of set pairs.
-use Rattle.std.proofs.Common.{◌≡◌, ◌≢◌, ◌∙◌, ℕ, zero, suc, ◌+◌, ◌<◌, ◌≤◌, ◌⊎◌, inl, inr, List, [], ◌∷◌, ◌++◌, length, get_or, take, slice_get, Option, Some, None, All, Any, Contains, Bool, true, false, cond, nat_lt, refl, sym, ap, subst, arith, append_assoc}
+use Rattle.std.proofs.Common.{◌≡◌, ◌∙◌, ℕ, zero, suc, ◌+◌, ◌<◌, ◌≤◌, inl, inr, List, [], ◌∷◌, ◌++◌, length, get_or, take, slice_get, Option, Some, None, All, Contains, Bool, true, false, cond, nat_lt, refl, sym, ap, subst, arith, append_assoc}
 use Rattle.std.specs.List.{list_any}
 use Rattle.std.specs.Str.{bytes_eq}
 use Rattle.std.proofs.lemmas.Bool.{cases_lt, lt-ltb, and_parts, and_from}
 use Rattle.std.proofs.lemmas.List.{length-append, append-nil, take-append-le, take_all, length-take, get_or_default}
 use Rattle.std.proofs.lemmas.List.Elements.{All-nil, All-cons, All-more, All-weaker, Contains-append_left, Contains-push}
 use Rattle.std.proofs.lemmas.List.Folds.{Any-from_list_any}
-use Rattle.std.proofs.lemmas.Option.{slice_get_past, slice_get_within, slice_get-get_or, get_or_from_slice_get}
+use Rattle.std.proofs.lemmas.Option.{slice_get_past, slice_get-get_or, get_or_from_slice_get}
 use Rattle.std.proofs.lemmas.Slice.Eq.{bytes_eq-Decides}
 use Rattle.rl_prio.specs.Automaton.{Automaton, letters_count, accepting_state}
 use Rattle.rl_sets.specs.Live.{image}
 use Rattle.rl_sets.proofs.WalkLemmas.{get_kept}
 use Rattle.rl_equiv.specs.declared.pair.SetPair.{SetPair}
-use Rattle.rl_equiv.specs.SetPairs.{first_pair, SetPairs, IsKept, IsClosed}
-use Rattle.rl_equiv.specs.Numbering.{same_pair, with_one, with_more, looked_at, found_after, first_ones, AreAll, AreMore}
-use Rattle.rl_equiv.specs.Joined.{pair_on, all_proper, pairs_of}
-use Rattle.rl_equiv.specs.Searching.{AreReaders, State, pairs_in, pair_at, way_at, IsSearch, IsOnward, AreCapped}
-use Rattle.rl_equiv.proofs.SearchLaws.{more-grows, capped-get, pairs-length, pairs-get, onward-longer, onward-get}
+use Rattle.rl_equiv.specs.SetPairs.{first_pair, SetPairs, differs, IsKept, IsClosed}
+use Rattle.rl_equiv.specs.Numbering.{same_pair, with_one, with_more, looked_at, found_after, AreAll, AreMore}
+use Rattle.rl_equiv.specs.internal.Machines.{pair_on, all_proper, pairs_of}
+use Rattle.rl_equiv.specs.internal.Searching.{AreReaders, State, pairs_in, pair_at, way_at, IsSearch, AreCapped}
+use Rattle.rl_equiv.proofs.SearchLaws.{more-grows, pairs-length, pairs-get}
 
 -- ---- the order of set pairs
 
-found-zero : (d : SetPairs) → found_after d 0 ≡ first_pair ∷ []
+pub found-zero : (d : SetPairs) → found_after d 0 ≡ first_pair ∷ []
 unfolding found_after
 found-zero d = refl
 
@@ -60,7 +60,7 @@ found-looked d k p e = found-next d k ∙ ap (looked_at d (found_after d k)) e
 
 -- ---- what was put behind is there
 
-one-holds : (found : List SetPair) (p : SetPair) → Contains (with_one found p) p
+pub one-holds : (found : List SetPair) (p : SetPair) → Contains (with_one found p) p
 one-holds found p = by (list_any (same_pair p) found) refl
   where
     by : (b : Bool) → list_any (same_pair p) found ≡ b → Contains (cond b found (found ++ p ∷ [])) p
@@ -73,7 +73,7 @@ one-holds found p = by (list_any (same_pair p) found) refl
         subst (Contains found) same (h.0, h.2, h.3)
     by false e = Contains-push found p
 
-grown-holds : (found whole : List SetPair) (p : SetPair) → (more : List SetPair) × (whole ≡ found ++ more) → Contains found p → Contains whole p
+pub grown-holds : (found whole : List SetPair) (p : SetPair) → (more : List SetPair) × (whole ≡ found ++ more) → Contains found p → Contains whole p
 grown-holds found whole p g c = subst (λ (l : List SetPair). Contains l p) (sym g.1) (Contains-append_left found g.0 p c)
 
 more-holds : (found ps : List SetPair) → All (Contains (with_more found ps)) ps
@@ -91,7 +91,7 @@ all-taken P l (suc n) le each =
     let one : n + 1 ≡ suc n = omega arith in
     subst (λ (m : ℕ). All P (take m l)) one (All-more P l n first_pair (omega arith) (all-taken P l n (omega arith) (λ k lt. each k (omega arith))) (each n (omega arith)))
 
-get-taken : (l : List SetPair) (n k : ℕ) (p : SetPair) → k < n → slice_get l k ≡ Some p → slice_get (take n l) k ≡ Some p
+pub get-taken : (l : List SetPair) (n k : ℕ) (p : SetPair) → k < n → slice_get l k ≡ Some p → slice_get (take n l) k ≡ Some p
 get-taken [] n k p lt e = cc
 get-taken (x ∷ l) zero k p lt e = absurd (omega arith)
 get-taken (x ∷ l) (suc n) zero p lt e = e
@@ -114,55 +114,7 @@ pub record IsRunning (a b : Automaton) (old cur : State) (place : ℕ) : Type 0 
   pub place_in : place ≤ cur.limit
   pub capped : AreCapped cur.limit (pairs_in cur) (found_after (pairs_of a b) place)
   pub found : place ≤ length cur.keys
-  pub none : (k : ℕ) → k < place → (pairs_of a b).differs (pair_at cur k) ≡ false
-
-pub running-start : (a b : Automaton) (s : State) → IsSearch a b s → pairs_in s ≡ first_pair ∷ [] → IsRunning a b s s 0
-running-start a b s search one = record {
-  search = search;
-  limit_is = refl;
-  place_in = omega arith;
-  capped = inl (one ∙ sym (found-zero (pairs_of a b)));
-  found = omega arith;
-  none = λ k lt. absurd (omega arith);
-}
-
--- the set pairs are the same after one was tried
-module _ (s t : State) (same : pairs_in t ≡ pairs_in s) where
-  pub tried-length : length t.keys ≡ length s.keys
-  tried-length = omega (arith, ap length same, pairs-length s, pairs-length t)
-
-  pub tried-get : (k : ℕ) → k < length s.keys → pair_at t k ≡ pair_at s k
-  tried-get k lt = sym (pairs-get t k (omega (arith, tried-length))) ∙ ap (λ (l : List SetPair). get_or l k first_pair) same ∙ pairs-get s k lt
-
-pub running-more : (a b : Automaton) (old cur t new : State) (place : ℕ) → IsRunning a b old cur place → place < length cur.keys → place ≢ cur.limit → t.limit ≡ cur.limit → pairs_in t ≡ pairs_in cur
-    → (pairs_of a b).differs (pair_at cur place) ≡ false → IsOnward a b t new
-    → ((whole : List SetPair) → AreCapped t.limit (pairs_in t) whole → AreCapped t.limit (pairs_in new) (with_more whole ((pairs_of a b).nexts (pair_at t place)))) → IsRunning a b old new (place + 1)
-running-more a b old cur t new place r lt other limit same not_apart o put =
-    let d = pairs_of a b in
-    let one : suc place ≡ place + 1 = omega arith in
-    let same_limit : new.limit ≡ cur.limit = o.limit_is ∙ limit in
-    let tried_capped : AreCapped t.limit (pairs_in t) (found_after d place) =
-    subst (λ (n : ℕ). AreCapped n (pairs_in t) (found_after d place)) (sym limit) (subst (λ (l : List SetPair). AreCapped cur.limit l (found_after d place)) (sym same) r.capped) in
-    let there : slice_get (found_after d place) place ≡ Some (pair_at t place) =
-    capped-get t.limit (pairs_in t) (found_after d place) place tried_capped (omega (arith, pairs-length t, tried-length cur t same)) ∙ ap (λ (p : SetPair). Some p) (pairs-get t place (omega (arith, tried-length cur t same))) in
-    let then = put (found_after d place) tried_capped in
-    let whole : with_more (found_after d place) (d.nexts (pair_at t place)) ≡ found_after d (place + 1) = sym (found-looked d place (pair_at t place) there) ∙ ap (found_after d) one in
-    let stays = λ (k : ℕ) (small : k < length cur.keys). onward-get a b t new o k (omega (arith, tried-length cur t same)) ∙ tried-get cur t same k small in
-    record {
-      search = o.search;
-      limit_is = same_limit ∙ r.limit_is;
-      place_in = by (cases_lt place cur.limit) same_limit;
-      capped = subst (λ (n : ℕ). AreCapped n (pairs_in new) (found_after d (place + 1))) (sym o.limit_is) (subst (λ (l : List SetPair). AreCapped t.limit (pairs_in new) l) whole then);
-      found = omega (arith, onward-longer a b t new o, tried-length cur t same);
-      none = λ k small. ap d.differs (stays k (omega arith)) ∙ elim (cases_lt k place) [
-        | inl less ↦ r.none k less
-        | inr more ↦ let here : k ≡ place = omega arith in ap (λ (j : ℕ). d.differs (pair_at cur j)) here ∙ not_apart
-      ];
-    }
-  where
-    by : (place < cur.limit) ⊎ (cur.limit ≤ place) → new.limit ≡ cur.limit → place + 1 ≤ new.limit
-    by (inl less) e = omega arith
-    by (inr more) e = absurd (other (omega (arith, r.place_in)))
+  pub none : (k : ℕ) → k < place → differs (pairs_of a b) (pair_at cur k) ≡ false
 
 -- more set pairs are reached than the limit
 pub running-passed : (a b : Automaton) (old cur : State) (place : ℕ) → IsRunning a b old cur place → place < length cur.keys → place ≡ cur.limit → AreMore (pairs_of a b) old.limit
@@ -172,36 +124,19 @@ running-passed a b old cur place r lt e =
     let here : place ≡ old.limit = e ∙ r.limit_is in
     subst (λ (n : ℕ). AreMore d n) here (record {
       more = omega (arith, capped-longer cur.limit F (found_after d place) r.capped, pairs-length cur);
-      none_differs = subst (All (λ p. d.differs p ≡ false)) (sym (capped-take cur.limit F (found_after d place) place r.capped (omega (arith, pairs-length cur))))
-          (all-taken (λ p. d.differs p ≡ false) F place (omega (arith, pairs-length cur)) (λ k small. ap d.differs (pairs-get cur k (omega arith)) ∙ r.none k small));
+      none_differs = subst (All (λ p. differs d p ≡ false)) (sym (capped-take cur.limit F (found_after d place) place r.capped (omega (arith, pairs-length cur))))
+          (all-taken (λ p. differs d p ≡ false) F place (omega (arith, pairs-length cur)) (λ k small. ap (differs d) (pairs-get cur k (omega arith)) ∙ r.none k small));
     })
 
--- one of the first ones differs
-pub running-apart : (a b : Automaton) (old cur : State) (place : ℕ) → IsRunning a b old cur place → place < length cur.keys → place ≢ cur.limit → (pairs_of a b).differs (pair_at cur place) ≡ true
-    → Any (λ p. (pairs_of a b).differs p ≡ true) (first_ones (pairs_of a b) old.limit)
-running-apart a b old cur place r lt other apart =
-    let d = pairs_of a b in
-    let p = pair_at cur place in
-    let there : slice_get (found_after d place) place ≡ Some p = capped-get cur.limit (pairs_in cur) (found_after d place) place r.capped (omega (arith, pairs-length cur)) ∙ ap (λ (q : SetPair). Some q) (pairs-get cur place lt) in
-    let small : place < old.limit = by (cases_lt place cur.limit) in
-    let x = found-extends d place old.limit (omega arith) in
-    let then : slice_get (first_ones d old.limit) place ≡ Some p =
-    get-taken (found_after d old.limit) old.limit place p small (ap (λ (l : List SetPair). slice_get l place) x.1 ∙ get_kept (found_after d place) x.0 place p there) in
-    (place, p, slice_get_within (first_ones d old.limit) place p then, get_or_from_slice_get (first_ones d old.limit) place p p then, apart)
-  where
-    by : (place < cur.limit) ⊎ (cur.limit ≤ place) → place < old.limit
-    by (inl less) = omega (arith, r.limit_is)
-    by (inr more) = absurd (other (omega (arith, r.place_in)))
-
 -- each found set pair is proper
-first-proper' : (a b : Automaton) → AreReaders a b → (pairs_of a b).proper first_pair ≡ true
+pub first-proper' : (a b : Automaton) → AreReaders a b → (pairs_of a b).proper first_pair ≡ true
 unfolding pairs_of
 first-proper' a b readers =
     and_from (all_proper a (0 ∷ [])) (all_proper b (0 ∷ []))
     (and_from (nat_lt 0 (accepting_state a)) true (lt-ltb 0 (accepting_state a) (omega (arith, readers.first_reads.whole.three_states))) refl)
     (and_from (nat_lt 0 (accepting_state b)) true (lt-ltb 0 (accepting_state b) (omega (arith, readers.second_reads.whole.three_states))) refl)
 
-next-proper : (a b : Automaton) → AreReaders a b → (p : SetPair) (letter : ℕ) → letter < letters_count a → (pairs_of a b).proper (pair_on a b p letter) ≡ true
+pub next-proper : (a b : Automaton) → AreReaders a b → (p : SetPair) (letter : ℕ) → letter < letters_count a → (pairs_of a b).proper (pair_on a b p letter) ≡ true
 unfolding pairs_of
 next-proper a b readers p letter lt =
     and_from (all_proper a (image a p.first letter)) (all_proper b (image b p.second letter)) (readers.first_reads.on_letters p.first letter lt) (readers.second_reads.on_letters p.second letter (omega (arith, readers.same_letters)))
@@ -213,7 +148,7 @@ found-proper a b s readers search (suc k) lt =
     ap (pairs_of a b).proper n.is ∙ next-proper a b readers (pair_at s (way_at s (suc k)).parent) (way_at s (suc k)).letter n.small
 
 -- the next set pairs of each found one are found
-found-nexts : (d : SetPairs) (F : List SetPair) (place k : ℕ) → F ≡ found_after d place → k < length F → length F ≤ place → All (Contains F) (d.nexts (get_or F k first_pair))
+pub found-nexts : (d : SetPairs) (F : List SetPair) (place k : ℕ) → F ≡ found_after d place → k < length F → length F ≤ place → All (Contains F) (d.nexts (get_or F k first_pair))
 found-nexts d F place k e lt le =
     let early : k < length (found_after d k) = elim (cases_lt k (length (found_after d k))) [
       | inl less ↦ less
@@ -234,7 +169,7 @@ get-any s k x lt = get_or_default (pairs_in s) k x first_pair lt ∙ pairs-get s
 
 -- all set pairs are found
 pub found-closed : (a b : Automaton) (cur : State) (place : ℕ) → AreReaders a b → IsSearch a b cur → pairs_in cur ≡ found_after (pairs_of a b) place → length cur.keys ≤ place
-    → ((k : ℕ) → k < length cur.keys → (pairs_of a b).differs (pair_at cur k) ≡ false) → IsClosed (pairs_of a b) (pairs_in cur)
+    → ((k : ℕ) → k < length cur.keys → differs (pairs_of a b) (pair_at cur k) ≡ false) → IsClosed (pairs_of a b) (pairs_in cur)
 found-closed a b cur place readers search e le none = record {
   first_in = (0, omega (arith, pairs-length cur, search.some), pairs-get cur 0 search.some ∙ search.start);
   kept = λ k x lt.
@@ -259,10 +194,10 @@ running-all a b old cur place relation readers r all is = by r.capped
         let steady : found_after d old.limit ≡ found_after d place = found-steady d place old.limit few (omega (arith, r.place_in, r.limit_is)) in
         let whole : F ≡ found_after d old.limit = e ∙ sym steady in
         let short : length (found_after d old.limit) ≤ old.limit = omega (arith, ap length whole, pairs-length cur, r.place_in, r.limit_is) in
-        let none : All (λ p. d.differs p ≡ false) F = λ k x lt. ap d.differs (get-any cur k x lt) ∙ r.none k (omega (arith, pairs-length cur)) in
+        let none : All (λ p. differs d p ≡ false) F = λ k x lt. ap (differs d) (get-any cur k x lt) ∙ r.none k (omega (arith, pairs-length cur)) in
         record {
           all = is ∙ whole;
           few = short;
-          none_differs = subst (All (λ p. d.differs p ≡ false)) (whole ∙ sym (take_all old.limit (found_after d old.limit) short)) none;
+          none_differs = subst (All (λ p. differs d p ≡ false)) (whole ∙ sym (take_all old.limit (found_after d old.limit) short)) none;
           closed = subst (IsClosed d) (sym is) (found-closed a b cur place readers r.search e all (λ k lt. r.none k (omega arith)));
         }

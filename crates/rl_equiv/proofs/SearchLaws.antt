@@ -1,7 +1,6 @@
 -- Laws of a search: how the set pairs that it finds follow their order.
-use Rattle.std.proofs.Common.{◌≡◌, ◌∙◌, ℕ, zero, suc, ◌+◌, ◌<◌, ◌≤◌, ◌⊎◌, inl, inr, List, [], ◌∷◌, ◌++◌, length, get_or, map, take, slice_get, Some, Bool, true, false, not, cond, nat_lt, refl, sym, ap, ap₂, subst, arith, append_assoc}
+use Rattle.std.proofs.Common.{◌≡◌, ◌∙◌, ℕ, zero, suc, ◌+◌, ◌<◌, ◌≤◌, ◌⊎◌, inl, inr, List, [], ◌∷◌, ◌++◌, length, get_or, map, take, slice_get, Some, Bool, true, false, cond, nat_lt, refl, sym, ap, ap₂, subst, arith, append_assoc}
 use Rattle.std.specs.List.{list_any}
-use Rattle.std.proofs.Math.Bool.{beq}
 use Rattle.std.proofs.lemmas.Bool.{cases_lt, cond-true, cond-false, lt-ltb, le-ltb}
 use Rattle.std.proofs.lemmas.List.{length-append, length-map, map-append, append-nil, get_or_append_left, get_or-map, take_all, take_more}
 use Rattle.std.proofs.lemmas.Option.{slice_get-get_or, get_or_from_slice_get}
@@ -13,9 +12,11 @@ use Rattle.rl_equiv.specs.declared.pair.SetPair.{SetPair}
 use Rattle.rl_equiv.specs.declared.searching.Key.{Key}
 use Rattle.rl_equiv.specs.declared.searching.Way.{Way}
 use Rattle.rl_equiv.specs.SetPairs.{first_pair}
-use Rattle.rl_equiv.specs.Numbering.{same_pair, with_one, with_more}
-use Rattle.rl_equiv.specs.Joined.{pair_on, ends, pairs_of}
-use Rattle.rl_equiv.specs.Searching.{State, IsSide, no_key, no_way, key_at, pair_of, pairs_in, pair_at, with_one_within, IsSearch, IsOnward, AreCapped}
+use Rattle.rl_equiv.specs.Numbering.{same_pair, with_one, with_more, Reached, reached_by, next_reached, pairs_reached, with_reached, with_all_reached}
+use Rattle.rl_equiv.specs.internal.Machines.{pair_on, ends, pairs_of}
+use Rattle.rl_equiv.specs.internal.Searching.{State, IsSide, no_key, no_way, key_at, pair_of, pairs_in, pair_at, word_at, reached_in, reached_at, reached_on, with_reached_within, IsSearch, IsOnward, AreCapped, ends_of}
+use Rattle.rl_equiv.proofs.FoundLaws.{no_reached, reached-length, reached-get}
+use Rattle.rl_equiv.proofs.ImageLaws.{length-below}
 use Rattle.rl_equiv.proofs.VisitLaws.{onward-refl}
 
 -- ---- lists that grow
@@ -34,33 +35,51 @@ more-grows found (p ∷ ps) =
     let y = more-grows (with_one found p) ps in
     (x.0 ++ y.0, y.1 ∙ ap (λ (l : List SetPair). l ++ y.0) x.1 ∙ append_assoc found x.0 y.0)
 
-pub with_more-append : (found ps qs : List SetPair) → with_more found (ps ++ qs) ≡ with_more (with_more found ps) qs
-with_more-append found [] qs = refl
-with_more-append found (p ∷ ps) qs = with_more-append (with_one found p) ps qs
+pub reached-grows : (found : List Reached) (r : Reached) → (more : List Reached) × (with_reached found r ≡ found ++ more)
+reached-grows found r = by (list_any (same_pair r.pair) (pairs_reached found))
+  where
+    by : (b : Bool) → (more : List Reached) × (cond b found (found ++ r ∷ []) ≡ found ++ more)
+    by true = ([], sym (append-nil found))
+    by false = (r ∷ [], refl)
+
+pub all-append : (found rs qs : List Reached) → with_all_reached found (rs ++ qs) ≡ with_all_reached (with_all_reached found rs) qs
+all-append found [] qs = refl
+all-append found (r ∷ rs) qs = all-append (with_reached found r) rs qs
+
+by-push : (word : List ℕ) (letter : ℕ) (ps : List SetPair) (p : SetPair) (last : ℕ) → last ≡ letter + length ps
+    → reached_by word letter (ps ++ p ∷ []) ≡ reached_by word letter ps ++ record { pair = p; word = word ++ last ∷ [] } ∷ []
+by-push word letter [] p last e = let here : letter ≡ last = omega (arith, e) in ap (λ (n : ℕ). record { pair = p; word = word ++ n ∷ [] } ∷ []) here
+by-push word letter (q ∷ ps) p last e = ap (λ (l : List Reached). record { pair = q; word = word ++ letter ∷ [] } ∷ l) (by-push word (suc letter) ps p last (omega (arith, e)))
 
 -- one more set pair, on both sides
-pub capped-one : (limit : ℕ) (found whole : List SetPair) (p : SetPair) → AreCapped limit found whole → AreCapped limit (with_one_within limit found p) (with_one whole p)
+pub capped-one : (limit : ℕ) (found whole : List Reached) (p : Reached) → AreCapped limit found whole → AreCapped limit (with_reached_within limit found p) (with_reached whole p)
 capped-one limit found whole p (inl e) = by (cases_lt limit (length found))
   where
-    by : (limit < length found) ⊎ (length found ≤ limit) → AreCapped limit (with_one_within limit found p) (with_one whole p)
+    by : (limit < length found) ⊎ (length found ≤ limit) → AreCapped limit (with_reached_within limit found p) (with_reached whole p)
     by (inl lt) =
-        let full : with_one_within limit found p ≡ found = cond-true (nat_lt limit (length found)) found (with_one found p) (lt-ltb limit (length found) lt) in
-        let x = one-grows whole p in
-        subst (λ (l : List SetPair). AreCapped limit l (with_one whole p)) (sym full) (inr (lt, (x.0, x.1 ∙ ap (λ (l : List SetPair). l ++ x.0) (sym e))))
+        let full : with_reached_within limit found p ≡ found = cond-true (nat_lt limit (length found)) found (with_reached found p) (lt-ltb limit (length found) lt) in
+        let x = reached-grows whole p in
+        subst (λ (l : List Reached). AreCapped limit l (with_reached whole p)) (sym full) (inr (lt, (x.0, x.1 ∙ ap (λ (l : List Reached). l ++ x.0) (sym e))))
     by (inr le) =
-        let room : with_one_within limit found p ≡ with_one found p = cond-false (nat_lt limit (length found)) found (with_one found p) (le-ltb limit (length found) le) in
-        inl (room ∙ ap (λ (l : List SetPair). with_one l p) e)
+        let room : with_reached_within limit found p ≡ with_reached found p = cond-false (nat_lt limit (length found)) found (with_reached found p) (le-ltb limit (length found) le) in
+        inl (room ∙ ap (λ (l : List Reached). with_reached l p) e)
 capped-one limit found whole p (inr h) =
-    let full : with_one_within limit found p ≡ found = cond-true (nat_lt limit (length found)) found (with_one found p) (lt-ltb limit (length found) h.0) in
-    let x = one-grows whole p in
-    subst (λ (l : List SetPair). AreCapped limit l (with_one whole p)) (sym full)
-    (inr (h.0, (h.1.0 ++ x.0, x.1 ∙ ap (λ (l : List SetPair). l ++ x.0) h.1.1 ∙ append_assoc found h.1.0 x.0)))
+    let full : with_reached_within limit found p ≡ found = cond-true (nat_lt limit (length found)) found (with_reached found p) (lt-ltb limit (length found) h.0) in
+    let x = reached-grows whole p in
+    subst (λ (l : List Reached). AreCapped limit l (with_reached whole p)) (sym full)
+    (inr (h.0, (h.1.0 ++ x.0, x.1 ∙ ap (λ (l : List Reached). l ++ x.0) h.1.1 ∙ append_assoc found h.1.0 x.0)))
 
 -- what is found at a place
-pub capped-get : (limit : ℕ) (found whole : List SetPair) (k : ℕ) → AreCapped limit found whole → k < length found → slice_get whole k ≡ Some (get_or found k first_pair)
-capped-get limit found whole k (inl e) lt = ap (λ (l : List SetPair). slice_get l k) (sym e) ∙ slice_get-get_or found k first_pair lt
-capped-get limit found whole k (inr h) lt =
-    ap (λ (l : List SetPair). slice_get l k) h.1.1 ∙ get_kept found h.1.0 k (get_or found k first_pair) (slice_get-get_or found k first_pair lt)
+pub capped-get : {X : Type 0} (limit : ℕ) (found whole : List X) (k : ℕ) (d : X) → AreCapped limit found whole → k < length found → slice_get whole k ≡ Some (get_or found k d)
+capped-get {X = X} limit found whole k d (inl e) lt = ap (λ (l : List X). slice_get l k) (sym e) ∙ slice_get-get_or found k d lt
+capped-get {X = X} limit found whole k d (inr h) lt =
+    ap (λ (l : List X). slice_get l k) h.1.1 ∙ get_kept found h.1.0 k (get_or found k d) (slice_get-get_or found k d lt)
+
+-- the same without the words
+pub capped-pairs : (limit : ℕ) (found whole : List Reached) → AreCapped limit found whole → AreCapped limit (pairs_reached found) (pairs_reached whole)
+capped-pairs limit found whole (inl e) = inl (ap pairs_reached e)
+capped-pairs limit found whole (inr h) =
+    inr (omega (arith, h.0, length-map found (λ (r : Reached). r.pair)), (pairs_reached h.1.0, ap pairs_reached h.1.1 ∙ map-append (λ (r : Reached). r.pair) found h.1.0))
 
 -- ---- the pairs of a state
 
@@ -72,67 +91,78 @@ pairs-get s k lt = get_or-map (pair_of s.first s.second) s.keys k no_key first_p
 
 module _ (a b : Automaton) (old new : State) (o : IsOnward a b old new) where
   pub onward-longer : length old.keys ≤ length new.keys
-  onward-longer = omega (arith, ap length o.grown, length-append (pairs_in old) o.more, pairs-length old, pairs-length new)
+  onward-longer = omega (arith, ap length o.grown, length-append (reached_in old) o.more, reached-length old, reached-length new)
+
+  pub onward-reached : (k : ℕ) → k < length old.keys → reached_at new k ≡ reached_at old k
+  onward-reached k lt =
+      sym (reached-get new k (omega (arith, onward-longer)))
+      ∙ ap (λ (l : List Reached). get_or l k no_reached) o.grown
+      ∙ get_or_append_left (reached_in old) o.more no_reached k (omega (arith, reached-length old))
+      ∙ reached-get old k lt
 
   pub onward-get : (k : ℕ) → k < length old.keys → pair_at new k ≡ pair_at old k
-  onward-get k lt =
-      sym (pairs-get new k (omega (arith, onward-longer)))
-      ∙ ap (λ (l : List SetPair). get_or l k first_pair) o.grown
-      ∙ get_or_append_left (pairs_in old) o.more first_pair k (omega (arith, pairs-length old))
-      ∙ pairs-get old k lt
+  onward-get k lt = ap (λ (r : Reached). r.pair) (onward-reached k lt)
 
 pub onward-onward : (a b : Automaton) (s t u : State) → IsOnward a b s t → IsOnward a b t u → IsOnward a b s u
 onward-onward a b s t u o p = record {
   search = p.search;
   limit_is = p.limit_is ∙ o.limit_is;
   more = o.more ++ p.more;
-  grown = p.grown ∙ ap (λ (l : List SetPair). l ++ p.more) o.grown ∙ append_assoc (pairs_in s) o.more p.more;
+  grown = p.grown ∙ ap (λ (l : List Reached). l ++ p.more) o.grown ∙ append_assoc (reached_in s) o.more p.more;
 }
 
 -- the letters of one set pair that were visited
 pub record IsExpanding (a b : Automaton) (old cur : State) (place letter : ℕ) : Type 0 where
   pub onward : IsOnward a b old cur
-  pub pairs : (whole : List SetPair) → AreCapped old.limit (pairs_in old) whole → AreCapped old.limit (pairs_in cur) (with_more whole (map (pair_on a b (pair_at old place)) (below letter)))
+  pub reached : (whole : List Reached) → AreCapped old.limit (reached_in old) whole
+      → AreCapped old.limit (reached_in cur) (with_all_reached whole (reached_by (word_at old place) 0 (map (pair_on a b (pair_at old place)) (below letter))))
 
 pub expanding-start : (a b : Automaton) (s : State) (place : ℕ) → IsSearch a b s → IsExpanding a b s s place 0
-expanding-start a b s place search = record { onward = onward-refl a b s search; pairs = λ whole capped. capped }
+expanding-start a b s place search = record { onward = onward-refl a b s search; reached = λ whole capped. capped }
 
 pub expanding-more : (a b : Automaton) (old cur new : State) (place letter : ℕ) → place < length old.keys → IsExpanding a b old cur place letter → IsOnward a b cur new
-    → pairs_in new ≡ with_one_within cur.limit (pairs_in cur) (pair_on a b (pair_at cur place) letter) → IsExpanding a b old new place (letter + 1)
+    → reached_in new ≡ with_reached_within cur.limit (reached_in cur) (reached_on a b (reached_at cur place) letter) → IsExpanding a b old new place (letter + 1)
 expanding-more a b old cur new place letter lt x o e = record {
   onward = onward-onward a b old cur new x.onward o;
-  pairs = λ whole capped.
-      let p = pair_on a b (pair_at old place) letter in
-      let now : pairs_in new ≡ with_one_within old.limit (pairs_in cur) p =
-      e ∙ ap₂ (λ (n : ℕ) (q : SetPair). with_one_within n (pairs_in cur) (pair_on a b q letter)) x.onward.limit_is (onward-get a b old cur x.onward place lt) in
+  reached = λ whole capped.
+      let word = word_at old place in
+      let f = pair_on a b (pair_at old place) in
+      let r = reached_on a b (reached_at old place) letter in
+      let now : reached_in new ≡ with_reached_within old.limit (reached_in cur) r =
+      e ∙ ap₂ (λ (n : ℕ) (q : Reached). with_reached_within n (reached_in cur) (reached_on a b q letter)) x.onward.limit_is (onward-reached a b old cur x.onward place lt) in
       let one : letter + 1 ≡ suc letter = omega arith in
-      let then : with_more whole (map (pair_on a b (pair_at old place)) (below (letter + 1))) ≡ with_one (with_more whole (map (pair_on a b (pair_at old place)) (below letter))) p =
-      ap (λ (n : ℕ). with_more whole (map (pair_on a b (pair_at old place)) (below n))) one
-      ∙ ap (with_more whole) (map-append (pair_on a b (pair_at old place)) (below letter) (letter ∷ []))
-      ∙ with_more-append whole (map (pair_on a b (pair_at old place)) (below letter)) (p ∷ []) in
-      subst (λ (l : List SetPair). AreCapped old.limit l (with_more whole (map (pair_on a b (pair_at old place)) (below (letter + 1))))) (sym now)
-      (subst (λ (l : List SetPair). AreCapped old.limit (with_one_within old.limit (pairs_in cur) p) l) (sym then)
-      (capped-one old.limit (pairs_in cur) (with_more whole (map (pair_on a b (pair_at old place)) (below letter))) p (x.pairs whole capped)));
+      let pushed : reached_by word 0 (map f (below (suc letter))) ≡ reached_by word 0 (map f (below letter)) ++ r ∷ [] =
+      ap (reached_by word 0) (map-append f (below letter) (letter ∷ []))
+      ∙ by-push word 0 (map f (below letter)) (f letter) letter (omega (arith, length-map (below letter) f, length-below letter)) in
+      let then : with_all_reached whole (reached_by word 0 (map f (below (letter + 1)))) ≡ with_reached (with_all_reached whole (reached_by word 0 (map f (below letter)))) r =
+      ap (λ (n : ℕ). with_all_reached whole (reached_by word 0 (map f (below n)))) one
+      ∙ ap (with_all_reached whole) pushed
+      ∙ all-append whole (reached_by word 0 (map f (below letter))) (r ∷ []) in
+      subst (λ (l : List Reached). AreCapped old.limit l (with_all_reached whole (reached_by word 0 (map f (below (letter + 1)))))) (sym now)
+      (subst (λ (l : List Reached). AreCapped old.limit (with_reached_within old.limit (reached_in cur) r) l) (sym then)
+      (capped-one old.limit (reached_in cur) (with_all_reached whole (reached_by word 0 (map f (below letter)))) r (x.reached whole capped)));
 }
 
 pub expanding-done : (a b : Automaton) (old cur : State) (place letter : ℕ) → letter ≡ letters_count a → IsExpanding a b old cur place letter
-    → (whole : List SetPair) → AreCapped old.limit (pairs_in old) whole → AreCapped old.limit (pairs_in cur) (with_more whole ((pairs_of a b).nexts (pair_at old place)))
+    → (whole : List Reached) → AreCapped old.limit (reached_in old) whole → AreCapped old.limit (reached_in cur) (with_all_reached whole (next_reached (pairs_of a b) (reached_at old place)))
 unfolding pairs_of
 expanding-done a b old cur place letter e x whole capped =
-    subst (λ (n : ℕ). AreCapped old.limit (pairs_in cur) (with_more whole (map (pair_on a b (pair_at old place)) (below n)))) e (x.pairs whole capped)
+    subst (λ (n : ℕ). AreCapped old.limit (reached_in cur) (with_all_reached whole (reached_by (word_at old place) 0 (map (pair_on a b (pair_at old place)) (below n))))) e (x.reached whole capped)
 
 -- a key that was read
 pub key-read : (s : State) (place : ℕ) (key : Key) → slice_get s.keys place ≡ Some key → key_at s place ≡ key
 key-read s place key e = get_or_from_slice_get s.keys place key no_key e
 
--- the set pair at a place differs where its sets end differently
-pub differs-read : (a b : Automaton) (s : State) (place : ℕ) (key : Key) (x y : Bool) → key_at s place ≡ key → x ≡ ends a (set_at s.first key.first) → y ≡ ends b (set_at s.second key.second)
-    → not (beq x y) ≡ (pairs_of a b).differs (pair_at s place)
+-- the ends of the set pair at a place are those of its sets
+pub ends-read : (a b : Automaton) (s : State) (place : ℕ) (key : Key) (x y : Bool) → key_at s place ≡ key → x ≡ ends a (set_at s.first key.first) → y ≡ ends b (set_at s.second key.second)
+    → record { first = x; second = y } ≡ ends_of (pairs_of a b) (pair_at s place)
 unfolding pairs_of
-differs-read a b s place key x y e f g =
+ends-read a b s place key x y e f g =
     let first : ends a (set_at s.first key.first) ≡ ends a (pair_at s place).first = ap (λ (k : Key). ends a (set_at s.first k.first)) (sym e) in
     let second : ends b (set_at s.second key.second) ≡ ends b (pair_at s place).second = ap (λ (k : Key). ends b (set_at s.second k.second)) (sym e) in
-    ap₂ (λ p q. not (beq p q)) (f ∙ first) (g ∙ second)
+    let p = f ∙ first in
+    let q = g ∙ second in
+    λ i. record { first = p i; second = q i }
 
 -- the search begins with the first set pair
 pub search-start : (a b : Automaton) (limit n m : ℕ) (v w : Walk) (keys : List Key) (ways : List Way) → 1 ≤ limit → limit ≤ 20000 → IsSide a limit 1 v → IsSide b limit 1 w

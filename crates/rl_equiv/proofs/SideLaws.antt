@@ -8,7 +8,7 @@ use Rattle.rl_prio.specs.Automaton.{Automaton, accepting_state}
 use Rattle.rl_sets.specs.Live.{holds}
 use Rattle.rl_sets.specs.Walk.{Walk, set_at, set_of}
 use Rattle.rl_sets.proofs.SetLemmas.{filter_gap, filter_next}
-use Rattle.rl_equiv.specs.Searching.{IsSide, Gets}
+use Rattle.rl_equiv.specs.internal.Searching.{IsSide, Gets}
 
 -- the set of the start
 pub start-set : (a : Automaton) → 3 ≤ a.states → set_of a (0 ∷ []) ≡ 0 ∷ []

@@ -4,7 +4,7 @@ use Rattle.std.proofs.lemmas.List.{reverse-append, reverse-reverse}
 use Rattle.std.proofs.lemmas.Option.{slice_get_read}
 use Rattle.rl_prio.specs.Automaton.{Automaton}
 use Rattle.rl_equiv.specs.declared.searching.Way.{Way}
-use Rattle.rl_equiv.specs.Searching.{Leads, start, onward, sample_of}
+use Rattle.rl_equiv.specs.internal.Searching.{Leads, start, onward, sample_of}
 
 -- what is read of the text so far, from its end, and where the rest leads from
 pub record IsBack (a : Automaton) (ways : List Way) (place at : ℕ) (back : List ℕ) : Type 0 where

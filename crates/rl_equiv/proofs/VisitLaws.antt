@@ -13,9 +13,10 @@ use Rattle.rl_sets.proofs.SetLemmas.{same_tests}
 use Rattle.rl_equiv.specs.declared.pair.SetPair.{SetPair}
 use Rattle.rl_equiv.specs.declared.searching.Key.{Key}
 use Rattle.rl_equiv.specs.declared.searching.Way.{Way}
-use Rattle.rl_equiv.specs.Numbering.{same_pair, with_one}
-use Rattle.rl_equiv.specs.Joined.{pair_on}
-use Rattle.rl_equiv.specs.Searching.{Gets, State, no_key, no_way, key_at, way_at, pair_of, pairs_in, pair_at, with_one_within, IsNext, IsSearch, IsOnward}
+use Rattle.rl_equiv.specs.Numbering.{same_pair, Reached, with_reached}
+use Rattle.rl_equiv.specs.internal.Machines.{pair_on}
+use Rattle.rl_equiv.specs.internal.Searching.{Gets, State, no_key, no_way, key_at, way_at, pair_of, pairs_in, pair_at, words_of, word_at, reached_of, reached_in, reached_at, reached_on, with_reached_within, IsNext, IsSearch, IsOnward}
+use Rattle.rl_equiv.proofs.FoundLaws.{words-push, words-length, of-push, reached-pairs, reached-length}
 use Rattle.rl_equiv.proofs.SideLaws.{gets-within, gets-set, gets-longer, gets-few, gets-same, gets-keeps, gets-old}
 
 abbrev pub key_eq : Key → Key → Bool
@@ -132,10 +133,17 @@ module _ (a b : Automaton) (s : State) (v w : Walk) (place letter n m : ℕ) (i 
       ap₂ (λ (p : SetPair) (l : List SetPair). list_any (same_pair p) l) (sym next-is) (sym pairs-kept)
       ∙ any-same a b v w key s.keys i.first_gets.made i.second_gets.made first-there second-there keys-in-new
 
-  within-is : with_one_within s.limit (pairs_in s) next ≡ cond (list_any (key_eq key) s.keys) (pairs_in s) (pairs_in s ++ next ∷ [])
+  abbrev pub next_one : Reached
+  next_one = reached_on a b (reached_at s place) letter
+
+  within-is : with_reached_within s.limit (reached_in s) next_one ≡ cond (list_any (key_eq key) s.keys) (reached_in s) (reached_in s ++ next_one ∷ [])
   within-is =
-      cond-false (nat_lt s.limit (length (pairs_in s))) (pairs_in s) (with_one (pairs_in s) next) (le-ltb s.limit (length (pairs_in s)) (omega (arith, i.room, length-map s.keys (pair_of s.first s.second))))
-      ∙ ap (λ (t : Bool). cond t (pairs_in s) (pairs_in s ++ next ∷ [])) any-is
+      cond-false (nat_lt s.limit (length (reached_in s))) (reached_in s) (with_reached (reached_in s) next_one) (le-ltb s.limit (length (reached_in s)) (omega (arith, i.room, reached-length s)))
+      ∙ ap (λ (l : List SetPair). cond (list_any (same_pair next) l) (reached_in s) (reached_in s ++ next_one ∷ [])) (reached-pairs s)
+      ∙ ap (λ (t : Bool). cond t (reached_in s) (reached_in s ++ next_one ∷ [])) any-is
+
+  reached-kept : reached_of (map (pair_of v w) s.keys) (words_of s.ways) ≡ reached_in s
+  reached-kept = ap (λ (l : List SetPair). reached_of l (words_of s.ways)) pairs-kept
 
   pair-kept : (k : ℕ) → k < length s.keys → pair_of v w (key_at s k) ≡ pair_at s k
   pair-kept k lt =
@@ -151,7 +159,7 @@ module _ (a b : Automaton) (s : State) (v w : Walk) (place letter n m : ℕ) (i 
       let h = Any-from_list_any (key_eq key) s.keys there in
       (h.0, h.2, get_or_default s.keys h.0 no_key h.1 h.2 ∙ h.3 ∙ sym (same-key key h.1 h.4))
 
-  pub visited-old : list_any (key_eq key) s.keys ≡ true → IsOnward a b s old_state × (pairs_in old_state ≡ with_one_within s.limit (pairs_in s) next)
+  pub visited-old : list_any (key_eq key) s.keys ≡ true → IsOnward a b s old_state × (reached_in old_state ≡ with_reached_within s.limit (reached_in s) next_one)
   visited-old there =
       let h = found-key there in
       let x = gets-old a s.first v (image a (pair_at s place).first letter) n i.first_gets (subst (λ (k : Key). k.first < length s.first.sets) h.2 (i.search.first_in h.0 h.1)) in
@@ -190,9 +198,9 @@ module _ (a b : Automaton) (s : State) (v w : Walk) (place letter n m : ℕ) (i 
           };
           limit_is = refl;
           more = [];
-          grown = pairs-kept ∙ sym (append-nil (pairs_in s));
+          grown = reached-kept ∙ sym (append-nil (reached_in s));
         },
-        pairs-kept ∙ sym (within-is ∙ ap (λ (t : Bool). cond t (pairs_in s) (pairs_in s ++ next ∷ [])) there),
+        reached-kept ∙ sym (within-is ∙ ap (λ (t : Bool). cond t (reached_in s) (reached_in s ++ next_one ∷ [])) there),
       )
 
   abbrev pub way : Way
@@ -207,7 +215,7 @@ module _ (a b : Automaton) (s : State) (v w : Walk) (place letter n m : ℕ) (i 
   key-new : (k : ℕ) → length s.keys ≡ k → get_or (s.keys ++ key ∷ []) k no_key ≡ key
   key-new k e = get_or_push s.keys key no_key k e
 
-  pub visited-new : list_any (key_eq key) s.keys ≡ false → IsOnward a b s new_state × (pairs_in new_state ≡ with_one_within s.limit (pairs_in s) next)
+  pub visited-new : list_any (key_eq key) s.keys ≡ false → IsOnward a b s new_state × (reached_in new_state ≡ with_reached_within s.limit (reached_in s) next_one)
   visited-new none =
       let one = i.search.first_side in
       let two = i.search.second_side in
@@ -215,7 +223,10 @@ module _ (a b : Automaton) (s : State) (v w : Walk) (place letter n m : ℕ) (i 
       let y = image b (pair_at s place).second letter in
       let long : length (s.keys ++ key ∷ []) ≡ length s.keys + 1 = length_push s.keys key in
       let old-pair = λ (k : ℕ) (lt : k < length s.keys). ap (pair_of v w) (key-old k lt) ∙ pair-kept k lt in
-      let grown : map (pair_of v w) (s.keys ++ key ∷ []) ≡ pairs_in s ++ next ∷ [] = map-append (pair_of v w) s.keys (key ∷ []) ∙ ap₂ (λ (l : List SetPair) (p : SetPair). l ++ p ∷ []) pairs-kept next-is in (
+      let grown : map (pair_of v w) (s.keys ++ key ∷ []) ≡ pairs_in s ++ next ∷ [] = map-append (pair_of v w) s.keys (key ∷ []) ∙ ap₂ (λ (l : List SetPair) (p : SetPair). l ++ p ∷ []) pairs-kept next-is in
+      let longer : reached_in new_state ≡ reached_in s ++ next_one ∷ [] =
+      ap₂ reached_of grown (words-push s.ways way (omega (arith, i.search.paired, i.search.some)))
+      ∙ of-push (pairs_in s) (words_of s.ways) next (word_at s place ++ letter ∷ []) (omega (arith, length-map s.keys (pair_of s.first s.second), words-length s.ways, i.search.paired)) in (
         record {
           search = record {
             some_limit = i.search.some_limit;
@@ -265,14 +276,14 @@ module _ (a b : Automaton) (s : State) (v w : Walk) (place letter n m : ℕ) (i 
             ];
           };
           limit_is = refl;
-          more = next ∷ [];
-          grown = grown;
+          more = next_one ∷ [];
+          grown = longer;
         },
-        grown ∙ sym (within-is ∙ ap (λ (t : Bool). cond t (pairs_in s) (pairs_in s ++ next ∷ [])) none),
+        longer ∙ sym (within-is ∙ ap (λ (t : Bool). cond t (reached_in s) (reached_in s ++ next_one ∷ [])) none),
       )
 
 pub onward-refl : (a b : Automaton) (s : State) → IsSearch a b s → IsOnward a b s s
-onward-refl a b s search = record { search = search; limit_is = refl; more = []; grown = sym (append-nil (pairs_in s)) }
+onward-refl a b s search = record { search = search; limit_is = refl; more = []; grown = sym (append-nil (reached_in s)) }
 
 pub visit-read : (a b : Automaton) (s : State) (v w : Walk) (place letter n m : ℕ) (key : Key) → IsSearch a b s → place < length s.keys → letter < letters_count a → length s.keys ≤ s.limit → key_at s place ≡ key
     → Gets a s.first v (image a (set_at s.first key.first) letter) n → Gets b s.second w (image b (set_at s.second key.second) letter) m → IsVisit a b s v w place letter n m
@@ -298,20 +309,20 @@ module _ (a b : Automaton) (s : State) (v w : Walk) (place letter n m : ℕ) (i 
     (f : added ≡ not (list_any (key_eq (key a b s v w place letter n m i)) s.keys)) where
   pub visit-put : (ways : List Way) → added ≡ true → ways ≡ s.ways ++ way a b s v w place letter n m i ∷ []
       → IsOnward a b s (record { limit = s.limit; first = v; second = w; keys = keys; ways = ways })
-      × (pairs_in (record { limit = s.limit; first = v; second = w; keys = keys; ways = ways }) ≡ with_one_within s.limit (pairs_in s) (pair_on a b (pair_at s place) letter))
+      × (reached_in (record { limit = s.limit; first = v; second = w; keys = keys; ways = ways }) ≡ with_reached_within s.limit (reached_in s) (reached_on a b (reached_at s place) letter))
   visit-put ways is g =
       let none = not-true (list_any (key_eq (key a b s v w place letter n m i)) s.keys) (sym f ∙ is) in
       let ks = e ∙ ap (λ (t : Bool). cond t s.keys (s.keys ++ key a b s v w place letter n m i ∷ [])) none in
       let same : new_state a b s v w place letter n m i ≡ record { limit = s.limit; first = v; second = w; keys = keys; ways = ways } =
       λ j. record { limit = s.limit; first = v; second = w; keys = sym ks j; ways = sym g j } in
-      subst (λ (t : State). IsOnward a b s t × (pairs_in t ≡ with_one_within s.limit (pairs_in s) (pair_on a b (pair_at s place) letter))) same (visited-new a b s v w place letter n m i none)
+      subst (λ (t : State). IsOnward a b s t × (reached_in t ≡ with_reached_within s.limit (reached_in s) (reached_on a b (reached_at s place) letter))) same (visited-new a b s v w place letter n m i none)
 
   pub visit-stay : added ≡ false
       → IsOnward a b s (record { limit = s.limit; first = v; second = w; keys = keys; ways = s.ways })
-      × (pairs_in (record { limit = s.limit; first = v; second = w; keys = keys; ways = s.ways }) ≡ with_one_within s.limit (pairs_in s) (pair_on a b (pair_at s place) letter))
+      × (reached_in (record { limit = s.limit; first = v; second = w; keys = keys; ways = s.ways }) ≡ with_reached_within s.limit (reached_in s) (reached_on a b (reached_at s place) letter))
   visit-stay is =
       let there = not-false (list_any (key_eq (key a b s v w place letter n m i)) s.keys) (sym f ∙ is) in
       let ks = e ∙ ap (λ (t : Bool). cond t s.keys (s.keys ++ key a b s v w place letter n m i ∷ [])) there in
       let same : old_state a b s v w place letter n m i ≡ record { limit = s.limit; first = v; second = w; keys = keys; ways = s.ways } =
       λ j. record { limit = s.limit; first = v; second = w; keys = sym ks j; ways = s.ways } in
-      subst (λ (t : State). IsOnward a b s t × (pairs_in t ≡ with_one_within s.limit (pairs_in s) (pair_on a b (pair_at s place) letter))) same (visited-old a b s v w place letter n m i there)
+      subst (λ (t : State). IsOnward a b s t × (reached_in t ≡ with_reached_within s.limit (reached_in s) (reached_on a b (reached_at s place) letter))) same (visited-old a b s v w place letter n m i there)

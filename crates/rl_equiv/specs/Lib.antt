@@ -3,5 +3,6 @@ pub mod Languages
 pub mod Limits
 pub mod Numbering
 pub mod Joined
-pub mod Walks
-pub mod Searching
+pub mod Regions
+pub mod Told
+pub mod internal

@@ -5,29 +5,18 @@ ghost use Rattle.rl_syntax.specs.Tree.{tree_of, IsOver};
 ghost use Rattle.rl_equiv.specs.SetPairs.{set_pairs, IsKept, IsClosed};
 ghost use Rattle.rl_equiv.specs.Languages.{SameLanguage};
 ghost use Rattle.rl_equiv.specs.Limits.{AreWithin};
-ghost use Rattle.rl_equiv.specs.Joined.{pairs_of, ShareLetters};
+ghost use Rattle.rl_equiv.specs.internal.Machines.{pairs_of, ShareLetters};
 
 use crate::error::SameError;
+use crate::index::Index;
 use crate::joint::Joint;
 use crate::pair::{Relation, SetPair};
 use crate::walks::{are_proper, ends_in, image_in, walk_from};
-use rl_lists::OutOfMemory;
+use rl_lists::{Items, OutOfMemory};
 use rl_prio::Prio;
 use rl_ranges::Universe;
 use rl_syntax::Re;
 use std::alloc::Global;
-
-/// Whether the list has the pair of two sets.
-fn has_pair(relation: &[SetPair], first: &[u32], second: &[u32]) -> bool
-    ensures { IsTrue result ↔ Contains relation.now (record { first = first.now; second = second.now }) }
-{
-    for pair in relation {
-        if pair.first.as_slice() == first && pair.second.as_slice() == second {
-            return true;
-        }
-    }
-    false
-}
 
 /// Whether the sets of a set pair hold no other states than the start and those of places.
 fn is_proper(a: &Prio, b: &Prio, pair: &SetPair) -> bool
@@ -38,16 +27,16 @@ fn is_proper(a: &Prio, b: &Prio, pair: &SetPair) -> bool
     first && second
 }
 
-/// Whether a set pair is proper, shows no difference and has its next ones in the list.
+/// Whether a set pair is proper, shows no difference and has its next ones in the index.
 fn keeps(
     alloc: Global,
     a: &Prio,
     b: &Prio,
-    relation: &[SetPair],
+    index: &Index,
     pair: &SetPair,
 ) -> Result<bool, OutOfMemory>
     requires { ShareLetters a.now b.now }
-    ensures { IfOk result (λ ok. IsTrue ok ↔ IsKept (pairs_of a.now b.now) relation.now pair.now) }
+    ensures { IfOk result (λ ok. IsTrue ok ↔ IsKept (pairs_of a.now b.now) index.now pair.now) }
 {
     if !is_proper(a, b, pair) {
         return Ok(false);
@@ -63,7 +52,7 @@ fn keeps(
     for letter in 0..end {
         let left = image_in(&mut first, a, letter)?;
         let right = image_in(&mut second, b, letter)?;
-        if !has_pair(relation, left.as_slice(), right.as_slice()) {
+        if !index.has(left, right) {
             return Ok(false);
         }
     }
@@ -75,11 +64,14 @@ fn is_closed(alloc: Global, a: &Prio, b: &Prio, relation: &[SetPair]) -> Result<
     requires { ShareLetters a.now b.now }
     ensures { IfOk result (λ ok. IsTrue ok ↔ IsClosed (pairs_of a.now b.now) relation.now) }
 {
-    if !has_pair(relation, &[0], &[0]) {
+    let index = Index::of(alloc, relation)?;
+    let first = Items::from_slice(alloc, &[0])?;
+    let second = Items::from_slice(alloc, &[0])?;
+    if !index.has(first, second) {
         return Ok(false);
     }
     for pair in relation {
-        if !keeps(alloc, a, b, relation, pair)? {
+        if !keeps(alloc, a, b, &index, pair)? {
             return Ok(false);
         }
     }

@@ -1,12 +1,12 @@
 //! The search for a set pair that shows a difference, breadth first.
 
-ghost use Rattle.std.specs.Prelude.{◌≡◌, ℕ, ◌<◌, ◌≤◌, ◌∷◌, [], List, length, map, slice_index_or, IfOk, OnOk};
+ghost use Rattle.std.specs.Prelude.{◌≡◌, ℕ, ◌<◌, ◌≤◌, ◌∷◌, [], true, false, not, ◌&&◌, List, length, map, slice_index_or, IfOk, OnOk};
 ghost use Rattle.rl_prio.specs.Automaton.{letters_count};
 ghost use Rattle.rl_equiv.specs.declared.pair.SetPair.{SetPair};
 ghost use Rattle.rl_equiv.specs.SetPairs.{first_pair};
-ghost use Rattle.rl_equiv.specs.Numbering.{with_more, IsAnswer};
-ghost use Rattle.rl_equiv.specs.Joined.{pair_on, pairs_of};
-ghost use Rattle.rl_equiv.specs.Searching.{AreReaders, state_of, pairs_in, pair_at, key_at, way_at, with_one_within, IsSearch, IsOnward, AreCapped, Leads, sample_of, TellsApart};
+ghost use Rattle.rl_equiv.specs.Numbering.{Reached, next_reached, with_all_reached, IsAnswer};
+ghost use Rattle.rl_equiv.specs.internal.Machines.{pair_on, pairs_of};
+ghost use Rattle.rl_equiv.specs.internal.Searching.{AreReaders, state_of, pairs_in, pair_at, key_at, way_at, reached_in, reached_at, reached_on, with_reached_within, IsSearch, IsOnward, AreCapped, ends_of, is_apart, IsSeen, IsThrough, IsSeenApart, Leads, sample_of, TellsApart};
 
 use crate::joint::Joint;
 use crate::pair::{Relation, SetPair};
@@ -36,6 +36,15 @@ pub(crate) struct Way {
     pub letter: u32,
 }
 
+/// Which sets of a set pair the end letter leads to the accepting state.
+#[derive(Clone, Copy, Debug, PartialEq, Eq)]
+pub(crate) struct Ends {
+    /// Whether the first one is.
+    pub first: bool,
+    /// Whether the second one is.
+    pub second: bool,
+}
+
 /// The set pairs that are found, in the order in which they were found. Once there are more than the limit, no further ones are
 /// put behind them.
 #[derive(Drop)]
@@ -50,6 +59,13 @@ pub(crate) struct Search {
     pub keys: IndexSet<Key>,
     /// How each was found.
     pub ways: Vec<Way>,
+}
+
+/// Whether a search that doesn't ask for all ends at a set pair.
+fn stops(all: bool, ends: Ends) -> bool
+    ensures { result ≡ (not all && is_apart ends) }
+{
+    !all && ends.first != ends.second
 }
 
 impl Search {
@@ -83,21 +99,21 @@ impl Search {
         })
     }
 
-    /// Whether the set pair at a place shows a difference.
-    fn differs(&mut self, joint: &Joint, place: usize) -> Result<bool, OutOfMemory>
+    /// Which sets of the set pair at a place the end letter leads to the accepting state.
+    fn ends(&mut self, joint: &Joint, place: usize) -> Result<Ends, OutOfMemory>
         requires readers { AreReaders joint.now.first joint.now.second }
         requires search { IsSearch joint.now.first joint.now.second (state_of self.old) }
         requires place_in { place < length (state_of self.old).keys }
-        ensures differs { IfOk result (λ apart. apart ≡ (pairs_of joint.now.first joint.now.second).differs (pair_at (state_of self.old) place)) }
+        ensures ends { IfOk result (λ ends. ends ≡ ends_of (pairs_of joint.now.first joint.now.second) (pair_at (state_of self.old) place)) }
         ensures search { OnOk result (IsSearch joint.now.first joint.now.second (state_of self.new)) }
         ensures limit { OnOk result ((state_of self.new).limit ≡ (state_of self.old).limit) }
         ensures pairs { OnOk result (pairs_in (state_of self.new) ≡ pairs_in (state_of self.old)) }
         ensures ways { OnOk result ((state_of self.new).ways ≡ (state_of self.old).ways) }
     {
         let key = self.keys[place];
-        let ended = ends_at(&mut self.first, &joint.first, key.first)?;
-        let also_ended = ends_at(&mut self.second, &joint.second, key.second)?;
-        Ok(ended != also_ended)
+        let first = ends_at(&mut self.first, &joint.first, key.first)?;
+        let second = ends_at(&mut self.second, &joint.second, key.second)?;
+        Ok(Ends { first, second })
     }
 
     /// Puts the next set pair of the one at a place, on a letter, behind the others, unless it is there.
@@ -107,8 +123,8 @@ impl Search {
         requires place_in { place < length (state_of self.old).keys }
         requires letter_in { letter < letters_count joint.now.first }
         ensures onward { OnOk result (IsOnward joint.now.first joint.now.second (state_of self.old) (state_of self.new)) }
-        ensures pairs { OnOk result (pairs_in (state_of self.new)
-            ≡ with_one_within (state_of self.old).limit (pairs_in (state_of self.old)) (pair_on joint.now.first joint.now.second (pair_at (state_of self.old) place) letter)) }
+        ensures reached { OnOk result (reached_in (state_of self.new)
+            ≡ with_reached_within (state_of self.old).limit (reached_in (state_of self.old)) (reached_on joint.now.first joint.now.second (reached_at (state_of self.old) place) letter)) }
     {
         if self.keys.len() > self.limit as usize {
             return Ok(());
@@ -131,8 +147,8 @@ impl Search {
         requires search { IsSearch joint.now.first joint.now.second (state_of self.old) }
         requires place_in { place < length (state_of self.old).keys }
         ensures onward { OnOk result (IsOnward joint.now.first joint.now.second (state_of self.old) (state_of self.new)) }
-        ensures pairs { OnOk result ((whole : List SetPair) → AreCapped (state_of self.old).limit (pairs_in (state_of self.old)) whole
-            → AreCapped (state_of self.old).limit (pairs_in (state_of self.new)) (with_more whole ((pairs_of joint.now.first joint.now.second).nexts (pair_at (state_of self.old) place)))) }
+        ensures reached { OnOk result ((whole : List Reached) → AreCapped (state_of self.old).limit (reached_in (state_of self.old)) whole
+            → AreCapped (state_of self.old).limit (reached_in (state_of self.new)) (with_all_reached whole (next_reached (pairs_of joint.now.first joint.now.second) (reached_at (state_of self.old) place)))) }
     {
         for letter in 0..joint.first.letters().count() {
             self.visit(joint, place, letter)?;
@@ -140,8 +156,45 @@ impl Search {
         Ok(())
     }
 
+    /// Looks at the first set pairs, `limit` at most, one after another; unless `all` is asked for, no further than to the first
+    /// one that shows a difference.
+    pub(crate) fn look(
+        &mut self,
+        alloc: Global,
+        joint: &Joint,
+        all: bool,
+    ) -> Result<Vec<Ends>, OutOfMemory>
+        requires readers { AreReaders joint.now.first joint.now.second }
+        requires search { IsSearch joint.now.first joint.now.second (state_of self.old) }
+        requires one { pairs_in (state_of self.old) ≡ first_pair ∷ [] }
+        ensures seen { IfOk result (λ seen. IsSeen joint.now.first joint.now.second (state_of self.old).limit (state_of self.new) seen.items) }
+        ensures some { IfOk result (λ seen. 0 < length seen.items) }
+        ensures through { IfOk result (λ seen. all ≡ true → IsThrough (state_of self.old).limit (state_of self.new) seen.items) }
+        ensures apart { IfOk result (λ seen. all ≡ false → IsSeenApart (state_of self.old).limit (state_of self.new) seen.items) }
+    {
+        let mut seen = Vec::new(alloc);
+        while seen.len() < self.keys.len() {
+            let place = seen.len();
+            if place >= self.limit as usize {
+                return Ok(seen);
+            }
+            let ends = self.ends(joint, place)?;
+            self.expand(joint, place)?;
+            seen.push(ends)?;
+            if stops(all, ends) {
+                return Ok(seen);
+            }
+        }
+        Ok(seen)
+    }
+
     /// The text of a word that leads to the set pair at a place.
-    fn text_to(&self, alloc: Global, a: &Prio, place: usize) -> Result<Codes, OutOfMemory>
+    pub(crate) fn text_to(
+        &self,
+        alloc: Global,
+        a: &Prio,
+        place: usize,
+    ) -> Result<Codes, OutOfMemory>
         requires place_in { place < length (state_of self.now).ways }
         requires earlier { (k : ℕ) → 0 < k → k < length (state_of self.now).ways → (way_at (state_of self.now) k).parent < k }
         requires small { (k : ℕ) → 0 < k → k < length (state_of self.now).ways → (way_at (state_of self.now) k).letter < letters_count a.now }
@@ -182,17 +235,15 @@ impl Search {
         ensures answer { IfOk result (IsAnswer (pairs_of joint.now.first joint.now.second) (state_of self.old).limit) }
         ensures apart { IfOk result (TellsApart joint.now.first joint.now.second) }
     {
-        let mut place = 0;
-        while place < self.keys.len() {
-            if place == self.limit as usize {
-                return Ok(Sameness::Passed);
-            }
-            if self.differs(joint, place)? {
-                let text = self.text_to(alloc, &joint.first, place)?;
-                return Ok(Sameness::Apart(text));
-            }
-            self.expand(joint, place)?;
-            place += 1;
+        let seen = self.look(alloc, joint, false)?;
+        let place = seen.len() - 1;
+        let last = seen[place];
+        if last.first != last.second {
+            let text = self.text_to(alloc, &joint.first, place)?;
+            return Ok(Sameness::Apart(text));
+        }
+        if self.keys.len() > self.limit as usize {
+            return Ok(Sameness::Passed);
         }
         let relation = self.relation(alloc)?;
         Ok(Sameness::Equal(relation))

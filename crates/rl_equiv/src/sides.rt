@@ -4,8 +4,8 @@ ghost use Rattle.std.specs.Prelude.{◌≡◌, ◌≢◌, ◌<◌, ◌≤◌, []
 ghost use Rattle.rl_prio.specs.Automaton.{letters_count, accepting_state, dead_state};
 ghost use Rattle.rl_sets.specs.Live.{image};
 ghost use Rattle.rl_sets.specs.Walk.{set_at, set_of, IsMadeFor};
-ghost use Rattle.rl_equiv.specs.Joined.{ends};
-ghost use Rattle.rl_equiv.specs.Searching.{IsReader, IsSide, Gets};
+ghost use Rattle.rl_equiv.specs.internal.Machines.{ends};
+ghost use Rattle.rl_equiv.specs.internal.Searching.{IsReader, IsSide, Gets};
 
 use rl_lists::OutOfMemory;
 use rl_prio::Prio;

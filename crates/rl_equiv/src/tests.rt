@@ -87,3 +87,20 @@ fn a_limit_of_one_is_passed(rt: HostRuntime) -> Result<(), Fail> {
     }
     Ok(())
 }
+
+#[test]
+fn regions_have_their_first_texts(rt: HostRuntime) -> Result<(), Fail> {
+    let alloc = rt.alloc();
+    let first = three(alloc, 97, 97, 98)?;
+    let second = three(alloc, 97, 97, 99)?;
+    let found = regions(alloc, &first, &second, Universe::Bytes, 100)?;
+    match (found.first, found.second) {
+        (Some(left), Some(right)) => {
+            assert_eq!(rt; left.as_slice(), [97, 97, 98].as_slice());
+            assert_eq!(rt; right.as_slice(), [97, 97, 99].as_slice());
+        }
+        _ => assert!(rt; false),
+    }
+    assert!(rt; found.both.is_none() && !found.more);
+    Ok(())
+}

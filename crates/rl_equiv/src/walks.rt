@@ -4,8 +4,8 @@ ghost use Rattle.std.specs.Prelude.{◌≡◌, ◌+◌, ◌<◌, ◌≤◌, true
 ghost use Rattle.rl_prio.specs.Automaton.{letters_count, accepting_state};
 ghost use Rattle.rl_sets.specs.Live.{image};
 ghost use Rattle.rl_sets.specs.Walk.{set_at, set_of};
-ghost use Rattle.rl_equiv.specs.Joined.{all_proper, ends};
-ghost use Rattle.rl_equiv.specs.Walks.{IsBegun, GoesOn};
+ghost use Rattle.rl_equiv.specs.internal.Machines.{all_proper, ends};
+ghost use Rattle.rl_equiv.specs.internal.Walks.{IsBegun, GoesOn};
 
 use rl_lists::{Members, OutOfMemory};
 use rl_prio::Prio;

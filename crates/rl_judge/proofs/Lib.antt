@@ -5,3 +5,6 @@ pub mod Placing
 pub mod Runs
 pub mod Zipping
 pub mod VisitLemmas
+pub mod Spans
+pub mod Wrapping
+pub mod Suggestions

@@ -1,6 +1,6 @@
 -- The literals of a site stand among the tokens, with nothing but comments between them.
-use Rattle.std.proofs.Common.{◌≡◌, ℕ, zero, suc, ◌+◌, ◌-◌, ◌<◌, ◌≤◌, Bool, true, false, cond, not, ◌&&◌, ◌||◌, ◌⊎◌, inl, inr, List, [], ◌∷◌, ◌++◌, length, take, drop, refl, ap, sym, ◌∙◌, arith, subst, Some, None, Option}
-use Rattle.std.specs.Prelude.{All, IsTrue, slice_get, option_to_list}
+use Rattle.std.proofs.Common.{◌≡◌, ℕ, zero, suc, ◌+◌, ◌-◌, ◌<◌, ◌≤◌, Bool, true, false, cond, ◌&&◌, ◌||◌, ◌⊎◌, inl, inr, List, [], ◌∷◌, length, take, drop, refl, ap, sym, ◌∙◌, arith, subst, Some, None, Option}
+use Rattle.std.specs.Prelude.{All, slice_get, option_to_list}
 use Rattle.std.specs.List.{list_all, prefix_len}
 use Rattle.std.specs.Option.{option_map_or}
 use Rattle.std.proofs.lemmas.Bool.{false≢true}
@@ -10,7 +10,7 @@ use Rattle.std.proofs.lemmas.Option.{slice_get_within}
 use Rattle.rl_pylex.specs.declared.token_list.Token.{Token}
 use Rattle.rl_pylex.specs.declared.token_list.TokenKind.{TokenKind}
 use Rattle.rl_pylex.specs.declared.token_list.TokenKind.TheVariants as kind
-use Rattle.rl_pystr.specs.Runs.{is_literal as is_literal_token, is_literal_kind, is_comment_kind as is_comment, IsLiteralRun, begins_literal, ends_literal}
+use Rattle.rl_pystr.specs.Runs.{is_literal as is_literal_token, is_literal_kind, is_comment_kind as is_comment, IsLiteralRun}
 use Rattle.rl_sites.specs.declared.call.Call.{Call}
 use Rattle.rl_sites.specs.declared.heads.Head.{Head}
 use Rattle.rl_sites.specs.declared.imports.Alias.{Alias}
@@ -20,7 +20,6 @@ use Rattle.rl_sites.specs.declared.site.SiteFlags.{SiteFlags}
 use Rattle.rl_sites.specs.Marks.{marks_from, is_literal, is_comment_kind, is_literal_kind as is_literal_mark}
 use Rattle.rl_sites.specs.Imports.{aliases_of}
 use Rattle.rl_sites.specs.Sites.{pattern_size, site_of_run, ends_whole, flags_if, site_behind, site_by, site_here, head_of, hides, sites_from, sites_of}
-use Rattle.rl_judge.specs.RightEntries.{run_of}
 use Rattle.rl_judge.specs.Asked.{HasRun}
 
 -- a literal or a comment

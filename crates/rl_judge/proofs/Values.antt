@@ -1,5 +1,5 @@
 -- The codes of a value are of its universe.
-use Rattle.std.proofs.Common.{◌≡◌, ℕ, zero, suc, ◌+◌, ◌-◌, ◌*◌, ◌<◌, ◌≤◌, min, Bool, true, false, cond, not, ◌&&◌, ◌||◌, ◌⊎◌, inl, inr, List, [], ◌∷◌, ◌++◌, length, get_or, take, drop, refl, ap, sym, ◌∙◌, arith, subst, Some, None, Option}
+use Rattle.std.proofs.Common.{◌≡◌, ℕ, zero, suc, ◌+◌, ◌-◌, ◌<◌, ◌≤◌, min, Bool, true, false, cond, not, ◌&&◌, ◌||◌, ◌⊎◌, inl, inr, List, [], ◌∷◌, ◌++◌, length, get_or, take, drop, refl, sym, ◌∙◌, arith, subst, Some, None, Option}
 use Rattle.std.specs.Prelude.{Result, Ok, Err, All, IsUtf8, nat_lt, ◌==◌}
 use Rattle.std.specs.Char.{digit_value, len_utf8}
 use Rattle.std.specs.List.{prefix_len, list_all, list_any}
@@ -9,13 +9,11 @@ use Rattle.std.proofs.lemmas.Str.{scalars-chars}
 use Rattle.std.proofs.lemmas.Bool.{false≢true}
 use Rattle.std.proofs.lemmas.Bool.Decides.{nat_tests}
 use Rattle.std.proofs.lemmas.List.{length-drop, length-take, get_or-take, get_or-drop}
-use Rattle.rl_ranges.specs.declared.universe.Universe.{Universe}
 use Rattle.rl_ranges.specs.Text.{IsText, code_count}
-use Rattle.rl_pylex.specs.Bytes.{begins, is_in, line_end}
+use Rattle.rl_pylex.specs.Bytes.{is_in, line_end}
 use Rattle.rl_pylex.specs.declared.token_list.Token.{Token}
 use Rattle.rl_pylex.specs.Source.{text_of, IsTokenList, IsReadAt}
 use Rattle.rl_pylex.proofs.TokenFacts.{IsInOrder-tokens}
-use Rattle.rl_pystr.specs.declared.escapes.Cause.{Cause}
 use Rattle.rl_pystr.specs.declared.escapes.Cause.TheVariants as cause
 use Rattle.rl_pystr.specs.declared.escapes.Gives.{Gives}
 use Rattle.rl_pystr.specs.declared.escapes.Gives.TheVariants.{Nothing, One, Both, Refuses}
@@ -24,7 +22,7 @@ use Rattle.rl_pystr.specs.declared.fault.StrError.TheVariants as error
 use Rattle.rl_pystr.specs.declared.literal.Literal.{Literal}
 use Rattle.rl_pystr.specs.declared.placed.Placed.{Placed}
 use Rattle.rl_pystr.specs.Escapes.{is_octal, is_hex, number_of, octal, has_hex, hexadecimal, named_code, byte_escape, text_escape, named_or, escape, unit, size_of}
-use Rattle.rl_pystr.specs.Values.{empty, one, joined, in_front, before, given, value_from}
+use Rattle.rl_pystr.specs.Values.{empty, before, given, value_from}
 use Rattle.rl_pystr.specs.Runs.{is_literal, is_lettered, is_unlettered, has_letter, body_start, body_of, literal_value, token_value, values, has_bytes, value_of_run, universe_by, IsValue}
 use Rattle.rl_judge.proofs.Bodies.{body_utf8, literal_token}
 

@@ -1,7 +1,6 @@
 -- One visit more, and none.
-use Rattle.std.proofs.Common.{◌≡◌, ◌||◌, Bool, true, false, List, [], ◌∷◌, ◌++◌, refl, ap, ap₂, sym, ◌∙◌, subst}
+use Rattle.std.proofs.Common.{◌≡◌, ◌||◌, Bool, true, false, List, [], ◌∷◌, ◌++◌, refl, ap, sym, ◌∙◌, subst}
 use Rattle.std.specs.Prelude.{All}
-use Rattle.std.specs.List.{list_any}
 use Rattle.std.proofs.lemmas.List.Elements.{All-nil, All-append}
 use Rattle.std.proofs.lemmas.List.Folds.{list_any-append}
 use Rattle.rl_report.specs.declared.report.Entry.{Entry}
@@ -9,7 +8,7 @@ use Rattle.rl_report.specs.Layouts.{IsOfItsUniverse}
 use Rattle.rl_walk.specs.declared.visits.Visit.{Visit}
 use Rattle.rl_walk.specs.Visits.{has_unreadable, is_unreadable}
 use Rattle.rl_judge.specs.declared.settings.Settings.{Settings}
-use Rattle.rl_judge.specs.RightReport.{IsRightFor, AreRightFor, none, more, Checked, HasChecked}
+use Rattle.rl_judge.specs.RightReport.{IsRightFor, none, more, Checked, HasChecked}
 
 abbrev pub checked : Settings → List Entry → Bool → Checked
 checked s entries unread = record { settings = s; entries = entries; has_unread = unread }

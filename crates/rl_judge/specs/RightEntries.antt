@@ -1,5 +1,5 @@
 -- Which entries are right for a source, given its path, its bytes and the settings.
-use Rattle.std.specs.Prelude.{◌≡◌, ◌≢◌, ◌⊎◌, ◌≤◌, ℕ, List, [], ◌∷◌, take, drop, slice_get, Option, Some, None, option_map, if◌then◌else◌}
+use Rattle.std.specs.Prelude.{◌≡◌, ◌≢◌, ◌⊎◌, ◌≤◌, ℕ, List, [], ◌∷◌, map, take, drop, slice_get, Some, None, option_map, if◌then◌else◌}
 use Rattle.std.specs.List.{AllZip, list_any}
 use Rattle.rl_ranges.specs.declared.universe.Universe.TheVariants as universe
 use Rattle.rl_syntax.specs.declared.re.Mode.{Mode}
@@ -13,13 +13,16 @@ use Rattle.rl_sites.specs.declared.call.Call.TheVariants as call
 use Rattle.rl_sites.specs.declared.site.Site.{Site}
 use Rattle.rl_sites.specs.Sites.{sites_of}
 use Rattle.rl_report.specs.declared.report.Entry.{Entry}
+use Rattle.rl_report.specs.declared.report.Mark.{Mark}
 use Rattle.rl_report.specs.declared.report.Marks.{Marks}
 use Rattle.rl_report.specs.declared.report.Outcome.TheVariants as outcome
 use Rattle.rl_report.specs.Findings.{is_finding}
 use Rattle.rl_report.specs.Places.{place_of}
 use Rattle.rl_judge.specs.declared.settings.Settings.{Settings}
+use Rattle.rl_judge.specs.declared.parts.Part.{Part}
+use Rattle.rl_judge.specs.declared.parts.Parts.{Parts}
 use Rattle.rl_judge.specs.declared.told.Told.{Told}
-use Rattle.rl_judge.specs.declared.told.Terms.{Terms}
+use Rattle.rl_judge.specs.declared.beside.Terms.{Terms}
 use Rattle.rl_judge.specs.Faults.{source_fault}
 use Rattle.rl_judge.specs.Sites.{IsOfArgument}
 
@@ -42,9 +45,9 @@ mode_of s call.Sub = Search
 mode_of s call.Subn = Search
 
 abbrev pub terms_of : Settings → Call → Terms
-terms_of s c = record { mode = mode_of s c; max_pairs = s.max_pairs }
+terms_of s c = record { mode = mode_of s c; max_pairs = s.max_pairs; report = s.report }
 
--- marks are of suggestions: until they are given, no entry has one
+-- marks are of suggestions
 abbrev pub no_marks : Marks
 no_marks = record { dropped = []; merged = []; passed = [] }
 
@@ -60,6 +63,17 @@ fault_entry path source e = record {
   marks = no_marks;
 }
 
+-- a part with the line and the column where it begins
+abbrev pub mark_of : List ℕ → Part → Mark
+mark_of source part = record { at = place_of source part.byte; text = part.text }
+
+abbrev pub marks_of : List ℕ → Parts → Marks
+marks_of source parts = record {
+  dropped = map (mark_of source) parts.dropped;
+  merged = map (mark_of source) parts.merged;
+  passed = map (mark_of source) parts.passed;
+}
+
 -- the entry of a site of which this is told
 abbrev pub site_entry : List ℕ → List ℕ → List Token → Site → Told → Entry
 site_entry path source tokens site told = record {
@@ -69,7 +83,7 @@ site_entry path source tokens site told = record {
   universe = told.universe;
   fault = option_map (place_of source) told.fault;
   outcome = told.outcome;
-  marks = no_marks;
+  marks = marks_of source told.parts;
 }
 
 -- the tokens of a site's literals, with the comments between them

@@ -7,7 +7,8 @@ ghost use Rattle.rl_judge.specs.RightReport.{path_entry, IsRightFor, HasChecked}
 ghost use Rattle.rl_judge.specs.Asked.{IsOfUniverse};
 ghost use Rattle.rl_ranges.specs.declared.universe.Universe.TheVariants as universe;
 
-use crate::judging::{judge, no_marks};
+use crate::judging::judge;
+use crate::places::no_marks;
 use crate::settings::Settings;
 use rl_lists::OutOfMemory;
 use rl_report::{Entries, Entry, Outcome};

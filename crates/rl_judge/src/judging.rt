@@ -9,13 +9,15 @@ ghost use Rattle.rl_report.specs.Layouts.{IsOfItsUniverse};
 ghost use Rattle.rl_report.specs.Places.{IsAt, place_of};
 ghost use Rattle.rl_judge.specs.Asked.{HasRun, IsOfUniverse};
 ghost use Rattle.rl_judge.specs.Faults.{source_fault};
-ghost use Rattle.rl_judge.specs.RightEntries.{IsValid, mode_of, terms_of, no_marks, fault_entry, site_entry, IsTold, IsSiteEntry, IsFaultEntry, AreSiteEntries, AreRight, status_of};
+ghost use Rattle.rl_judge.specs.RightEntries.{IsValid, mode_of, terms_of, marks_of, fault_entry, site_entry, IsTold, IsSiteEntry, IsFaultEntry, AreSiteEntries, AreRight, status_of};
 
+use crate::beside::Terms;
+use crate::places::{fault_place, marks_of, no_marks, some_place_at};
 use crate::settings::Settings;
-use crate::told::{Terms, Told, told_of_site};
+use crate::told::{Told, told_of_site};
 use rl_lists::OutOfMemory;
 use rl_pylex::{LexError, TokenList, tokens};
-use rl_report::{Cursor, Entries, Entry, MarkList, Marks, Outcome, Place};
+use rl_report::{Cursor, Entries, Entry, Outcome};
 use rl_sites::{Call, Site, SiteList, sites};
 use rl_source::Name;
 use rl_syntax::{Mode, Universe};
@@ -38,17 +40,6 @@ fn mode_of(settings: &Settings, call: Call) -> Mode
     }
 }
 
-/// No marks.
-pub(crate) fn no_marks(alloc: Global) -> Marks
-    ensures { result ≡ no_marks }
-{
-    Marks {
-        dropped: MarkList::new(alloc),
-        merged: MarkList::new(alloc),
-        passed: MarkList::new(alloc),
-    }
-}
-
 /// The byte place of the fault of a source.
 fn source_fault(fault: LexError) -> Option<u32>
     ensures { result ≡ source_fault fault }
@@ -60,55 +51,6 @@ fn source_fault(fault: LexError) -> Option<u32>
         LexError::StrayCode(byte) => Some(byte),
         LexError::FileTooLong => None,
         LexError::OutOfMemory => None,
-    }
-}
-
-/// The cursor, or the front of the source where the byte place stands before the cursor.
-fn at_or_before(cursor: Cursor, byte: u32) -> Cursor
-    ensures at { (source : List ℕ) → IsAt source cursor → IsAt source result }
-    ensures before { result.byte ≤ byte }
-{
-    if cursor.byte() <= byte {
-        cursor
-    } else {
-        Cursor::start()
-    }
-}
-
-/// The line and the column of a byte place; the cursor is there then. Places that rise cost one pass together.
-#[tactic(auto, using(crate::proofs::Placing::placing))]
-fn place_at(cursor: &mut Cursor, source: &[u8], byte: u32) -> Place
-    requires at { IsAt source.now cursor.old }
-    requires short { length source.now ≤ 4194304 }
-    ensures place { result ≡ place_of source.now byte }
-    ensures at { IsAt source.now cursor.new }
-{
-    let byte = byte.min(source.len() as u32);
-    *cursor = at_or_before(*cursor, byte).forward(source, byte);
-    cursor.place()
-}
-
-/// The line and the column of a byte place, where there is one.
-fn some_place_at(cursor: &mut Cursor, source: &[u8], byte: Option<u32>) -> Option<Place>
-    requires at { IsAt source.now cursor.old }
-    requires short { length source.now ≤ 4194304 }
-    ensures place { result ≡ option_map (place_of source.now) byte }
-    ensures at { IsAt source.now cursor.new }
-{
-    match byte {
-        Some(byte) => Some(place_at(cursor, source, byte)),
-        None => None,
-    }
-}
-
-/// The line and the column of a byte place of a source, where there is one.
-fn fault_place(source: &[u8], byte: Option<u32>) -> Option<Place>
-    requires { byte ≢ None → length source.now ≤ 4194304 }
-    ensures { result ≡ option_map (place_of source.now) byte }
-{
-    match byte {
-        Some(byte) => Some(place_at(&mut Cursor::start(), source, byte)),
-        None => None,
     }
 }
 
@@ -185,6 +127,7 @@ fn site_entry(
     let path = path.clone()?;
     let at = some_place_at(cursor, source, start_of(tokens, site.first));
     let fault = some_place_at(cursor, source, told.fault);
+    let marks = marks_of(alloc, source, told.parts, *cursor)?;
     Ok(Entry {
         path,
         at,
@@ -192,7 +135,7 @@ fn site_entry(
         universe: told.universe,
         fault,
         outcome: told.outcome,
-        marks: no_marks(alloc),
+        marks,
     })
 }
 
@@ -217,6 +160,7 @@ fn judged(
     let terms = Terms {
         mode: mode_of(settings, site.call),
         max_pairs: settings.max_pairs,
+        report: settings.report,
     };
     let told = told_of_site(alloc, source, tokens, site, terms)?;
     site_entry(alloc, path, source, tokens, site, told, cursor)
@@ -281,7 +225,9 @@ fn site_entries(
 /// The entries of one source: one that says why it has no tokens, or one for each of its sites, in their order.
 ///
 /// A site's outcome is the first that holds: its first argument is more than literals, the literals have no value, the
-/// flags aren't known, the value is no pattern that is judged, or the verdict on the pattern in the mode of its call.
+/// flags aren't known, the value is no pattern that is judged, or the verdict on the pattern in the mode of its call. A
+/// suggestion stands beside every verdict but that the size, the letters or the moves are too many, and under report version 2
+/// the verdict on the suggested pattern.
 ///
 /// # Errors
 /// [`OutOfMemory`] where memory was refused.

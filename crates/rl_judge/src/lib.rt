@@ -1,8 +1,11 @@
 //! From the bytes of sources to the entries of their report.
 #![tactic(auto)]
 
+mod beside;
 mod checking;
 mod judging;
+mod parts;
+mod places;
 mod settings;
 mod told;
 

@@ -1,39 +1,32 @@
 //! What is told of a site.
-ghost use Rattle.std.specs.Prelude.{◌≡◌, ◌≢◌, ◌+◌, ◌≤◌, length, take, drop, slice_get, IfOk};
+ghost use Rattle.std.specs.Prelude.{◌≡◌, ◌≢◌, ◌≤◌, Ok, IfOk};
 ghost use Rattle.rl_ranges.specs.Text.{IsText};
 ghost use Rattle.rl_syntax.specs.Pattern.{universe_of};
-ghost use Rattle.rl_pairs.specs.RightVerdict.{RightVerdict};
+ghost use Rattle.rl_pattern.specs.Parsed.{IsParsed};
 ghost use Rattle.rl_pylex.specs.Source.{IsTokenList};
 ghost use Rattle.rl_pystr.specs.Runs.{IsValue, IsLiteralRun};
-ghost use Rattle.rl_report.specs.Verdicts.{IsVerdictOf};
-ghost use Rattle.rl_judge.specs.Faults.{literal_fault, pattern_fault, code_place};
-ghost use Rattle.rl_judge.specs.Sites.{question_of, told_without_value, IsOfCodes, IsOfValue, IsOfRun, IsOfArgument};
+ghost use Rattle.rl_report.specs.Findings.{suggestion_of};
+ghost use Rattle.rl_judge.specs.Faults.{literal_fault, pattern_fault};
+ghost use Rattle.rl_judge.specs.Sites.{told_without_pattern, told_without_value, parts_of, IsOfCodes, IsOfValue, IsOfRun, IsOfArgument};
 ghost use Rattle.rl_judge.specs.RightEntries.{run_of};
 ghost use Rattle.rl_judge.specs.Asked.{HasRun, IsOfUniverse};
 ghost use Rattle.rl_report.specs.declared.report.Outcome.TheVariants as outcome;
 ghost use Rattle.rl_pattern.specs.declared.parsing.PatError.TheVariants as parsing;
 ghost use Rattle.rl_pystr.specs.declared.fault.StrError.TheVariants as valuing;
 
-use rl_growth::classify;
+use crate::beside::{Terms, becomes, suggestion_beside, verdict_on};
+use crate::parts::{Parts, code_place, no_parts, parts_of};
 use rl_lists::OutOfMemory;
 use rl_pattern::{Flags, PatError, parse};
 use rl_pylex::TokenList;
 use rl_pystr::{Literal, StrError, value};
 use rl_report::Outcome;
 use rl_sites::{Site, SiteFlags};
-use rl_syntax::{Limit, LowerError, Mode, Pattern, Universe, Verdict, lower};
+use rl_syntax::{Pattern, Universe};
 use std::alloc::Global;
 
-/// How a pattern is judged: in this mode, with so many live pairs looked at.
-#[derive(Clone, Copy, Debug, PartialEq, Eq)]
-pub struct Terms {
-    /// The mode.
-    pub mode: Mode,
-    /// How many live pairs are looked at.
-    pub max_pairs: u32,
-}
-
-/// What is told of a site: the universe of its pattern, the byte place of its fault and the outcome.
+/// What is told of a site: the universe of its pattern, the byte place of its fault, the outcome, and the parts of the pattern
+/// that the suggestion speaks of.
 #[derive(Drop)]
 pub struct Told {
     /// Whether the pattern is text or bytes; text where the literals have no value.
@@ -42,16 +35,8 @@ pub struct Told {
     pub fault: Option<u32>,
     /// The outcome.
     pub outcome: Outcome,
-}
-
-/// The byte place of the code with this number, or of the closing quotes behind the last one.
-fn code_place(literal: &Literal, code: u32) -> u32
-    ensures { result ≡ code_place literal.now code }
-{
-    match literal.places.as_slice().get(code as usize) {
-        Some(place) => *place,
-        None => literal.end,
-    }
+    /// The parts of the pattern that the suggestion speaks of.
+    pub parts: Parts,
 }
 
 /// The byte place of a fault of the codes.
@@ -81,20 +66,6 @@ fn literal_fault(error: StrError) -> Option<u32>
     }
 }
 
-/// The verdict on a pattern.
-fn verdict_on(alloc: Global, pattern: &Pattern, terms: Terms) -> Result<Verdict, OutOfMemory>
-    requires some { 1 ≤ terms.max_pairs }
-    requires few { terms.max_pairs ≤ 1000 }
-    ensures right { IfOk result (RightVerdict (question_of pattern.now terms)) }
-    ensures texts { IfOk result (IsVerdictOf (universe_of pattern.now)) }
-{
-    match lower(alloc, pattern, terms.mode) {
-        Ok(lowered) => classify(alloc, &lowered, pattern.universe(), terms.max_pairs),
-        Err(LowerError::TooLarge) => Ok(Verdict::Undecided(Limit::Size)),
-        Err(LowerError::OutOfMemory) => Err(OutOfMemory),
-    }
-}
-
 /// The outcome of codes that give no pattern.
 fn without_pattern(error: PatError) -> Result<Outcome, OutOfMemory>
     ensures outcome { IfOk result (λ o. o ≡ outcome.Pattern error) }
@@ -104,6 +75,54 @@ fn without_pattern(error: PatError) -> Result<Outcome, OutOfMemory>
         PatError::OutOfMemory => Err(OutOfMemory),
         _ => Ok(Outcome::Pattern(error)),
     }
+}
+
+/// What is told of a pattern that the codes of literals give.
+fn told_of_pattern(
+    alloc: Global,
+    literal: &Literal,
+    pattern: &Pattern,
+    flags: Flags,
+    terms: Terms,
+) -> Result<Told, OutOfMemory>
+    requires some { 1 ≤ terms.max_pairs }
+    requires few { terms.max_pairs ≤ 1000 }
+    requires text { IsText literal.now.universe literal.now.codes }
+    requires parsed { IsParsed flags literal.now.universe literal.now.codes (Ok pattern.now) }
+    requires universe { universe_of pattern.now ≡ literal.now.universe }
+    ensures universe { IfOk result (λ told. told.universe ≡ literal.now.universe) }
+    ensures right { IfOk result (λ told. IsOfCodes flags terms literal.now told.fault told.outcome) }
+    ensures parts { IfOk result (λ told. told.parts ≡ parts_of literal.now (suggestion_of told.outcome)) }
+    ensures texts { IfOk result (λ told. IsOfUniverse literal.now.universe told.outcome) }
+{
+    let verdict = verdict_on(alloc, pattern, terms)?;
+    let suggestion = suggestion_beside(alloc, pattern, &literal.codes, flags, terms, &verdict)?;
+    let becomes = becomes(alloc, suggestion.as_ref(), literal.universe, flags, terms)?;
+    let parts = parts_of(alloc, literal, suggestion.as_ref())?;
+    Ok(Told {
+        universe: literal.universe,
+        fault: None,
+        outcome: Outcome::Judged(verdict, suggestion, becomes),
+        parts,
+    })
+}
+
+/// What is told of codes that give no pattern.
+fn told_without_pattern(
+    alloc: Global,
+    literal: &Literal,
+    error: PatError,
+) -> Result<Told, OutOfMemory>
+    ensures told { IfOk result (λ told. told ≡ told_without_pattern literal.now error) }
+    ensures some { IfOk result (λ told. error ≢ parsing.OutOfMemory) }
+{
+    let outcome = without_pattern(error)?;
+    Ok(Told {
+        universe: literal.universe,
+        fault: pattern_fault(literal, error),
+        outcome,
+        parts: no_parts(alloc),
+    })
 }
 
 /// What is told of the codes of literals under flags.
@@ -119,26 +138,12 @@ fn told_of_codes(
     requires text { IsText literal.now.universe literal.now.codes }
     ensures universe { IfOk result (λ told. told.universe ≡ literal.now.universe) }
     ensures right { IfOk result (λ told. IsOfCodes flags terms literal.now told.fault told.outcome) }
+    ensures parts { IfOk result (λ told. told.parts ≡ parts_of literal.now (suggestion_of told.outcome)) }
     ensures texts { IfOk result (λ told. IsOfUniverse literal.now.universe told.outcome) }
 {
-    let universe = literal.universe;
-    match parse(alloc, &literal.codes, flags, universe) {
-        Ok(pattern) => {
-            let verdict = verdict_on(alloc, &pattern, terms)?;
-            Ok(Told {
-                universe,
-                fault: None,
-                outcome: Outcome::Judged(verdict, None, None),
-            })
-        }
-        Err(error) => {
-            let outcome = without_pattern(error)?;
-            Ok(Told {
-                universe,
-                fault: pattern_fault(literal, error),
-                outcome,
-            })
-        }
+    match parse(alloc, &literal.codes, flags, literal.universe) {
+        Ok(pattern) => told_of_pattern(alloc, literal, &pattern, flags, terms),
+        Err(error) => told_without_pattern(alloc, literal, error),
     }
 }
 
@@ -154,6 +159,7 @@ fn told_of_value(
     requires text { IsText literal.now.universe literal.now.codes }
     ensures universe { IfOk result (λ told. told.universe ≡ literal.now.universe) }
     ensures right { IfOk result (λ told. IsOfValue flags terms literal.now told.fault told.outcome) }
+    ensures parts { IfOk result (λ told. told.parts ≡ parts_of literal.now (suggestion_of told.outcome)) }
     ensures texts { IfOk result (λ told. IsOfUniverse literal.now.universe told.outcome) }
 {
     match flags {
@@ -162,12 +168,13 @@ fn told_of_value(
             universe: literal.universe,
             fault: None,
             outcome: Outcome::FlagsUnknown,
+            parts: no_parts(alloc),
         }),
     }
 }
 
 /// What is told of literals without a value.
-fn told_without_value(error: StrError) -> Result<Told, OutOfMemory>
+fn told_without_value(alloc: Global, error: StrError) -> Result<Told, OutOfMemory>
     ensures value { IfOk result (λ told. told ≡ told_without_value error) }
     ensures told { IfOk result (λ told. error ≢ valuing.OutOfMemory) }
 {
@@ -177,6 +184,7 @@ fn told_without_value(error: StrError) -> Result<Told, OutOfMemory>
             universe: Universe::Str,
             fault: literal_fault(error),
             outcome: Outcome::Literal(error),
+            parts: no_parts(alloc),
         }),
     }
 }
@@ -198,7 +206,7 @@ fn told_of_run(
 {
     match value(alloc, source, tokens, site.first, site.count) {
         Ok(literal) => told_of_value(alloc, &literal, site.flags, terms),
-        Err(error) => told_without_value(error),
+        Err(error) => told_without_value(alloc, error),
     }
 }
 
@@ -224,6 +232,7 @@ pub fn told_of_site(
             universe: Universe::Str,
             fault: None,
             outcome: Outcome::NotWhole,
+            parts: no_parts(alloc),
         })
     }
 }

@@ -19,3 +19,28 @@ pub mod LeafLaws
 pub mod ShapeParts
 pub mod InnerBare
 mod TestLemmas
+pub mod Tokens
+pub mod Locality
+pub mod Holes
+pub mod Leaves
+pub mod Linking
+pub mod Sifted
+pub mod Seams
+pub mod Cutting
+pub mod OuterAnchors
+pub mod Merged
+pub mod Merging
+mod SuggestedRows
+pub mod Nesting
+pub mod Prefixes
+pub mod Rereading
+pub mod Conditions
+pub mod Premises
+pub mod Marks
+pub mod Suggesting
+pub mod Final
+pub mod Rising
+pub mod Chain
+pub mod ListedSpans
+pub mod Once
+pub mod Undropped

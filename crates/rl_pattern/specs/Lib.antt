@@ -10,3 +10,10 @@ pub mod Judged
 pub mod Parsed
 pub mod Shape
 pub mod LeafSets
+pub mod Thinned
+pub mod Left
+pub mod Cut
+pub mod Suggested
+pub mod Placed
+pub mod SameAnswer
+pub mod Reread

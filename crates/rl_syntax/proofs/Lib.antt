@@ -5,4 +5,7 @@ pub mod TreeJoins
 pub mod PartJoins
 pub mod BodyOver
 pub mod SetTests
+pub mod Stars
+pub mod Places
+pub mod Guardless
 mod Rows

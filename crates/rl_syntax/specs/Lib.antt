@@ -1,6 +1,8 @@
 pub mod Guards
 pub mod Tree
 pub mod Language
+pub mod SameSpans
+pub mod AllowedPair
 pub mod Run
 pub mod Cost
 pub mod PatTree

@@ -2,7 +2,7 @@ use Rattle.std.proofs.Common.{List, IfOk, IsTrue, ◌↔◌, subst}
 use Rattle.rl_syntax.specs.Tree.{tree_of}
 use Rattle.rl_equiv.specs.declared.pair.SetPair.{SetPair}
 use Rattle.rl_equiv.specs.SetPairs.{IsClosed}
-use Rattle.rl_equiv.specs.Joined.{pairs_of}
+use Rattle.rl_equiv.specs.internal.Machines.{pairs_of}
 use Rattle.rl_equiv.proofs.CheckLaws.{share-letters, checked, checked-same}
 use Rattle.rl_equiv.proofs.checking.check.Goals as goal
 

@@ -1,7 +1,7 @@
 use Rattle.std.proofs.Common.{ℕ, ◌<◌, get_or}
 use Rattle.rl_equiv.specs.declared.pair.SetPair.{SetPair}
 use Rattle.rl_equiv.specs.SetPairs.{IsKept}
-use Rattle.rl_equiv.specs.Joined.{pairs_of}
+use Rattle.rl_equiv.specs.internal.Machines.{pairs_of}
 use Rattle.rl_equiv.proofs.checking.is_closed.Given as goal
 
 abbrev pub invariant-loop-pair : goal.invariant-loop-pair

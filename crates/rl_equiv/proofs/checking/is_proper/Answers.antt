@@ -1,5 +1,5 @@
 use Rattle.std.proofs.Common.{◌&&◌, Bool, sym, ap, ◌∙◌}
-use Rattle.rl_equiv.specs.Joined.{all_proper, pairs_of}
+use Rattle.rl_equiv.specs.internal.Machines.{all_proper, pairs_of}
 use Rattle.rl_equiv.proofs.checking.is_proper.Goals as goal
 
 pub returns-then-first : goal.returns-then-first

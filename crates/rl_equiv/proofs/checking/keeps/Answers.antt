@@ -15,13 +15,13 @@ walk_from-requires-2 c = second-proper c.args.a.now c.args.b.now c.args.pair.now
 pub returns-then-ended-also_ended : goal.returns-then-ended-also_ended
 returns-then-ended-also_ended c = (
   λ i. absurd (false≢true i),
-  λ k. absurd (ends-apart c.args.a.now c.args.b.now c.args.relation.now c.args.pair.now (sym c.if-not-is_proper.ensures) c.in_ok-first.first c.in_ok-second.second c.in_ok-ended.ended c.in_ok-also_ended.also_ended
+  λ k. absurd (ends-apart c.args.a.now c.args.b.now c.args.index.now c.args.pair.now (sym c.if-not-is_proper.ensures) c.in_ok-first.first c.in_ok-second.second c.in_ok-ended.ended c.in_ok-also_ended.also_ended
       c.in_ok-first.ensures.set c.in_ok-second.ensures.set c.in_ok-ended.ensures.ends c.in_ok-also_ended.ensures.ends c.if-ended-also_ended.true k),
 )
 
 pub loop-letter-init : goal.loop-letter-init
 loop-letter-init c =
-    next-start c.args.a.now c.args.b.now c.args.relation.now c.args.pair.now (sym c.if-not-is_proper.ensures) c.in_ok-first.first c.in_ok-second.second c.ends_in.new.walk c.ends_in-2.new.walk
+    next-start c.args.a.now c.args.b.now c.args.index.now c.args.pair.now (sym c.if-not-is_proper.ensures) c.in_ok-first.first c.in_ok-second.second c.ends_in.new.walk c.ends_in-2.new.walk
     c.in_ok-ended.ensures.on c.in_ok-also_ended.ensures.on c.in_ok-first.ensures.one c.in_ok-second.ensures.one c.in_ok-first.ensures.set c.in_ok-second.ensures.set
 
 pub image_in-requires-clause-room : goal.image_in-requires-clause-room
@@ -34,20 +34,20 @@ image_in-requires-in-loop-letter-clause-room c =
     let e : c.count-end.result ≡ letters_count c.args.a.now = c.count-end.ensures ∙ ap (λ (t : LetterTable). length t.samples) c.letters.ensures in
     omega (arith, c.loop-letter.invariant.second_few, c.requires.few_letters, c.loop-letter-test.true)
 
-pub returns-then-not-has_pair : goal.returns-then-not-has_pair
-returns-then-not-has_pair c =
+pub returns-then-not-has : goal.returns-then-not-has
+returns-then-not-has c =
     let e : c.count-end.result ≡ letters_count c.args.a.now = c.count-end.ensures ∙ ap (λ (t : LetterTable). length t.samples) c.letters.ensures in (
       λ i. absurd (false≢true i),
-      λ k. absurd (next-missing c.args.a.now c.args.b.now c.args.relation.now c.args.pair.now (sym c.if-not-is_proper.ensures) c.loop-letter.first c.loop-letter.second c.loop-letter.letter
-          c.as_slice.result.now c.as_slice-in-loop-letter.result.now c.loop-letter.invariant (c.as_slice.ensures ∙ c.in_ok-left.ensures.image) (c.as_slice-in-loop-letter.ensures ∙ c.in_ok-right.ensures.image)
-          (omega arith) (λ x. false≢true (c.if-not-has_pair.ensures.1 x)) k),
+      λ k. absurd (next-missing c.args.a.now c.args.b.now c.args.index.now c.args.pair.now (sym c.if-not-is_proper.ensures) c.loop-letter.first c.loop-letter.second c.loop-letter.letter
+          c.in_ok-left.left c.in_ok-right.right c.loop-letter.invariant c.in_ok-left.ensures.image c.in_ok-right.ensures.image
+          (omega arith) (λ x. false≢true (c.if-not-has.ensures.1 x)) k),
     )
 
 pub loop-letter-preserved : goal.loop-letter-preserved
 loop-letter-preserved c =
-    next-more c.args.a.now c.args.b.now c.args.relation.now c.args.pair.now (sym c.if-not-is_proper.ensures) c.loop-letter.first c.loop-letter.second c.image_in.new.walk c.image_in-in-loop-letter.new.walk c.loop-letter.letter
-    c.as_slice.result.now c.as_slice-in-loop-letter.result.now c.loop-letter.invariant c.in_ok-left.ensures.on c.in_ok-right.ensures.on (c.as_slice.ensures ∙ c.in_ok-left.ensures.image) (c.as_slice-in-loop-letter.ensures ∙ c.in_ok-right.ensures.image)
-    (c.if-not-has_pair.ensures.0 refl)
+    next-more c.args.a.now c.args.b.now c.args.index.now c.args.pair.now (sym c.if-not-is_proper.ensures) c.loop-letter.first c.loop-letter.second c.image_in.new.walk c.image_in-in-loop-letter.new.walk c.loop-letter.letter
+    c.in_ok-left.left c.in_ok-right.right c.loop-letter.invariant c.in_ok-left.ensures.on c.in_ok-right.ensures.on c.in_ok-left.ensures.image c.in_ok-right.ensures.image
+    (c.if-not-has.ensures.0 refl)
 
 pub returns : goal.returns
 returns c =
@@ -55,6 +55,6 @@ returns c =
     let b = c.args.b.now in
     let proper = sym c.if-not-is_proper.ensures in
     let e : c.count-end.result ≡ letters_count a = c.count-end.ensures ∙ ap (λ (t : LetterTable). length t.samples) c.letters.ensures in
-    let same = ends-agree a b c.args.relation.now c.args.pair.now proper c.in_ok-first.first c.in_ok-second.second c.in_ok-ended.ended c.in_ok-also_ended.also_ended
+    let same = ends-agree a b c.args.index.now c.args.pair.now proper c.in_ok-first.first c.in_ok-second.second c.in_ok-ended.ended c.in_ok-also_ended.also_ended
     c.in_ok-first.ensures.set c.in_ok-second.ensures.set c.in_ok-ended.ensures.ends c.in_ok-also_ended.ensures.ends c.if-ended-also_ended.false in
-    (λ i. next-all a b c.args.relation.now c.args.pair.now proper c.loop-letter.first c.loop-letter.second c.loop-letter.letter c.loop-letter.invariant (omega (arith, c.loop-letter-test.false)) same, λ k. refl)
+    (λ i. next-all a b c.args.index.now c.args.pair.now proper c.loop-letter.first c.loop-letter.second c.loop-letter.letter c.loop-letter.invariant (omega (arith, c.loop-letter-test.false)) same, λ k. refl)

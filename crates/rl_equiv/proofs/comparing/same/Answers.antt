@@ -2,7 +2,7 @@ use Rattle.std.proofs.Common.{ℕ, subst}
 use Rattle.std.proofs.lemmas.Result.{err_from_is_err_and}
 use Rattle.rl_syntax.specs.Tree.{tree_of}
 use Rattle.rl_equiv.specs.Numbering.{IsAnswer}
-use Rattle.rl_equiv.specs.Joined.{pairs_of}
+use Rattle.rl_equiv.specs.internal.Machines.{pairs_of}
 use Rattle.rl_equiv.proofs.ReaderLaws.{are-readers, answer-told}
 use Rattle.rl_equiv.proofs.comparing.same.Goals as goal
 

@@ -1,7 +1,7 @@
 use Rattle.std.proofs.Common.{◌≡◌, ◌-◌, ℕ, List, [], ◌∷◌, ap, ◌∙◌, subst}
 use Rattle.rl_prio.specs.Automaton.{accepting_state}
 use Rattle.rl_sets.specs.Walk.{set_of}
-use Rattle.rl_equiv.specs.Searching.{Gets}
+use Rattle.rl_equiv.specs.internal.Searching.{Gets}
 use Rattle.rl_equiv.proofs.SideLaws.{start-set, gets-set, side-start}
 use Rattle.rl_equiv.proofs.sides.start_side.Goals as goal
 

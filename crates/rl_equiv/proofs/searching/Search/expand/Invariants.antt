@@ -1,4 +1,4 @@
-use Rattle.rl_equiv.specs.Searching.{state_of}
+use Rattle.rl_equiv.specs.internal.Searching.{state_of}
 use Rattle.rl_equiv.proofs.SearchLaws.{IsExpanding}
 use Rattle.rl_equiv.proofs.searching.Search.expand.Given as goal
 

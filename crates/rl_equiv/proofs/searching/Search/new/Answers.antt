@@ -2,7 +2,7 @@ use Rattle.std.proofs.Common.{◌≡◌, ◌∷◌, ◌++◌, [], List, cond, ap
 use Rattle.std.specs.List.{list_any}
 use Rattle.rl_equiv.specs.declared.searching.Key.{Key}
 use Rattle.rl_equiv.specs.declared.searching.Way.{Way}
-use Rattle.rl_equiv.specs.Searching.{no_way}
+use Rattle.rl_equiv.specs.internal.Searching.{no_way}
 use Rattle.rl_equiv.proofs.VisitLaws.{key_eq}
 use Rattle.rl_equiv.proofs.SearchLaws.{search-start}
 use Rattle.rl_equiv.proofs.searching.Search.new.Goals as goal

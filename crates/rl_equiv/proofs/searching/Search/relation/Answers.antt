@@ -1,5 +1,5 @@
 use Rattle.std.proofs.Common.{◌∙◌, arith}
-use Rattle.rl_equiv.specs.Searching.{state_of}
+use Rattle.rl_equiv.specs.internal.Searching.{state_of}
 use Rattle.rl_equiv.proofs.SearchLaws.{relation-more}
 use Rattle.rl_equiv.proofs.searching.Search.relation.Goals as goal
 

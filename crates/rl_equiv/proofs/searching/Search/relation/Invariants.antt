@@ -1,5 +1,5 @@
 use Rattle.std.proofs.Common.{◌≡◌, take}
-use Rattle.rl_equiv.specs.Searching.{state_of, pairs_in}
+use Rattle.rl_equiv.specs.internal.Searching.{state_of, pairs_in}
 use Rattle.rl_equiv.proofs.searching.Search.relation.Given as goal
 
 abbrev pub invariant-loop-place : goal.invariant-loop-place

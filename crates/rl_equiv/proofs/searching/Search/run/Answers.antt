@@ -1,40 +1,50 @@
-use Rattle.std.proofs.Common.{◌<◌, length, sym, ap, ◌∙◌, arith}
-use Rattle.rl_equiv.specs.Joined.{pairs_of}
-use Rattle.rl_equiv.specs.Searching.{state_of}
-use Rattle.rl_equiv.proofs.RunLaws.{running-start, running-more, running-passed, running-apart, running-all, tried-length, tried-get}
+use Rattle.std.proofs.Common.{◌≡◌, ◌∙◌, ◌<◌, ◌-◌, suc, length, refl, ap, sym, arith}
+use Rattle.std.proofs.lemmas.List.{get_or_default}
+use Rattle.rl_equiv.specs.internal.Searching.{state_of, is_apart, no_ends}
+use Rattle.rl_equiv.proofs.SeenLaws.{seen-differs, seen-apart, seen-passed, seen-all}
 use Rattle.rl_equiv.proofs.ApartLaws.{apart-is}
 use Rattle.rl_equiv.proofs.searching.Search.run.Goals as goal
 
-pub loop-place-init : goal.loop-place-init
-loop-place-init c = running-start c.args.joint.now.first c.args.joint.now.second (state_of c.args.self.now) c.requires.search c.requires.one
+pub returns-then-last-clause-answer : goal.returns-then-last-clause-answer
+returns-then-last-clause-answer c =
+    let seen = c.in_ok-seen.seen.items in
+    let place = c.len-place.result - 1 in
+    let lt : place < length seen = omega (arith, c.len-place.ensures, c.in_ok-seen.ensures.some, c.in_ok-seen.seen.ok) in
+    let same = get_or_default seen place no_ends c.index-last.result.now lt ∙ sym c.index-last.ensures in
+    seen-apart c.args.joint.now.first c.args.joint.now.second c.args.self.now.limit (state_of c.look.new.self) seen c.in_ok-seen.ensures.seen place lt (ap is_apart same ∙ c.if-last.true)
 
-pub returns-then-place-self-clause-answer : goal.returns-then-place-self-clause-answer
-returns-then-place-self-clause-answer c =
-    running-passed c.args.joint.now.first c.args.joint.now.second (state_of c.args.self.now) (state_of c.loop-place.self) c.loop-place.place c.loop-place.invariant (omega (arith, c.len.ensures.len, c.loop-place-test.true)) c.if-place-self.true
-
-pub returns-then-branch-clause-answer : goal.returns-then-branch-clause-answer
-returns-then-branch-clause-answer c =
-    running-apart c.args.joint.now.first c.args.joint.now.second (state_of c.args.self.now) (state_of c.loop-place.self) c.loop-place.place c.loop-place.invariant (omega (arith, c.len.ensures.len, c.loop-place-test.true)) c.if-place-self.false (sym c.in_ok-differs.ensures.differs ∙ c.if-branch.true)
-
-pub returns-then-branch-clause-apart : goal.returns-then-branch-clause-apart
-returns-then-branch-clause-apart c =
+pub returns-then-last-clause-apart : goal.returns-then-last-clause-apart
+returns-then-last-clause-apart c =
     let a = c.args.joint.now.first in
     let b = c.args.joint.now.second in
-    let s = state_of c.loop-place.self in
-    let t = state_of c.differs.new.self in
-    let same = c.in_ok-differs.ensures.pairs in
-    let lt : c.loop-place.place < length s.keys = omega (arith, c.len.ensures.len, c.loop-place-test.true) in
-    let there : c.loop-place.place < length t.keys = omega (arith, tried-length s t same) in
-    let apart = ap (pairs_of a b).differs (tried-get s t same c.loop-place.place lt) ∙ sym c.in_ok-differs.ensures.differs ∙ c.if-branch.true in
-    apart-is a b c.requires.readers t c.in_ok-differs.ensures.search c.loop-place.place c.in_ok-text.text there apart c.in_ok-text.ensures
+    let s = state_of c.look.new.self in
+    let seen = c.in_ok-seen.seen.items in
+    let r = c.in_ok-seen.ensures.seen in
+    let place = c.len-place.result - 1 in
+    let lt : place < length seen = omega (arith, c.len-place.ensures, c.in_ok-seen.ensures.some, c.in_ok-seen.seen.ok) in
+    let same = get_or_default seen place no_ends c.index-last.result.now lt ∙ sym c.index-last.ensures in
+    apart-is a b c.requires.readers s r.search place c.in_ok-text.text (omega (arith, lt, r.in_found)) (seen-differs a b c.args.self.now.limit s seen r place lt ∙ ap is_apart same ∙ c.if-last.true) c.in_ok-text.ensures
 
-pub loop-place-preserved : goal.loop-place-preserved
-loop-place-preserved c =
-    let a = c.args.joint.now.first in
-    let b = c.args.joint.now.second in
-    running-more a b (state_of c.args.self.now) (state_of c.loop-place.self) (state_of c.differs.new.self) (state_of c.expand.new.self) c.loop-place.place c.loop-place.invariant (omega (arith, c.len.ensures.len, c.loop-place-test.true)) c.if-place-self.false
-    c.in_ok-differs.ensures.limit c.in_ok-differs.ensures.pairs (sym c.in_ok-differs.ensures.differs ∙ c.if-branch.false) c.in_ok-expand.ensures.onward c.in_ok-expand.ensures.pairs
+pub returns-then-len-self-clause-answer : goal.returns-then-len-self-clause-answer
+returns-then-len-self-clause-answer c =
+    let s = state_of c.look.new.self in
+    let seen = c.in_ok-seen.seen.items in
+    let r = c.in_ok-seen.ensures.seen in
+    let place = c.len-place.result - 1 in
+    let lt : place < length seen = omega (arith, c.len-place.ensures, c.in_ok-seen.ensures.some, c.in_ok-seen.seen.ok) in
+    let count : length seen ≡ suc place = omega (arith, c.len-place.ensures, c.in_ok-seen.ensures.some, c.in_ok-seen.seen.ok) in
+    let same = get_or_default seen place no_ends c.index-last.result.now lt ∙ sym c.index-last.ensures in
+    seen-passed c.args.joint.now.first c.args.joint.now.second c.args.self.now.limit s seen r (state_of c.args.self.now) refl (c.in_ok-seen.ensures.apart refl) place count (ap is_apart same ∙ c.if-last.false)
+    (omega (arith, c.len.ensures.len, c.if-len-self.true, r.limit_is))
 
 pub returns-clause-answer : goal.returns-clause-answer
 returns-clause-answer c =
-    running-all c.args.joint.now.first c.args.joint.now.second (state_of c.args.self.now) (state_of c.loop-place.self) c.loop-place.place c.in_ok-relation.relation c.requires.readers c.loop-place.invariant (omega (arith, c.len.ensures.len, c.loop-place-test.false)) c.in_ok-relation.ensures
+    let s = state_of c.look.new.self in
+    let seen = c.in_ok-seen.seen.items in
+    let r = c.in_ok-seen.ensures.seen in
+    let place = c.len-place.result - 1 in
+    let lt : place < length seen = omega (arith, c.len-place.ensures, c.in_ok-seen.ensures.some, c.in_ok-seen.seen.ok) in
+    let count : length seen ≡ suc place = omega (arith, c.len-place.ensures, c.in_ok-seen.ensures.some, c.in_ok-seen.seen.ok) in
+    let same = get_or_default seen place no_ends c.index-last.result.now lt ∙ sym c.index-last.ensures in
+    seen-all c.args.joint.now.first c.args.joint.now.second c.args.self.now.limit s seen r (state_of c.args.self.now) refl (c.in_ok-seen.ensures.apart refl) place count (ap is_apart same ∙ c.if-last.false)
+    c.requires.readers (omega (arith, c.len.ensures.len, c.if-len-self.false, r.limit_is)) c.in_ok-relation.relation c.in_ok-relation.ensures

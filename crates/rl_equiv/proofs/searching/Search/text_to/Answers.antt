@@ -2,7 +2,7 @@ use Rattle.std.proofs.Common.{◌≡◌, ◌<◌, get_or, sym, subst, ap, ◌∙
 use Rattle.std.proofs.lemmas.List.{get_or_default}
 use Rattle.rl_ranges.specs.Letters.{LetterTable}
 use Rattle.rl_equiv.specs.declared.searching.Way.{Way}
-use Rattle.rl_equiv.specs.Searching.{no_way, sample_of}
+use Rattle.rl_equiv.specs.internal.Searching.{no_way, sample_of}
 use Rattle.rl_equiv.proofs.TextLaws.{back-more, back-done}
 use Rattle.rl_equiv.proofs.searching.Search.text_to.Goals as goal
 

@@ -1,0 +1,85 @@
+//! The texts of the regions of two trees.
+
+ghost use Rattle.std.specs.Prelude.{◌≡◌, ◌≤◌, ◌&&◌, IfOk, IfErr, OnOk};
+ghost use Rattle.std.proofs.Math.Bool.{beq};
+ghost use Rattle.rl_syntax.specs.declared.re.Ending.TheVariants.{AtEnd};
+ghost use Rattle.rl_syntax.specs.Cost.{matched};
+ghost use Rattle.rl_syntax.specs.Tree.{tree_of, IsOver};
+ghost use Rattle.rl_equiv.specs.Limits.{AreWithin, IsPassed};
+ghost use Rattle.rl_equiv.specs.Regions.{AreRegions};
+ghost use Rattle.rl_equiv.specs.Told.{AreTold};
+ghost use Rattle.rl_equiv.specs.internal.Searching.{AreReaders, state_of, IsSeen, IsFirstText};
+
+use crate::compared::Compared;
+use crate::error::SameError;
+use crate::joint::Joint;
+use crate::searching::{Ends, Search};
+use rl_lists::{Codes, OutOfMemory};
+use rl_ranges::Universe;
+use rl_syntax::Re;
+use std::alloc::Global;
+
+/// Whether the ends are the given ones.
+fn are(ends: Ends, first: bool, second: bool) -> bool
+    ensures { result ≡ (beq ends.first first && beq ends.second second) }
+{
+    ends.first == first && ends.second == second
+}
+
+/// The text of the first set pair that was seen with the given ends, if there is one.
+fn text_of(
+    alloc: Global,
+    joint: &Joint,
+    search: &Search,
+    seen: &Vec<Ends>,
+    first: bool,
+    second: bool,
+) -> Result<Option<Codes>, OutOfMemory>
+    requires readers { AreReaders joint.now.first joint.now.second }
+    requires seen { IsSeen joint.now.first joint.now.second (state_of search.now).limit (state_of search.now) seen.now.items }
+    ensures { IfOk result (IsFirstText joint.now.first (state_of search.now) seen.now.items first second) }
+{
+    for place in 0..seen.len() {
+        if are(seen[place], first, second) {
+            let text = search.text_to(alloc, &joint.first, place)?;
+            return Ok(Some(text));
+        }
+    }
+    Ok(None)
+}
+
+/// The texts of the regions of two trees, each as fullmatch, by their first set pairs, `limit` at most: one that the first tree
+/// alone matches, one that the second alone does and one that both do, and whether more set pairs are reached.
+///
+/// # Errors
+/// Those of [`same`](crate::same).
+pub fn regions(
+    alloc: Global,
+    a: &Re,
+    b: &Re,
+    u: Universe,
+    limit: u32,
+) -> Result<Compared, SameError>
+    requires first_inside { IsOver u (tree_of a.now) }
+    requires second_inside { IsOver u (tree_of b.now) }
+    requires some { 1 ≤ limit }
+    requires low { limit ≤ 20000 }
+    ensures within { OnOk result (AreWithin u (tree_of a.now) (tree_of b.now)) }
+    ensures passed { IfErr result (IsPassed u (tree_of a.now) (tree_of b.now)) }
+    ensures regions { IfOk result (AreRegions u (tree_of a.now) (tree_of b.now) limit) }
+    ensures told { IfOk result (AreTold u (matched (tree_of a.now) AtEnd) (matched (tree_of b.now) AtEnd)) }
+{
+    let joint = Joint::new(alloc, a, b, u)?;
+    let mut search = Search::new(alloc, &joint, limit)?;
+    let seen = search.look(alloc, &joint, true)?;
+    let first = text_of(alloc, &joint, &search, &seen, true, false)?;
+    let second = text_of(alloc, &joint, &search, &seen, false, true)?;
+    let both = text_of(alloc, &joint, &search, &seen, true, true)?;
+    let more = search.keys.len() > limit as usize;
+    Ok(Compared {
+        first,
+        second,
+        both,
+        more,
+    })
+}

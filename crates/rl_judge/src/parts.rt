@@ -1,0 +1,142 @@
+//! The parts of a pattern that a suggestion speaks of, by their byte places in the source.
+ghost use Rattle.std.specs.Prelude.{◌≡◌, All, Some, length, map, option_map, IfOk, IfSome};
+ghost use Rattle.rl_ranges.specs.Text.{IsText};
+ghost use Rattle.rl_report.specs.Verdicts.{quoted_text};
+ghost use Rattle.rl_judge.specs.Asked.{LiesIn, PartsLieIn};
+ghost use Rattle.rl_judge.specs.Faults.{code_place};
+ghost use Rattle.rl_judge.specs.Sites.{codes_of, bare_part, quoted_part, no_parts, parts_of};
+
+use rl_lists::{Bytes, Codes, Items, OutOfMemory};
+use rl_pystr::{Literal, quote};
+use rl_syntax::{Span, Suggestion};
+use std::alloc::Global;
+
+/// A part of a pattern.
+#[derive(Drop)]
+pub struct Part {
+    /// The byte place where it begins.
+    pub byte: u32,
+    /// It as a quoted text, where it is told.
+    pub text: Option<Bytes>,
+}
+
+/// A list of parts.
+pub type PartList = Items<Part>;
+
+/// The parts of a pattern that a suggestion speaks of, each by rising place.
+#[derive(Drop)]
+pub struct Parts {
+    /// The branches that it drops.
+    pub dropped: PartList,
+    /// The quantifiers that it takes out. They have no text.
+    pub merged: PartList,
+    /// The branches whose test passed its limit.
+    pub passed: PartList,
+}
+
+/// No parts.
+pub fn no_parts(alloc: Global) -> Parts
+    ensures { result ≡ no_parts }
+{
+    Parts {
+        dropped: PartList::new(alloc),
+        merged: PartList::new(alloc),
+        passed: PartList::new(alloc),
+    }
+}
+
+/// The byte place of the code with this number, or of the closing quotes behind the last one.
+pub fn code_place(literal: &Literal, code: u32) -> u32
+    ensures { result ≡ code_place literal.now code }
+{
+    match literal.places.as_slice().get(code as usize) {
+        Some(place) => *place,
+        None => literal.end,
+    }
+}
+
+/// The codes of a span.
+fn codes_of(span: Span, codes: &Codes) -> &[u32]
+    requires { LiesIn (length codes.now) span }
+    ensures { result.now ≡ codes_of span codes.now }
+{
+    &codes.as_slice()[span.from as usize..span.upto as usize]
+}
+
+/// The codes of a span as a literal.
+#[tactic(auto, using(crate::proofs::Spans::spans))]
+fn quoted(alloc: Global, literal: &Literal, span: Span) -> Result<Bytes, OutOfMemory>
+    requires text { IsText literal.now.universe literal.now.codes }
+    requires within { LiesIn (length literal.now.codes) span }
+    ensures { IfOk result (λ text. text ≡ quoted_text literal.now.universe (codes_of span literal.now.codes)) }
+{
+    let codes = Codes::from_slice(alloc, codes_of(span, &literal.codes))?;
+    quote(alloc, &codes, literal.universe)
+}
+
+/// Parts with their texts.
+fn quoted_parts(alloc: Global, literal: &Literal, spans: &[Span]) -> Result<PartList, OutOfMemory>
+    requires text { IsText literal.now.universe literal.now.codes }
+    requires within { All (LiesIn (length literal.now.codes)) spans.now }
+    ensures { IfOk result (λ parts. parts ≡ map (quoted_part literal.now) spans.now) }
+{
+    let mut parts = PartList::new(alloc);
+    for span in spans {
+        let text = quoted(alloc, literal, *span)?;
+        parts.push(Part {
+            byte: code_place(literal, span.from),
+            text: Some(text),
+        })?;
+    }
+    Ok(parts)
+}
+
+/// Parts without their texts.
+fn bare_parts(alloc: Global, literal: &Literal, spans: &[Span]) -> Result<PartList, OutOfMemory>
+    ensures { IfOk result (λ parts. parts ≡ map (bare_part literal.now) spans.now) }
+{
+    let mut parts = PartList::new(alloc);
+    for span in spans {
+        parts.push(Part {
+            byte: code_place(literal, span.from),
+            text: None,
+        })?;
+    }
+    Ok(parts)
+}
+
+/// The parts that the suggestion speaks of.
+fn parts_of_one(
+    alloc: Global,
+    literal: &Literal,
+    suggestion: &Suggestion,
+) -> Result<Parts, OutOfMemory>
+    requires text { IsText literal.now.universe literal.now.codes }
+    requires within { PartsLieIn (length literal.now.codes) suggestion.now }
+    ensures { IfOk result (λ parts. parts ≡ parts_of literal.now (Some suggestion.now)) }
+{
+    let dropped = quoted_parts(alloc, literal, suggestion.dropped.as_slice())?;
+    let merged = bare_parts(alloc, literal, suggestion.merged.as_slice())?;
+    let passed = quoted_parts(alloc, literal, suggestion.passed.as_slice())?;
+    Ok(Parts {
+        dropped,
+        merged,
+        passed,
+    })
+}
+
+/// The parts that the suggestion speaks of; none where there is no suggestion.
+pub fn parts_of(
+    alloc: Global,
+    literal: &Literal,
+    suggestion: Option<&Suggestion>,
+) -> Result<Parts, OutOfMemory>
+    requires text { IsText literal.now.universe literal.now.codes }
+    requires within { IfSome suggestion (λ s. PartsLieIn (length literal.now.codes) s.now) }
+    ensures { IfOk result (λ parts. parts ≡ parts_of literal.now (option_map (λ s. s.now) suggestion.entry)) }
+{
+    match suggestion {
+        Some(suggestion) => parts_of_one(alloc, literal, suggestion),
+        None => Ok(no_parts(alloc)),
+    }
+}

@@ -1,0 +1,206 @@
+-- Right suggestions. Branches and quantifiers are named by their spans in the pattern as written.
+use Rattle.std.specs.Prelude.{◌≡◌, ℕ, Bool, true, false, not, ◌&&◌, ◌||◌, ◌==◌, if◌then◌else◌, List, [], ◌∷◌, ◌++◌, Option, Some, None}
+use Rattle.rl_syntax.specs.declared.span.Span.{Span}
+use Rattle.rl_syntax.specs.Tree.{Tree}
+use Rattle.rl_syntax.specs.Lowering.{lowered}
+use Rattle.rl_syntax.specs.PatTree.{PatTree, PatTrees, BranchTrees, nothing, class, seq, choice, repeat, group, anchor, boundary, outside, no_items, item, no_branches, branch}
+use Rattle.rl_pattern.specs.Cut.{left, gone}
+use Rattle.rl_pattern.specs.Thinned.{kept_from}
+
+abbrev pub same_span : Span → Span → Bool
+same_span r s = r.from == s.from && r.upto == s.upto
+
+abbrev pub among : List Span → Span → Bool
+among [] s = false
+among (r ∷ rs) s = same_span r s || among rs s
+
+abbrev pub no_span : Span → Bool
+no_span s = false
+
+-- whether a part holds a group that captures
+abbrev mutual
+  pub holds_capture : PatTree → Bool
+  holds_capture (nothing s) = false
+  holds_capture (class s set) = false
+  holds_capture (seq s ps) = some_capture ps
+  holds_capture (choice s bs) = branch_capture bs
+  holds_capture (repeat s q least most greedy p) = holds_capture p
+  holds_capture (group s captures p) = captures || holds_capture p
+  holds_capture (anchor s kind multiline) = false
+  holds_capture (boundary s negated ascii) = false
+  holds_capture (outside s what) = false
+
+  pub some_capture : PatTrees → Bool
+  some_capture no_items = false
+  some_capture (item p ps) = holds_capture p || some_capture ps
+
+  pub branch_capture : BranchTrees → Bool
+  branch_capture no_branches = false
+  branch_capture (branch s p bs) = holds_capture p || branch_capture bs
+
+-- whether a part holds a guard: an anchor or a boundary
+abbrev mutual
+  pub holds_guard : PatTree → Bool
+  holds_guard (nothing s) = false
+  holds_guard (class s set) = false
+  holds_guard (seq s ps) = some_guard ps
+  holds_guard (choice s bs) = branch_guard bs
+  holds_guard (repeat s q least most greedy p) = holds_guard p
+  holds_guard (group s captures p) = holds_guard p
+  holds_guard (anchor s kind multiline) = true
+  holds_guard (boundary s negated ascii) = true
+  holds_guard (outside s what) = false
+
+  pub some_guard : PatTrees → Bool
+  some_guard no_items = false
+  some_guard (item p ps) = holds_guard p || some_guard ps
+
+  pub branch_guard : BranchTrees → Bool
+  branch_guard no_branches = false
+  branch_guard (branch s p bs) = holds_guard p || branch_guard bs
+
+-- the spans of the branches, by rising place
+abbrev mutual
+  pub branches_in : PatTree → List Span
+  branches_in (nothing s) = []
+  branches_in (class s set) = []
+  branches_in (seq s ps) = items_branches ps
+  branches_in (choice s bs) = choice_branches bs
+  branches_in (repeat s q least most greedy p) = branches_in p
+  branches_in (group s captures p) = branches_in p
+  branches_in (anchor s kind multiline) = []
+  branches_in (boundary s negated ascii) = []
+  branches_in (outside s what) = []
+
+  pub items_branches : PatTrees → List Span
+  items_branches no_items = []
+  items_branches (item p ps) = branches_in p ++ items_branches ps
+
+  pub choice_branches : BranchTrees → List Span
+  choice_branches no_branches = []
+  choice_branches (branch s p bs) = s ∷ branches_in p ++ choice_branches bs
+
+-- some branch is kept
+abbrev pub some_kept : (Span → Bool) → BranchTrees → Bool
+some_kept drop no_branches = false
+some_kept drop (branch s p bs) = not (drop s) || some_kept drop bs
+
+-- branches may be dropped: none of them holds a group that captures, and each choice that is left keeps a branch
+module _ (drop : Span → Bool) where
+  abbrev mutual
+    pub may_go : PatTree → Bool
+    may_go (nothing s) = true
+    may_go (class s set) = true
+    may_go (seq s ps) = items_may_go ps
+    may_go (choice s bs) = some_kept drop bs && branches_may_go bs
+    may_go (repeat s q least most greedy p) = may_go p
+    may_go (group s captures p) = may_go p
+    may_go (anchor s kind multiline) = true
+    may_go (boundary s negated ascii) = true
+    may_go (outside s what) = true
+
+    pub items_may_go : PatTrees → Bool
+    items_may_go no_items = true
+    items_may_go (item p ps) = may_go p && items_may_go ps
+
+    pub branches_may_go : BranchTrees → Bool
+    branches_may_go no_branches = true
+    branches_may_go (branch s p bs) = (if drop s then not (holds_capture p) else may_go p) && branches_may_go bs
+
+-- the tree of a body without these branches
+abbrev pub without : List Span → PatTree → Tree
+without dropped body = lowered (left (among dropped) no_span body)
+
+-- what a comparison of two trees answers
+pub data Verdict : Type 0 where
+  equal apart passed_by : Verdict
+
+module _ (Answers : Tree → Tree → Verdict → Type 0) (body : PatTree) where
+  -- the branches of a list were tried from its end on, each on the body that was left by then: these were dropped, and the
+  -- tests of these passed their limit
+  pub data Tried : List Span → List Span → List Span → Type 0 where
+    none_tried : Tried [] [] []
+    left_alone : {bs dropped passed : List Span} {b : Span} → Tried bs dropped passed → may_go (among (b ∷ dropped)) body ≡ false → Tried (b ∷ bs) dropped passed
+    dropped_one : {bs dropped passed : List Span} {b : Span} → Tried bs dropped passed → may_go (among (b ∷ dropped)) body ≡ true → Answers (without dropped body) (without (b ∷ dropped) body) equal → Tried (b ∷ bs) (b ∷ dropped) passed
+    kept_one : {bs dropped passed : List Span} {b : Span} → Tried bs dropped passed → may_go (among (b ∷ dropped)) body ≡ true → Answers (without dropped body) (without (b ∷ dropped) body) apart → Tried (b ∷ bs) dropped passed
+    passed_one : {bs dropped passed : List Span} {b : Span} → Tried bs dropped passed → may_go (among (b ∷ dropped)) body ≡ true → Answers (without dropped body) (without (b ∷ dropped) body) passed_by → Tried (b ∷ bs) dropped (b ∷ passed)
+
+-- the pairs of an inner quantifier and an outer one of which the inner one may go
+abbrev pub is_any : ℕ → Option ℕ → Bool
+is_any least None = least == 0
+is_any least (Some most) = false
+
+abbrev pub is_some : ℕ → Option ℕ → Bool
+is_some least None = least == 1
+is_some least (Some most) = false
+
+abbrev pub is_option : ℕ → Option ℕ → Bool
+is_option least None = false
+is_option least (Some most) = least == 0 && most == 1
+
+abbrev pub is_allowed : ℕ → Option ℕ → ℕ → Option ℕ → Bool
+is_allowed l m least most = (is_any least most && (is_any l m || (is_some l m || is_option l m))) || (is_some least most && is_some l m)
+
+-- the quantifiers that are taken out, by rising place: each is that of a repeat that is the whole content of a group, which
+-- doesn't capture and is the body of another repeat
+abbrev mutual
+  pub merged_in : PatTree → List Span
+  merged_in (nothing s) = []
+  merged_in (class s set) = []
+  merged_in (seq s ps) = items_merged ps
+  merged_in (choice s bs) = branches_merged bs
+  merged_in (repeat s q least most greedy p) = merged_under p least most
+  merged_in (group s captures p) = merged_in p
+  merged_in (anchor s kind multiline) = []
+  merged_in (boundary s negated ascii) = []
+  merged_in (outside s what) = []
+
+  pub items_merged : PatTrees → List Span
+  items_merged no_items = []
+  items_merged (item p ps) = merged_in p ++ items_merged ps
+
+  pub branches_merged : BranchTrees → List Span
+  branches_merged no_branches = []
+  branches_merged (branch s p bs) = merged_in p ++ branches_merged bs
+
+  -- of the body of a repeat with these numbers
+  pub merged_under : PatTree → ℕ → Option ℕ → List Span
+  merged_under (group s captures p) least most = merged_inside p captures least most
+  merged_under (repeat s q l m greedy p) least most = merged_under p l m
+  merged_under (nothing s) least most = []
+  merged_under (class s set) least most = []
+  merged_under (seq s ps) least most = items_merged ps
+  merged_under (choice s bs) least most = branches_merged bs
+  merged_under (anchor s kind multiline) least most = []
+  merged_under (boundary s negated ascii) least most = []
+  merged_under (outside s what) least most = []
+
+  -- of the content of a group that is the body of a repeat with these numbers
+  pub merged_inside : PatTree → Bool → ℕ → Option ℕ → List Span
+  merged_inside (repeat s q l m greedy p) captures least most =
+      merged_under p l m ++ (if not captures && (not (holds_capture p) && is_allowed l m least most) then q ∷ [] else [])
+  merged_inside (nothing s) captures least most = []
+  merged_inside (class s set) captures least most = []
+  merged_inside (seq s ps) captures least most = items_merged ps
+  merged_inside (choice s bs) captures least most = branches_merged bs
+  merged_inside (group s c p) captures least most = merged_in p
+  merged_inside (anchor s kind multiline) captures least most = []
+  merged_inside (boundary s negated ascii) captures least most = []
+  merged_inside (outside s what) captures least most = []
+
+-- the codes that are left
+abbrev pub text_of : PatTree → List Span → List Span → List ℕ → List ℕ
+text_of body dropped merged codes = kept_from (λ t. not (gone (among dropped) (among merged) body t)) 0 codes
+
+abbrev pub text_if : PatTree → List Span → List Span → List ℕ → Option (List ℕ)
+text_if body [] [] codes = None
+text_if body [] (m ∷ ms) codes = Some (text_of body [] (m ∷ ms) codes)
+text_if body (d ∷ ds) ms codes = Some (text_of body (d ∷ ds) ms codes)
+
+-- a right suggestion: its branches that were dropped, its quantifiers that were taken out, the branches whose test passed its
+-- limit, and the simpler codes
+pub record IsRight (Answers : Tree → Tree → Verdict → Type 0) (body : PatTree) (codes : List ℕ) (dropped merged passed : List Span) (text : Option (List ℕ)) : Type 0 where
+  pub guarded : holds_guard body ≡ true → (dropped ≡ []) × (passed ≡ [])
+  pub tried : holds_guard body ≡ false → Tried Answers body (branches_in body) dropped passed
+  pub quantifiers : merged ≡ merged_in (left (among dropped) no_span body)
+  pub spelled : text ≡ text_if body dropped merged codes

@@ -1,0 +1,9 @@
+pub mod Fewer
+pub mod FewerLetters
+pub mod Stays
+pub mod LeftParts
+pub mod PartTrees
+pub mod Within
+pub mod GoneCodes
+pub mod Joining
+pub mod TriedOne

@@ -1,0 +1,37 @@
+-- The trees of sequences and of choices, and of what is left of them.
+use Rattle.std.proofs.Common.{◌≡◌, Bool, List, map, sym, ap, ◌∙◌}
+use Rattle.rl_syntax.specs.declared.span.Span.{Span}
+use Rattle.rl_syntax.specs.declared.pat.Pat.{Pat}
+use Rattle.rl_syntax.specs.declared.pat.Branch.{Branch}
+use Rattle.rl_syntax.specs.declared.pat.Pat.TheVariants as V
+use Rattle.rl_syntax.specs.declared.pat.Pat.TheFolds.{fold-roll-Pat}
+use Rattle.rl_syntax.specs.declared.pat.Pat.{Pat-F}
+use Rattle.rl_syntax.specs.PatTree.{PatTree, seq, choice, items_of, branches_of, pat_of, layer_of, branch_of}
+use Rattle.rl_syntax.specs.Counting.{branch_tree}
+use Rattle.rl_pattern.specs.Cut.{choice_of, left}
+use Rattle.rl_pattern.specs.Suggested.{no_span}
+use Rattle.rl_rewrite.specs.internal.LeftLists.{all_left, some_left}
+use Rattle.rl_rewrite.proofs.LeftParts.{items_left, branches_left}
+
+pub seq-tree : (s : Span) (ps : List Pat) → pat_of (V.Seq s ps) ≡ seq s (items_of (map pat_of ps))
+seq-tree s ps = ap pat_of (sym (V.rolls-Seq s ps)) ∙ fold-roll-Pat PatTree (Span × PatTree) layer_of branch_of (Pat-F.Seq s ps)
+
+pub choice-tree : (s : Span) (bs : List Branch) → pat_of (V.Choice s bs) ≡ choice s (branches_of (map branch_tree bs))
+choice-tree s bs = ap pat_of (sym (V.rolls-Choice s bs)) ∙ fold-roll-Pat PatTree (Span × PatTree) layer_of branch_of (Pat-F.Choice s bs)
+
+-- a sequence of what is left of the items is what is left of the sequence
+pub seq_left : (drop : Span → Bool) (s : Span) (ps found : List Pat) (part : Pat) → part ≡ V.Seq s ps → map pat_of found ≡ all_left drop (map pat_of ps) → pat_of (V.Seq s found) ≡ left drop no_span (pat_of part)
+seq_left drop s ps found part e f =
+    seq-tree s found
+    ∙ ap (λ qs. seq s (items_of qs)) f
+    ∙ ap (seq s) (items_left drop (map pat_of ps))
+    ∙ sym (ap (left drop no_span) (ap pat_of e ∙ seq-tree s ps))
+
+-- and the same of a choice
+pub choice_left : (drop : Span → Bool) (s : Span) (bs found : List Branch) (part result : Pat) → part ≡ V.Choice s bs → map branch_tree found ≡ some_left drop (map branch_tree bs)
+    → pat_of result ≡ choice_of s (branches_of (map branch_tree found)) → pat_of result ≡ left drop no_span (pat_of part)
+choice_left drop s bs found part result e f g =
+    g
+    ∙ ap (λ cs. choice_of s (branches_of cs)) f
+    ∙ ap (choice_of s) (branches_left drop (map branch_tree bs))
+    ∙ sym (ap (left drop no_span) (ap pat_of e ∙ choice-tree s bs))

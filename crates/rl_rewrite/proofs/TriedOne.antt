@@ -1,0 +1,50 @@
+-- One more branch tried.
+use Rattle.std.proofs.Common.{◌≡◌, ℕ, Bool, true, false, List, [], ◌∷◌, ◌++◌, refl, sym, ap, ◌∙◌, subst, append_assoc}
+use Rattle.rl_ranges.specs.declared.universe.Universe.{Universe}
+use Rattle.rl_syntax.specs.declared.span.Span.{Span}
+use Rattle.rl_syntax.specs.PatTree.{PatTree}
+use Rattle.rl_pattern.specs.Suggested.{among, may_go, without, Tried, none_tried, left_alone, dropped_one, kept_one, passed_one, equal, apart, passed_by}
+use Rattle.rl_rewrite.specs.Verdicts.{IsVerdict}
+use Rattle.rl_rewrite.specs.declared.trial.Trial.{Trial}
+use Rattle.rl_rewrite.specs.declared.trial.Trial.TheVariants.{Equal, Apart, Passed}
+use Rattle.rl_rewrite.specs.internal.Trials.{verdict_of, IsTold, AreTried}
+
+module _ (u : Universe) (limit : ℕ) (body : PatTree) where
+  pub none : may_go (among []) body ≡ true → AreTried u limit body [] [] []
+  none may = record { tried = none_tried; goes = may; language = λ w is. (λ h. h, λ h. h) }
+
+  module _ (b : Span) (dropped more : List Span) (e : more ≡ b ∷ dropped) where
+    pub alone : may_go (among more) body ≡ false → (passed bs : List Span) → AreTried u limit body bs dropped passed → AreTried u limit body (b ∷ bs) dropped passed
+    alone h passed bs t = record { tried = left_alone t.tried (subst (λ m. may_go (among m) body ≡ false) e h); goes = t.goes; language = t.language }
+
+    pub equal_one : may_go (among more) body ≡ true → IsVerdict u limit (without dropped body) (without more body) equal → IsTold u (without dropped body) (without more body) Equal → (passed bs : List Span) → AreTried u limit body bs dropped passed → AreTried u limit body (b ∷ bs) more passed
+    equal_one h v told passed bs t =
+        subst (λ m. AreTried u limit body (b ∷ bs) m passed) (sym e) (record {
+          tried = dropped_one t.tried (subst (λ m. may_go (among m) body ≡ true) e h) (subst (λ m. IsVerdict u limit (without dropped body) (without m body) equal) e v);
+          goes = subst (λ m. may_go (among m) body ≡ true) e h;
+          language = λ w is. let x = t.language w is in let y = subst (λ m. IsTold u (without dropped body) (without m body) Equal) e told w is in (λ z. y.0 (x.0 z), λ z. x.1 (y.1 z));
+        })
+
+    pub apart_one : may_go (among more) body ≡ true → IsVerdict u limit (without dropped body) (without more body) apart → (passed bs : List Span) → AreTried u limit body bs dropped passed → AreTried u limit body (b ∷ bs) dropped passed
+    apart_one h v passed bs t = record {
+      tried = kept_one t.tried (subst (λ m. may_go (among m) body ≡ true) e h) (subst (λ m. IsVerdict u limit (without dropped body) (without m body) apart) e v);
+      goes = t.goes;
+      language = t.language;
+    }
+
+    pub passed_next : may_go (among more) body ≡ true → IsVerdict u limit (without dropped body) (without more body) passed_by → (passed all bs : List Span) → all ≡ b ∷ passed → AreTried u limit body bs dropped passed → AreTried u limit body (b ∷ bs) dropped all
+    passed_next h v passed all bs f t = subst (AreTried u limit body (b ∷ bs) dropped) (sym f) (record {
+      tried = passed_one t.tried (subst (λ m. may_go (among m) body ≡ true) e h) (subst (λ m. IsVerdict u limit (without dropped body) (without m body) passed_by) e v);
+      goes = t.goes;
+      language = t.language;
+    })
+
+pub last_of : (rest less bs all : List Span) (b : Span) → rest ≡ less ++ b ∷ [] → rest ++ bs ≡ all → less ++ b ∷ bs ≡ all
+last_of rest less bs all b e f = sym (append_assoc less (b ∷ []) bs) ∙ sym (ap (λ r. r ++ bs) e) ∙ f
+
+-- what a trial told, said of the lists that it was given
+pub verdict_found : (u : Universe) (limit : ℕ) (body : PatTree) (d m dropped more : List Span) (t v : Trial) → d ≡ dropped → m ≡ more → t ≡ v → IsVerdict u limit (without d body) (without m body) (verdict_of t) → IsVerdict u limit (without dropped body) (without more body) (verdict_of v)
+verdict_found u limit body d m dropped more t v a b e h = subst (λ x. IsVerdict u limit (without dropped body) (without more body) (verdict_of x)) e (subst (λ x. IsVerdict u limit (without dropped body) (without x body) (verdict_of t)) b (subst (λ x. IsVerdict u limit (without x body) (without m body) (verdict_of t)) a h))
+
+pub told_found : (u : Universe) (body : PatTree) (d m dropped more : List Span) (t v : Trial) → d ≡ dropped → m ≡ more → t ≡ v → IsTold u (without d body) (without m body) t → IsTold u (without dropped body) (without more body) v
+told_found u body d m dropped more t v a b e h = subst (λ x. IsTold u (without dropped body) (without more body) x) e (subst (λ x. IsTold u (without dropped body) (without x body) t) b (subst (λ x. IsTold u (without x body) (without m body) t) a h))

@@ -1,0 +1,13 @@
+-- What is left of the parts so far, and of those that follow.
+use Rattle.std.proofs.Common.{◌≡◌, ◌++◌, drop, map}
+use Rattle.rl_syntax.specs.PatTree.{pat_of}
+use Rattle.rl_syntax.specs.Counting.{branch_tree}
+use Rattle.rl_pattern.specs.Suggested.{among}
+use Rattle.rl_rewrite.specs.internal.LeftLists.{all_left, some_left}
+use Rattle.rl_rewrite.proofs.leaving.+leaving.Given as goal
+
+abbrev pub invariant-items_left-loop-item : goal.invariant-items_left-loop-item
+invariant-items_left-loop-item l = map pat_of l.found ++ all_left (among l.dropped) (map pat_of (drop l.item-index l.items)) ≡ all_left (among l.dropped) (map pat_of l.items)
+
+abbrev pub invariant-branches_left-loop-branch : goal.invariant-branches_left-loop-branch
+invariant-branches_left-loop-branch l = map branch_tree l.found ++ some_left (among l.dropped) (map branch_tree (drop l.branch-index l.branches)) ≡ some_left (among l.dropped) (map branch_tree l.branches)

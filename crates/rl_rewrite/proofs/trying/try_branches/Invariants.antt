@@ -1,0 +1,10 @@
+-- The branches that were tried so far are the last ones of all.
+use Rattle.std.proofs.Common.{◌≡◌, ℕ, ◌++◌, List}
+use Rattle.rl_syntax.specs.declared.span.Span.{Span}
+use Rattle.rl_syntax.specs.Pattern.{body_of, universe_of}
+use Rattle.rl_pattern.specs.Suggested.{branches_in}
+use Rattle.rl_rewrite.specs.internal.Trials.{AreTried}
+use Rattle.rl_rewrite.proofs.trying.try_branches.Given as goal
+
+abbrev pub invariant-loop-branch : goal.invariant-loop-branch
+invariant-loop-branch l = (bs : List Span) × (l.branch-iterator.iter.rest.now ++ bs ≡ branches_in (body_of l.p)) × AreTried (universe_of l.p) l.limit (body_of l.p) bs l.tries.dropped l.tries.passed

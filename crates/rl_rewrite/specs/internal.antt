@@ -1,0 +1,4 @@
+pub mod Holes
+pub mod LeftLists
+pub mod Merges
+pub mod Trials

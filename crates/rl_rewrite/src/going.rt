@@ -1,0 +1,127 @@
+//! Which branches there are, and whether some of them may be dropped.
+
+ghost use Rattle.std.specs.Prelude.{◌≡◌, ◌∷◌, [], ◌++◌, map, IfOk};
+ghost use Rattle.rl_syntax.specs.PatTree.{pat_of, items_of, branches_of};
+ghost use Rattle.rl_syntax.specs.Counting.{branch_tree};
+ghost use Rattle.rl_pattern.specs.Suggested.{among as lies_among};
+ghost use Rattle.rl_pattern.specs.Suggested.{branches_in, items_branches, choice_branches};
+ghost use Rattle.rl_pattern.specs.Suggested.{some_kept as is_kept, may_go as goes, items_may_go as items_go, branches_may_go as branches_go};
+
+use crate::parts::{among, holds_capture};
+use rl_lists::OutOfMemory;
+use rl_syntax::{Branch, Pat, Span, Spans};
+use std::alloc::Global;
+
+/// These spans, and those of the branches of a part by rising place.
+#[cycle(branches)]
+pub(crate) fn with_branches(alloc: Global, part: &Pat, found: Spans) -> Result<Spans, OutOfMemory>
+    ensures { IfOk result (λ all. all ≡ found ++ branches_in (pat_of part.now)) }
+{
+    match part {
+        Pat::Nothing { .. }
+        | Pat::Class { .. }
+        | Pat::Anchor { .. }
+        | Pat::Boundary { .. }
+        | Pat::Outside { .. } => Ok(found),
+        Pat::Seq { items, .. } => with_items_branches(alloc, items.as_slice(), found),
+        Pat::Choice { branches, .. } => with_choice_branches(alloc, branches.as_slice(), found),
+        Pat::Repeat { body, .. } | Pat::Group { body, .. } => with_branches(alloc, body, found),
+    }
+}
+
+/// These spans, and those of the branches of items.
+#[cycle(branches)]
+fn with_items_branches(alloc: Global, items: &[Pat], found: Spans) -> Result<Spans, OutOfMemory>
+    ensures { IfOk result (λ all. all ≡ found ++ items_branches (items_of (map pat_of items.now))) }
+{
+    let mut all = found;
+    for item in items {
+        all = with_branches(alloc, item, all)?;
+    }
+    Ok(all)
+}
+
+/// These spans, and those of the branches of a choice and of the branches in them.
+#[cycle(branches)]
+fn with_choice_branches(
+    alloc: Global,
+    branches: &[Branch],
+    found: Spans,
+) -> Result<Spans, OutOfMemory>
+    ensures { IfOk result (λ all. all ≡ found ++ choice_branches (branches_of (map branch_tree branches.now))) }
+{
+    let mut all = found;
+    for branch in branches {
+        all.push(branch.span)?;
+        all = with_branches(alloc, &branch.body, all)?;
+    }
+    Ok(all)
+}
+
+/// Whether the branches of these spans may be dropped from a part: none of them holds a group that captures, and each choice
+/// that is left keeps a branch.
+#[cycle(going)]
+pub(crate) fn may_go(part: &Pat, dropped: &[Span]) -> bool
+    ensures { result ≡ goes (lies_among dropped.now) (pat_of part.now) }
+{
+    match part {
+        Pat::Nothing { .. }
+        | Pat::Class { .. }
+        | Pat::Anchor { .. }
+        | Pat::Boundary { .. }
+        | Pat::Outside { .. } => true,
+        Pat::Seq { items, .. } => items_may_go(items.as_slice(), dropped),
+        Pat::Choice { branches, .. } => {
+            let kept = some_kept(branches.as_slice(), dropped);
+            branches_may_go(branches.as_slice(), dropped) && kept
+        }
+        Pat::Repeat { body, .. } | Pat::Group { body, .. } => may_go(body, dropped),
+    }
+}
+
+/// Whether they may be dropped from items.
+#[cycle(going)]
+fn items_may_go(items: &[Pat], dropped: &[Span]) -> bool
+    ensures { result ≡ items_go (lies_among dropped.now) (items_of (map pat_of items.now)) }
+{
+    let mut all = true;
+    for item in items {
+        all = may_go(item, dropped) && all;
+    }
+    all
+}
+
+/// Whether they may be dropped from each of the branches, or hold no group that captures where they are dropped.
+#[cycle(going)]
+fn branches_may_go(branches: &[Branch], dropped: &[Span]) -> bool
+    ensures { result ≡ branches_go (lies_among dropped.now) (branches_of (map branch_tree branches.now)) }
+{
+    let mut all = true;
+    for branch in branches {
+        all = branch_may_go(branch, dropped) && all;
+    }
+    all
+}
+
+/// Whether a branch may be dropped with all that it holds, or where it is kept, what is dropped of it.
+#[cycle(going)]
+fn branch_may_go(branch: &Branch, dropped: &[Span]) -> bool
+    ensures { result ≡ branches_go (lies_among dropped.now) (branches_of (map branch_tree (branch.now ∷ []))) }
+{
+    if among(dropped, branch.span) {
+        !holds_capture(&branch.body)
+    } else {
+        may_go(&branch.body, dropped)
+    }
+}
+
+/// Whether a branch is kept.
+fn some_kept(branches: &[Branch], dropped: &[Span]) -> bool
+    ensures { result ≡ is_kept (lies_among dropped.now) (branches_of (map branch_tree branches.now)) }
+{
+    let mut kept = false;
+    for branch in branches {
+        kept = kept || !among(dropped, branch.span);
+    }
+    kept
+}

@@ -1,0 +1,44 @@
+//! Laws of suggestions. The functions do nothing: what they ensure is what is proved.
+
+ghost use Rattle.std.specs.Prelude.{◌≡◌, ◌≤◌, ℕ, Bool, true, false, List, [], Result, Ok};
+ghost use Rattle.rl_ranges.specs.Text.{IsText};
+ghost use Rattle.rl_syntax.specs.declared.pattern.Pattern.{Pattern};
+ghost use Rattle.rl_syntax.specs.declared.re.Mode.{Mode};
+ghost use Rattle.rl_syntax.specs.Pattern.{body_of, pattern_tree, pattern_ending};
+ghost use Rattle.rl_syntax.specs.Cost.{matched};
+ghost use Rattle.rl_pattern.specs.declared.flags.Flags.{Flags};
+ghost use Rattle.rl_pattern.specs.Parsed.{IsParsed};
+ghost use Rattle.rl_pattern.specs.Reread.{IsLeft};
+ghost use Rattle.rl_syntax.specs.SameSpans.{OneLanguage};
+ghost use Rattle.rl_ranges.specs.declared.universe.Universe.{Universe};
+ghost use Rattle.rl_ranges.specs.Letters.{classes};
+ghost use Rattle.rl_ranges.specs.Text.{code_count};
+ghost use Rattle.rl_prio.specs.Letters.{all_sets};
+ghost use Rattle.rl_equiv.specs.SetPairs.{joint_letters};
+ghost use Rattle.rl_syntax.specs.declared.span.Span.{Span};
+ghost use Rattle.rl_syntax.specs.Tree.{Tree, size};
+ghost use Rattle.rl_syntax.specs.Lowering.{lowered};
+ghost use Rattle.rl_syntax.specs.PatTree.{PatTree};
+ghost use Rattle.rl_prio.specs.Items.{longest};
+ghost use Rattle.rl_pattern.specs.Cut.{left};
+ghost use Rattle.rl_pattern.specs.Suggested.{may_go, among, no_span, holds_guard, merged_in, without};
+
+/// What is left where more branches are dropped has no more nodes and no longer lists of items.
+pub fn fewer_branches_pass_no_limit()
+    ensures nodes { (drop more out : Span → Bool) (body : PatTree) → ((s : Span) → drop s ≡ true → more s ≡ true) → may_go more body ≡ true
+        → size (lowered (left more out body)) ≤ size (lowered (left drop out body)) }
+    ensures moves { (drop more out : Span → Bool) (body : PatTree) → ((s : Span) → drop s ≡ true → more s ≡ true) → may_go more body ≡ true
+        → longest (lowered (left more out body)) ≤ longest (lowered (left drop out body)) }
+    ensures letters { (u : Universe) (drop more out : Span → Bool) (body : PatTree) → ((s : Span) → drop s ≡ true → more s ≡ true) → may_go more body ≡ true
+        → joint_letters u (lowered (left drop out body)) (lowered (left more out body)) ≡ classes (all_sets (lowered (left drop out body))) (code_count u) }
+{}
+
+/// A pattern without what was dropped and taken out matches the same texts in every mode, where the languages of its bodies
+/// before and after the branches were dropped are one, or nothing was dropped since the body holds a guard.
+pub fn matched_texts_stay()
+    ensures { (flags : Flags) (u : Universe) (codes : List ℕ) (found : Pattern) (dropped : List Span) → IsParsed flags u codes (Ok found)
+        → may_go (among dropped) (body_of found) ≡ true → (holds_guard (body_of found) ≡ true → dropped ≡ [])
+        → (holds_guard (body_of found) ≡ false → OneLanguage u (without [] (body_of found)) (without dropped (body_of found)))
+        → (new : Pattern) → IsLeft (among dropped) (among (merged_in (left (among dropped) no_span (body_of found)))) found new
+        → (mode : Mode) (w : List ℕ) → IsText u w → matched (pattern_tree new mode) (pattern_ending new mode) w ≡ matched (pattern_tree found mode) (pattern_ending found mode) w }
+{}

@@ -1,0 +1,183 @@
+//! A pattern without some of its branches.
+
+ghost use Rattle.std.specs.Prelude.{◌≡◌, ◌≤◌, false, map, IfOk};
+ghost use Rattle.rl_syntax.specs.PatTree.{pat_of, branches_of};
+ghost use Rattle.rl_syntax.specs.PatTree as p;
+ghost use Rattle.rl_syntax.specs.Counting.{branch_tree};
+ghost use Rattle.rl_syntax.specs.Pattern.{body_of, universe_of};
+ghost use Rattle.rl_syntax.specs.Tree.{tree_of, size, IsOver};
+ghost use Rattle.rl_pattern.specs.Cut.{choice_of as is_choice_of, left};
+ghost use Rattle.rl_rewrite.specs.internal.LeftLists.{all_left, some_left};
+ghost use Rattle.rl_pattern.specs.Suggested.{among as lies_among, no_span, holds_guard, without};
+
+use crate::parts::among;
+use rl_lists::OutOfMemory;
+use rl_syntax::{Branch, Branches, LowerError, Mode, Pat, Pats, Pattern, Re, Span, lower};
+use std::alloc::Global;
+
+/// A part repeated.
+fn repeat_of(
+    alloc: Global,
+    span: Span,
+    mark: Span,
+    min: u32,
+    max: Option<u32>,
+    greedy: bool,
+    body: Pat,
+) -> Result<Pat, OutOfMemory>
+    ensures { IfOk result (λ part. pat_of part ≡ p.repeat span mark min max greedy (pat_of body)) }
+{
+    let body = Box::new(alloc, body)?;
+    Ok(Pat::Repeat {
+        span,
+        mark,
+        min,
+        max,
+        greedy,
+        body,
+    })
+}
+
+/// A group of a part.
+fn group_of(alloc: Global, span: Span, captures: bool, body: Pat) -> Result<Pat, OutOfMemory>
+    ensures { IfOk result (λ part. pat_of part ≡ p.group span captures (pat_of body)) }
+{
+    let body = Box::new(alloc, body)?;
+    Ok(Pat::Group {
+        span,
+        captures,
+        body,
+    })
+}
+
+/// A branch with its span.
+fn branch_at(span: Span, body: Pat) -> Branch
+    ensures { branch_tree result ≡ (span, pat_of body) }
+{
+    Branch { span, body }
+}
+
+/// A choice of branches; of one of them it is that branch, and of none it is nothing.
+fn choice_of(span: Span, branches: Branches) -> Pat
+    ensures { pat_of result ≡ is_choice_of span (branches_of (map branch_tree branches)) }
+{
+    if branches.len() > 1 {
+        return Pat::Choice { span, branches };
+    }
+    let mut kept = branches.into_vec();
+    match kept.pop() {
+        Some(branch) => branch.body,
+        None => Pat::Nothing { span },
+    }
+}
+
+/// What is left of a part without the branches of these spans.
+#[cycle(leaving)]
+pub(crate) fn left_part(alloc: Global, part: &Pat, dropped: &[Span]) -> Result<Pat, OutOfMemory>
+    ensures { IfOk result (λ found. pat_of found ≡ left (lies_among dropped.now) no_span (pat_of part.now)) }
+{
+    match part {
+        Pat::Nothing { span } => Ok(Pat::Nothing { span: *span }),
+        Pat::Class { span, set } => {
+            let set = set.copy()?;
+            Ok(Pat::Class { span: *span, set })
+        }
+        Pat::Seq { span, items } => {
+            let items = items_left(alloc, items.as_slice(), dropped)?;
+            Ok(Pat::Seq { span: *span, items })
+        }
+        Pat::Choice { span, branches } => {
+            let branches = branches_left(alloc, branches.as_slice(), dropped)?;
+            Ok(choice_of(*span, branches))
+        }
+        Pat::Repeat {
+            span,
+            mark,
+            min,
+            max,
+            greedy,
+            body,
+        } => {
+            let body = left_part(alloc, body, dropped)?;
+            repeat_of(alloc, *span, *mark, *min, *max, *greedy, body)
+        }
+        Pat::Group {
+            span,
+            captures,
+            body,
+        } => {
+            let body = left_part(alloc, body, dropped)?;
+            group_of(alloc, *span, *captures, body)
+        }
+        Pat::Anchor {
+            span,
+            kind,
+            multiline,
+        } => Ok(Pat::Anchor {
+            span: *span,
+            kind: *kind,
+            multiline: *multiline,
+        }),
+        Pat::Boundary {
+            span,
+            negated,
+            ascii,
+        } => Ok(Pat::Boundary {
+            span: *span,
+            negated: *negated,
+            ascii: *ascii,
+        }),
+        Pat::Outside { span, what } => Ok(Pat::Outside {
+            span: *span,
+            what: *what,
+        }),
+    }
+}
+
+/// What is left of items.
+#[cycle(leaving)]
+fn items_left(alloc: Global, items: &[Pat], dropped: &[Span]) -> Result<Pats, OutOfMemory>
+    ensures { IfOk result (λ found. map pat_of found ≡ all_left (lies_among dropped.now) (map pat_of items.now)) }
+{
+    let mut found: Pats = Pats::new(alloc);
+    for item in items {
+        let item = left_part(alloc, item, dropped)?;
+        found.push(item)?;
+    }
+    Ok(found)
+}
+
+/// The branches that are left, each as what is left of it.
+#[cycle(leaving)]
+fn branches_left(
+    alloc: Global,
+    branches: &[Branch],
+    dropped: &[Span],
+) -> Result<Branches, OutOfMemory>
+    ensures { IfOk result (λ found. map branch_tree found ≡ some_left (lies_among dropped.now) (map branch_tree branches.now)) }
+{
+    let mut found: Branches = Branches::new(alloc);
+    for branch in branches {
+        if !among(dropped, branch.span) {
+            let body = left_part(alloc, &branch.body, dropped)?;
+            found.push(branch_at(branch.span, body))?;
+        }
+    }
+    Ok(found)
+}
+
+/// The tree of a pattern's body without the branches of these spans, as fullmatch.
+pub(crate) fn tree_without(alloc: Global, p: &Pattern, dropped: &[Span]) -> Result<Re, OutOfMemory>
+    requires guardless { holds_guard (body_of p.now) ≡ false }
+    requires small { size (without dropped.now (body_of p.now)) ≤ 4000 }
+    ensures tree { IfOk result (λ re. tree_of re ≡ without dropped.now (body_of p.now)) }
+    ensures over { IfOk result (λ re. IsOver (universe_of p.now) (tree_of re)) }
+{
+    let body = left_part(alloc, p.body(), dropped)?;
+    let left = Pattern::new(body, p.leading(), p.trailing(), p.universe());
+    match lower(alloc, &left, Mode::Fullmatch) {
+        Ok(lowered) => Ok(lowered.tree),
+        Err(LowerError::OutOfMemory) => Err(OutOfMemory),
+        Err(LowerError::TooLarge) => unreachable!(),
+    }
+}

@@ -1,0 +1,47 @@
+//! The limits of a body as fullmatch.
+
+ghost use Rattle.std.specs.Prelude.{◌≡◌, ◌≤◌, IfOk, IfErr, OnOk};
+ghost use Rattle.rl_syntax.specs.Pattern.{body_of, universe_of, pattern_tree};
+ghost use Rattle.rl_syntax.specs.Lowering.{lowered};
+ghost use Rattle.rl_syntax.specs.Tree.{tree_of, size, IsOver};
+ghost use Rattle.rl_syntax.specs.declared.re.Mode.TheVariants.{Fullmatch};
+ghost use Rattle.rl_syntax.specs.declared.verdict.Limit.{Limit as AnyLimit};
+ghost use Rattle.rl_rewrite.specs.Verdicts.{PassesLimit};
+ghost use Rattle.rl_rewrite.specs.internal.Trials.{IsWithin};
+ghost use Rattle.rl_rewrite.specs.declared.suggesting.SuggestError.TheVariants as error;
+
+use crate::suggesting::SuggestError;
+use rl_prio::{Prio, PrioError};
+use rl_syntax::{Ending, Limit, LowerError, Mode, Pattern, Re, lower};
+use std::alloc::Global;
+
+/// The tree of a body as fullmatch, which has no more nodes than the limit.
+fn small_tree(alloc: Global, p: &Pattern) -> Result<Re, SuggestError>
+    ensures tree { IfOk result (λ re. tree_of re ≡ pattern_tree p.now Fullmatch) }
+    ensures small { IfOk result (λ re. size (tree_of re) ≤ 4000) }
+    ensures over { IfOk result (λ re. IsOver (universe_of p.now) (tree_of re)) }
+    ensures passed { IfErr result (λ e. (l : AnyLimit) → e ≡ error.Limit l → PassesLimit (universe_of p.now) (pattern_tree p.now Fullmatch) l) }
+{
+    match lower(alloc, p, Mode::Fullmatch) {
+        Ok(lowered) => Ok(lowered.tree),
+        Err(LowerError::TooLarge) => Err(SuggestError::Limit(Limit::Size)),
+        Err(LowerError::OutOfMemory) => Err(SuggestError::OutOfMemory),
+    }
+}
+
+/// Nothing where a body as fullmatch passes no limit.
+///
+/// # Errors
+/// [`SuggestError::Limit`] with the first limit that it passes; [`SuggestError::OutOfMemory`].
+pub(crate) fn check_limits(alloc: Global, p: &Pattern) -> Result<(), SuggestError>
+    ensures within { OnOk result (IsWithin (universe_of p.now) (lowered (body_of p.now))) }
+    ensures passed { IfErr result (λ e. (l : AnyLimit) → e ≡ error.Limit l → PassesLimit (universe_of p.now) (pattern_tree p.now Fullmatch) l) }
+{
+    let tree = small_tree(alloc, p)?;
+    match Prio::build(alloc, &tree, Ending::AtEnd, p.universe()) {
+        Ok(_) => Ok(()),
+        Err(PrioError::Letters) => Err(SuggestError::Limit(Limit::Letters)),
+        Err(PrioError::Moves) => Err(SuggestError::Limit(Limit::Moves)),
+        Err(PrioError::OutOfMemory) => Err(SuggestError::OutOfMemory),
+    }
+}

@@ -1,0 +1,158 @@
+//! Which quantifiers are taken out.
+
+ghost use Rattle.std.specs.Prelude.{◌≡◌, ◌++◌, map, IfOk};
+ghost use Rattle.rl_syntax.specs.PatTree.{pat_of, items_of, branches_of};
+ghost use Rattle.rl_syntax.specs.Counting.{branch_tree};
+ghost use Rattle.rl_pattern.specs.Suggested.{is_any as any_times, is_some as some_times, is_option as one_at_most, is_allowed as allowed_pair, items_merged, branches_merged};
+ghost use Rattle.rl_rewrite.specs.internal.Merges.{merged_at, goes_at, inside_of};
+
+use crate::parts::holds_capture;
+use rl_lists::OutOfMemory;
+use rl_syntax::{Branch, Pat, Spans};
+use std::alloc::Global;
+
+/// How often a repeat takes its body.
+#[derive(Clone, Copy)]
+pub(crate) struct Times {
+    /// The least number of times.
+    pub(crate) least: u32,
+    /// The greatest number of times, if there is one.
+    pub(crate) most: Option<u32>,
+}
+
+/// Where a part stands.
+#[derive(Clone, Copy)]
+pub(crate) enum Place {
+    /// Neither of the others.
+    Elsewhere,
+    /// It is the body of this repeat.
+    Under(Times),
+    /// It is the whole content of a group, which captures or doesn't and is the body of this repeat.
+    Inside(bool, Times),
+}
+
+/// Whether it is `*`.
+fn is_any(times: Times) -> bool
+    ensures { result ≡ any_times times.least times.most }
+{
+    times.least == 0 && times.most.is_none()
+}
+
+/// Whether it is `+`.
+fn is_some(times: Times) -> bool
+    ensures { result ≡ some_times times.least times.most }
+{
+    times.least == 1 && times.most.is_none()
+}
+
+/// Whether it is `?`.
+fn is_option(times: Times) -> bool
+    ensures { result ≡ one_at_most times.least times.most }
+{
+    match times.most {
+        Some(most) => times.least == 0 && most == 1,
+        None => false,
+    }
+}
+
+/// Whether an inner repeat may go under an outer one.
+fn is_allowed(inner: Times, outer: Times) -> bool
+    ensures { result ≡ allowed_pair inner.least inner.most outer.least outer.most }
+{
+    let under_any = is_any(inner) || is_some(inner) || is_option(inner);
+    is_any(outer) && under_any || is_some(outer) && is_some(inner)
+}
+
+/// Whether the quantifier of a repeat at a place is taken out.
+fn goes(place: Place, inner: Times, body: &Pat) -> bool
+    ensures { result ≡ goes_at place inner (pat_of body.now) }
+{
+    match place {
+        Place::Inside(captures, outer) => !captures
+            && !holds_capture(body)
+            && is_allowed(inner, outer),
+        Place::Elsewhere | Place::Under(_) => false,
+    }
+}
+
+/// The place of the content of a group.
+fn inside(place: Place, captures: bool) -> Place
+    ensures { result ≡ inside_of place captures }
+{
+    match place {
+        Place::Under(outer) => Place::Inside(captures, outer),
+        Place::Elsewhere | Place::Inside(_, _) => Place::Elsewhere,
+    }
+}
+
+/// These spans, and the marks of the quantifiers that are taken out of a part at a place.
+#[cycle(merging)]
+pub(crate) fn with_merged(
+    alloc: Global,
+    part: &Pat,
+    place: Place,
+    found: Spans,
+) -> Result<Spans, OutOfMemory>
+    ensures { IfOk result (λ all. all ≡ found ++ merged_at place (pat_of part.now)) }
+{
+    match part {
+        Pat::Nothing { .. }
+        | Pat::Class { .. }
+        | Pat::Anchor { .. }
+        | Pat::Boundary { .. }
+        | Pat::Outside { .. } => Ok(found),
+        Pat::Seq { items, .. } => with_items_merged(alloc, items.as_slice(), found),
+        Pat::Choice { branches, .. } => with_branches_merged(alloc, branches.as_slice(), found),
+        Pat::Group { captures, body, .. } => with_merged(
+            alloc,
+            body,
+            inside(place, *captures),
+            found,
+        ),
+        Pat::Repeat {
+            mark,
+            min,
+            max,
+            body,
+            ..
+        } => {
+            let times = Times {
+                least: *min,
+                most: *max,
+            };
+            let mut all = with_merged(alloc, body, Place::Under(times), found)?;
+            if goes(place, times, body) {
+                all.push(*mark)?;
+            }
+            Ok(all)
+        }
+    }
+}
+
+/// These spans, and the marks of those that are taken out of items.
+#[cycle(merging)]
+fn with_items_merged(alloc: Global, items: &[Pat], found: Spans) -> Result<Spans, OutOfMemory>
+    ensures { IfOk result (λ all. all ≡ found ++ items_merged (items_of (map pat_of items.now))) }
+{
+    let mut all = found;
+    for item in items {
+        all = with_merged(alloc, item, Place::Elsewhere, all)?;
+    }
+    Ok(all)
+}
+
+/// These spans, and the marks of those that are taken out of branches.
+#[cycle(merging)]
+fn with_branches_merged(
+    alloc: Global,
+    branches: &[Branch],
+    found: Spans,
+) -> Result<Spans, OutOfMemory>
+    ensures { IfOk result (λ all. all ≡ found ++ branches_merged (branches_of (map branch_tree branches.now))) }
+{
+    let mut all = found;
+    for branch in branches {
+        all = with_merged(alloc, &branch.body, Place::Elsewhere, all)?;
+    }
+    Ok(all)
+}

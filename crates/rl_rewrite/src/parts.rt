@@ -1,0 +1,101 @@
+//! What a pattern holds.
+
+ghost use Rattle.std.specs.Prelude.{◌≡◌, map};
+ghost use Rattle.rl_syntax.specs.PatTree.{pat_of, items_of, branches_of};
+ghost use Rattle.rl_syntax.specs.Counting.{branch_tree};
+ghost use Rattle.rl_pattern.specs.Suggested.{among as lies_among};
+ghost use Rattle.rl_pattern.specs.Suggested.{holds_guard as guard_in, some_guard, branch_guard};
+ghost use Rattle.rl_pattern.specs.Suggested.{holds_capture as capture_in, some_capture, branch_capture};
+
+use rl_syntax::{Branch, Pat, Span};
+
+/// Whether the span is one of these.
+pub(crate) fn among(spans: &[Span], span: Span) -> bool
+    ensures { result ≡ lies_among spans.now span }
+{
+    let mut found = false;
+    for other in spans {
+        found = found || *other == span;
+    }
+    found
+}
+
+/// Whether a part holds an anchor or a boundary.
+#[cycle(guards)]
+pub(crate) fn holds_guard(part: &Pat) -> bool
+    ensures { result ≡ guard_in (pat_of part.now) }
+{
+    match part {
+        Pat::Nothing { .. } | Pat::Class { .. } | Pat::Outside { .. } => false,
+        Pat::Anchor { .. } | Pat::Boundary { .. } => true,
+        Pat::Seq { items, .. } => items_hold_guard(items.as_slice()),
+        Pat::Choice { branches, .. } => branches_hold_guard(branches.as_slice()),
+        Pat::Repeat { body, .. } | Pat::Group { body, .. } => holds_guard(body),
+    }
+}
+
+/// Whether one of the items does.
+#[cycle(guards)]
+fn items_hold_guard(items: &[Pat]) -> bool
+    ensures { result ≡ some_guard (items_of (map pat_of items.now)) }
+{
+    let mut held = false;
+    for item in items {
+        held = holds_guard(item) || held;
+    }
+    held
+}
+
+/// Whether one of the branches does.
+#[cycle(guards)]
+fn branches_hold_guard(branches: &[Branch]) -> bool
+    ensures { result ≡ branch_guard (branches_of (map branch_tree branches.now)) }
+{
+    let mut held = false;
+    for branch in branches {
+        held = holds_guard(&branch.body) || held;
+    }
+    held
+}
+
+/// Whether a part holds a group that captures.
+#[cycle(captures)]
+pub(crate) fn holds_capture(part: &Pat) -> bool
+    ensures { result ≡ capture_in (pat_of part.now) }
+{
+    match part {
+        Pat::Nothing { .. }
+        | Pat::Class { .. }
+        | Pat::Outside { .. }
+        | Pat::Anchor { .. }
+        | Pat::Boundary { .. } => false,
+        Pat::Seq { items, .. } => items_hold_capture(items.as_slice()),
+        Pat::Choice { branches, .. } => branches_hold_capture(branches.as_slice()),
+        Pat::Repeat { body, .. } => holds_capture(body),
+        Pat::Group { captures, body, .. } => *captures || holds_capture(body),
+    }
+}
+
+/// Whether one of the items does.
+#[cycle(captures)]
+fn items_hold_capture(items: &[Pat]) -> bool
+    ensures { result ≡ some_capture (items_of (map pat_of items.now)) }
+{
+    let mut held = false;
+    for item in items {
+        held = holds_capture(item) || held;
+    }
+    held
+}
+
+/// Whether one of the branches does.
+#[cycle(captures)]
+fn branches_hold_capture(branches: &[Branch]) -> bool
+    ensures { result ≡ branch_capture (branches_of (map branch_tree branches.now)) }
+{
+    let mut held = false;
+    for branch in branches {
+        held = holds_capture(&branch.body) || held;
+    }
+    held
+}

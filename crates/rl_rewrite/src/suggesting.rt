@@ -1,0 +1,84 @@
+//! Suggestions for a pattern.
+
+ghost use Rattle.std.specs.Prelude.{◌≡◌, ◌≤◌, ℕ, List, length, Some, Ok, IfOk, IfErr, OnOk};
+ghost use Rattle.rl_ranges.specs.Text.{IsText};
+ghost use Rattle.rl_syntax.specs.Pattern.{universe_of, pattern_tree};
+ghost use Rattle.rl_syntax.specs.declared.re.Mode.TheVariants.{Fullmatch};
+ghost use Rattle.rl_syntax.specs.declared.verdict.Limit.{Limit as AnyLimit};
+ghost use Rattle.rl_pattern.specs.Parsed.{IsParsed};
+ghost use Rattle.rl_rewrite.specs.Verdicts.{PassesLimit};
+ghost use Rattle.rl_pattern.specs.Placed.{ArePlaced};
+ghost use Rattle.rl_rewrite.specs.RightSuggestion.{IsRightSuggestion};
+ghost use Rattle.rl_rewrite.specs.declared.suggesting.SuggestError.TheVariants as error;
+
+use crate::leaving::left_part;
+use crate::limits::check_limits;
+use crate::merging::{Place, with_merged};
+use crate::spelling::text_of;
+use crate::trying::tries_of;
+use rl_lists::OutOfMemory;
+use rl_pattern::Flags;
+use rl_ranges::Codes;
+use rl_syntax::{Limit, Pattern, Spans, Suggestion};
+use std::alloc::Global;
+
+/// Why there is no suggestion.
+#[derive(Clone, Copy, Debug, PartialEq, Eq)]
+pub enum SuggestError {
+    /// The body as fullmatch passes this limit: Size, Letters or Moves.
+    Limit(Limit),
+    /// Memory was refused.
+    OutOfMemory,
+}
+
+impl From<OutOfMemory> for SuggestError {
+    ghost use Rattle.std.specs.Prelude.{◌≡◌};
+    ghost use Rattle.rl_rewrite.specs.declared.suggesting.SuggestError.TheVariants as error;
+
+    ghost from_gives = { λ _ e. e ≡ error.OutOfMemory };
+
+    fn from(_: OutOfMemory) -> Self {
+        SuggestError::OutOfMemory
+    }
+}
+
+/// The right suggestion for a pattern, whose codes these are under the flags.
+///
+/// # Errors
+/// [`SuggestError::Limit`] exactly where the body as fullmatch passes it; [`SuggestError::OutOfMemory`].
+pub fn suggest(
+    alloc: Global,
+    p: &Pattern,
+    codes: &Codes,
+    flags: Flags,
+    limit: u32,
+) -> Result<Suggestion, SuggestError>
+    requires parsed { IsParsed flags (universe_of p.now) codes.now (Ok p.now) }
+    requires some { 1 ≤ limit }
+    requires low { limit ≤ 20000 }
+    ensures right { IfOk result (IsRightSuggestion flags p.now codes.now limit) }
+    ensures within { OnOk result ((l : AnyLimit) → PassesLimit (universe_of p.now) (pattern_tree p.now Fullmatch) l → ⊥) }
+    ensures passed { IfErr result (λ e. (l : AnyLimit) → e ≡ error.Limit l → PassesLimit (universe_of p.now) (pattern_tree p.now Fullmatch) l) }
+    ensures dropped_placed { IfOk result (λ s. ArePlaced (length codes.now) s.dropped) }
+    ensures merged_placed { IfOk result (λ s. ArePlaced (length codes.now) s.merged) }
+    ensures passed_placed { IfOk result (λ s. ArePlaced (length codes.now) s.passed) }
+    ensures texts { IfOk result (λ s. (text : List ℕ) → s.text ≡ Some text → IsText (universe_of p.now) codes.now → IsText (universe_of p.now) text) }
+{
+    check_limits(alloc, p)?;
+    let tries = tries_of(alloc, p, limit)?;
+    let left = left_part(alloc, p.body(), tries.dropped.as_slice())?;
+    let merged = with_merged(alloc, &left, Place::Elsewhere, Spans::new(alloc))?;
+    let text = text_of(
+        alloc,
+        p.body(),
+        codes,
+        tries.dropped.as_slice(),
+        merged.as_slice(),
+    )?;
+    Ok(Suggestion {
+        text,
+        dropped: tries.dropped,
+        merged,
+        passed: tries.passed,
+    })
+}

@@ -1,0 +1,140 @@
+//! Suggestions for small patterns. The texts and places are worked out by hand.
+ghost use Rattle.std.specs.Prelude.{◌≡◌, ◌≤◌, IfOk};
+ghost use Rattle.rl_ranges.specs.declared.universe.Universe.{Universe as AnyUniverse};
+ghost use Rattle.rl_ranges.specs.Text.{IsText};
+
+use crate::suggesting::{SuggestError, suggest};
+use rl_lists::OutOfMemory;
+use rl_pattern::{Flags, parse};
+use rl_ranges::{Codes, Universe};
+use rl_syntax::{Limit, Spans, Suggestion};
+use std::alloc::{AllocGlobal, Global};
+use std::process::Abort;
+use std::test::Fail;
+
+/// The codes of ASCII text.
+fn codes_of(alloc: Global, text: &str) -> Result<Codes, OutOfMemory>
+    ensures { IfOk result (λ codes. (u : AnyUniverse) → IsText u codes) }
+{
+    let mut codes = Codes::new(alloc);
+    for byte in text.bytes() {
+        codes.push(u32::from(byte))?;
+    }
+    Ok(codes)
+}
+
+/// No flag, or VERBOSE alone.
+fn flags_of(verbose: bool) -> Flags {
+    Flags {
+        ignore_case: false,
+        multiline: false,
+        dot_all: false,
+        verbose,
+        ascii: false,
+        unicode: false,
+        locale: false,
+    }
+}
+
+/// Whether the spans begin at these places.
+fn begin_at(spans: &Spans, places: &[u32]) -> bool {
+    spans.len() == places.len()
+        && spans
+            .as_slice()
+            .iter()
+            .zip(places)
+            .all(|(span, place)| span.from == *place)
+}
+
+/// What is answered of a pattern, or why there is no suggestion.
+fn asked(
+    rt: &(impl Abort + AllocGlobal),
+    pattern: &str,
+    verbose: bool,
+    universe: Universe,
+    limit: u32,
+) -> Result<Result<Suggestion, SuggestError>, Fail>
+    requires some { 1 ≤ limit }
+    requires low { limit ≤ 20000 }
+{
+    let codes = codes_of(rt.alloc(), pattern)?;
+    let flags = flags_of(verbose);
+    let parsed = parse(rt.alloc(), &codes, flags, universe)?;
+    Ok(suggest(rt.alloc(), &parsed, &codes, flags, limit))
+}
+
+/// The suggestion for a pattern.
+fn suggested(
+    rt: &(impl Abort + AllocGlobal),
+    pattern: &str,
+    verbose: bool,
+    universe: Universe,
+) -> Result<Suggestion, Fail> {
+    let found = asked(rt, pattern, verbose, universe, 600)??;
+    Ok(found)
+}
+
+/// Whether a suggestion has this text, and drops and takes out what begins at these places.
+fn has(
+    rt: &(impl Abort + AllocGlobal),
+    found: &Suggestion,
+    text: &str,
+    dropped: &[u32],
+    merged: &[u32],
+) -> Result<bool, Fail> {
+    let wanted = codes_of(rt.alloc(), text)?;
+    let same = match &found.text {
+        Some(text) => text.as_slice() == wanted.as_slice(),
+        None => false,
+    };
+    Ok(same && begin_at(&found.dropped, dropped) && begin_at(&found.merged, merged))
+}
+
+#[test]
+fn branches_are_dropped_and_quantifiers_taken_out(rt: HostRuntime) -> Result<(), Fail> {
+    let twice = suggested(&rt, "(?:ab|a|ab)c", false, Universe::Str)?;
+    assert!(rt; has(&rt, &twice, "(?:ab|a)c", &[8], &[])?);
+    let held = suggested(&rt, "(?:a|[ab])", false, Universe::Bytes)?;
+    assert!(rt; has(&rt, &held, "(?:[ab])", &[3], &[])?);
+    let stars = suggested(&rt, "(?:x*)*y", false, Universe::Str)?;
+    assert!(rt; has(&rt, &stars, "(?:x)*y", &[], &[4])?);
+    Ok(())
+}
+
+#[test]
+fn no_branch_is_tried_beside_a_guard(rt: HostRuntime) -> Result<(), Fail> {
+    let branches = suggested(&rt, "a\\Z|a", false, Universe::Str)?;
+    assert!(rt; branches.text.is_none() && branches.dropped.is_empty());
+    let stars = suggested(&rt, "(?:x*)*\\b", false, Universe::Str)?;
+    assert!(rt; has(&rt, &stars, "(?:x)*\\b", &[], &[4])?);
+    Ok(())
+}
+
+#[test]
+fn branches_within_branches(rt: HostRuntime) -> Result<(), Fail> {
+    let inner = suggested(&rt, "(?:a|(?:a|a))", false, Universe::Str)?;
+    assert!(rt; has(&rt, &inner, "(?:a)", &[5, 10], &[])?);
+    let empty = suggested(&rt, "(?:|a|)*", false, Universe::Str)?;
+    assert!(rt; has(&rt, &empty, "(?:a)*", &[3, 6], &[])?);
+    let captured = suggested(&rt, "(?:a|(a))", false, Universe::Str)?;
+    assert!(rt; has(&rt, &captured, "(?:(a))", &[3], &[])?);
+    Ok(())
+}
+
+#[test]
+fn comments_stay(rt: HostRuntime) -> Result<(), Fail> {
+    let seam = suggested(&rt, "(?:b|a # |\n|a)", true, Universe::Str)?;
+    assert!(rt; has(&rt, &seam, "(?:b|a # |\n)", &[12], &[])?);
+    Ok(())
+}
+
+#[test]
+fn limits_are_told(rt: HostRuntime) -> Result<(), Fail> {
+    let found = asked(&rt, "(?:aab|aac)", false, Universe::Str, 1)??;
+    assert!(rt; begin_at(&found.passed, &[3, 7]));
+    match asked(&rt, "a{2001}", false, Universe::Str, 1)? {
+        Ok(_) => assert!(rt; false),
+        Err(error) => assert_eq!(rt; error, SuggestError::Limit(Limit::Size)),
+    }
+    Ok(())
+}

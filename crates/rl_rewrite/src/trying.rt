@@ -1,0 +1,115 @@
+//! The branches of a body tried one after another.
+
+ghost use Rattle.std.specs.Prelude.{◌≡◌, ◌≤◌, [], ◌∷◌, List, false, true, IfOk};
+ghost use Rattle.rl_syntax.specs.declared.span.Span.{Span as AnySpan};
+ghost use Rattle.rl_syntax.specs.Pattern.{body_of, universe_of};
+ghost use Rattle.rl_syntax.specs.Lowering.{lowered};
+ghost use Rattle.rl_pattern.specs.Suggested.{among, may_go as goes, holds_guard as guard_in, branches_in};
+ghost use Rattle.rl_rewrite.specs.internal.Trials.{IsWithin, AreTried};
+
+use crate::going::{may_go, with_branches};
+use crate::parts::holds_guard;
+use crate::trial::{Trial, run_trial};
+use rl_lists::OutOfMemory;
+use rl_syntax::{Pattern, Span, Spans};
+use std::alloc::Global;
+
+/// What trials give, by rising place.
+#[derive(Drop)]
+pub(crate) struct Tries {
+    /// The branches that were dropped.
+    pub(crate) dropped: Spans,
+    /// The branches whose test passed its limit.
+    pub(crate) passed: Spans,
+}
+
+/// A span and those behind it.
+fn with_first(alloc: Global, first: Span, others: &[Span]) -> Result<Spans, OutOfMemory>
+    ensures { IfOk result (λ all. all ≡ first ∷ others.now) }
+{
+    let mut all = Vec::new(alloc);
+    all.push(first)?;
+    all.extend_from_slice(others)?;
+    Ok(Spans::from_vec(all))
+}
+
+/// What trials give with the branch before those that were tried.
+fn try_branch(
+    alloc: Global,
+    p: &Pattern,
+    branch: Span,
+    tries: Tries,
+    limit: u32,
+) -> Result<Tries, OutOfMemory>
+    requires guardless { guard_in (body_of p.now) ≡ false }
+    requires within { IsWithin (universe_of p.now) (lowered (body_of p.now)) }
+    requires before { goes (among tries.dropped) (body_of p.now) ≡ true }
+    requires some { 1 ≤ limit }
+    requires low { limit ≤ 20000 }
+    ensures { IfOk result (λ all. (bs : List AnySpan) → AreTried (universe_of p.now) limit (body_of p.now) bs tries.dropped tries.passed
+        → AreTried (universe_of p.now) limit (body_of p.now) (branch ∷ bs) all.dropped all.passed) }
+{
+    let more = with_first(alloc, branch, tries.dropped.as_slice())?;
+    if !may_go(p.body(), more.as_slice()) {
+        return Ok(tries);
+    }
+    match run_trial(
+        alloc,
+        p,
+        branch,
+        tries.dropped.as_slice(),
+        more.as_slice(),
+        limit,
+    )? {
+        Trial::Equal => Ok(Tries {
+            dropped: more,
+            passed: tries.passed,
+        }),
+        Trial::Apart => Ok(tries),
+        Trial::Passed => {
+            let passed = with_first(alloc, branch, tries.passed.as_slice())?;
+            Ok(Tries {
+                dropped: tries.dropped,
+                passed,
+            })
+        }
+    }
+}
+
+/// What trials of all branches of a body give, the last one tried first.
+fn try_branches(alloc: Global, p: &Pattern, limit: u32) -> Result<Tries, OutOfMemory>
+    requires guardless { guard_in (body_of p.now) ≡ false }
+    requires within { IsWithin (universe_of p.now) (lowered (body_of p.now)) }
+    requires before { goes (among []) (body_of p.now) ≡ true }
+    requires some { 1 ≤ limit }
+    requires low { limit ≤ 20000 }
+    ensures { IfOk result (λ all. AreTried (universe_of p.now) limit (body_of p.now) (branches_in (body_of p.now)) all.dropped all.passed) }
+{
+    let branches = with_branches(alloc, p.body(), Spans::new(alloc))?;
+    let mut tries = Tries {
+        dropped: Spans::new(alloc),
+        passed: Spans::new(alloc),
+    };
+    for branch in branches.as_slice().iter().rev() {
+        tries = try_branch(alloc, p, *branch, tries, limit)?;
+    }
+    Ok(tries)
+}
+
+/// What trials of all branches of a body give; none is tried where the body holds a guard.
+pub(crate) fn tries_of(alloc: Global, p: &Pattern, limit: u32) -> Result<Tries, OutOfMemory>
+    requires within { IsWithin (universe_of p.now) (lowered (body_of p.now)) }
+    requires before { goes (among []) (body_of p.now) ≡ true }
+    requires some { 1 ≤ limit }
+    requires low { limit ≤ 20000 }
+    ensures guarded { IfOk result (λ all. guard_in (body_of p.now) ≡ true → (all.dropped ≡ []) × (all.passed ≡ [])) }
+    ensures tried { IfOk result (λ all. guard_in (body_of p.now) ≡ false → AreTried (universe_of p.now) limit (body_of p.now) (branches_in (body_of p.now)) all.dropped all.passed) }
+{
+    if holds_guard(p.body()) {
+        return Ok(Tries {
+            dropped: Spans::new(alloc),
+            passed: Spans::new(alloc),
+        });
+    }
+    try_branches(alloc, p, limit)
+}
