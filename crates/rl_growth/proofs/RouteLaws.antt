@@ -1,6 +1,6 @@
 -- The way along a chain of splits, place by place.
-use Rattle.std.proofs.Common.{◌≡◌, ◌∙◌, ℕ, ◌+◌, ◌<◌, ◌≤◌, List, [], ◌∷◌, ◌++◌, length, get_or, Option, None, IfNone, refl, sym, ap, subst, arith, length-append}
-use Rattle.std.proofs.lemmas.List.{map-append, get_or_default}
+use Rattle.std.proofs.Common.{◌≡◌, ◌∙◌, ℕ, zero, suc, ◌+◌, ◌<◌, ◌≤◌, List, [], ◌∷◌, ◌++◌, length, map, take, get_or, Option, None, IfNone, refl, sym, ap, ap₂, subst, arith, length-append}
+use Rattle.std.proofs.lemmas.List.{map-append, get_or_default, take_more, take_all}
 use Rattle.std.proofs.lemmas.Bool.{ne_eqb}
 use Rattle.rl_graph.specs.Graph.{Graph, edges_of}
 use Rattle.rl_graph.specs.Walks.{NoPath}
@@ -8,8 +8,9 @@ use Rattle.rl_graph.specs.Paths.{paths, Reaches}
 use Rattle.rl_graph.specs.Twins.{IsSplit, Link, ChainFrom}
 use Rattle.rl_graph.proofs.PathLaws.{paths-nil, nil-same}
 use Rattle.rl_degree.specs.declared.chains.Split.{Split}
+use Rattle.rl_degree.specs.Chains.{link_of, links_of}
 use Rattle.rl_pairs.specs.Families.{Chained}
-use Rattle.rl_growth.specs.Routes.{split_at, state_before, IsRoute, IsWay}
+use Rattle.rl_growth.specs.Routes.{split_at, state_before, state_after, bare, IsRoute, IsWay}
 
 pub before-first : (splits : List Split) (k : ℕ) → k ≡ 0 → state_before splits k ≡ 0
 before-first splits k e = rw e refl
@@ -28,8 +29,29 @@ pub chained-from : (next : ℕ → ℕ → List ℕ) (s : ℕ) (links : List Lin
 chained-from next s [] x z c = tt
 chained-from next s (m ∷ links) x z c = ((m.lead, c.0), c.1, chained-from next m.to links x z c.2)
 
+-- the state at the end
+pub after-none : (splits : List Split) (q : ℕ) → length splits ≡ 0 → q ≡ state_after splits q
+after-none [] q e = refl
+after-none (s ∷ splits) q e = absurd (omega arith)
+
+pub after-last : (splits : List Split) (k q : ℕ) → length splits ≡ k + 1 → (split_at splits k).to ≡ state_after splits q
+after-last [] k q e = absurd (omega arith)
+after-last (s ∷ []) zero q e = refl
+after-last (s ∷ []) (suc k) q e = absurd (omega arith)
+after-last (s ∷ (t ∷ splits)) zero q e = absurd (omega arith)
+after-last (s ∷ (t ∷ splits)) (suc k) q e = after-last (t ∷ splits) k s.to (omega arith)
+
+-- the links up to a place, and one more
+ends-more : (splits : List Split) (k : ℕ) (links : List Link) (m : Link) → k < length splits → bare m ≡ link_of (split_at splits k) → map bare links ≡ links_of (take k splits) → map bare (links ++ m ∷ []) ≡ links_of (take (k + 1) splits)
+ends-more splits k links m lt same ends =
+    map-append bare links (m ∷ []) ∙ (ap₂ (λ (l : List Link) (b : Link). l ++ b ∷ []) ends same
+    ∙ sym (ap links_of (take_more splits k (record { from = 0; to = 0; word = [] }) lt) ∙ map-append link_of (take k splits) (split_at splits k ∷ [])))
+
+pub ends-all : (splits : List Split) (links : List Link) → map bare links ≡ links_of (take (length splits) splits) → map bare links ≡ links_of splits
+ends-all splits links ends = ends ∙ ap links_of (take_all (length splits) splits (omega arith))
+
 pub way-first : (next : ℕ → ℕ → List ℕ) (splits : List Split) → IsWay next splits 0 [] []
-way-first next splits = record { links = []; chained = omega (arith, paths-nil next 0); leads = refl; rounds = refl; count = refl }
+way-first next splits = record { links = []; chained = omega (arith, paths-nil next 0); leads = refl; rounds = refl; count = refl; ends = refl }
 
 pub way-more : (next : ℕ → ℕ → List ℕ) (n : ℕ) (splits : List Split) (k : ℕ) (heads pumps : List (List ℕ)) (lead : List ℕ) → IsRoute next n splits → k < length splits → IsWay next splits k heads pumps
     → 1 ≤ paths next (state_before splits k) (split_at splits k).from lead → IsWay next splits (k + 1) (heads ++ lead ∷ []) (pumps ++ (split_at splits k).word ∷ [])
@@ -42,6 +64,7 @@ way-more next n splits k heads pumps lead route lt way leads =
       leads = ap (λ (l : List (List ℕ)). l ++ lead ∷ []) way.leads ∙ sym (map-append (λ (m : Link). m.lead) way.links (m ∷ []));
       rounds = ap (λ (l : List (List ℕ)). l ++ s.word ∷ []) way.rounds ∙ sym (map-append (λ (m : Link). m.word) way.links (m ∷ []));
       count = omega (arith, length-append way.links (m ∷ []), way.count);
+      ends = ends-more splits k way.links m lt refl way.ends;
     }
 
 -- splits that were read at their places

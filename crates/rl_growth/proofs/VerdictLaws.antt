@@ -5,6 +5,7 @@ use Rattle.std.proofs.lemmas.List.{get_or_past}
 use Rattle.rl_graph.specs.Paths.{paths, IsWithin}
 use Rattle.rl_graph.specs.Twins.{HasNoTwin, Link, ChainFrom, IsRank}
 use Rattle.rl_graph.specs.Bounds.{bound_n, bound_k, bound_h}
+use Rattle.rl_degree.specs.declared.chains.Split.{Split}
 use Rattle.rl_degree.proofs.RankPaths.{by_degree}
 use Rattle.rl_degree.proofs.WithoutSplit.{without_cycle}
 use Rattle.rl_degree.proofs.SplitLaws.{rank_still, chain_short}
@@ -78,14 +79,15 @@ module _ (q : Question) (a : Automaton) (next : ℕ → ℕ → List ℕ) (at : 
       (λ p u. without_cycle next (bound_n (size q.tree)) (bound_k (size q.tree)) within-bounds none 0 p u some-bound)
 
   module _ (within : (limit : Limit) → IsPassed q limit → ⊥) (f : Family) where
-    pub twin_right : (heads pumps : List (List ℕ)) → IsTwinWords a next at heads pumps → Spells a f heads pumps → RightVerdict q (Expo f)
-    twin_right heads pumps w spells =
-        twin_verdict q a next at n machine whole g within f w.state w.lead w.round w.last
+    pub twin_right : (p : ℕ) (heads pumps : List (List ℕ)) → IsTwinWords a next at p heads pumps → Spells a f heads pumps → RightVerdict q (Expo f)
+    twin_right p heads pumps w spells =
+        twin_verdict q a next at n machine whole g within f p w.lead w.round w.last
         (subst (Spells a f (w.lead ∷ (w.last ∷ []))) w.same_pumps (subst (λ (h : List (List ℕ)). Spells a f h pumps) w.same_heads spells)) w.leads w.twice w.rest w.refuses
 
-    pub chain_right : (d r : ℕ) (heads pumps : List (List ℕ)) (ranks : List ℕ) → IsChainWords a next at d heads pumps → Spells a f heads pumps → HasNoTwin next
-        → ((s : ℕ) (ms : List Link) → s < n → ChainFrom next s ms → length ms ≤ d) → length ranks ≡ n → ((s : ℕ) → s < n → IsRank next s (get_or ranks s 0)) → r ≡ d + 1 → RightVerdict q (Degree r f)
-    chain_right d r heads pumps ranks w spells none longest long each e =
+    pub chain_right : (splits : List Split) (alone r : ℕ) (heads pumps : List (List ℕ)) (ranks : List ℕ) → IsChainWords a next at splits alone heads pumps → Spells a f heads pumps → HasNoTwin next
+        → ((s : ℕ) (ms : List Link) → s < n → ChainFrom next s ms → length ms ≤ length splits) → length ranks ≡ n → ((s : ℕ) → s < n → IsRank next s (get_or ranks s 0)) → r ≡ length splits + 1 → RightVerdict q (Degree r f)
+    chain_right splits alone r heads pumps ranks w spells none longest long each e =
+        let d : ℕ = length splits in
         let same : r ≡ suc d = omega arith in
         let below : HasDegree q (suc (length w.links)) f = chain_verdict q a next at n machine whole g within f w.links w.lead w.state w.round w.last
         (subst (Spells a f (chain_heads w.links w.lead w.last)) w.same_pumps (subst (λ (h : List (List ℕ)). Spells a f h pumps) w.same_heads spells)) w.chained w.cycle w.some w.rest w.refuses in
@@ -111,8 +113,8 @@ module _ (q : Question) (a : Automaton) (next : ℕ → ℕ → List ℕ) (at : 
             }
 
 -- a chain of splits is shorter than the graph
-pub chain_fits : (a : Automaton) (next : ℕ → ℕ → List ℕ) (at : ℕ → Pair) (n d : ℕ) (heads pumps : List (List ℕ)) → StandsForSome a → IsPairGraph a next at n → HasNoTwin next → IsChainWords a next at d heads pumps → d < n
-chain_fits a next at n d heads pumps stands g none w =
+pub chain_fits : (a : Automaton) (next : ℕ → ℕ → List ℕ) (at : ℕ → Pair) (n : ℕ) (splits : List Split) (alone : ℕ) (heads pumps : List (List ℕ)) → StandsForSome a → IsPairGraph a next at n → HasNoTwin next → IsChainWords a next at splits alone heads pumps → length splits < n
+chain_fits a next at n splits alone heads pumps stands g none w =
     let short = chain_short next n (bound_k (size stands.0)) (graph-within a stands.0 stands.1 (all_sets stands.0) next at n stands.3 g) none 0 w.links g.some (chained-from next 0 w.links w.lead w.state w.chained) in
     omega (arith, short, w.count)
 

@@ -1,20 +1,22 @@
 -- The words of a family in the graph of live pairs, as letters.
-use Rattle.std.specs.Prelude.{◌≡◌, ℕ, ◌<◌, ◌≤◌, true, List, [], ◌∷◌, length, All}
+use Rattle.std.specs.Prelude.{◌≡◌, ℕ, ◌<◌, ◌≤◌, true, List, [], ◌∷◌, length, map, All}
 use Rattle.rl_prio.specs.Automaton.{Automaton, letters_count}
 use Rattle.rl_graph.specs.Paths.{paths}
 use Rattle.rl_graph.specs.Twins.{Link}
 use Rattle.rl_sets.specs.Live.{IsRest}
+use Rattle.rl_degree.specs.declared.chains.Split.{Split}
+use Rattle.rl_degree.specs.Chains.{links_of}
 use Rattle.rl_pairs.specs.declared.pair.Pair.{Pair}
 use Rattle.rl_pairs.specs.LivePairs.{refused}
 use Rattle.rl_pairs.specs.Families.{Chained, chain_heads, chain_pumps, to_end}
+use Rattle.rl_growth.specs.Routes.{state_after, bare}
 
 -- words of letters without the end letter
 abbrev pub AreLetters : Automaton → List (List ℕ) → Type 0
 AreLetters a words = All (All (λ letter. letter < letters_count a)) words
 
--- the words of a twin: what leads to its state, its word and what the state's set refuses behind it
-pub record IsTwinWords (a : Automaton) (next : ℕ → ℕ → List ℕ) (at : ℕ → Pair) (heads pumps : List (List ℕ)) : Type 0 where
-  pub state : ℕ
+-- the words of a twin of a state: what leads to it, the twin's word and what the state's set refuses behind it
+pub record IsTwinWords (a : Automaton) (next : ℕ → ℕ → List ℕ) (at : ℕ → Pair) (state : ℕ) (heads pumps : List (List ℕ)) : Type 0 where
   pub lead : List ℕ
   pub round : List ℕ
   pub last : List ℕ
@@ -25,8 +27,9 @@ pub record IsTwinWords (a : Automaton) (next : ℕ → ℕ → List ℕ) (at : �
   pub rest : IsRest a (to_end a last)
   pub refuses : refused a at state (to_end a last) ≡ true
 
--- the words of a chain of `d` splits that ends on a cycle, and what the set of the cycle's state refuses behind it
-pub record IsChainWords (a : Automaton) (next : ℕ → ℕ → List ℕ) (at : ℕ → Pair) (d : ℕ) (heads pumps : List (List ℕ)) : Type 0 where
+-- the words of a chain of splits that ends on a cycle, at the last split or, where there is none, at the given state, and what the
+-- set of the cycle's state refuses behind it
+pub record IsChainWords (a : Automaton) (next : ℕ → ℕ → List ℕ) (at : ℕ → Pair) (splits : List Split) (alone : ℕ) (heads pumps : List (List ℕ)) : Type 0 where
   pub links : List Link
   pub lead : List ℕ
   pub state : ℕ
@@ -34,7 +37,9 @@ pub record IsChainWords (a : Automaton) (next : ℕ → ℕ → List ℕ) (at : 
   pub last : List ℕ
   pub same_heads : heads ≡ chain_heads links lead last
   pub same_pumps : pumps ≡ chain_pumps links round
-  pub count : length links ≡ d
+  pub count : length links ≡ length splits
+  pub ends : map bare links ≡ links_of splits
+  pub at_end : state ≡ state_after splits alone
   pub chained : Chained next 0 links lead state
   pub cycle : 1 ≤ paths next state state round
   pub some : 1 ≤ length round

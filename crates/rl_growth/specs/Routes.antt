@@ -1,8 +1,9 @@
 -- Chains of splits by their places, and the words along them.
-use Rattle.std.specs.Prelude.{◌≡◌, ℕ, ◌-◌, ◌<◌, List, [], map, length, slice_index_or, nat_eq, if◌then◌else◌}
+use Rattle.std.specs.Prelude.{◌≡◌, ℕ, ◌-◌, ◌<◌, List, [], ◌∷◌, map, take, length, slice_index_or, nat_eq, if◌then◌else◌}
 use Rattle.rl_graph.specs.Paths.{Reaches}
 use Rattle.rl_graph.specs.Twins.{IsSplit, Link}
 use Rattle.rl_degree.specs.declared.chains.Split.{Split}
+use Rattle.rl_degree.specs.Chains.{links_of}
 use Rattle.rl_pairs.specs.Families.{Chained}
 
 -- the split at a place
@@ -12,6 +13,15 @@ split_at splits k = slice_index_or splits k (record { from = 0; to = 0; word = [
 -- the state before the split at a place: the first state, or that behind the split before it
 abbrev pub state_before : List Split → ℕ → ℕ
 state_before splits k = if nat_eq k 0 then 0 else (split_at splits (k - 1)).to
+
+-- the state behind the last split, or `q` where there is none
+abbrev pub state_after : List Split → ℕ → ℕ
+state_after [] q = q
+state_after (s ∷ splits) q = state_after splits s.to
+
+-- a link without the word that leads to it
+abbrev pub bare : Link → Link
+bare m = record { lead = []; from = m.from; to = m.to; word = m.word }
 
 -- a chain of splits of states below `n`: each is reached from the state before it
 pub record IsRoute (next : ℕ → ℕ → List ℕ) (n : ℕ) (splits : List Split) : Type 0 where
@@ -28,3 +38,4 @@ pub record IsWay (next : ℕ → ℕ → List ℕ) (splits : List Split) (k : �
   pub leads : heads ≡ map (λ m. m.lead) links
   pub rounds : pumps ≡ map (λ m. m.word) links
   pub count : length links ≡ k
+  pub ends : map bare links ≡ links_of (take k splits)

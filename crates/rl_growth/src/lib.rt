@@ -2,8 +2,8 @@
 #![tactic(auto)]
 
 mod judging;
-mod spelling;
-mod words;
+pub mod spelling;
+pub mod words;
 
 pub use judging::classify;
 

@@ -75,7 +75,7 @@ pub fn twin_words(
     requires state_in { twin.now.state < g.now.graph.states }
     requires twin { IsTwin (moves_in g.now) twin.now.state twin.now.word twin.now.first twin.now.second }
     requires rests { (i : ℕ) → i < g.now.graph.states → 0 < length (rest_in g.now i) }
-    ensures { IfOk result (λ w. (a : Automaton) → IsLed a g.now → IsTwinWords a (moves_in g.now) (pair_in g.now) w.heads w.pumps) }
+    ensures { IfOk result (λ w. (a : Automaton) → IsLed a g.now → IsTwinWords a (moves_in g.now) (pair_in g.now) twin.now.state w.heads w.pumps) }
 {
     let mut words = FamilyWords::new(alloc);
     words.push(copy(alloc, g.lead(twin.state))?, copy(alloc, &twin.word)?)?;
@@ -160,7 +160,7 @@ pub fn chain_words(
     requires some { 1 ≤ length cycle.now.word }
     requires cycle { 1 ≤ paths (moves_in g.now) cycle.now.state cycle.now.state cycle.now.word }
     ensures { IfOk result (λ w. (a : Automaton) → IsLed a g.now
-        → IsChainWords a (moves_in g.now) (pair_in g.now) (length splits.now) w.heads w.pumps) }
+        → IsChainWords a (moves_in g.now) (pair_in g.now) splits.now cycle.now.state w.heads w.pumps) }
 {
     let mut words = split_words(alloc, g, splits)?;
     if splits.is_empty() {

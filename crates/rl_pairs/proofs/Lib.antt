@@ -18,3 +18,6 @@ pub mod FindingLaws
 pub mod ExpandLaws
 pub mod BuiltLaws
 pub mod WholeLaws
+pub mod Growing
+pub mod FamilyLengths
+pub mod OneClass

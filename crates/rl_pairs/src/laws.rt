@@ -7,6 +7,7 @@ ghost use Rattle.rl_syntax.specs.declared.re.Ending.{Ending};
 ghost use Rattle.rl_syntax.specs.declared.verdict.Family.{Family};
 ghost use Rattle.rl_syntax.specs.declared.verdict.Limit.{Limit};
 ghost use Rattle.rl_syntax.specs.declared.verdict.Limit.TheVariants as Limit;
+ghost use Rattle.rl_syntax.specs.declared.verdict.Verdict.TheVariants.{Degree, Expo, Undecided};
 ghost use Rattle.rl_syntax.specs.Tree.{Tree, size};
 ghost use Rattle.rl_syntax.specs.Cost.{cost};
 ghost use Rattle.rl_syntax.specs.Family.{pumped, family_text, IsFamily};
@@ -22,7 +23,7 @@ ghost use Rattle.rl_pairs.specs.LivePairs.{LivePair, refused};
 ghost use Rattle.rl_pairs.specs.PairGraph.{IsPairGraph, IsNumbered};
 ghost use Rattle.rl_pairs.specs.Counted.{CountedSet, MoreThan};
 ghost use Rattle.rl_pairs.specs.Families.{Chained, chain_heads, chain_pumps, to_end, Reads, Spells};
-ghost use Rattle.rl_pairs.specs.RightVerdict.{Question, IsMachine, IsPassed, HasDegree, IsExpo, IsBounded};
+ghost use Rattle.rl_pairs.specs.RightVerdict.{Question, IsMachine, IsPassed, HasDegree, IsExpo, IsBounded, RightVerdict};
 
 /// The cost is one and the number of non-empty paths of live pairs along a beginning of the letters and the end letter, whose
 /// last set refuses what is left. So says `words` of the walk of an automaton, and `texts` of the cost of a tree.
@@ -173,4 +174,17 @@ pub fn paths_bound_costs()
         → IsMachine q a → IsAutomaton a → IsPairGraph a next at n → IsNumbered a next at n
         → ((p letter : ℕ) (u : List ℕ) → paths next p p (letter ∷ u) ≡ 0)
         → ((p : ℕ) (u : List ℕ) → paths next 0 p u ≤ bound_h (bound_n (size q.tree)) (bound_k (size q.tree))) → IsBounded q 0 }
+{}
+
+/// Of one question at most one class of verdicts is right: two right degrees are one, where a degree is right no exponential
+/// growth is, and where a limit is named no class of growth is right.
+pub fn one_class_is_right()
+    ensures degrees { (q : Question) (d e : ℕ) (f g : Family)
+        → RightVerdict q (Degree d f) → RightVerdict q (Degree e g) → d ≡ e }
+    ensures exponential { (q : Question) (d : ℕ) (f g : Family)
+        → RightVerdict q (Degree d f) → RightVerdict q (Expo g) → ⊥ }
+    ensures undecided { (q : Question) (limit : Limit) (d : ℕ) (f : Family)
+        → RightVerdict q (Undecided limit) → RightVerdict q (Degree d f) → ⊥ }
+    ensures undecided_or_expo { (q : Question) (limit : Limit) (f : Family)
+        → RightVerdict q (Undecided limit) → RightVerdict q (Expo f) → ⊥ }
 {}

@@ -6,14 +6,14 @@ use Rattle.rl_growth.proofs.judging.exponential.Goals as goal
 pub family_of-requires-clause-heads : goal.family_of-requires-clause-heads
 family_of-requires-clause-heads c =
     let g = c.args.g.now in
-    (twin_letters c.args.a.now (moves_in g) (pair_in g) g.graph.states _ _ c.requires.stands c.requires.led.graph (c.in_ok-words.ensures c.args.a.now c.requires.led)).0
+    (twin_letters c.args.a.now (moves_in g) (pair_in g) g.graph.states _ _ _ c.requires.stands c.requires.led.graph (c.in_ok-words.ensures c.args.a.now c.requires.led)).0
 
 pub family_of-requires-clause-pumps : goal.family_of-requires-clause-pumps
 family_of-requires-clause-pumps c =
     let g = c.args.g.now in
-    (twin_letters c.args.a.now (moves_in g) (pair_in g) g.graph.states _ _ c.requires.stands c.requires.led.graph (c.in_ok-words.ensures c.args.a.now c.requires.led)).1
+    (twin_letters c.args.a.now (moves_in g) (pair_in g) g.graph.states _ _ _ c.requires.stands c.requires.led.graph (c.in_ok-words.ensures c.args.a.now c.requires.led)).1
 
 pub returns : goal.returns
 returns c =
     let g = c.args.g.now in
-    λ q machine within. twin_right q c.args.a.now (moves_in g) (pair_in g) g.graph.states machine c.requires.stands.2 c.requires.led.graph c.requires.led.numbered within c.in_ok-family.family c.in_ok-words.words.heads c.in_ok-words.words.pumps (c.in_ok-words.ensures c.args.a.now c.requires.led) c.in_ok-family.ensures
+    λ q machine within. twin_right q c.args.a.now (moves_in g) (pair_in g) g.graph.states machine c.requires.stands.2 c.requires.led.graph c.requires.led.numbered within c.in_ok-family.family c.args.twin.now.state c.in_ok-words.words.heads c.in_ok-words.words.pumps (c.in_ok-words.ensures c.args.a.now c.requires.led) c.in_ok-family.ensures

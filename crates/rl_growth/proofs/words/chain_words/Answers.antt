@@ -18,7 +18,7 @@ returns c =
           (ap (λ (x : FamilyWords). x.heads) w.words-is ∙ w.in_ok-put_cycle.ensures.heads) (ap (λ (x : FamilyWords). x.pumps) w.words-is ∙ w.in_ok-put_cycle.ensures.pumps) led
       | else-is_empty+in_ok-put_cycle-2 w ↦
           let some : length splits ≢ 0 = eqb-false (length splits) 0 (sym c.is_empty.ensures ∙ w.if-is_empty.false) in
-          λ a led. split-pushed a (moves_in g) (pair_in g) g.graph.states (lead_in g) (rest_in g) splits (length splits - 1) w.index-splits-splits.result w.new.result _ _ c.if-is_empty.words.heads c.if-is_empty.words.pumps
+          λ a led. split-pushed a (moves_in g) (pair_in g) g.graph.states (lead_in g) (rest_in g) splits (length splits - 1) cycle.state w.index-splits-splits.result w.new.result _ _ c.if-is_empty.words.heads c.if-is_empty.words.pumps
           c.requires.route (omega arith) c.in_ok-words.ensures w.index-splits-splits.is w.new.ensures
           (ap (λ (x : FamilyWords). x.heads) w.words-is ∙ w.in_ok-put_cycle-2.ensures.heads) (ap (λ (x : FamilyWords). x.pumps) w.words-is ∙ w.in_ok-put_cycle-2.ensures.pumps) led
     ]

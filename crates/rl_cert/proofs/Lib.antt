@@ -1,0 +1,17 @@
+pub mod Soundness
+pub mod OneGraph
+pub mod SameShows
+pub mod ChainWays
+pub mod TooLargeLaws
+pub mod AcceptLaws
+pub mod WayLaws
+pub mod LevelLaws
+pub mod CheckLaws
+pub mod LineEnd
+pub mod Writable
+pub mod FormBack
+pub mod Rows
+pub mod Plain
+pub mod ReadRows
+pub mod AllRows
+pub mod MadeLaws

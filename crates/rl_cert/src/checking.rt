@@ -1,0 +1,180 @@
+//! Whether a certificate holds.
+
+ghost use Rattle.std.specs.Prelude.{◌≡◌, ℕ, ◌+◌, ◌<◌, ◌≤◌, ◌↔◌, All, IsTrue, IfOk};
+ghost use Rattle.rl_graph.specs.Graph.{edges_of};
+ghost use Rattle.rl_degree.specs.Chains.{HasNoCycle};
+ghost use Rattle.rl_syntax.specs.Tree.{tree_of, size, IsOver};
+ghost use Rattle.rl_ranges.specs.Text.{code_count};
+ghost use Rattle.rl_prio.specs.Automaton.{letters_count};
+ghost use Rattle.rl_pairs.specs.PairTable.{moves_in, pair_in};
+ghost use Rattle.rl_pairs.specs.RightVerdict.{Question, RightVerdict};
+ghost use Rattle.rl_cert.specs.Ways.{IsTwinWay};
+ghost use Rattle.rl_cert.specs.Holds.{Holds, Shows, ShowsDegree, words_of, question_of};
+
+use crate::certificate::Certificate;
+use crate::lettering::{all_letters, is_family};
+use crate::leveling::are_levels;
+use crate::walking::{is_twin_way, is_way};
+use rl_graph::Multigraph;
+use rl_lists::OutOfMemory;
+use rl_numbers::checking::triples_hold;
+use rl_numbers::doubling::doubles_hold;
+use rl_pairs::{PairGraph, PairsError, pairs};
+use rl_prio::{Prio, PrioError};
+use rl_syntax::{Family, Lowered, Universe, Verdict};
+use std::alloc::Global;
+
+/// The most nodes that a judged tree has.
+pub(crate) const MOST_NODES: u64 = 4_000;
+
+/// Whether no state is on a cycle.
+fn is_flat(g: &Multigraph) -> Result<bool, OutOfMemory>
+    ensures { IfOk result (λ yes. IsTrue yes ↔ HasNoCycle (edges_of g.now)) }
+{
+    let components = g.components()?;
+    for state in 0..g.states() {
+        if components.on_cycle(state) {
+            return Ok(false);
+        }
+    }
+    Ok(true)
+}
+
+/// Whether a certificate shows its family and its numbers, for a degree of at least 1.
+fn shows_degree(
+    alloc: Global,
+    a: &Prio,
+    g: &PairGraph,
+    power: u32,
+    c: &Certificate,
+    f: &Family,
+) -> Result<bool, OutOfMemory>
+    requires some { 0 < g.now.graph.states }
+    requires letters { letters_count a.now ≤ g.now.graph.letters }
+    requires heads { All (All (λ c. c < a.now.table.codes)) f.now.heads }
+    requires pumps { All (All (λ c. c < a.now.table.codes)) f.now.pumps }
+    ensures { IfOk result (λ yes. IsTrue yes ↔ ShowsDegree a.now (moves_in g.now) (pair_in g.now) g.now.graph.states power c.now f.now) }
+{
+    let heads = all_letters(alloc, a, f.heads.as_slice())?;
+    let pumps = all_letters(alloc, a, f.pumps.as_slice())?;
+    let anchors = c.anchors.as_slice();
+    let way = is_way(alloc, a, g, anchors, heads.as_slice(), pumps.as_slice())?;
+    if !way {
+        return Ok(false);
+    }
+    if !are_levels(g.graph(), power, c.ranks.as_slice()) {
+        return Ok(false);
+    }
+    let apart = doubles_hold(alloc, g.graph(), c.doubles.as_slice())?;
+    if !apart {
+        return Ok(false);
+    }
+    triples_hold(alloc, g.graph(), c.ranks.as_slice(), c.triples.as_slice())
+}
+
+/// Whether a certificate shows its exponential family.
+fn shows_expo(
+    alloc: Global,
+    a: &Prio,
+    g: &PairGraph,
+    c: &Certificate,
+    f: &Family,
+) -> Result<bool, OutOfMemory>
+    requires letters { letters_count a.now ≤ g.now.graph.letters }
+    requires heads { All (All (λ c. c < a.now.table.codes)) f.now.heads }
+    requires pumps { All (All (λ c. c < a.now.table.codes)) f.now.pumps }
+    ensures { IfOk result (λ yes. IsTrue yes ↔ IsTwinWay a.now (moves_in g.now) (pair_in g.now) g.now.graph.states c.now.anchors
+        (words_of a.now f.now.heads) (words_of a.now f.now.pumps)) }
+{
+    let heads = all_letters(alloc, a, f.heads.as_slice())?;
+    let pumps = all_letters(alloc, a, f.pumps.as_slice())?;
+    let anchors = c.anchors.as_slice();
+    is_twin_way(alloc, a, g, anchors, heads.as_slice(), pumps.as_slice())
+}
+
+/// Whether a certificate shows what is asked for its verdict in the graph of live pairs.
+fn shown(
+    alloc: Global,
+    u: Universe,
+    a: &Prio,
+    g: &PairGraph,
+    c: &Certificate,
+) -> Result<bool, OutOfMemory>
+    requires some { 0 < g.now.graph.states }
+    requires letters { letters_count a.now ≤ g.now.graph.letters }
+    requires codes { a.now.table.codes ≡ code_count u }
+    ensures { IfOk result (λ yes. (q : Question) → q.universe ≡ u
+        → IsTrue yes ↔ Shows q a.now (moves_in g.now) (pair_in g.now) g.now.graph.states c.now c.now.verdict) }
+{
+    match &c.verdict {
+        Verdict::Degree(power, f) => {
+            if !is_family(u, *power, f) {
+                return Ok(false);
+            }
+            if *power == 0 {
+                return is_flat(g.graph());
+            }
+            shows_degree(alloc, a, g, *power, c, f)
+        }
+        Verdict::Expo(f) => {
+            if !is_family(u, 1, f) {
+                return Ok(false);
+            }
+            shows_expo(alloc, a, g, c, f)
+        }
+        Verdict::Undecided(_) => Ok(false),
+    }
+}
+
+/// Whether a certificate holds for a tree within the limit of its size.
+fn checked_small(
+    alloc: Global,
+    l: &Lowered,
+    u: Universe,
+    max_pairs: u32,
+    c: &Certificate,
+) -> Result<bool, OutOfMemory>
+    requires some { 1 ≤ max_pairs }
+    requires few { max_pairs ≤ 1000 }
+    requires inside { IsOver u (tree_of l.now.tree) }
+    requires small { size (tree_of l.now.tree) ≤ 4000 }
+    ensures { IfOk result (λ yes. IsTrue yes ↔ Holds (question_of l.now u max_pairs) c.now) }
+{
+    let a = match Prio::build(alloc, &l.tree, l.ending, u) {
+        Ok(a) => a,
+        Err(PrioError::Letters) => return Ok(false),
+        Err(PrioError::Moves) => return Ok(false),
+        Err(PrioError::OutOfMemory) => return Err(OutOfMemory),
+    };
+    let _states = a.states();
+    match pairs(alloc, &a, max_pairs) {
+        Ok(g) => shown(alloc, u, &a, &g, c),
+        Err(PairsError::Sets) => Ok(false),
+        Err(PairsError::Pairs) => Ok(false),
+        Err(PairsError::OutOfMemory) => Err(OutOfMemory),
+    }
+}
+
+/// Whether a certificate holds for a lowered pattern, over the texts of the universe, where at most `max_pairs` live pairs are
+/// looked at.
+///
+/// # Errors
+/// [`OutOfMemory`] where there was no memory for the automaton, the graph or the index of the numbers.
+pub fn check(
+    alloc: Global,
+    l: &Lowered,
+    u: Universe,
+    max_pairs: u32,
+    c: &Certificate,
+) -> Result<bool, OutOfMemory>
+    requires some { 1 ≤ max_pairs }
+    requires few { max_pairs ≤ 1000 }
+    requires inside { IsOver u (tree_of l.now.tree) }
+    ensures holds { IfOk result (λ yes. IsTrue yes ↔ Holds (question_of l.now u max_pairs) c.now) }
+    ensures sound { IfOk result (λ yes. IsTrue yes → RightVerdict (question_of l.now u max_pairs) c.now.verdict) }
+{
+    if l.tree.nodes() > MOST_NODES {
+        return Ok(false);
+    }
+    checked_small(alloc, l, u, max_pairs, c)
+}

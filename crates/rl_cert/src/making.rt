@@ -1,0 +1,272 @@
+//! Certificates made.
+
+ghost use Rattle.std.specs.Prelude.{◌≡◌, ℕ, ◌+◌, ◌<◌, ◌≤◌, [], ◌∷◌, length, IfOk, IfErr};
+ghost use Rattle.rl_graph.specs.Paths.{paths};
+ghost use Rattle.rl_graph.specs.Twins.{HasNoTwin, IsTwin};
+ghost use Rattle.rl_degree.specs.Chains.{links_of, HasNoCycle};
+ghost use Rattle.rl_pairs.specs.PairTable.{moves_in};
+ghost use Rattle.rl_growth.specs.Questions.{StandsForSome, IsLed};
+ghost use Rattle.rl_growth.specs.Routes.{state_after};
+ghost use Rattle.rl_growth.proofs.LongestLaws.{IsLongest};
+ghost use Rattle.rl_cert.specs.Ways.{chain_anchors};
+ghost use Rattle.rl_cert.specs.internal.Made.{IsMade, IsLarge};
+ghost use Rattle.rl_syntax.specs.Tree.{tree_of, size, IsOver};
+ghost use Rattle.rl_syntax.specs.declared.verdict.Limit.{Limit};
+ghost use Rattle.rl_pairs.specs.RightVerdict.{IsNamed};
+ghost use Rattle.rl_cert.specs.Form.{IsTold};
+ghost use Rattle.rl_cert.specs.Holds.{Holds, question_of};
+ghost use Rattle.rl_cert.specs.TooLarge.{IsTooLarge};
+
+use crate::certificate::{Anchor, Anchors, Certificate};
+use crate::checking::MOST_NODES;
+use rl_degree::{Chain, Loop, Split, degree};
+use rl_expo::{TwinPaths, twin};
+use rl_growth::spelling::family_of;
+use rl_growth::words::{chain_words, twin_words};
+use rl_lists::{Items, OutOfMemory};
+use rl_numbers::{TriplesError, doubles_of, triples_of};
+use rl_pairs::{PairGraph, PairsError, pairs};
+use rl_prio::{Prio, PrioError};
+use rl_syntax::{Family, Limit, Lowered, Universe, Verdict};
+use std::alloc::Global;
+
+/// Why no certificate was made.
+#[derive(Clone, Copy, Debug, PartialEq, Eq)]
+pub enum CertError {
+    /// A limit is passed.
+    Undecided(Limit),
+    /// More than 1,000,000 triples would be needed.
+    TooLarge,
+    /// Memory was refused.
+    OutOfMemory,
+}
+
+impl From<OutOfMemory> for CertError {
+    ghost use Rattle.rl_cert.specs.declared.making.CertError.TheVariants as error;
+
+    ghost from_gives = { λ _ e. e ≡ error.OutOfMemory };
+
+    fn from(_: OutOfMemory) -> Self {
+        CertError::OutOfMemory
+    }
+}
+
+/// The certificate of a graph of live pairs that has a twin: one anchor, what leads to it, and the twin's word.
+fn exponential(
+    alloc: Global,
+    a: &Prio,
+    g: &PairGraph,
+    twin: &TwinPaths,
+) -> Result<Certificate, OutOfMemory>
+    requires stands { StandsForSome a.now }
+    requires led { IsLed a.now g.now }
+    requires state_in { twin.now.state < g.now.graph.states }
+    requires twin { IsTwin (moves_in g.now) twin.now.state twin.now.word twin.now.first twin.now.second }
+    ensures { IfOk result (IsMade a.now g.now) }
+{
+    let words = twin_words(alloc, g, twin)?;
+    let family = family_of(alloc, a, &words)?;
+    let mut anchors = Items::new(alloc);
+    anchors.push(Anchor {
+        r: twin.state,
+        q: twin.state,
+    })?;
+    Ok(Certificate {
+        verdict: Verdict::Expo(family),
+        anchors,
+        ranks: Items::new(alloc),
+        doubles: Items::new(alloc),
+        triples: Items::new(alloc),
+    })
+}
+
+/// The family of no pump and one empty head.
+fn flat_family(alloc: Global) -> Result<Family, OutOfMemory>
+    ensures heads { IfOk result (λ f. f.heads ≡ [] ∷ []) }
+    ensures pumps { IfOk result (λ f. f.pumps ≡ []) }
+{
+    let mut heads = Items::new(alloc);
+    heads.push(Items::new(alloc))?;
+    Ok(Family {
+        heads,
+        pumps: Items::new(alloc),
+    })
+}
+
+/// The certificate of a graph of live pairs that has no cycle.
+fn flat(alloc: Global, a: &Prio, g: &PairGraph) -> Result<Certificate, OutOfMemory>
+    requires no_cycle { HasNoCycle (moves_in g.now) }
+    ensures { IfOk result (IsMade a.now g.now) }
+{
+    let family = flat_family(alloc)?;
+    Ok(Certificate {
+        verdict: Verdict::Degree(0, family),
+        anchors: Items::new(alloc),
+        ranks: Items::new(alloc),
+        doubles: Items::new(alloc),
+        triples: Items::new(alloc),
+    })
+}
+
+/// The state behind the last split, or the given one where there is none.
+fn state_behind(splits: &[Split], alone: u32) -> u32
+    ensures { result ≡ state_after splits.now alone }
+{
+    if splits.is_empty() {
+        return alone;
+    }
+    splits[splits.len() - 1].to
+}
+
+/// The anchors of a chain of splits that ends on a cycle: on the loop of its last split, or, where it has no split, at the given
+/// state.
+fn anchors_of(alloc: Global, splits: &[Split], alone: u32) -> Result<Anchors, OutOfMemory>
+    ensures { IfOk result (λ l. l ≡ chain_anchors (links_of splits.now) (state_after splits.now alone)) }
+{
+    let last = state_behind(splits, alone);
+    let mut anchors = Items::new(alloc);
+    for place in 0..splits.len() {
+        let split = &splits[place];
+        anchors.push(Anchor {
+            r: split.from,
+            q: split.to,
+        })?;
+    }
+    anchors.push(Anchor { r: last, q: last })?;
+    Ok(anchors)
+}
+
+/// The certificate of a longest chain of splits and a cycle.
+fn graded(
+    alloc: Global,
+    a: &Prio,
+    g: &PairGraph,
+    chain: &Chain,
+    cycle: &Loop,
+) -> Result<Certificate, CertError>
+    requires stands { StandsForSome a.now }
+    requires led { IsLed a.now g.now }
+    requires no_twin { HasNoTwin (moves_in g.now) }
+    requires longest { IsLongest (moves_in g.now) g.now.graph.states chain.now }
+    requires state_in { cycle.now.state < g.now.graph.states }
+    requires some { 1 ≤ length cycle.now.word }
+    requires cycle { 1 ≤ paths (moves_in g.now) cycle.now.state cycle.now.state cycle.now.word }
+    ensures made { IfOk result (IsMade a.now g.now) }
+    ensures told { (limit : Limit) → result ≡ Err (CertError.Undecided limit) → ⊥ }
+    ensures too_large { result ≡ Err CertError.TooLarge → IsLarge a.now g.now }
+{
+    let splits = chain.links.as_slice();
+    let words = chain_words(alloc, g, splits, cycle)?;
+    let family = family_of(alloc, a, &words)?;
+    let anchors = anchors_of(alloc, splits, cycle.state)?;
+    let ranks = Items::from_slice(alloc, chain.ranks.as_slice())?;
+    let doubles = doubles_of(alloc, g.graph())?;
+    let triples = match triples_of(alloc, g.graph(), ranks.as_slice()) {
+        Ok(triples) => triples,
+        Err(TriplesError::TooMany) => return Err(CertError::TooLarge),
+        Err(TriplesError::OutOfMemory) => return Err(CertError::OutOfMemory),
+    };
+    let power = splits.len() as u32 + 1;
+    Ok(Certificate {
+        verdict: Verdict::Degree(power, family),
+        anchors,
+        ranks,
+        doubles,
+        triples,
+    })
+}
+
+/// The certificate of a graph of live pairs that has no twin.
+fn polynomial(alloc: Global, a: &Prio, g: &PairGraph) -> Result<Certificate, CertError>
+    requires stands { StandsForSome a.now }
+    requires led { IsLed a.now g.now }
+    requires no_twin { HasNoTwin (moves_in g.now) }
+    ensures made { IfOk result (IsMade a.now g.now) }
+    ensures told { (limit : Limit) → result ≡ Err (CertError.Undecided limit) → ⊥ }
+    ensures too_large { result ≡ Err CertError.TooLarge → IsLarge a.now g.now }
+{
+    let chain = degree(alloc, g.graph())?;
+    match &chain.cycle {
+        None => {
+            let certificate = flat(alloc, a, g)?;
+            Ok(certificate)
+        }
+        Some(cycle) => graded(alloc, a, g, &chain, cycle),
+    }
+}
+
+/// The certificate of a graph of live pairs.
+fn made(alloc: Global, a: &Prio, g: &PairGraph) -> Result<Certificate, CertError>
+    requires stands { StandsForSome a.now }
+    requires led { IsLed a.now g.now }
+    ensures made { IfOk result (IsMade a.now g.now) }
+    ensures told { (limit : Limit) → result ≡ Err (CertError.Undecided limit) → ⊥ }
+    ensures too_large { result ≡ Err CertError.TooLarge → IsLarge a.now g.now }
+{
+    match twin(alloc, g.graph())? {
+        Some(twin) => {
+            let certificate = exponential(alloc, a, g, &twin)?;
+            Ok(certificate)
+        }
+        None => polynomial(alloc, a, g),
+    }
+}
+
+/// The certificate for a tree within the limit of its size.
+fn made_small(
+    alloc: Global,
+    l: &Lowered,
+    u: Universe,
+    max_pairs: u32,
+) -> Result<Certificate, CertError>
+    requires some { 1 ≤ max_pairs }
+    requires few { max_pairs ≤ 1000 }
+    requires inside { IsOver u (tree_of l.now.tree) }
+    requires small { size (tree_of l.now.tree) ≤ 4000 }
+    ensures holds { IfOk result (Holds (question_of l.now u max_pairs)) }
+    ensures told { IfOk result (λ c. IsTold c.verdict) }
+    ensures fits { IfOk result (λ c. IsTooLarge (question_of l.now u max_pairs) → ⊥) }
+    ensures undecided { IfErr result (λ e. (limit : Limit) → e ≡ CertError.Undecided limit → IsNamed (question_of l.now u max_pairs) limit) }
+    ensures too_large { IfErr result (λ e. e ≡ CertError.TooLarge → IsTooLarge (question_of l.now u max_pairs)) }
+{
+    let a = match Prio::build(alloc, &l.tree, l.ending, u) {
+        Ok(a) => a,
+        Err(PrioError::Letters) => return Err(CertError::Undecided(Limit::Letters)),
+        Err(PrioError::Moves) => return Err(CertError::Undecided(Limit::Moves)),
+        Err(PrioError::OutOfMemory) => return Err(CertError::OutOfMemory),
+    };
+    let _states = a.states();
+    match pairs(alloc, &a, max_pairs) {
+        Ok(g) => made(alloc, &a, &g),
+        Err(PairsError::Sets) => Err(CertError::Undecided(Limit::Sets)),
+        Err(PairsError::Pairs) => Err(CertError::Undecided(Limit::Pairs)),
+        Err(PairsError::OutOfMemory) => Err(CertError::OutOfMemory),
+    }
+}
+
+/// A certificate for a lowered pattern, over the texts of the universe, where at most `max_pairs` live pairs are looked at.
+///
+/// # Errors
+/// [`CertError::Undecided`] names the limit that is passed. [`CertError::TooLarge`] where none is passed, the degree is at least 1,
+/// and the least list of triples has more than 1,000,000. [`CertError::OutOfMemory`] where there was no memory for the automaton,
+/// the graph, its products or the certificate.
+pub fn make(
+    alloc: Global,
+    l: &Lowered,
+    u: Universe,
+    max_pairs: u32,
+) -> Result<Certificate, CertError>
+    requires some { 1 ≤ max_pairs }
+    requires few { max_pairs ≤ 1000 }
+    requires inside { IsOver u (tree_of l.now.tree) }
+    ensures holds { IfOk result (Holds (question_of l.now u max_pairs)) }
+    ensures told { IfOk result (λ c. IsTold c.verdict) }
+    ensures fits { IfOk result (λ c. IsTooLarge (question_of l.now u max_pairs) → ⊥) }
+    ensures undecided { IfErr result (λ e. (limit : Limit) → e ≡ CertError.Undecided limit → IsNamed (question_of l.now u max_pairs) limit) }
+    ensures too_large { IfErr result (λ e. e ≡ CertError.TooLarge → IsTooLarge (question_of l.now u max_pairs)) }
+{
+    if l.tree.nodes() > MOST_NODES {
+        return Err(CertError::Undecided(Limit::Size));
+    }
+    made_small(alloc, l, u, max_pairs)
+}

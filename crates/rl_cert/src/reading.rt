@@ -1,0 +1,399 @@
+//! Certificates read.
+
+ghost use Rattle.std.specs.Prelude.{◌≡◌, ◌++◌, ◌==◌, codes, false, map, length, List, None, Some, IfOk, IsUtf8, option_and_then, option_map};
+ghost use Rattle.serde_json.specs.Find.{get, as_str};
+ghost use Rattle.serde_json.specs.Read.{read};
+ghost use Rattle.serde_json.specs.View.{items_view, view};
+ghost use Rattle.rl_cert.specs.declared.certificate.Certificate.{Certificate};
+ghost use Rattle.rl_cert.specs.Form.{number_read, row_read, rows_read, anchor_of, double_of, triple_of, anchors_read, doubles_read, triples_read, items_read, all_of, read_at, family_read, member_count, verdict_of, verdict_read, is_version, lists_read, certificate_read, IsForm};
+
+use crate::certificate::{Anchor, Anchors, Certificate};
+use rl_lists::{Bytes, Items, OutOfMemory, Ranks, Word};
+use rl_numbers::double::{Double, Doubles};
+use rl_numbers::triple::{Triple, Triples};
+use rl_syntax::{Family, Texts, Verdict};
+use serde_json::Value;
+use std::alloc::{AllocError, AllocFailed, Global};
+
+/// Why bytes gave no certificate.
+#[derive(Clone, Copy, Debug, PartialEq, Eq)]
+pub enum ReadError {
+    /// They are too many, no JSON, or not in the form of a certificate.
+    Refused,
+    /// Memory was refused.
+    OutOfMemory,
+}
+
+impl From<OutOfMemory> for ReadError {
+    ghost use Rattle.rl_cert.specs.declared.reading.ReadError.TheVariants as error;
+
+    ghost from_gives = { λ _ e. e ≡ error.OutOfMemory };
+
+    fn from(_: OutOfMemory) -> Self {
+        ReadError::OutOfMemory
+    }
+}
+
+/// A whole number that fits 32 bits.
+fn number_of(value: &Value) -> Option<u32>
+    ensures { result ≡ number_read (view value.now) }
+{
+    let number = value.as_u64()?;
+    if number <= u64::from(u32::MAX) {
+        Some(number as u32)
+    } else {
+        None
+    }
+}
+
+/// A row of numbers.
+#[tactic(auto, using(crate::proofs::ReadRows::reading))]
+fn row_of(alloc: Global, value: &Value) -> Result<Word, ReadError>
+    ensures row { IfOk result (λ row. row_read (view value.now) ≡ Some row) }
+    ensures refused { result ≡ Err ReadError.Refused → row_read (view value.now) ≡ None }
+{
+    let Some(values) = value.as_array() else {
+        return Err(ReadError::Refused);
+    };
+    numbers_of(alloc, values.as_slice())
+}
+
+/// The numbers of values.
+#[tactic(auto, using(crate::proofs::ReadRows::reading))]
+fn numbers_of(alloc: Global, values: &[Value]) -> Result<Word, ReadError>
+    ensures row { IfOk result (λ row. items_read number_read (items_view values.now) ≡ Some row) }
+    ensures refused { result ≡ Err ReadError.Refused → items_read number_read (items_view values.now) ≡ None }
+{
+    let mut row = Items::new(alloc);
+    for value in values {
+        let Some(number) = number_of(value) else {
+            return Err(ReadError::Refused);
+        };
+        row.push(number)?;
+    }
+    Ok(row)
+}
+
+/// The rows of values.
+#[tactic(auto, using(crate::proofs::ReadRows::reading))]
+fn rows_of(alloc: Global, values: &[Value]) -> Result<Texts, ReadError>
+    ensures rows { IfOk result (λ rows. items_read row_read (items_view values.now) ≡ Some rows) }
+    ensures refused { result ≡ Err ReadError.Refused → items_read row_read (items_view values.now) ≡ None }
+{
+    let mut rows = Items::new(alloc);
+    for value in values {
+        let row = row_of(alloc, value)?;
+        rows.push(row)?;
+    }
+    Ok(rows)
+}
+
+/// A value as rows of numbers.
+fn all_rows(alloc: Global, value: &Value) -> Result<Texts, ReadError>
+    ensures rows { IfOk result (λ rows. rows_read (view value.now) ≡ Some rows) }
+    ensures refused { result ≡ Err ReadError.Refused → rows_read (view value.now) ≡ None }
+{
+    let Some(values) = value.as_array() else {
+        return Err(ReadError::Refused);
+    };
+    rows_of(alloc, values.as_slice())
+}
+
+/// An anchor of a row.
+fn anchor_of(row: &[u32]) -> Option<Anchor>
+    ensures { result ≡ anchor_of row.now }
+{
+    if row.len() == 2 {
+        Some(Anchor {
+            r: row[0],
+            q: row[1],
+        })
+    } else {
+        None
+    }
+}
+
+/// Anchors of rows.
+#[tactic(auto, using(crate::proofs::AllRows::all_rows))]
+fn anchors_of(alloc: Global, rows: &[Word]) -> Result<Anchors, ReadError>
+    ensures anchors { IfOk result (λ l. all_of anchor_of rows.now ≡ Some l) }
+    ensures refused { result ≡ Err ReadError.Refused → all_of anchor_of rows.now ≡ None }
+{
+    let mut anchors = Items::new(alloc);
+    for row in rows {
+        let Some(anchor) = anchor_of(row.as_slice()) else {
+            return Err(ReadError::Refused);
+        };
+        anchors.push(anchor)?;
+    }
+    Ok(anchors)
+}
+
+/// The anchors of a certificate.
+fn anchors_at(alloc: Global, value: &Value) -> Result<Anchors, ReadError>
+    ensures anchors { IfOk result (λ l. read_at anchors_read (codes "anchors") (view value.now) ≡ Some l) }
+    ensures refused { result ≡ Err ReadError.Refused → read_at anchors_read (codes "anchors") (view value.now) ≡ None }
+{
+    let Some(member) = value.get("anchors") else {
+        return Err(ReadError::Refused);
+    };
+    let rows = all_rows(alloc, member)?;
+    anchors_of(alloc, rows.as_slice())
+}
+
+/// A double of a row.
+fn double_of(row: &[u32]) -> Option<Double>
+    ensures { result ≡ double_of row.now }
+{
+    if row.len() == 3 {
+        Some(Double {
+            p: row[0],
+            q: row[1],
+            number: row[2],
+        })
+    } else {
+        None
+    }
+}
+
+/// Doubles of rows.
+#[tactic(auto, using(crate::proofs::AllRows::all_rows))]
+fn doubles_of(alloc: Global, rows: &[Word]) -> Result<Doubles, ReadError>
+    ensures doubles { IfOk result (λ l. all_of double_of rows.now ≡ Some l) }
+    ensures refused { result ≡ Err ReadError.Refused → all_of double_of rows.now ≡ None }
+{
+    let mut doubles = Items::new(alloc);
+    for row in rows {
+        let Some(double) = double_of(row.as_slice()) else {
+            return Err(ReadError::Refused);
+        };
+        doubles.push(double)?;
+    }
+    Ok(doubles)
+}
+
+/// The doubles of a certificate.
+fn doubles_at(alloc: Global, value: &Value) -> Result<Doubles, ReadError>
+    ensures doubles { IfOk result (λ l. read_at doubles_read (codes "doubles") (view value.now) ≡ Some l) }
+    ensures refused { result ≡ Err ReadError.Refused → read_at doubles_read (codes "doubles") (view value.now) ≡ None }
+{
+    let Some(member) = value.get("doubles") else {
+        return Err(ReadError::Refused);
+    };
+    let rows = all_rows(alloc, member)?;
+    doubles_of(alloc, rows.as_slice())
+}
+
+/// A triple of a row.
+fn triple_of(row: &[u32]) -> Option<Triple>
+    ensures { result ≡ triple_of row.now }
+{
+    if row.len() == 4 {
+        Some(Triple {
+            p: row[0],
+            q: row[1],
+            r: row[2],
+            number: row[3],
+        })
+    } else {
+        None
+    }
+}
+
+/// Triples of rows.
+#[tactic(auto, using(crate::proofs::AllRows::all_rows))]
+fn triples_of(alloc: Global, rows: &[Word]) -> Result<Triples, ReadError>
+    ensures triples { IfOk result (λ l. all_of triple_of rows.now ≡ Some l) }
+    ensures refused { result ≡ Err ReadError.Refused → all_of triple_of rows.now ≡ None }
+{
+    let mut triples = Items::new(alloc);
+    for row in rows {
+        let Some(triple) = triple_of(row.as_slice()) else {
+            return Err(ReadError::Refused);
+        };
+        triples.push(triple)?;
+    }
+    Ok(triples)
+}
+
+/// The triples of a certificate.
+fn triples_at(alloc: Global, value: &Value) -> Result<Triples, ReadError>
+    ensures triples { IfOk result (λ l. read_at triples_read (codes "triples") (view value.now) ≡ Some l) }
+    ensures refused { result ≡ Err ReadError.Refused → read_at triples_read (codes "triples") (view value.now) ≡ None }
+{
+    let Some(member) = value.get("triples") else {
+        return Err(ReadError::Refused);
+    };
+    let rows = all_rows(alloc, member)?;
+    triples_of(alloc, rows.as_slice())
+}
+
+/// The ranks of a certificate.
+fn ranks_at(alloc: Global, value: &Value) -> Result<Ranks, ReadError>
+    ensures ranks { IfOk result (λ l. read_at row_read (codes "ranks") (view value.now) ≡ Some l) }
+    ensures refused { result ≡ Err ReadError.Refused → read_at row_read (codes "ranks") (view value.now) ≡ None }
+{
+    let Some(member) = value.get("ranks") else {
+        return Err(ReadError::Refused);
+    };
+    row_of(alloc, member)
+}
+
+/// The rows at a key.
+fn rows_at(alloc: Global, value: &Value, key: &str) -> Result<Texts, ReadError>
+    ensures rows { IfOk result (λ l. read_at rows_read key.now (view value.now) ≡ Some l) }
+    ensures refused { result ≡ Err ReadError.Refused → read_at rows_read key.now (view value.now) ≡ None }
+{
+    let Some(member) = value.get(key) else {
+        return Err(ReadError::Refused);
+    };
+    all_rows(alloc, member)
+}
+
+/// The family of a certificate.
+fn family_at(alloc: Global, value: &Value) -> Result<Family, ReadError>
+    ensures family { IfOk result (λ f. family_read (view value.now) ≡ Some f) }
+    ensures refused { result ≡ Err ReadError.Refused → family_read (view value.now) ≡ None }
+{
+    let heads = rows_at(alloc, value, "heads")?;
+    let pumps = rows_at(alloc, value, "pumps")?;
+    Ok(Family { heads, pumps })
+}
+
+/// A number at a key.
+fn number_at(value: &Value, key: &str) -> Option<u32>
+    ensures { result ≡ read_at number_read key.now (view value.now) }
+{
+    match value.get(key) {
+        Some(member) => number_of(member),
+        None => None,
+    }
+}
+
+/// How many members an object has; another value has none.
+fn member_count(value: &Value) -> usize
+    ensures { result ≡ member_count (view value.now) }
+{
+    match value.as_object() {
+        Some(members) => members.len(),
+        None => 0,
+    }
+}
+
+/// The kind of a certificate.
+fn kind_at(value: &Value) -> Option<&str>
+    ensures { option_map (λ t. t.now) result ≡ read_at as_str (codes "kind") (view value.now) }
+{
+    value.get("kind").and_then(Value::as_str)
+}
+
+/// The verdict of a kind with a family.
+fn verdict_of(value: &Value, kind: &str, family: Family) -> Option<Verdict>
+    ensures { result ≡ verdict_of kind.now family (view value.now) }
+{
+    if kind == "degree" {
+        if member_count(value) != 9 {
+            return None;
+        }
+        match number_at(value, "degree") {
+            Some(degree) => Some(Verdict::Degree(degree, family)),
+            None => None,
+        }
+    } else if kind == "exponential" && member_count(value) == 8 {
+        Some(Verdict::Expo(family))
+    } else {
+        None
+    }
+}
+
+/// The verdict of a certificate.
+fn verdict_at(alloc: Global, value: &Value) -> Result<Verdict, ReadError>
+    ensures verdict { IfOk result (λ v. verdict_read (view value.now) ≡ Some v) }
+    ensures refused { result ≡ Err ReadError.Refused → verdict_read (view value.now) ≡ None }
+{
+    let Some(kind) = kind_at(value) else {
+        return Err(ReadError::Refused);
+    };
+    let family = family_at(alloc, value)?;
+    match verdict_of(value, kind, family) {
+        Some(verdict) => Ok(verdict),
+        None => Err(ReadError::Refused),
+    }
+}
+
+/// Whether the version is 1.
+fn has_version(value: &Value) -> bool
+    ensures { result ≡ is_version (read_at number_read (codes "version") (view value.now)) }
+{
+    match number_at(value, "version") {
+        Some(version) => version == 1,
+        None => false,
+    }
+}
+
+/// The lists of a certificate, behind its verdict.
+fn lists_at(alloc: Global, value: &Value, verdict: Verdict) -> Result<Certificate, ReadError>
+    ensures certificate { IfOk result (λ c. lists_read verdict (view value.now) ≡ Some c) }
+    ensures refused { result ≡ Err ReadError.Refused → lists_read verdict (view value.now) ≡ None }
+{
+    let anchors = anchors_at(alloc, value)?;
+    let ranks = ranks_at(alloc, value)?;
+    let doubles = doubles_at(alloc, value)?;
+    let triples = triples_at(alloc, value)?;
+    Ok(Certificate {
+        verdict,
+        anchors,
+        ranks,
+        doubles,
+        triples,
+    })
+}
+
+/// The certificate that a value is.
+fn certificate_of(alloc: Global, value: &Value) -> Result<Certificate, ReadError>
+    ensures certificate { IfOk result (λ c. certificate_read (view value.now) ≡ Some c) }
+    ensures refused { result ≡ Err ReadError.Refused → certificate_read (view value.now) ≡ None }
+{
+    if !has_version(value) {
+        return Err(ReadError::Refused);
+    }
+    let verdict = verdict_at(alloc, value)?;
+    lists_at(alloc, value, verdict)
+}
+
+/// The most bytes of a certificate.
+const MAX_BYTES: usize = 67_108_864;
+
+/// The value that the bytes are in JSON.
+fn value_of(alloc: Global, bytes: &[u8]) -> Result<Value, ReadError>
+    ensures value { IfOk result (λ v. IsUtf8 bytes.now × (read bytes.now ≡ Some (view v))) }
+    ensures refused { result ≡ Err ReadError.Refused → IsUtf8 bytes.now → read bytes.now ≡ None }
+{
+    match Value::from_slice(alloc, bytes) {
+        Ok(value) => Ok(value),
+        Err(error) => {
+            if error.is_memory() {
+                Err(ReadError::OutOfMemory)
+            } else {
+                Err(ReadError::Refused)
+            }
+        }
+    }
+}
+
+/// The certificate that the bytes are.
+///
+/// # Errors
+/// [`ReadError::Refused`] where the bytes aren't in the form of a certificate, and [`ReadError::OutOfMemory`] where memory was
+/// refused.
+pub fn read(alloc: Global, bytes: &Bytes) -> Result<Certificate, ReadError>
+    ensures certificate { IfOk result (IsForm bytes.now) }
+    ensures refused { result ≡ Err ReadError.Refused → (c : Certificate) → ¬ IsForm bytes.now c }
+{
+    if bytes.len() > MAX_BYTES {
+        return Err(ReadError::Refused);
+    }
+    let value = value_of(alloc, bytes.as_slice())?;
+    let certificate = certificate_of(alloc, &value)?;
+    Ok(certificate)
+}

@@ -1,0 +1,139 @@
+//! Certificates written.
+
+ghost use Rattle.std.specs.Prelude.{◌≡◌, ◌++◌, codes, false, map, IfOk, OnOk};
+ghost use Rattle.serde_json.specs.Data.{put, no_members, object};
+ghost use Rattle.serde_json.specs.View.{members_view, view};
+ghost use Rattle.serde_json.specs.Written.{compact_text, has_float};
+ghost use Rattle.rl_cert.specs.Form.{row_data, rows_data, anchor_row, double_row, triple_row, common_members, form_members, form_text, IsTold};
+
+use crate::certificate::{Anchor, Certificate};
+use rl_lists::{Bytes, OutOfMemory, Word};
+use rl_numbers::double::Double;
+use rl_numbers::triple::Triple;
+use rl_syntax::{Family, Verdict};
+use serde_json::{Map, Value, put};
+use std::alloc::Global;
+
+/// The members of an object.
+type Members = Map<String, Value>;
+
+/// A row of numbers.
+#[tactic(auto, using(crate::proofs::Rows::rows))]
+fn row_value(alloc: Global, row: &[u32]) -> Result<Value, OutOfMemory>
+    ensures { IfOk result (λ v. view v ≡ row_data row.now) }
+{
+    let mut values = Vec::new(alloc);
+    for number in row {
+        values.push(Value::from(*number))?;
+    }
+    Ok(Value::Array(values))
+}
+
+/// Rows of numbers.
+#[tactic(auto, using(crate::proofs::Rows::rows))]
+fn rows_value(alloc: Global, rows: &[Word]) -> Result<Value, OutOfMemory>
+    ensures { IfOk result (λ v. view v ≡ rows_data rows.now) }
+{
+    let mut values = Vec::new(alloc);
+    for row in rows {
+        values.push(row_value(alloc, row.as_slice())?)?;
+    }
+    Ok(Value::Array(values))
+}
+
+/// Anchors as rows.
+#[tactic(auto, using(crate::proofs::Rows::rows))]
+fn anchors_value(alloc: Global, anchors: &[Anchor]) -> Result<Value, OutOfMemory>
+    ensures { IfOk result (λ v. view v ≡ rows_data (map anchor_row anchors.now)) }
+{
+    let mut values = Vec::new(alloc);
+    for anchor in anchors {
+        let row = [anchor.r, anchor.q];
+        values.push(row_value(alloc, &row)?)?;
+    }
+    Ok(Value::Array(values))
+}
+
+/// Triples as rows.
+#[tactic(auto, using(crate::proofs::Rows::rows))]
+fn triples_value(alloc: Global, triples: &[Triple]) -> Result<Value, OutOfMemory>
+    ensures { IfOk result (λ v. view v ≡ rows_data (map triple_row triples.now)) }
+{
+    let mut values = Vec::new(alloc);
+    for triple in triples {
+        let row = [triple.p, triple.q, triple.r, triple.number];
+        values.push(row_value(alloc, &row)?)?;
+    }
+    Ok(Value::Array(values))
+}
+
+/// Doubles as rows.
+#[tactic(auto, using(crate::proofs::Rows::rows))]
+fn doubles_value(alloc: Global, doubles: &[Double]) -> Result<Value, OutOfMemory>
+    ensures { IfOk result (λ v. view v ≡ rows_data (map double_row doubles.now)) }
+{
+    let mut values = Vec::new(alloc);
+    for double in doubles {
+        let row = [double.p, double.q, double.number];
+        values.push(row_value(alloc, &row)?)?;
+    }
+    Ok(Value::Array(values))
+}
+
+/// The members that each certificate has, but for its kind.
+fn common(alloc: Global, c: &Certificate, f: &Family) -> Result<Members, OutOfMemory>
+    ensures { IfOk result (λ m. members_view m.entries ≡ common_members c.now f.now) }
+{
+    let anchors = anchors_value(alloc, c.anchors.as_slice())?;
+    let doubles = doubles_value(alloc, c.doubles.as_slice())?;
+    let heads = rows_value(alloc, f.heads.as_slice())?;
+    let pumps = rows_value(alloc, f.pumps.as_slice())?;
+    let ranks = row_value(alloc, c.ranks.as_slice())?;
+    let triples = triples_value(alloc, c.triples.as_slice())?;
+    let mut members = Map::new(alloc);
+    put(&mut members, alloc, "anchors", anchors)?;
+    put(&mut members, alloc, "doubles", doubles)?;
+    put(&mut members, alloc, "heads", heads)?;
+    put(&mut members, alloc, "pumps", pumps)?;
+    put(&mut members, alloc, "ranks", ranks)?;
+    put(&mut members, alloc, "triples", triples)?;
+    put(&mut members, alloc, "version", Value::from(1u32))?;
+    Ok(members)
+}
+
+/// The object of a certificate.
+fn object_of(alloc: Global, c: &Certificate) -> Result<Value, OutOfMemory>
+    requires { IsTold c.now.verdict }
+    ensures { IfOk result (λ v. view v ≡ object (form_members c.now c.now.verdict)) }
+{
+    match &c.verdict {
+        Verdict::Degree(degree, family) => {
+            let mut members = common(alloc, c, family)?;
+            put(&mut members, alloc, "degree", Value::from(*degree))?;
+            let kind = Value::try_from_str(alloc, "degree")?;
+            put(&mut members, alloc, "kind", kind)?;
+            Ok(Value::Object(members))
+        }
+        Verdict::Expo(family) => {
+            let mut members = common(alloc, c, family)?;
+            let kind = Value::try_from_str(alloc, "exponential")?;
+            put(&mut members, alloc, "kind", kind)?;
+            Ok(Value::Object(members))
+        }
+        Verdict::Undecided(_) => unreachable!(),
+    }
+}
+
+/// A certificate as one line of JSON.
+///
+/// # Errors
+/// [`OutOfMemory`] where memory was refused.
+pub fn write(alloc: Global, c: &Certificate) -> Result<Bytes, OutOfMemory>
+    requires { IsTold c.now.verdict }
+    ensures { IfOk result (λ bytes. bytes ≡ form_text c.now) }
+{
+    let value = object_of(alloc, c)?;
+    let mut line = value.to_vec(alloc)?;
+    line.push(b'\n')?;
+    Ok(Bytes::from_vec(line))
+}

@@ -1,0 +1,6 @@
+use Rattle.rl_numbers.specs.Inner.{IsInnerUpTo}
+use Rattle.rl_numbers.specs.Level.{table_of}
+use Rattle.rl_numbers.proofs.leveling.add_level_from.Given as goal
+
+abbrev pub invariant-loop-letter : goal.invariant-loop-letter
+invariant-loop-letter l = IsInnerUpTo l.g (table_of l.ranks) l.state l.letter l.inner

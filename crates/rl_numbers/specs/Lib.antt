@@ -1,0 +1,13 @@
+pub mod Closed
+pub mod Least
+pub mod Numbered
+pub mod Index
+pub mod Reached
+pub mod Triples
+pub mod Level
+pub mod Columns
+pub mod Doubled
+pub mod Starts
+pub mod Listed
+pub mod Inner
+pub mod Diagonal

@@ -1,0 +1,68 @@
+//! How many paths lead to a state along a word, as far as two.
+
+ghost use Rattle.std.specs.Prelude.{◌≡◌, ℕ, ◌+◌, ◌<◌, ◌≤◌, ◌∷◌, [], All, List, length, slice_index, min, take, IfOk};
+ghost use Rattle.rl_graph.specs.Graph.{edges_of};
+ghost use Rattle.rl_graph.specs.Paths.{total};
+ghost use Rattle.rl_numbers.specs.Columns.{IsColumn};
+
+use rl_graph::Multigraph;
+use rl_lists::OutOfMemory;
+use std::alloc::Global;
+
+/// The sum of a column over a row, as far as two.
+fn sum_over(row: &[u32], column: &[u8]) -> u8
+    requires row_in { All (λ m. m < length column.now) row.now }
+    requires low { All (λ k. k ≤ 2) column.now }
+    ensures { result ≡ min 2 (total (λ m. slice_index column.now m) row.now) }
+{
+    let mut sum = 0;
+    for m in row {
+        sum = (sum + column[*m as usize]).min(2);
+    }
+    sum
+}
+
+/// The column of the empty word.
+fn start(alloc: Global, g: &Multigraph, to: u32) -> Result<Vec<u8>, OutOfMemory>
+    ensures { IfOk result (λ v. IsColumn (edges_of g.now) g.now.states to [] v.items) }
+{
+    let mut column = Vec::new(alloc);
+    for state in 0..g.states() {
+        column.push(if state == to { 1 } else { 0 })?;
+    }
+    Ok(column)
+}
+
+/// The column of a word with one more letter in front.
+fn before(alloc: Global, g: &Multigraph, letter: u32, column: &[u8]) -> Result<Vec<u8>, OutOfMemory>
+    requires letter_in { letter < g.now.letters }
+    requires size { length column.now ≡ g.now.states }
+    requires low { All (λ k. k ≤ 2) column.now }
+    ensures longer { IfOk result (λ v. (to : ℕ) (word : List ℕ) → IsColumn (edges_of g.now) g.now.states to word column.now
+        → IsColumn (edges_of g.now) g.now.states to (letter ∷ word) v.items) }
+    ensures low { IfOk result (λ v. All (λ k. k ≤ 2) v.items) }
+{
+    let mut sums = Vec::new(alloc);
+    for state in 0..g.states() {
+        sums.push(sum_over(g.edges(state, letter), column))?;
+    }
+    Ok(sums)
+}
+
+/// For each state how many paths lead from it to a state along a word, as far as two. Each letter of the word costs as much as the
+/// moves of all states on it.
+///
+/// # Errors
+/// [`OutOfMemory`] where there was no memory for the columns.
+pub fn column(alloc: Global, g: &Multigraph, to: u32, word: &[u32]) -> Result<Vec<u8>, OutOfMemory>
+    requires { All (λ l. l < g.now.letters) word.now }
+    ensures { IfOk result (λ v. IsColumn (edges_of g.now) g.now.states to word.now v.items) }
+{
+    let mut counts = start(alloc, g, to)?;
+    let mut place = word.len();
+    while place > 0 {
+        place -= 1;
+        counts = before(alloc, g, word[place], &counts)?;
+    }
+    Ok(counts)
+}

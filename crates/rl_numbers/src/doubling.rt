@@ -1,0 +1,215 @@
+//! Whether the numbers of doubles exclude a twin.
+
+ghost use Rattle.std.specs.Prelude.{◌≡◌, ◌≢◌, ℕ, ◌+◌, ◌<◌, ◌≤◌, ◌^◌, ◌↔◌, IsTrue, All, List, None, Some, length, slice_get, slice_index, is_some, IfOk, IfSome, IfNone};
+ghost use Rattle.rl_graph.specs.Graph.{edges_of};
+ghost use Rattle.rl_graph.specs.Paths.{Each};
+ghost use Rattle.rl_numbers.specs.Doubled.{OnceEach, IsInside, AreDoubles, FallsBelow, SecondsFall, FirstsFall, StepsFall, OthersFall, ApartsFall, LeavesFall, HoldsIn, EqualsHeld, number_in, IsIndex};
+
+use crate::double::Double;
+use indexmap::IndexMap;
+use rl_graph::Multigraph;
+use rl_lists::OutOfMemory;
+use std::alloc::Global;
+
+/// Two states.
+#[derive(Clone, Copy, Debug, PartialEq, Eq, Hash)]
+pub(crate) struct Pair {
+    pub p: u32,
+    pub q: u32,
+}
+
+/// The numbers of doubles.
+pub(crate) type Index = IndexMap<Pair, u32>;
+
+/// The number of two states, if they are held.
+fn number_of(index: &Index, p: u32, q: u32) -> Option<u32>
+    ensures { result ≡ number_in index.now p q }
+{
+    index.get(&Pair { p, q }).copied()
+}
+
+/// The numbers of the doubles, unless one stands twice.
+fn index_of(alloc: Global, doubles: &[Double]) -> Result<Option<Index>, OutOfMemory>
+    ensures numbers { IfOk result (λ o. IfSome o (IsIndex doubles.now)) }
+    ensures once { IfOk result (λ o. IfSome o (λ _. OnceEach doubles.now)) }
+    ensures twice { IfOk result (λ o. IfNone o (OnceEach doubles.now → ⊥)) }
+{
+    let mut index = Index::new(alloc);
+    for double in doubles {
+        if number_of(&index, double.p, double.q).is_some() {
+            return Ok(None);
+        }
+        let pair = Pair {
+            p: double.p,
+            q: double.q,
+        };
+        index.insert(pair, double.number)?;
+    }
+    Ok(Some(index))
+}
+
+/// Whether two states are held by a number below `most`.
+fn falls_below(index: &Index, most: u64, p: u32, q: u32) -> bool
+    ensures { IsTrue result ↔ FallsBelow (number_in index.now) most p q }
+{
+    match number_of(index, p, q) {
+        Some(number) => u64::from(number) < most,
+        None => false,
+    }
+}
+
+/// Whether the states of a row are held so with another one.
+fn seconds_fall(index: &Index, most: u64, p: u32, row: &[u32]) -> bool
+    ensures { IsTrue result ↔ SecondsFall (number_in index.now) most p row.now }
+{
+    for q in row {
+        if !falls_below(index, most, p, *q) {
+            return false;
+        }
+    }
+    true
+}
+
+/// The same for the first states in a row, with the second ones in another.
+fn firsts_fall(index: &Index, most: u64, row: &[u32], second: &[u32]) -> bool
+    ensures { IsTrue result ↔ FirstsFall (number_in index.now) most row.now second.now }
+{
+    for p in row {
+        if !seconds_fall(index, most, *p, second) {
+            return false;
+        }
+    }
+    true
+}
+
+/// Whether a move of a row is the move `number`, or its target is held so behind another state.
+fn other_falls(index: &Index, most: u64, number: usize, other: usize, p: u32, row: &[u32]) -> bool
+    requires { other < length row.now }
+    ensures { IsTrue result ↔ (number ≢ other → FallsBelow (number_in index.now) most p (slice_index row.now other)) }
+{
+    other == number || falls_below(index, most, p, row[other])
+}
+
+/// Whether the other moves of a row lead to two states that are held so with the target of the move `number`.
+fn others_fall(index: &Index, most: u64, number: usize, p: u32, row: &[u32]) -> bool
+    ensures { IsTrue result ↔ OthersFall (number_in index.now) most number p row.now }
+{
+    for other in 0..row.len() {
+        if !other_falls(index, most, number, other, p, row) {
+            return false;
+        }
+    }
+    true
+}
+
+/// Whether each two different moves of a row lead to two states that are held so.
+fn aparts_fall(index: &Index, most: u64, row: &[u32]) -> bool
+    ensures { IsTrue result ↔ ApartsFall (number_in index.now) most row.now }
+{
+    for number in 0..row.len() {
+        if !others_fall(index, most, number, row[number], row) {
+            return false;
+        }
+    }
+    true
+}
+
+/// Whether no step of a double leads to two states that aren't held or have a greater number.
+fn steps_fall(g: &Multigraph, index: &Index, double: Double) -> bool
+    requires { IsInside g.now.states double }
+    ensures { IsTrue result ↔ StepsFall (edges_of g.now) (number_in index.now) double }
+{
+    let _states = g.states();
+    let most = u64::from(double.number) + 1;
+    for letter in 0..g.letters() {
+        let firsts = g.edges(double.p, letter);
+        let seconds = g.edges(double.q, letter);
+        if !firsts_fall(index, most, firsts, seconds) {
+            return false;
+        }
+    }
+    true
+}
+
+/// Whether two different moves of a state on one letter lead to a smaller number, if the double is the state with itself.
+fn leaves_fall(g: &Multigraph, index: &Index, double: Double) -> bool
+    requires { IsInside g.now.states double }
+    ensures { IsTrue result ↔ LeavesFall (edges_of g.now) (number_in index.now) double }
+{
+    if double.p != double.q {
+        return true;
+    }
+    let _states = g.states();
+    let most = u64::from(double.number);
+    for letter in 0..g.letters() {
+        let row = g.edges(double.p, letter);
+        if !aparts_fall(index, most, row) {
+            return false;
+        }
+    }
+    true
+}
+
+/// Whether the states of a double are in range.
+fn is_inside(states: u32, double: Double) -> bool
+    ensures { IsTrue result ↔ IsInside states double }
+{
+    double.p < states && double.q < states
+}
+
+/// Whether a double is in range and its steps fall.
+fn holds(g: &Multigraph, index: &Index, double: Double) -> bool
+    ensures { IsTrue result ↔ HoldsIn (edges_of g.now) g.now.states (number_in index.now) double }
+{
+    if !is_inside(g.states(), double) {
+        return false;
+    }
+    if !steps_fall(g, index, double) {
+        return false;
+    }
+    leaves_fall(g, index, double)
+}
+
+/// Whether each double is in range and its steps fall.
+fn each_holds(g: &Multigraph, index: &Index, doubles: &[Double]) -> bool
+    ensures { IsTrue result ↔ Each (HoldsIn (edges_of g.now) g.now.states (number_in index.now)) doubles.now }
+{
+    for double in doubles {
+        if !holds(g, index, *double) {
+            return false;
+        }
+    }
+    true
+}
+
+/// Whether each state is held with itself.
+fn equals_held(index: &Index, states: u32) -> bool
+    ensures { IsTrue result ↔ EqualsHeld states (number_in index.now) }
+{
+    for state in 0..states {
+        if number_of(index, state, state).is_none() {
+            return false;
+        }
+    }
+    true
+}
+
+/// Whether each double holds, and each state is held with itself.
+fn all_hold(g: &Multigraph, index: &Index, doubles: &[Double]) -> bool
+    ensures { IsTrue result ↔ (Each (HoldsIn (edges_of g.now) g.now.states (number_in index.now)) doubles.now × EqualsHeld g.now.states (number_in index.now)) }
+{
+    each_holds(g, index, doubles) && equals_held(index, g.states())
+}
+
+/// Whether a list of doubles holds for a graph.
+///
+/// # Errors
+/// [`OutOfMemory`] where there was no memory for the index.
+pub fn doubles_hold(alloc: Global, g: &Multigraph, doubles: &[Double]) -> Result<bool, OutOfMemory>
+    ensures { IfOk result (λ yes. IsTrue yes ↔ AreDoubles (edges_of g.now) g.now.states doubles.now) }
+{
+    match index_of(alloc, doubles)? {
+        None => Ok(false),
+        Some(index) => Ok(all_hold(g, &index, doubles)),
+    }
+}

@@ -1,0 +1,139 @@
+//! Lists of doubles and of triples with their numbers.
+
+ghost use Rattle.std.specs.Prelude.{◌≡◌, ℕ, ◌*◌, ◌<◌, ◌≤◌, All, length, slice_index, IfOk, OnOk, IfErr};
+ghost use Rattle.rl_graph.specs.Graph.{edges_of};
+ghost use Rattle.rl_graph.specs.Paths.{Each};
+ghost use Rattle.rl_graph.specs.Product.{pair_moves};
+ghost use Rattle.rl_graph.specs.Twins.{HasNoTwin};
+ghost use Rattle.rl_degree.specs.Leavers.{HasNoEqualSplit};
+ghost use Rattle.rl_numbers.specs.Doubled.{AreDoubles};
+ghost use Rattle.rl_numbers.specs.Least.{LeastTriple, AreMoreThan};
+ghost use Rattle.rl_numbers.specs.Level.{IsLevelOf};
+ghost use Rattle.rl_numbers.specs.Numbered.{AreTriples};
+ghost use Rattle.rl_numbers.specs.Reached.{IsReached, IsReach, AreMore};
+ghost use Rattle.rl_numbers.specs.Triples.{triple_moves};
+
+use crate::among::Among;
+use crate::diagonal::{diagonal, listed_doubles};
+use crate::double::Doubles;
+use crate::level::{Level, Thrice, level_of};
+use crate::leveling::level_graph;
+use crate::listing::listed;
+use crate::reach::{ReachError, reached};
+use crate::starts::starts_of;
+use crate::triple::Triples;
+use indexmap::IndexSet;
+use rl_graph::{Multigraph, Twice, parts_of};
+use rl_lists::OutOfMemory;
+use std::alloc::Global;
+
+/// A list has at most so many triples.
+const MOST_TRIPLES: usize = 1_000_000;
+
+/// Why there is no list of triples.
+#[derive(Clone, Copy, Debug, PartialEq, Eq)]
+pub enum TriplesError {
+    /// The least list has more than 1,000,000.
+    TooMany,
+    /// Memory was refused.
+    OutOfMemory,
+}
+
+impl From<OutOfMemory> for TriplesError {
+    ghost use Rattle.rl_numbers.specs.declared.numbering.TriplesError.TheVariants as error;
+
+    ghost from_gives = { λ _ e. e ≡ error.OutOfMemory };
+
+    fn from(_: OutOfMemory) -> Self {
+        TriplesError::OutOfMemory
+    }
+}
+
+/// The numbers of the doubles that are reached. There are never more than fit.
+fn doubles_from(alloc: Global, g: &Multigraph, starts: &[u64]) -> Result<IndexSet<u64>, OutOfMemory>
+    requires { All (λ s. s < g.now.states * g.now.states) starts.now }
+    ensures reach { IfOk result (λ keys. IsReach (pair_moves (edges_of g.now) g.now.states) starts.now keys.keys) }
+    ensures inside { IfOk result (λ keys. Each (λ x. x < g.now.states * g.now.states) keys.keys) }
+{
+    match reached(alloc, &Twice { graph: g }, starts, usize::MAX) {
+        Ok(keys) => Ok(keys),
+        Err(_) => Err(OutOfMemory),
+    }
+}
+
+/// The doubles of a graph without a twin.
+///
+/// # Errors
+/// [`OutOfMemory`] where there was no memory for them.
+pub fn doubles_of(alloc: Global, g: &Multigraph) -> Result<Doubles, OutOfMemory>
+    requires few_states { g.now.states < 65536 }
+    requires no_twin { HasNoTwin (edges_of g.now) }
+    ensures { IfOk result (λ l. AreDoubles (edges_of g.now) g.now.states l) }
+{
+    let states = g.states();
+    let _letters = g.letters();
+    let starts = diagonal(alloc, states)?;
+    let keys = doubles_from(alloc, g, &starts)?;
+    let parts = parts_of(alloc, &Twice { graph: g })?;
+    let doubles = listed_doubles(alloc, states, &keys, &parts)?;
+    Ok(doubles)
+}
+
+/// The moves on its rank, unless they don't fit.
+fn level(alloc: Global, g: &Multigraph, ranks: &[u32]) -> Result<Level, OutOfMemory>
+    requires { length ranks.now ≡ g.now.states }
+    ensures level { IfOk result (λ h. IsLevelOf (edges_of g.now) g.now.states (slice_index ranks.now) h) }
+    ensures letters { IfOk result (λ h. h.letters ≡ g.now.letters) }
+{
+    let graph = level_graph(alloc, g, ranks)?;
+    match level_of(graph) {
+        Some(level) => Ok(level),
+        None => Err(OutOfMemory),
+    }
+}
+
+/// The numbers of the triples that are reached, unless they are too many.
+fn keys_of(alloc: Global, level: &Level, starts: &[u64]) -> Result<IndexSet<u64>, TriplesError>
+    requires { All (λ s. s < level.now.states * level.now.states * level.now.states) starts.now }
+    ensures reach { IfOk result (λ keys. IsReach (triple_moves (edges_of level.now) level.now.states) starts.now keys.keys) }
+    ensures few { IfOk result (λ keys. length keys.keys ≤ 1000000) }
+    ensures inside { IfOk result (λ keys. Each (λ x. x < level.now.states * level.now.states * level.now.states) keys.keys) }
+    ensures too_many { IfErr result (λ e. e ≡ TriplesError.TooMany → AreMore 1000000 (IsReached (triple_moves (edges_of level.now) level.now.states) starts.now)) }
+{
+    match reached(alloc, &Thrice { level }, starts, MOST_TRIPLES) {
+        Ok(keys) => Ok(keys),
+        Err(ReachError::TooMany) => Err(TriplesError::TooMany),
+        Err(ReachError::OutOfMemory) => Err(TriplesError::OutOfMemory),
+    }
+}
+
+/// The triples of a graph without a split between states of one rank.
+///
+/// # Errors
+/// [`TriplesError::TooMany`] where the least list has more than 1,000,000, and [`TriplesError::OutOfMemory`] where there was no
+/// memory for them, as for a state with 65,536 or more moves on one letter to states of its rank.
+pub fn triples_of(alloc: Global, g: &Multigraph, ranks: &[u32]) -> Result<Triples, TriplesError>
+    requires few_states { g.now.states < 65536 }
+    requires size { length ranks.now ≡ g.now.states }
+    requires no_split { HasNoEqualSplit (edges_of g.now) g.now.states (slice_index ranks.now) }
+    ensures triples { IfOk result (λ l. AreTriples (edges_of g.now) g.now.states (slice_index ranks.now) l) }
+    ensures few { OnOk result (AreMoreThan 1000000 (LeastTriple (edges_of g.now) g.now.states (slice_index ranks.now)) → ⊥) }
+    ensures too_many { IfErr result (λ e. e ≡ TriplesError.TooMany → AreMoreThan 1000000 (LeastTriple (edges_of g.now) g.now.states (slice_index ranks.now))) }
+{
+    let states = g.states();
+    let _letters = g.letters();
+    let components = g.components()?;
+    let starts = starts_of(alloc, states, ranks, &components)?;
+    let level = level(alloc, g, ranks)?;
+    let _kept = level.graph().states();
+    let keys = keys_of(alloc, &level, &starts)?;
+    let parts = parts_of(
+        alloc,
+        &Among {
+            level: &level,
+            keys: &keys,
+        },
+    )?;
+    let triples = listed(alloc, states, &keys, &parts)?;
+    Ok(triples)
+}
