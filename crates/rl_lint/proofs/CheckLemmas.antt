@@ -11,8 +11,8 @@ use Rattle.rl_words.specs.declared.words.Action.TheVariants.{Check}
 use Rattle.rl_words.specs.declared.words.ModeWord.{ModeWord}
 use Rattle.rl_lint.specs.CheckEnding.{IsLaidOut}
 use Rattle.rl_lint.specs.Checks.{Checks, IsChecked}
-use Rattle.rl_lint.specs.Endings.{Ending, ending_of, writes}
-use Rattle.rl_lint.specs.Planned.{Acts, walked}
+use Rattle.rl_lint.specs.Endings.{ending_of, writes}
+use Rattle.rl_lint.specs.Planned.{Acts}
 use Rattle.rl_lint.specs.Shown.{hidden_by, shown_by}
 use Rattle.rl_lint.specs.Uses.{Asking, Text}
 use Rattle.rl_lint.specs.declared.plan.Plan.{Plan}
@@ -34,19 +34,11 @@ checks-shown s known paths tree entries shown hidden text finding failed checked
   };
 }
 
-one_acts : (said : Option ModeWord) (s : Settings) (known : Option (List EntryKey)) (paths : List (Bor Text)) (tree : Asking) (ending : Ending)
-    → Checks s known (map (λ p. p.now) paths) tree ending → Acts said s known (asked (Check paths)) tree ending
-one_acts said s known paths tree ending checks = record {
-  seen = walked checks.calls checks.visits;
-  saw = checks.walked;
-  right = checks.ends;
-}
-
 pub check_acts : {E : Type 0} (result : Result Plan E) (said : Option ModeWord) (s : Settings) (known : Option (List EntryKey)) (action : Action) (paths given : List (Bor Text)) (tree : Asking)
     → action ≡ Check paths → given ≡ paths
     → IfOk result (λ plan. Checks s known (map (λ p. p.now) given) tree (ending_of plan))
     → IfOk result (λ plan. Acts said s known (asked action) tree (ending_of plan))
 check_acts (Ok plan) said s known action paths given tree is same checks =
     let here = subst (λ ps. Checks s known (map (λ p. p.now) ps) tree (ending_of plan)) same checks in
-    subst (λ a. Acts said s known (asked a) tree (ending_of plan)) (sym is) (one_acts said s known paths tree (ending_of plan) here)
+    subst (λ a. Acts said s known (asked a) tree (ending_of plan)) (sym is) here
 check_acts (Err error) said s known action paths given tree is same checks = tt

@@ -1,9 +1,9 @@
 mod CheckLemmas
 mod CodeLemmas
-mod KnownLemmas
+mod CompareLemmas
+mod FileLemmas
 mod LineLemmas
 mod PlanLemmas
 mod PlannedLemmas
 mod RefusalLemmas
-mod SettledLemmas
 mod ShownLemmas

@@ -11,7 +11,7 @@ use Rattle.rl_prio.specs.Letters.{letters}
 use Rattle.rl_lint.specs.Uses.{Text}
 use Rattle.rl_lint.specs.Texts.{steps_line}
 use Rattle.rl_lint.specs.Endings.{Ending, refuses, writes}
-use Rattle.rl_lint.specs.Readings.{Reading, refused, spelled, IsReading}
+use Rattle.rl_lint.specs.Readings.{IsPatternEnding}
 
 -- the first limit that is passed, or the steps of the text
 abbrev pub cost_line : Tree → MatchEnd → List ℕ → Text
@@ -21,12 +21,11 @@ cost_line t at text =
     else (if nat_lt 256 (longest t) then codes "undecided moves over 256\n"
     else steps_line (cost t at text) (matched t at text)))
 
--- a refused pattern is told first, then a text that is too long
-abbrev pub cost_ending : Reading → List ℕ → Ending
-cost_ending (refused message) text = refuses message
-cost_ending (spelled t at) text =
+-- a text that is too long is told before a limit that is passed
+abbrev pub cost_ending : List ℕ → Tree → MatchEnd → Ending
+cost_ending text t at =
     if nat_lt 65536 (length text) then refuses (codes "relint: text too long\n") else writes (cost_line t at text) false false
 
+-- a refused pattern is told first
 abbrev pub IsCostEnding : List ℕ → List ℕ → Mode → Ending → Type 0
-IsCostEnding pattern text mode ending =
-    (reading : Reading) × IsReading pattern mode reading × (ending ≡ cost_ending reading text)
+IsCostEnding pattern text mode ending = IsPatternEnding pattern mode (λ t at end. end ≡ cost_ending text t at) ending

@@ -4,8 +4,12 @@ pub mod Texts
 pub mod Readings
 pub mod CostEnding
 pub mod ClassEnding
+pub mod CompareEnding
+pub mod ProveEnding
+pub mod VerifyEnding
 pub mod SampleEnding
 pub mod Options
+pub mod Files
 pub mod Settled
 pub mod Known
 pub mod Shown
@@ -13,4 +17,6 @@ pub mod Walks
 pub mod CheckEnding
 pub mod Checks
 pub mod Planned
+pub mod Refusals
 pub mod Runs
+pub mod internal

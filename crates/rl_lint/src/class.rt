@@ -7,7 +7,6 @@ ghost use Rattle.rl_pairs.specs.RightVerdict.{RightVerdict};
 ghost use Rattle.rl_report.specs.Findings.{is_found};
 ghost use Rattle.rl_report.specs.Verdicts.{IsVerdictOf, IsFamilyOf, family_text_line};
 ghost use Rattle.rl_lint.specs.Endings.{ending_of};
-ghost use Rattle.rl_lint.specs.Readings.{spelled};
 ghost use Rattle.rl_lint.specs.ClassEnding.{ClassEnds, IsClassEnding, class_text};
 
 use crate::plan::Plan;
@@ -96,8 +95,8 @@ fn pattern_plan(
     requires of_text { universe_of pattern.now ≡ Str }
     requires some { 1 ≤ max_pairs }
     requires few { max_pairs ≤ 1000 }
-    ensures { IfOk result (λ plan. ClassEnds (spelled (pattern_tree pattern.now mode) (pattern_ending pattern.now mode))
-        (record { max_degree = max_degree; max_pairs = max_pairs }) (ending_of plan)) }
+    ensures { IfOk result (λ plan. ClassEnds (record { max_degree = max_degree; max_pairs = max_pairs })
+        (pattern_tree pattern.now mode) (pattern_ending pattern.now mode) (ending_of plan)) }
 {
     let verdict = verdict_on(alloc, pattern, mode, max_pairs)?;
     let text = class_text(alloc, &verdict, max_pairs)?;

@@ -4,7 +4,6 @@ ghost use Rattle.std.specs.Str.{chars};
 ghost use Rattle.rl_ranges.specs.declared.universe.Universe.TheVariants.{Str};
 ghost use Rattle.rl_syntax.specs.Pattern.{pattern_ending, pattern_tree, universe_of};
 ghost use Rattle.rl_lint.specs.Endings.{ending_of};
-ghost use Rattle.rl_lint.specs.Readings.{spelled};
 ghost use Rattle.rl_lint.specs.CostEnding.{IsCostEnding, cost_ending};
 
 use crate::codes::codes_of;
@@ -30,7 +29,7 @@ fn pattern_plan(
 ) -> Result<Plan, OutOfMemory>
     requires { universe_of pattern.now ≡ Str }
     ensures { IfOk result (λ plan. ending_of plan
-        ≡ cost_ending (spelled (pattern_tree pattern.now mode) (pattern_ending pattern.now mode)) (chars text.now)) }
+        ≡ cost_ending (chars text.now) (pattern_tree pattern.now mode) (pattern_ending pattern.now mode)) }
 {
     let text = codes_of(alloc, text)?;
     if text.len() > MAX_TEXT {

@@ -1,39 +1,26 @@
 //! How the baseline comes: from the file that the words name, or not at all.
-ghost use Rattle.std.specs.Prelude.{◌≡◌, ◌≤◌, false, is_some, option_map, IfOk};
-ghost use Rattle.rl_lint.specs.Known.{IsKnown, IsKnownBy, IsOfAnswer};
-ghost use Rattle.rl_lint.specs.Settled.{holds};
+ghost use Rattle.std.specs.Prelude.{◌≡◌, ◌≤◌, false, is_some, option_map, IfOk, Some};
+ghost use Rattle.rl_lint.specs.Files.{CameFrom, IsGiven, first_bytes};
+ghost use Rattle.rl_lint.specs.Known.{GivesKeys, IsKnown};
 ghost use Rattle.rl_lint.specs.Uses.{asking_of};
 
+use crate::files::{Came, MOST_BYTES, read_file};
 use rl_lists::{Bytes, OutOfMemory};
 use rl_sarif::{BaselineError, KnownKeys, baseline};
-use rl_source::{Tree, TreeError};
+use rl_source::Tree;
 use std::alloc::Global;
-
-/// How many bytes of a baseline's file are read at most: one more than a baseline has.
-const MOST_BYTES: usize = 67_108_865;
-
-/// How the baseline came.
-#[derive(Drop)]
-pub enum Known {
-    /// Its file couldn't be read.
-    Unread,
-    /// What its file holds is refused.
-    Refused,
-    /// These are its keys, where one is named.
-    Taken(Option<KnownKeys>),
-}
 
 /// What a baseline's file with these bytes gives.
 ///
 /// # Errors
 /// [`OutOfMemory`] where memory was refused.
-fn known_of(alloc: Global, bytes: Vec<u8>) -> Result<Known, OutOfMemory>
-    ensures { IfOk result (IsOfAnswer (holds bytes.items)) }
+fn known_of(alloc: Global, bytes: Vec<u8>) -> Result<Came<Option<KnownKeys>>, OutOfMemory>
+    ensures { IfOk result (IsGiven GivesKeys (Some bytes.items)) }
 {
     let bytes = Bytes::from_vec(bytes);
     match baseline(alloc, &bytes) {
-        Ok(keys) => Ok(Known::Taken(Some(keys))),
-        Err(BaselineError::Refused) => Ok(Known::Refused),
+        Ok(keys) => Ok(Came::Taken(Some(keys))),
+        Err(BaselineError::Refused) => Ok(Came::Refused),
         Err(BaselineError::OutOfMemory) => Err(OutOfMemory),
     }
 }
@@ -42,14 +29,17 @@ fn known_of(alloc: Global, bytes: Vec<u8>) -> Result<Known, OutOfMemory>
 ///
 /// # Errors
 /// [`OutOfMemory`] where memory was refused; the tree may have been read.
-fn known_by_file<T: Tree>(alloc: Global, path: &str, tree: &mut T) -> Result<Known, OutOfMemory>
-    ensures known { IfOk result (IsKnownBy path.now (asking_of T.told T.fault_count tree.old tree.new)) }
+fn known_by_file<T: Tree>(
+    alloc: Global,
+    path: &str,
+    tree: &mut T,
+) -> Result<Came<Option<KnownKeys>>, OutOfMemory>
+    ensures known { IfOk result (CameFrom GivesKeys first_bytes path.now (asking_of T.told T.fault_count tree.old tree.new)) }
     ensures later { T.fault_count tree.old ≤ T.fault_count tree.new }
 {
-    match tree.read(path, MOST_BYTES) {
-        Ok(bytes) => known_of(alloc, bytes),
-        Err(TreeError::Failed) => Ok(Known::Unread),
-        Err(TreeError::OutOfMemory) => Err(OutOfMemory),
+    match read_file(path, MOST_BYTES, tree)? {
+        Some(bytes) => known_of(alloc, bytes),
+        None => Ok(Came::Unread),
     }
 }
 
@@ -61,7 +51,7 @@ pub fn known_by<T: Tree>(
     alloc: Global,
     path: Option<&str>,
     tree: &mut T,
-) -> Result<Known, OutOfMemory>
+) -> Result<Came<Option<KnownKeys>>, OutOfMemory>
     ensures known { IfOk result (IsKnown (option_map (λ p. p.now) path.entry)
         (asking_of T.told T.fault_count tree.old tree.new)) }
     ensures trail { is_some path.entry ≡ false → T.told tree.new ≡ T.told tree.old }
@@ -69,6 +59,6 @@ pub fn known_by<T: Tree>(
 {
     match path {
         Some(path) => known_by_file(alloc, path, tree),
-        None => Ok(Known::Taken(None)),
+        None => Ok(Came::Taken(None)),
     }
 }

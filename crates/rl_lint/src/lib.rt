@@ -4,11 +4,15 @@
 mod check;
 mod class;
 mod codes;
+mod compare;
 mod cost;
+mod files;
 mod known;
 mod line;
 mod options;
 mod plan;
+mod prove;
+mod relation;
 mod run;
 mod sample;
 mod settings;
@@ -18,6 +22,7 @@ mod shown;
 mod tests;
 mod texts;
 mod told;
+mod verify;
 mod word;
 
 pub use rl_judge::{Layout, Settings, judge, status_of};

@@ -6,16 +6,21 @@ ghost use Rattle.rl_source.specs.Faults.{Rose};
 ghost use Rattle.rl_words.specs.Call.{HasActionRanges, HasRanges, asked, chosen};
 ghost use Rattle.rl_words.specs.Given.{given_by};
 ghost use Rattle.rl_lint.specs.Endings.{ending_of, has_fault, is_refusal, message_text};
-ghost use Rattle.rl_lint.specs.Planned.{Acts, HasRefusedFile, IsActionPlanned, IsPlanned, asks_check, asks_tree, baseline_of, call_of, is_check};
+ghost use Rattle.rl_lint.specs.Planned.{Acts, IsActionPlanned, IsPlanned, asks_itself, asks_tree, baseline_of, call_of};
+ghost use Rattle.rl_lint.specs.Refusals.{IsRefused};
 ghost use Rattle.rl_lint.specs.Uses.{asking_of};
 
 use crate::check::check_plan;
 use crate::class::class_plan;
+use crate::compare::compare_plan;
 use crate::cost::cost_plan;
-use crate::known::{Known, known_by};
+use crate::files::Came;
+use crate::known::known_by;
 use crate::options::{in_force, mode_given};
+use crate::prove::prove_plan;
 use crate::sample::sample_plan;
-use crate::settled::{Settled, settle};
+use crate::settled::settle;
+use crate::verify::verify_plan;
 use rl_judge::Settings;
 use rl_lists::{Bytes, OutOfMemory};
 use rl_sarif::KnownKeys;
@@ -64,7 +69,7 @@ pub enum Plan {
 /// there is one.
 ///
 /// # Errors
-/// [`OutOfMemory`] where memory was refused; in `check` the tree may have been read.
+/// [`OutOfMemory`] where memory was refused; in `check` and `verify` the tree may have been read.
 fn action_plan<T: Tree>(
     alloc: Global,
     action: Action,
@@ -77,23 +82,23 @@ fn action_plan<T: Tree>(
     requires valid { IsValid settings }
     ensures acts { IfOk result (λ plan. Acts mode settings known (asked action.entry)
         (asking_of T.told T.fault_count tree.old tree.new) (ending_of plan)) }
-    ensures trail { is_check (asked action.entry) ≡ false → T.told tree.new ≡ T.told tree.old }
+    ensures trail { asks_itself (asked action.entry) ≡ false → T.told tree.new ≡ T.told tree.old }
     ensures later { T.fault_count tree.old ≤ T.fault_count tree.new }
 {
+    let mode = mode_given(mode, Mode::Fullmatch);
+    let max_pairs = settings.max_pairs;
     match action {
         Action::Check { paths } => { check_plan(alloc, paths.as_slice(), settings, known, tree) },
-        Action::Cost { pattern, text } => {
-            cost_plan(alloc, pattern, text, mode_given(mode, Mode::Fullmatch))
+        Action::Class { pattern } => {
+            class_plan(alloc, pattern, mode, settings.max_degree, max_pairs)
         }
-        Action::Class { pattern } => class_plan(
-            alloc,
-            pattern,
-            mode_given(mode, Mode::Fullmatch),
-            settings.max_degree,
-            settings.max_pairs,
-        ),
+        Action::Cost { pattern, text } => cost_plan(alloc, pattern, text, mode),
         Action::Sample { seed, count } => sample_plan(alloc, seed, count, &settings),
-        _ => Ok(Plan::Refuses(Message::Fixed(usage_text()))),
+        Action::Prove { pattern } => prove_plan(alloc, pattern, mode, max_pairs),
+        Action::Verify { pattern, file } => {
+            verify_plan(alloc, pattern, file, mode, max_pairs, tree)
+        }
+        Action::Compare { first, second } => compare_plan(alloc, first, second, mode),
     }
 }
 
@@ -122,13 +127,13 @@ fn baseline_plan<T: Tree>(
     requires valid { IsValid settings }
     ensures planned { IfOk result (λ plan. IsActionPlanned (call_of action.entry options.now) settings
         (asking_of T.told T.fault_count tree.old tree.new) (ending_of plan)) }
-    ensures trail { is_check (asked action.entry) ≡ false → T.told tree.new ≡ T.told tree.old }
+    ensures trail { asks_itself (asked action.entry) ≡ false → T.told tree.new ≡ T.told tree.old }
     ensures later { T.fault_count tree.old ≤ T.fault_count tree.new }
 {
     match known_by(alloc, baseline_of(&action, options), tree)? {
-        Known::Unread => Ok(Plan::Unreadable(Message::Fixed("relint: baseline unreadable\n"))),
-        Known::Refused => Ok(Plan::Refuses(Message::Fixed("relint: baseline refused\n"))),
-        Known::Taken(known) => action_plan(alloc, action, options.mode, settings, known, tree),
+        Came::Unread => Ok(Plan::Unreadable(Message::Fixed("relint: baseline unreadable\n"))),
+        Came::Refused => Ok(Plan::Refuses(Message::Fixed("relint: baseline refused\n"))),
+        Came::Taken(known) => action_plan(alloc, action, options.mode, settings, known, tree),
     }
 }
 
@@ -150,17 +155,17 @@ fn call_plan<T: Tree>(
     ensures later { T.fault_count tree.old ≤ T.fault_count tree.new }
 {
     match settle(alloc, options.settings, tree)? {
-        Settled::Unread => Ok(Plan::Unreadable(Message::Fixed("relint: settings unreadable\n"))),
-        Settled::Refused => Ok(Plan::Refuses(Message::Fixed("relint: settings refused\n"))),
-        Settled::Taken(start) => {
+        Came::Unread => Ok(Plan::Unreadable(Message::Fixed("relint: settings unreadable\n"))),
+        Came::Refused => Ok(Plan::Refuses(Message::Fixed("relint: settings refused\n"))),
+        Came::Taken(start) => {
             let settings = in_force(options, &start);
             baseline_plan(alloc, action, options, settings, tree)
         }
     }
 }
 
-/// What a run with these words is to do. A settings file is read where the words name one, `check` reads its baseline
-/// where they name one and then walks over the tree, and nothing else is asked of it.
+/// What a run with these words is to do. A settings file is read where the words name one. `check` reads its baseline
+/// where they name one and then walks over the tree, `verify` reads its certificate, and nothing else is asked of it.
 ///
 /// # Errors
 /// [`OutOfMemory`] where memory was refused; the tree may have been read.
@@ -173,9 +178,8 @@ pub fn plan_of<T: Tree>(
         (asking_of T.told T.fault_count tree.old tree.new) (ending_of plan)) }
     ensures cause { IfOk result (λ plan. has_fault (ending_of plan) ≡ true
         → Rose (T.fault_count tree.old) (T.fault_count tree.new)) }
-    ensures refused { IfOk result (λ plan. asks_check (given_by (map string_bytes words.now.items)) ≡ true
-        → is_refusal (ending_of plan) ≡ true
-        → HasRefusedFile (given_by (map string_bytes words.now.items)) (T.told tree.old)) }
+    ensures refused { IfOk result (λ plan. is_refusal (ending_of plan) ≡ true
+        → IsRefused (T.told tree.old) (given_by (map string_bytes words.now.items))) }
     ensures trail { asks_tree (given_by (map string_bytes words.now.items)) ≡ false → T.told tree.new ≡ T.told tree.old }
     ensures later { T.fault_count tree.old ≤ T.fault_count tree.new }
 {

@@ -4,7 +4,8 @@ ghost use Rattle.std.specs.String.{string_bytes};
 ghost use Rattle.rl_source.specs.Faults.{Rose};
 ghost use Rattle.rl_words.specs.Given.{given_by};
 ghost use Rattle.rl_lint.specs.Endings.{status_of};
-ghost use Rattle.rl_lint.specs.Planned.{HasRefusedFile, asks_check, asks_tree};
+ghost use Rattle.rl_lint.specs.Planned.{asks_tree};
+ghost use Rattle.rl_lint.specs.Refusals.{IsRefused};
 ghost use Rattle.rl_lint.specs.Runs.{Runs};
 ghost use Rattle.rl_lint.specs.Uses.{asking_of, use_of};
 
@@ -32,10 +33,13 @@ fn status_of(finding: bool, failed: bool) -> u8
 /// |---|---|
 /// | 0 | where all was written, it has no finding, and no call of the tree failed |
 /// | 1 | where all was written, it has a finding, and no call of the tree failed |
-/// | 2 | where the words aren't a valid call, or the settings, the baseline or what they ask for is refused |
-/// | 3 | where all was written and a call of the tree failed, or the settings or the baseline couldn't be read |
+/// | 2 | where the words aren't a valid call, or the settings, the baseline, the certificate or what they ask for is refused |
+/// | 3 | where all was written and a call of the tree failed, or the settings, the baseline or the certificate couldn't be read |
 /// | 4 | where a write to `out` failed |
 /// | 5 | where memory was refused; nothing was written to `out` then |
+///
+/// A finding is an exponential verdict or a degree above `max-degree`, a certificate that doesn't hold, and two patterns that
+/// don't match the same texts, as far as they were compared.
 ///
 /// Where the words name a settings file, it is read whole before anything else. Where it can't be read or is refused, the run
 /// ends there, and nothing is written to `out`. Its values stand in the place of the defaults, and a value of an option
@@ -45,10 +49,13 @@ fn status_of(finding: bool, failed: bool) -> u8
 /// run ends there, and nothing is written to `out`. Else the report is on the entries that the baseline doesn't know. In
 /// every other action `--baseline` has no effect.
 ///
-/// What the run writes is built whole and then written to `out`. With the statuses 2, 4 and 5, and where the settings or the
-/// baseline can't be read, a message is written to `err`; a write to `err` that fails changes no status, and the rest of the message is
-/// dropped. `check` walks over the tree from its paths on, and goes on after a call that failed. No other action asks the
-/// tree for more than the settings.
+/// `verify` judges its pattern before it reads its file, and the file isn't read where the pattern is refused. Where the file
+/// can't be read or is refused, nothing is written to `out`.
+///
+/// What the run writes is built whole and then written to `out`. With the statuses 2, 4 and 5, and where the settings, the
+/// baseline or the certificate can't be read, a message is written to `err`; a write to `err` that fails changes no status, and the
+/// rest of the message is dropped. `check` walks over the tree from its paths on, and goes on after a call that failed. No other
+/// action asks the tree for more than the settings and a certificate.
 pub fn relint_main<T: Tree, O: Sink, E: Sink>(
     alloc: Global,
     words: &Vec<String>,
@@ -63,11 +70,11 @@ pub fn relint_main<T: Tree, O: Sink, E: Sink>(
     ensures invalid { given_by (map string_bytes words.now.items) ≡ None → (result ≡ 2) ⊎ (result ≡ 5) }
     ensures write_fault { result ≡ 4 → Rose (O.fault_count out.old) (O.fault_count out.new) }
     ensures read_fault { result ≡ 3 → Rose (T.fault_count tree.old) (T.fault_count tree.new) }
-    ensures complete { asks_check (given_by (map string_bytes words.now.items)) ≡ true
+    ensures refused { result ≡ 2 → IsRefused (T.told tree.old) (given_by (map string_bytes words.now.items)) }
+    ensures complete { ¬ IsRefused (T.told tree.old) (given_by (map string_bytes words.now.items))
         → ¬ Rose (T.fault_count tree.old) (T.fault_count tree.new)
         → ¬ Rose (O.fault_count out.old) (O.fault_count out.new)
-        → (result ≤ 1) ⊎ ((result ≡ 5) ⊎ ((result ≡ 2)
-        × HasRefusedFile (given_by (map string_bytes words.now.items)) (T.told tree.old))) }
+        → (result ≤ 1) ⊎ (result ≡ 5) }
     ensures trail { asks_tree (given_by (map string_bytes words.now.items)) ≡ false → T.told tree.new ≡ T.told tree.old }
     ensures tree_counts { T.fault_count tree.old ≤ T.fault_count tree.new }
     ensures out_counts { O.fault_count out.old ≤ O.fault_count out.new }

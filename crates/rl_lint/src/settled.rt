@@ -1,14 +1,16 @@
 //! How the settings come: from the file that the words name, or as the defaults.
-ghost use Rattle.std.specs.Prelude.{◌≡◌, ◌≤◌, false, is_some, option_map, IfOk};
-ghost use Rattle.rl_lint.specs.Settled.{AreFit, AreSettled, AreSettledBy, holds, settled_by};
+ghost use Rattle.std.specs.Prelude.{◌≡◌, ◌≤◌, false, is_some, option_map, IfOk, Some};
+ghost use Rattle.rl_lint.specs.Files.{CameFrom, IsGiven, whole_bytes};
+ghost use Rattle.rl_lint.specs.Settled.{AreFit, AreSettled, GivesSettings};
 ghost use Rattle.rl_lint.specs.Uses.{asking_of};
 
+use crate::files::{Came, read_file};
 use crate::settings::settings_from;
 use rl_judge::{Layout, Settings};
 use rl_lists::OutOfMemory;
 use rl_report::Format;
 use rl_settings::SettingsError;
-use rl_source::{Tree, TreeError};
+use rl_source::Tree;
 use rl_syntax::Mode;
 use std::alloc::Global;
 
@@ -21,28 +23,17 @@ const DEFAULTS: Settings = Settings {
     report: 2,
 };
 
-/// How the settings came.
-#[derive(Clone, Copy, Debug, PartialEq, Eq)]
-pub enum Settled {
-    /// The settings file couldn't be read.
-    Unread,
-    /// What the settings file holds is refused.
-    Refused,
-    /// These are the settings, with the options left aside.
-    Taken(Settings),
-}
-
 /// What a settings file with these bytes gives.
 ///
 /// # Errors
 /// [`OutOfMemory`] where memory was refused.
-fn settle_by(alloc: Global, bytes: &Vec<u8>) -> Result<Settled, OutOfMemory>
-    ensures settled { IfOk result (λ s. s ≡ settled_by (holds bytes.now.items)) }
+fn settle_by(alloc: Global, bytes: &Vec<u8>) -> Result<Came<Settings>, OutOfMemory>
+    ensures settled { IfOk result (IsGiven GivesSettings (Some bytes.now.items)) }
     ensures fit { IfOk result AreFit }
 {
     match settings_from(alloc, bytes, &DEFAULTS) {
-        Ok(settings) => Ok(Settled::Taken(settings)),
-        Err(SettingsError::Refused) => Ok(Settled::Refused),
+        Ok(settings) => Ok(Came::Taken(settings)),
+        Err(SettingsError::Refused) => Ok(Came::Refused),
         Err(SettingsError::OutOfMemory) => Err(OutOfMemory),
     }
 }
@@ -51,15 +42,18 @@ fn settle_by(alloc: Global, bytes: &Vec<u8>) -> Result<Settled, OutOfMemory>
 ///
 /// # Errors
 /// [`OutOfMemory`] where memory was refused; the tree may have been read.
-fn settle_by_file<T: Tree>(alloc: Global, path: &str, tree: &mut T) -> Result<Settled, OutOfMemory>
-    ensures settled { IfOk result (AreSettledBy path.now (asking_of T.told T.fault_count tree.old tree.new)) }
+fn settle_by_file<T: Tree>(
+    alloc: Global,
+    path: &str,
+    tree: &mut T,
+) -> Result<Came<Settings>, OutOfMemory>
+    ensures settled { IfOk result (CameFrom GivesSettings whole_bytes path.now (asking_of T.told T.fault_count tree.old tree.new)) }
     ensures fit { IfOk result AreFit }
     ensures later { T.fault_count tree.old ≤ T.fault_count tree.new }
 {
-    match tree.read(path, usize::MAX) {
-        Ok(bytes) => settle_by(alloc, &bytes),
-        Err(TreeError::Failed) => Ok(Settled::Unread),
-        Err(TreeError::OutOfMemory) => Err(OutOfMemory),
+    match read_file(path, usize::MAX, tree)? {
+        Some(bytes) => settle_by(alloc, &bytes),
+        None => Ok(Came::Unread),
     }
 }
 
@@ -71,7 +65,7 @@ pub fn settle<T: Tree>(
     alloc: Global,
     path: Option<&str>,
     tree: &mut T,
-) -> Result<Settled, OutOfMemory>
+) -> Result<Came<Settings>, OutOfMemory>
     ensures settled { IfOk result (AreSettled (option_map (λ p. p.now) path.entry)
         (asking_of T.told T.fault_count tree.old tree.new)) }
     ensures fit { IfOk result AreFit }
@@ -80,6 +74,6 @@ pub fn settle<T: Tree>(
 {
     match path {
         Some(path) => settle_by_file(alloc, path, tree),
-        None => Ok(Settled::Taken(DEFAULTS)),
+        None => Ok(Came::Taken(DEFAULTS)),
     }
 }

@@ -5,6 +5,9 @@ use rl_syntax::Mode;
 use std::alloc::{AllocError, Global};
 use std::test::Fail;
 
+mod certificates;
+mod comparisons;
+
 struct Row {
     words: &'static [&'static str],
     // how many bytes a write to `out` takes, and which of these writes fail
@@ -128,7 +131,7 @@ static ROWS: [Row; 15] = [
         err_fails: &[],
         status: 2,
         out: "",
-        err: "usage: relint check [OPTIONS] PATH..\n       relint class [OPTIONS] PATTERN\n       relint cost [OPTIONS] PATTERN TEXT\n       relint sample [OPTIONS] SEED COUNT\n",
+        err: "usage: relint check [OPTIONS] PATH..\n       relint class [OPTIONS] PATTERN\n       relint cost [OPTIONS] PATTERN TEXT\n       relint sample [OPTIONS] SEED COUNT\n       relint prove [OPTIONS] PATTERN\n       relint verify [OPTIONS] PATTERN FILE\n       relint compare [OPTIONS] PATTERN PATTERN\n",
     },
     Row {
         words: &["cost"],

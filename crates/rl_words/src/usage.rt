@@ -7,5 +7,5 @@ ghost use Rattle.rl_words.specs.Usage.{usage_text};
 pub fn usage_text() -> &'static str
     ensures { result.now ≡ usage_text }
 {
-    "usage: relint check [OPTIONS] PATH..\n       relint class [OPTIONS] PATTERN\n       relint cost [OPTIONS] PATTERN TEXT\n       relint sample [OPTIONS] SEED COUNT\n"
+    "usage: relint check [OPTIONS] PATH..\n       relint class [OPTIONS] PATTERN\n       relint cost [OPTIONS] PATTERN TEXT\n       relint sample [OPTIONS] SEED COUNT\n       relint prove [OPTIONS] PATTERN\n       relint verify [OPTIONS] PATTERN FILE\n       relint compare [OPTIONS] PATTERN PATTERN\n"
 }

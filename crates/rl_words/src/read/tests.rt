@@ -62,7 +62,11 @@ static TAKEN: [Taken; 7] = [
     },
 ];
 
-static REFUSED: [&[&str]; 23] = [
+static REFUSED: [&[&str]; 27] = [
+    &["prove"],
+    &["verify", "a"],
+    &["verify", "a", ""],
+    &["compare", "a"],
     &[],
     &["cost"],
     &["cost", "a*"],
@@ -119,6 +123,29 @@ fn takes_sample(rt: HostRuntime) -> Result<(), Fail> {
         _ => assert!(rt; false, "another action"),
     }
     assert_eq!(rt; read.options.settings, Some("s.toml"));
+    Ok(())
+}
+
+#[test]
+fn takes_pattern_words(rt: HostRuntime) -> Result<(), Fail> {
+    let words = strings(rt.alloc(), &["verify", "a", "f.json"])?;
+    let read = read_words(rt.alloc(), &words)?;
+    match read.action {
+        Action::Verify { pattern, file } => assert!(rt; pattern == "a" && file == "f.json"),
+        _ => assert!(rt; false, "another action"),
+    }
+    let words = strings(rt.alloc(), &["compare", "", "b"])?;
+    let read = read_words(rt.alloc(), &words)?;
+    match read.action {
+        Action::Compare { first, second } => assert!(rt; first == "" && second == "b"),
+        _ => assert!(rt; false, "another action"),
+    }
+    let words = strings(rt.alloc(), &["prove", ""])?;
+    let read = read_words(rt.alloc(), &words)?;
+    match read.action {
+        Action::Prove { pattern } => assert!(rt; pattern == ""),
+        _ => assert!(rt; false, "another action"),
+    }
     Ok(())
 }
 

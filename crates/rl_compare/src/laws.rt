@@ -1,0 +1,15 @@
+//! A law of matched trees, for all trees and texts. The function does nothing: what it ensures is what is proved.
+
+ghost use Rattle.std.specs.Prelude.{ℕ, ◌↔◌, List, IsTrue};
+ghost use Rattle.rl_ranges.specs.declared.universe.Universe.{Universe};
+ghost use Rattle.rl_ranges.specs.Text.{IsText};
+ghost use Rattle.rl_syntax.specs.declared.re.Ending.{Ending};
+ghost use Rattle.rl_syntax.specs.Tree.{Tree};
+ghost use Rattle.rl_syntax.specs.Cost.{matched};
+ghost use Rattle.rl_equiv.specs.Languages.{IsIn};
+ghost use Rattle.rl_compare.specs.Matched.{matched_tree};
+
+/// The language of a matched tree is the texts that are matched with its ending.
+pub fn matched_trees_span_matches()
+    ensures { (u : Universe) (t : Tree) (ending : Ending) (w : List ℕ) → IsText u w → IsIn (matched_tree u t ending) w ↔ IsTrue (matched t ending w) }
+{}

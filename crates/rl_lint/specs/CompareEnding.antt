@@ -1,0 +1,95 @@
+-- How `compare` ends, by its two patterns and their mode.
+use Rattle.std.specs.Prelude.{◌≡◌, ◌⊎◌, ◌&&◌, ℕ, Bool, true, false, not, List, [], ◌++◌, Option, Some, None, is_some, codes, if◌then◌else◌}
+use Rattle.rl_ranges.specs.declared.universe.Universe.TheVariants.{Str}
+use Rattle.rl_syntax.specs.Cost.{matched}
+use Rattle.rl_syntax.specs.Tree.{Tree}
+use Rattle.rl_syntax.specs.declared.re.Ending.{Ending as MatchEnd}
+use Rattle.rl_syntax.specs.declared.re.Mode.{Mode}
+use Rattle.rl_equiv.specs.Limits.{AreWithin}
+use Rattle.rl_equiv.specs.Regions.{AreRegions}
+use Rattle.rl_equiv.specs.declared.compared.Compared.{Compared}
+use Rattle.rl_compare.specs.Matched.{matched_tree}
+use Rattle.rl_compare.specs.Passed.{IsComparePassed}
+use Rattle.rl_compare.specs.Told.{AreTold}
+use Rattle.rl_compare.specs.declared.error.CompareError.{CompareError}
+use Rattle.rl_compare.specs.declared.error.CompareError.TheVariants as error
+use Rattle.rl_report.specs.Verdicts.{quoted_text}
+use Rattle.rl_lint.specs.Uses.{Text}
+use Rattle.rl_lint.specs.Endings.{Ending, writes}
+use Rattle.rl_lint.specs.Readings.{IsPatternEnding}
+use Rattle.rl_lint.specs.declared.relation.Relation.{Relation}
+use Rattle.rl_lint.specs.declared.relation.Relation.TheVariants.{Overlapping, Passed, Equal, Included, Includes, Disjoint}
+
+-- ---- the lines
+
+-- the first of the relations that holds
+abbrev pub relation_of : Compared → Relation
+relation_of c =
+    if is_some c.first && (is_some c.second && is_some c.both) then Overlapping
+    else (if c.more then Passed
+    else (if not (is_some c.first) && not (is_some c.second) then Equal
+    else (if not (is_some c.first) then Included
+    else (if not (is_some c.second) then Includes
+    else Disjoint))))
+
+abbrev pub relation_name : Relation → Text
+relation_name Overlapping = codes "overlapping"
+relation_name Passed = codes "passed over 20000"
+relation_name Equal = codes "equal"
+relation_name Included = codes "included"
+relation_name Includes = codes "includes"
+relation_name Disjoint = codes "disjoint"
+
+-- whether the relation is a finding
+abbrev pub tells_apart : Relation → Bool
+tells_apart Overlapping = true
+tells_apart Passed = false
+tells_apart Equal = false
+tells_apart Included = true
+tells_apart Includes = true
+tells_apart Disjoint = true
+
+-- the line of a region, where there is a text
+abbrev pub region_line : Text → Option (List ℕ) → Text
+region_line name None = []
+region_line name (Some text) = codes "  " ++ (name ++ (codes " " ++ (quoted_text Str text ++ codes "\n")))
+
+-- the line of the relation, and the lines of the regions
+abbrev pub compared_text : Compared → Text
+compared_text c =
+    relation_name (relation_of c) ++ (codes "\n"
+    ++ (region_line (codes "first") c.first ++ (region_line (codes "second") c.second ++ region_line (codes "both") c.both)))
+
+-- the line on the limit that is passed. Want of memory is no limit
+abbrev pub passed_line : CompareError → Option Text
+passed_line error.Size = Some (codes "undecided size over 4000\n")
+passed_line error.Letters = Some (codes "undecided letters over 128\n")
+passed_line error.Moves = Some (codes "undecided moves over 256\n")
+passed_line error.OutOfMemory = None
+
+-- ---- the endings
+
+-- this is the first limit that one of two trees passes, the letters taken over both
+pub record PassesLimit (s t : Tree) (ending : Ending) : Type 0 where
+  pub limit : CompareError
+  pub line : Text
+  pub passed : IsComparePassed Str s t limit
+  pub named : passed_line limit ≡ Some line
+  pub ends : ending ≡ writes line false false
+
+-- No limit is passed, and the texts are those of the regions. So each text is matched by the patterns that its region names and by no
+-- other, and where no more set pairs are reached a region without a text has none at all
+pub record TellsRegions (s : Tree) (e : MatchEnd) (t : Tree) (f : MatchEnd) (ending : Ending) : Type 0 where
+  pub compared : Compared
+  pub within : AreWithin Str (matched_tree Str s e) (matched_tree Str t f)
+  pub regions : AreRegions Str (matched_tree Str s e) (matched_tree Str t f) 20000 compared
+  pub told : AreTold Str (matched s e) (matched t f) compared
+  pub ends : ending ≡ writes (compared_text compared) (tells_apart (relation_of compared)) false
+
+abbrev pub CompareEnds : Tree → MatchEnd → Tree → MatchEnd → Ending → Type 0
+CompareEnds s e t f ending = PassesLimit (matched_tree Str s e) (matched_tree Str t f) ending ⊎ TellsRegions s e t f ending
+
+-- the first of the two patterns that is refused is told
+abbrev pub IsCompareEnding : List ℕ → List ℕ → Mode → Ending → Type 0
+IsCompareEnding first second mode ending =
+    IsPatternEnding first mode (λ s e. IsPatternEnding second mode (λ t f. CompareEnds s e t f)) ending

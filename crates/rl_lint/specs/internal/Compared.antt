@@ -1,0 +1,33 @@
+-- For private contracts: what the comparison of two patterns gives on the way to the ending of `compare`.
+use Rattle.std.specs.Prelude.{◌≡◌, ◌<◌, ⊤, ℕ, Option, Some, IfSome}
+use Rattle.rl_ranges.specs.Text.{IsText}
+use Rattle.rl_ranges.specs.declared.universe.Universe.TheVariants.{Str}
+use Rattle.rl_syntax.specs.Cost.{matched}
+use Rattle.rl_syntax.specs.Tree.{Tree, size}
+use Rattle.rl_syntax.specs.declared.re.Ending.{Ending as MatchEnd}
+use Rattle.rl_equiv.specs.Limits.{AreWithin}
+use Rattle.rl_equiv.specs.Regions.{AreRegions}
+use Rattle.rl_equiv.specs.declared.compared.Compared.{Compared}
+use Rattle.rl_compare.specs.Matched.{matched_tree}
+use Rattle.rl_compare.specs.Told.{AreTold}
+use Rattle.rl_compare.specs.declared.error.CompareError.{CompareError}
+use Rattle.rl_compare.specs.declared.error.CompareError.TheVariants as error
+
+-- the tree of one pattern passes the limit, which is that of the nodes; want of memory tells nothing
+abbrev pub PassesSize : Tree → CompareError → Type 0
+PassesSize t error.Size = 4000 < size t
+PassesSize t error.Letters = ⊥
+PassesSize t error.Moves = ⊥
+PassesSize t error.OutOfMemory = ⊤
+
+-- the texts of the regions of two patterns
+pub record IsFound (s : Tree) (e : MatchEnd) (t : Tree) (f : MatchEnd) (c : Compared) : Type 0 where
+  pub within : AreWithin Str (matched_tree Str s e) (matched_tree Str t f)
+  pub regions : AreRegions Str (matched_tree Str s e) (matched_tree Str t f) 20000 c
+  pub told : AreTold Str (matched s e) (matched t f) c
+
+-- the texts are such
+pub record AreTexts (c : Compared) : Type 0 where
+  pub first : IfSome c.first (IsText Str)
+  pub second : IfSome c.second (IsText Str)
+  pub both : IfSome c.both (IsText Str)

@@ -1,0 +1,156 @@
+//! The action `compare`.
+ghost use Rattle.std.specs.Prelude.{◌≡◌, false, IfErr, IfOk};
+ghost use Rattle.std.specs.Str.{chars};
+ghost use Rattle.rl_ranges.specs.declared.universe.Universe.TheVariants.{Str};
+ghost use Rattle.rl_syntax.specs.Pattern.{pattern_ending, pattern_tree, universe_of};
+ghost use Rattle.rl_syntax.specs.Tree.{IsOver, tree_of};
+ghost use Rattle.rl_compare.specs.Matched.{matched_tree};
+ghost use Rattle.rl_compare.specs.Passed.{IsComparePassed};
+ghost use Rattle.rl_lint.specs.Endings.{ending_of, writes};
+ghost use Rattle.rl_lint.specs.CompareEnding.{CompareEnds, IsCompareEnding, compared_text, relation_of, tells_apart};
+ghost use Rattle.rl_lint.specs.internal.Compared.{AreTexts, IsFound, PassesSize};
+ghost use Rattle.rl_lint.specs.Readings.{IsPatternEnding};
+
+use crate::plan::Plan;
+use crate::relation::{Relation, compared_text};
+use crate::word::{PatternWord, pattern_word};
+use rl_compare::{CompareError, Compared, compare};
+use rl_lists::{Bytes, OutOfMemory};
+use rl_syntax::{LowerError, Lowered, Mode, Pattern, Universe, lower};
+use std::alloc::Global;
+
+/// How many pairs of sets are looked at.
+const MAX_SET_PAIRS: u32 = 20_000;
+
+/// A pattern in a mode, lowered.
+///
+/// # Errors
+/// [`CompareError::Size`] where it has more than 4,000 nodes; [`CompareError::OutOfMemory`].
+fn lowered(alloc: Global, pattern: &Pattern, mode: Mode) -> Result<Lowered, CompareError>
+    requires { universe_of pattern.now ≡ Str }
+    ensures tree { IfOk result (λ l. tree_of l.tree ≡ pattern_tree pattern.now mode) }
+    ensures ending { IfOk result (λ l. l.ending ≡ pattern_ending pattern.now mode) }
+    ensures over { IfOk result (λ l. IsOver Str (tree_of l.tree)) }
+    ensures passed { IfErr result (λ e. PassesSize (pattern_tree pattern.now mode) e) }
+{
+    match lower(alloc, pattern, mode) {
+        Ok(lowered) => Ok(lowered),
+        Err(LowerError::TooLarge) => Err(CompareError::Size),
+        Err(LowerError::OutOfMemory) => Err(CompareError::OutOfMemory),
+    }
+}
+
+/// What two text patterns match in a mode.
+///
+/// # Errors
+/// [`CompareError`] names the first limit that one of the matched trees passes, the letters taken over both.
+fn compared(
+    alloc: Global,
+    first: &Pattern,
+    second: &Pattern,
+    mode: Mode,
+) -> Result<Compared, CompareError>
+    requires first_of_text { universe_of first.now ≡ Str }
+    requires second_of_text { universe_of second.now ≡ Str }
+    ensures found { IfOk result (IsFound (pattern_tree first.now mode) (pattern_ending first.now mode) (pattern_tree second.now mode) (pattern_ending second.now mode)) }
+    ensures passed { IfErr result (IsComparePassed Str (matched_tree Str (pattern_tree first.now mode) (pattern_ending first.now mode))
+        (matched_tree Str (pattern_tree second.now mode) (pattern_ending second.now mode))) }
+{
+    let first = lowered(alloc, first, mode)?;
+    let second = lowered(alloc, second, mode)?;
+    compare(alloc, first, second, Universe::Str, MAX_SET_PAIRS)
+}
+
+/// To write one line, which has no finding.
+///
+/// # Errors
+/// [`OutOfMemory`] where memory was refused.
+fn line_plan(alloc: Global, line: &str) -> Result<Plan, OutOfMemory>
+    ensures { IfOk result (λ plan. ending_of plan ≡ writes line.now false false) }
+{
+    let line = String::from_str(alloc, line)?;
+    Ok(Plan::Writes {
+        text: Bytes::from_vec(line.into_bytes()),
+        finding: false,
+        failed: false,
+    })
+}
+
+/// To write what was found of two patterns.
+///
+/// # Errors
+/// [`OutOfMemory`] where memory was refused.
+fn compared_plan(alloc: Global, compared: &Compared) -> Result<Plan, OutOfMemory>
+    requires { AreTexts compared.now }
+    ensures { IfOk result (λ plan. ending_of plan ≡ writes (compared_text compared.now) (tells_apart (relation_of compared.now)) false) }
+{
+    let relation = Relation::of(compared);
+    let text = compared_text(alloc, relation, compared)?;
+    Ok(Plan::Writes {
+        text,
+        finding: relation.tells_apart(),
+        failed: false,
+    })
+}
+
+/// What `compare` is to do for two text patterns in a mode.
+///
+/// # Errors
+/// [`OutOfMemory`] where memory was refused.
+fn patterns_plan(
+    alloc: Global,
+    first: &Pattern,
+    second: &Pattern,
+    mode: Mode,
+) -> Result<Plan, OutOfMemory>
+    requires first_of_text { universe_of first.now ≡ Str }
+    requires second_of_text { universe_of second.now ≡ Str }
+    ensures { IfOk result (λ plan. CompareEnds (pattern_tree first.now mode) (pattern_ending first.now mode)
+        (pattern_tree second.now mode) (pattern_ending second.now mode) (ending_of plan)) }
+{
+    match compared(alloc, first, second, mode) {
+        Ok(compared) => compared_plan(alloc, &compared),
+        Err(CompareError::Size) => line_plan(alloc, "undecided size over 4000\n"),
+        Err(CompareError::Letters) => line_plan(alloc, "undecided letters over 128\n"),
+        Err(CompareError::Moves) => line_plan(alloc, "undecided moves over 256\n"),
+        Err(CompareError::OutOfMemory) => Err(OutOfMemory),
+    }
+}
+
+/// What `compare` is to do for a text pattern and the word of the second one in a mode.
+///
+/// # Errors
+/// [`OutOfMemory`] where memory was refused.
+fn second_plan(
+    alloc: Global,
+    first: &Pattern,
+    second: &str,
+    mode: Mode,
+) -> Result<Plan, OutOfMemory>
+    requires { universe_of first.now ≡ Str }
+    ensures { IfOk result (λ plan. IsPatternEnding (chars second.now) mode
+        (CompareEnds (pattern_tree first.now mode) (pattern_ending first.now mode)) (ending_of plan)) }
+{
+    match pattern_word(alloc, second)? {
+        PatternWord::Refused(message) => Ok(Plan::Refuses(message)),
+        PatternWord::Spelled(second) => patterns_plan(alloc, first, &second, mode),
+    }
+}
+
+/// What `compare` is to do for the words of two patterns in a mode. Both are read before either is lowered.
+///
+/// # Errors
+/// [`OutOfMemory`] where memory was refused.
+pub fn compare_plan(
+    alloc: Global,
+    first: &str,
+    second: &str,
+    mode: Mode,
+) -> Result<Plan, OutOfMemory>
+    ensures { IfOk result (λ plan. IsCompareEnding (chars first.now) (chars second.now) mode (ending_of plan)) }
+{
+    match pattern_word(alloc, first)? {
+        PatternWord::Refused(message) => Ok(Plan::Refuses(message)),
+        PatternWord::Spelled(first) => second_plan(alloc, &first, second, mode),
+    }
+}

@@ -1,0 +1,99 @@
+//! The action `prove`.
+ghost use Rattle.std.specs.Prelude.{◌≡◌, ◌≤◌, false, IfErr, IfOk};
+ghost use Rattle.std.specs.Str.{chars};
+ghost use Rattle.rl_ranges.specs.declared.universe.Universe.TheVariants.{Str};
+ghost use Rattle.rl_syntax.specs.Pattern.{pattern_ending, pattern_tree, universe_of};
+ghost use Rattle.rl_lint.specs.Endings.{ending_of, writes};
+ghost use Rattle.rl_lint.specs.internal.Made.{IsMade, IsNotMade};
+ghost use Rattle.rl_lint.specs.ProveEnding.{IsProveEnding, ProveEnds, text_question};
+
+use crate::plan::Plan;
+use crate::word::{PatternWord, pattern_word};
+use rl_cert::{CertError, Certificate, make, write};
+use rl_lists::{Bytes, OutOfMemory};
+use rl_report::verdict_line;
+use rl_syntax::{Limit, LowerError, Mode, Pattern, Universe, Verdict, lower};
+use std::alloc::Global;
+
+/// A certificate for a text pattern in a mode.
+///
+/// # Errors
+/// Those of [`make`]; a pattern of more than 4,000 nodes passes [`Limit::Size`].
+fn certificate_of(
+    alloc: Global,
+    pattern: &Pattern,
+    mode: Mode,
+    max_pairs: u32,
+) -> Result<Certificate, CertError>
+    requires of_text { universe_of pattern.now ≡ Str }
+    requires some { 1 ≤ max_pairs }
+    requires few { max_pairs ≤ 1000 }
+    ensures made { IfOk result (IsMade (text_question max_pairs (pattern_tree pattern.now mode) (pattern_ending pattern.now mode))) }
+    ensures not_made { IfErr result (IsNotMade (text_question max_pairs (pattern_tree pattern.now mode) (pattern_ending pattern.now mode))) }
+{
+    match lower(alloc, pattern, mode) {
+        Ok(lowered) => make(alloc, &lowered, Universe::Str, max_pairs),
+        Err(LowerError::TooLarge) => Err(CertError::Undecided(Limit::Size)),
+        Err(LowerError::OutOfMemory) => Err(CertError::OutOfMemory),
+    }
+}
+
+/// To write a text that has no finding.
+fn text_plan(text: Bytes) -> Plan
+    ensures { ending_of result ≡ writes text false false }
+{
+    Plan::Writes {
+        text,
+        finding: false,
+        failed: false,
+    }
+}
+
+/// What `prove` is to do for a text pattern in a mode.
+///
+/// # Errors
+/// [`OutOfMemory`] where memory was refused.
+fn pattern_plan(
+    alloc: Global,
+    pattern: &Pattern,
+    mode: Mode,
+    max_pairs: u32,
+) -> Result<Plan, OutOfMemory>
+    requires of_text { universe_of pattern.now ≡ Str }
+    requires some { 1 ≤ max_pairs }
+    requires few { max_pairs ≤ 1000 }
+    ensures { IfOk result (λ plan. ProveEnds max_pairs (pattern_tree pattern.now mode) (pattern_ending pattern.now mode)
+        (ending_of plan)) }
+{
+    match certificate_of(alloc, pattern, mode, max_pairs) {
+        Ok(certificate) => Ok(text_plan(write(alloc, &certificate)?)),
+        Err(CertError::Undecided(limit)) => {
+            Ok(text_plan(verdict_line(alloc, &Verdict::Undecided(limit), max_pairs)?))
+        }
+        Err(CertError::TooLarge) => {
+            let line = String::from_str(alloc, "triples over 1000000\n")?;
+            Ok(text_plan(Bytes::from_vec(line.into_bytes())))
+        }
+        Err(CertError::OutOfMemory) => Err(OutOfMemory),
+    }
+}
+
+/// What `prove` is to do for a pattern word in a mode, with how many live pairs are looked at.
+///
+/// # Errors
+/// [`OutOfMemory`] where memory was refused.
+pub fn prove_plan(
+    alloc: Global,
+    pattern: &str,
+    mode: Mode,
+    max_pairs: u32,
+) -> Result<Plan, OutOfMemory>
+    requires some { 1 ≤ max_pairs }
+    requires few { max_pairs ≤ 1000 }
+    ensures { IfOk result (λ plan. IsProveEnding (chars pattern.now) mode max_pairs (ending_of plan)) }
+{
+    match pattern_word(alloc, pattern)? {
+        PatternWord::Refused(message) => Ok(Plan::Refuses(message)),
+        PatternWord::Spelled(pattern) => pattern_plan(alloc, &pattern, mode, max_pairs),
+    }
+}

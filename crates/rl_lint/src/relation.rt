@@ -1,0 +1,128 @@
+//! How two patterns are related, and the lines that `compare` writes on it.
+ghost use Rattle.std.specs.Prelude.{◌≡◌, ◌++◌, Some, IfOk, IfSome, OnOk};
+ghost use Rattle.rl_ranges.specs.Text.{IsText};
+ghost use Rattle.rl_ranges.specs.declared.universe.Universe.TheVariants.{Str};
+ghost use Rattle.rl_lint.specs.internal.Compared.{AreTexts};
+ghost use Rattle.rl_lint.specs.CompareEnding.{compared_text, region_line, relation_name, relation_of, tells_apart};
+
+use rl_compare::Compared;
+use rl_lists::{Bytes, Codes, OutOfMemory};
+use rl_pystr::quote;
+use rl_syntax::Universe;
+use std::alloc::Global;
+
+/// How the texts that two patterns match are related.
+#[derive(Clone, Copy, Debug, PartialEq, Eq)]
+pub enum Relation {
+    /// Each has a text of its own, and they share one.
+    Overlapping,
+    /// More pairs of sets are reached than were looked at.
+    Passed,
+    /// Neither has a text of its own.
+    Equal,
+    /// The first has no text of its own.
+    Included,
+    /// The second has no text of its own.
+    Includes,
+    /// They share no text.
+    Disjoint,
+}
+
+impl Relation {
+    /// The first of the relations that holds.
+    pub fn of(compared: &Compared) -> Relation
+        ensures { result ≡ relation_of compared.now }
+    {
+        let first = compared.first.is_some();
+        let second = compared.second.is_some();
+        if first && second && compared.both.is_some() {
+            Relation::Overlapping
+        } else if compared.more {
+            Relation::Passed
+        } else if !first && !second {
+            Relation::Equal
+        } else if !first {
+            Relation::Included
+        } else if !second {
+            Relation::Includes
+        } else {
+            Relation::Disjoint
+        }
+    }
+
+    /// The name in the line of the relation.
+    fn name(self) -> &'static str
+        ensures { result.now ≡ relation_name self }
+    {
+        match self {
+            Relation::Overlapping => "overlapping",
+            Relation::Passed => "passed over 20000",
+            Relation::Equal => "equal",
+            Relation::Included => "included",
+            Relation::Includes => "includes",
+            Relation::Disjoint => "disjoint",
+        }
+    }
+
+    /// Whether the relation is a finding.
+    pub fn tells_apart(self) -> bool
+        ensures { result ≡ tells_apart self }
+    {
+        match self {
+            Relation::Equal | Relation::Passed => false,
+            _ => true,
+        }
+    }
+}
+
+/// Puts the line of a region behind the others.
+fn push_text(alloc: Global, out: &mut Vec<u8>, name: &str, text: &Codes) -> Result<(), OutOfMemory>
+    requires { IsText Str text.now }
+    ensures { OnOk result (out.new.items ≡ out.old.items ++ region_line name.now (Some text.now)) }
+{
+    let literal = quote(alloc, text, Universe::Str)?;
+    out.extend_from_slice(b"  ")?;
+    out.extend_from_slice(name.as_bytes())?;
+    out.push(b' ')?;
+    out.extend_from_slice(literal.as_slice())?;
+    out.push(b'\n')?;
+    Ok(())
+}
+
+/// Puts the line of a region behind the others, where there is a text.
+fn push_region(
+    alloc: Global,
+    out: &mut Vec<u8>,
+    name: &str,
+    text: &Option<Codes>,
+) -> Result<(), OutOfMemory>
+    requires { IfSome text.now (IsText Str) }
+    ensures { OnOk result (out.new.items ≡ out.old.items ++ region_line name.now text.now) }
+{
+    match text {
+        Some(text) => push_text(alloc, out, name, text),
+        None => Ok(()),
+    }
+}
+
+/// The lines on what was found of two patterns.
+///
+/// # Errors
+/// [`OutOfMemory`] where memory was refused.
+pub fn compared_text(
+    alloc: Global,
+    relation: Relation,
+    compared: &Compared,
+) -> Result<Bytes, OutOfMemory>
+    requires relation { relation ≡ relation_of compared.now }
+    requires texts { AreTexts compared.now }
+    ensures { IfOk result (λ text. text ≡ compared_text compared.now) }
+{
+    let mut out = Vec::new(alloc);
+    out.extend_from_slice(relation.name().as_bytes())?;
+    out.push(b'\n')?;
+    push_region(alloc, &mut out, "first", &compared.first)?;
+    push_region(alloc, &mut out, "second", &compared.second)?;
+    push_region(alloc, &mut out, "both", &compared.both)?;
+    Ok(Bytes::from_vec(out))
+}

@@ -1,0 +1,184 @@
+//! The action `verify`.
+ghost use Rattle.std.specs.Prelude.{◌≡◌, ◌≤◌, ◌↔◌, IfOk, IsTrue, Some};
+ghost use Rattle.std.specs.Str.{chars};
+ghost use Rattle.rl_ranges.specs.declared.universe.Universe.TheVariants.{Str};
+ghost use Rattle.rl_syntax.specs.Pattern.{pattern_ending, pattern_tree, universe_of};
+ghost use Rattle.rl_cert.specs.Form.{IsForm};
+ghost use Rattle.rl_cert.specs.Holds.{Holds};
+ghost use Rattle.rl_lint.specs.Endings.{ending_of};
+ghost use Rattle.rl_lint.specs.Files.{IsGiven};
+ghost use Rattle.rl_lint.specs.internal.Made.{held_text};
+ghost use Rattle.rl_lint.specs.ProveEnding.{text_question};
+ghost use Rattle.rl_lint.specs.Readings.{spelled};
+ghost use Rattle.rl_lint.specs.Uses.{asking_of};
+ghost use Rattle.rl_lint.specs.VerifyEnding.{CertificateEnds, IsCertified, ReadingVerifies, Verifies};
+
+use crate::files::{Came, MOST_BYTES, read_file};
+use crate::plan::{Message, Plan};
+use crate::word::{PatternWord, pattern_word};
+use rl_cert::{Certificate, ReadError, check, read};
+use rl_lists::{Bytes, OutOfMemory};
+use rl_report::verdict_line;
+use rl_source::Tree;
+use rl_syntax::{LowerError, Mode, Pattern, Universe, Verdict, lower};
+use std::alloc::Global;
+
+/// What a certificate's file with these bytes gives.
+///
+/// # Errors
+/// [`OutOfMemory`] where memory was refused.
+fn certified_by(alloc: Global, bytes: Vec<u8>) -> Result<Came<Certificate>, OutOfMemory>
+    ensures { IfOk result (IsGiven IsForm (Some bytes.items)) }
+{
+    let bytes = Bytes::from_vec(bytes);
+    match read(alloc, &bytes) {
+        Ok(certificate) => Ok(Came::Taken(certificate)),
+        Err(ReadError::Refused) => Ok(Came::Refused),
+        Err(ReadError::OutOfMemory) => Err(OutOfMemory),
+    }
+}
+
+/// How the certificate comes: from the file at this path. Its first bytes are read by one call of the tree.
+///
+/// # Errors
+/// [`OutOfMemory`] where memory was refused; the tree may have been read.
+fn certified<T: Tree>(
+    alloc: Global,
+    path: &str,
+    tree: &mut T,
+) -> Result<Came<Certificate>, OutOfMemory>
+    ensures certified { IfOk result (IsCertified path.now (asking_of T.told T.fault_count tree.old tree.new)) }
+    ensures later { T.fault_count tree.old ≤ T.fault_count tree.new }
+{
+    match read_file(path, MOST_BYTES, tree)? {
+        Some(bytes) => certified_by(alloc, bytes),
+        None => Ok(Came::Unread),
+    }
+}
+
+/// Whether a certificate holds for a text pattern in a mode. None does for a pattern of more than 4,000 nodes.
+///
+/// # Errors
+/// [`OutOfMemory`] where memory was refused.
+fn holds(
+    alloc: Global,
+    pattern: &Pattern,
+    mode: Mode,
+    max_pairs: u32,
+    certificate: &Certificate,
+) -> Result<bool, OutOfMemory>
+    requires of_text { universe_of pattern.now ≡ Str }
+    requires some { 1 ≤ max_pairs }
+    requires few { max_pairs ≤ 1000 }
+    ensures { IfOk result (λ yes. IsTrue yes ↔ Holds (text_question max_pairs (pattern_tree pattern.now mode) (pattern_ending pattern.now mode))
+        certificate.now) }
+{
+    match lower(alloc, pattern, mode) {
+        Ok(lowered) => check(alloc, &lowered, Universe::Str, max_pairs, certificate),
+        Err(LowerError::TooLarge) => Ok(false),
+        Err(LowerError::OutOfMemory) => Err(OutOfMemory),
+    }
+}
+
+/// The line on whether a certificate with this verdict holds.
+///
+/// # Errors
+/// [`OutOfMemory`] where memory was refused.
+fn held_line(
+    alloc: Global,
+    held: bool,
+    verdict: &Verdict,
+    max_pairs: u32,
+) -> Result<Bytes, OutOfMemory>
+    ensures { IfOk result (λ text. text ≡ held_text held max_pairs verdict.now) }
+{
+    let mut text = Vec::new(alloc);
+    if held {
+        text.extend_from_slice(b"holds ")?;
+        let line = verdict_line(alloc, verdict, max_pairs)?;
+        text.extend_from_slice(line.as_slice())?;
+    } else {
+        text.extend_from_slice(b"fails\n")?;
+    }
+    Ok(Bytes::from_vec(text))
+}
+
+/// What `verify` is to do for a text pattern in a mode and a certificate.
+///
+/// # Errors
+/// [`OutOfMemory`] where memory was refused.
+fn certificate_plan(
+    alloc: Global,
+    pattern: &Pattern,
+    mode: Mode,
+    max_pairs: u32,
+    certificate: &Certificate,
+) -> Result<Plan, OutOfMemory>
+    requires of_text { universe_of pattern.now ≡ Str }
+    requires some { 1 ≤ max_pairs }
+    requires few { max_pairs ≤ 1000 }
+    ensures { IfOk result (λ plan. CertificateEnds (text_question max_pairs (pattern_tree pattern.now mode) (pattern_ending pattern.now mode))
+        certificate.now (ending_of plan)) }
+{
+    let held = holds(alloc, pattern, mode, max_pairs, certificate)?;
+    let text = held_line(alloc, held, &certificate.verdict, max_pairs)?;
+    Ok(Plan::Writes {
+        text,
+        finding: !held,
+        failed: false,
+    })
+}
+
+/// What `verify` is to do for a text pattern in a mode and the file at this path.
+///
+/// # Errors
+/// [`OutOfMemory`] where memory was refused; the tree may have been read.
+fn file_plan<T: Tree>(
+    alloc: Global,
+    pattern: &Pattern,
+    file: &str,
+    mode: Mode,
+    max_pairs: u32,
+    tree: &mut T,
+) -> Result<Plan, OutOfMemory>
+    requires of_text { universe_of pattern.now ≡ Str }
+    requires some { 1 ≤ max_pairs }
+    requires few { max_pairs ≤ 1000 }
+    ensures verifies { IfOk result (λ plan. ReadingVerifies max_pairs file.now
+        (spelled (pattern_tree pattern.now mode) (pattern_ending pattern.now mode))
+        (asking_of T.told T.fault_count tree.old tree.new) (ending_of plan)) }
+    ensures later { T.fault_count tree.old ≤ T.fault_count tree.new }
+{
+    match certified(alloc, file, tree)? {
+        Came::Unread => Ok(Plan::Unreadable(Message::Fixed("relint: certificate unreadable\n"))),
+        Came::Refused => Ok(Plan::Refuses(Message::Fixed("relint: certificate refused\n"))),
+        Came::Taken(certificate) => {
+            certificate_plan(alloc, pattern, mode, max_pairs, &certificate)
+        }
+    }
+}
+
+/// What `verify` is to do for a pattern word in a mode and the file at this path, with how many live pairs are looked at. Where the
+/// pattern is refused, the tree isn't asked.
+///
+/// # Errors
+/// [`OutOfMemory`] where memory was refused; the tree may have been read.
+pub fn verify_plan<T: Tree>(
+    alloc: Global,
+    pattern: &str,
+    file: &str,
+    mode: Mode,
+    max_pairs: u32,
+    tree: &mut T,
+) -> Result<Plan, OutOfMemory>
+    requires some { 1 ≤ max_pairs }
+    requires few { max_pairs ≤ 1000 }
+    ensures verifies { IfOk result (λ plan. Verifies (chars pattern.now) file.now mode max_pairs
+        (asking_of T.told T.fault_count tree.old tree.new) (ending_of plan)) }
+    ensures later { T.fault_count tree.old ≤ T.fault_count tree.new }
+{
+    match pattern_word(alloc, pattern)? {
+        PatternWord::Refused(message) => Ok(Plan::Refuses(message)),
+        PatternWord::Spelled(pattern) => { file_plan(alloc, &pattern, file, mode, max_pairs, tree) }
+    }
+}
