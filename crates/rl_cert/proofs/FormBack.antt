@@ -13,7 +13,7 @@ use Rattle.rl_numbers.specs.declared.double.Double.{Double}
 use Rattle.rl_numbers.specs.declared.triple.Triple.{Triple}
 use Rattle.rl_cert.specs.declared.certificate.Certificate.{Certificate}
 use Rattle.rl_cert.specs.Form.{whole, row_data, rows_data, anchor_row, double_row, triple_row, common_members, form_members, form_text, fitting, number_read, items_read, row_read, rows_read, all_of, anchor_of, double_of, triple_of, anchors_read, doubles_read, triples_read, lists_read, verdict_read, certificate_read, IsForm, IsSmall, AreSmall, IsSmallVerdict, IsWritten}
-use Rattle.rl_cert.proofs.Writable.{IsWritable, AreWritable, AreWritableItems, put-writable, line-reads, line-utf8}
+use Rattle.rl_json.proofs.Writable.{IsWritable, AreWritable, AreWritableItems, put-writable, line-reads, line-utf8}
 
 -- ---- lists
 

@@ -7,8 +7,6 @@ pub mod AcceptLaws
 pub mod WayLaws
 pub mod LevelLaws
 pub mod CheckLaws
-pub mod LineEnd
-pub mod Writable
 pub mod FormBack
 pub mod Rows
 pub mod Plain

@@ -4,7 +4,8 @@ use Rattle.std.proofs.lemmas.List.{drop_more, drop_all}
 use Rattle.rl_prio.specs.Automaton.{Automaton}
 use Rattle.rl_pairs.specs.declared.pair.Pair.{Pair}
 use Rattle.rl_cert.specs.declared.certificate.Anchor.{Anchor}
-use Rattle.rl_cert.specs.Ways.{IsWay, IsLinkTo, IsEnd, Fits}
+use Rattle.rl_cert.specs.Ways.{IsWay}
+use Rattle.rl_cert.specs.internal.WayParts.{IsLinkTo, IsEnd, Fits}
 
 -- what stands for an item that isn't there
 abbrev pub no_anchor : Anchor

@@ -1,12 +1,12 @@
 //! Certificates written.
 
-ghost use Rattle.std.specs.Prelude.{◌≡◌, ◌++◌, codes, false, map, IfOk, OnOk};
+ghost use Rattle.std.specs.Prelude.{◌≡◌, false, map, IfOk, OnOk};
 ghost use Rattle.serde_json.specs.Data.{put, no_members, object};
 ghost use Rattle.serde_json.specs.View.{members_view, view};
-ghost use Rattle.serde_json.specs.Written.{compact_text, has_float};
 ghost use Rattle.rl_cert.specs.Form.{row_data, rows_data, anchor_row, double_row, triple_row, common_members, form_members, form_text, IsTold};
 
 use crate::certificate::{Anchor, Certificate};
+use rl_json::line_of;
 use rl_lists::{Bytes, OutOfMemory, Word};
 use rl_numbers::double::Double;
 use rl_numbers::triple::Triple;
@@ -133,7 +133,5 @@ pub fn write(alloc: Global, c: &Certificate) -> Result<Bytes, OutOfMemory>
     ensures { IfOk result (λ bytes. bytes ≡ form_text c.now) }
 {
     let value = object_of(alloc, c)?;
-    let mut line = value.to_vec(alloc)?;
-    line.push(b'\n')?;
-    Ok(Bytes::from_vec(line))
+    line_of(alloc, &value)
 }

@@ -1,3 +1,4 @@
+-- Definitions for the contracts of private functions. No public contract reaches them.
 pub mod Kernel
 pub mod Pairs
 pub mod Moves

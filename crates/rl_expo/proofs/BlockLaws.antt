@@ -15,8 +15,8 @@ use Rattle.rl_kernel.specs.Seats.{Seats, state_at, AreSeats}
 use Rattle.rl_kernel.proofs.MemberLaws.{member-there}
 use Rattle.rl_kernel.proofs.InnerPaths.{inner-path, path-inner, bounded-inner, positive-parts, both-paths}
 use Rattle.rl_expo.specs.declared.forks.Fork.{Fork}
-use Rattle.rl_expo.specs.Forks.{IsFork}
-use Rattle.rl_expo.specs.Search.{AreMoves, LeadsBack}
+use Rattle.rl_expo.specs.internal.Forks.{IsFork}
+use Rattle.rl_expo.specs.internal.Search.{AreMoves, LeadsBack}
 use Rattle.rl_expo.specs.internal.Meeting.{Meets, own_part, IsMet, NoneMeets}
 use Rattle.rl_expo.specs.internal.Blocks.{HasNoForkIn}
 use Rattle.rl_expo.proofs.ForkLaws.{fork-start, fork-part, fork-ordered, move-in}

@@ -7,7 +7,7 @@ use Rattle.rl_graph.specs.Parts.{PartTable, IsParts, number_of}
 use Rattle.rl_graph.proofs.Sums.{total-two, Has-at}
 use Rattle.rl_graph.proofs.PathLaws.{paths-nil, through_one, positive, move-path, Reaches-move, along_moves}
 use Rattle.rl_graph.proofs.TwinPaths.{onto-some, path-counts, two-there, twin-count}
-use Rattle.rl_expo.specs.Forks.{IsFork, AnyFork}
+use Rattle.rl_expo.specs.internal.Forks.{IsFork, AnyFork}
 
 -- a fork is a twin
 pub fork_twin : (next : ℕ → ℕ → List ℕ) (r l i j x y : ℕ) (w : List ℕ) → IsFork next r l i j x y w → 2 ≤ paths next r r (l ∷ w)

@@ -8,7 +8,7 @@ use Rattle.rl_graph.specs.Parts.{PartTable, IsParts, number_of}
 use Rattle.rl_graph.proofs.Sums.{at-short, at-get_or, Has-get_or}
 use Rattle.rl_graph.proofs.GraphLaws.{bounded-whole}
 use Rattle.rl_expo.specs.declared.forks.Fork.{Fork}
-use Rattle.rl_expo.specs.Search.{AreMoves, targets_of, Stays, NoTwoStay, NoneStay}
+use Rattle.rl_expo.specs.internal.Search.{AreMoves, targets_of, Stays, NoTwoStay, NoneStay}
 use Rattle.rl_expo.specs.internal.Blocks.{HasNoForkIn}
 use Rattle.rl_expo.proofs.ForkLaws.{no_fork_by_components}
 

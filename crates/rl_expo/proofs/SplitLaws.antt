@@ -9,7 +9,8 @@ use Rattle.rl_graph.proofs.Sums.{Has-at, at-short, get_or-at}
 use Rattle.rl_graph.proofs.TwinPaths.{onto-some, path-counts}
 use Rattle.rl_graph.proofs.ProductLaws.{step-pair, pairs_of, length-pairs, bounded-pairs}
 use Rattle.rl_expo.specs.declared.twins.TwinPaths.{TwinPaths}
-use Rattle.rl_expo.specs.Search.{AreMoves, AreSides, IsLonger, IsOnWay, targets_of}
+use Rattle.rl_expo.specs.internal.Search.{AreMoves, IsLonger, targets_of}
+use Rattle.rl_expo.specs.internal.Sides.{AreSides, IsOnWay}
 use Rattle.rl_expo.specs.declared.forks.Fork.{Fork}
 use Rattle.rl_graph.specs.Graph.{Graph, edges_of, IsWhole}
 use Rattle.rl_expo.proofs.ForkLaws.{move-in, path-end}

@@ -4,8 +4,8 @@ ghost use Rattle.std.specs.Prelude.{◌≡◌, ◌==◌, length, IfOk, IfSome, I
 ghost use Rattle.rl_graph.specs.Graph.{edges_of};
 ghost use Rattle.rl_graph.specs.Parts.{IsParts, number_of};
 ghost use Rattle.rl_kernel.specs.Seats.{seats_of, HoldsUpTo};
-ghost use Rattle.rl_expo.specs.Forks.{AnyFork};
-ghost use Rattle.rl_expo.specs.Search.{AreMoves, LeadsBack};
+ghost use Rattle.rl_expo.specs.internal.Forks.{AnyFork};
+ghost use Rattle.rl_expo.specs.internal.Search.{AreMoves, LeadsBack};
 ghost use Rattle.rl_expo.specs.internal.Blocks.{AreForking, HasNoForkIn, HasNoFork};
 
 use crate::forks::{Fork, fork_among};

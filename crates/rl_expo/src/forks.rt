@@ -2,7 +2,7 @@
 
 ghost use Rattle.std.specs.Prelude.{◌≡◌, ℕ, ◌+◌, ◌<◌, ◌*◌, ◌^◌, length, slice_index, All, IfSome, IfNone, IsTrue, ◌↔◌};
 ghost use Rattle.rl_kernel.specs.Seats.{seats_of, state_at};
-ghost use Rattle.rl_expo.specs.Search.{AreMoves};
+ghost use Rattle.rl_expo.specs.internal.Search.{AreMoves};
 ghost use Rattle.rl_expo.specs.internal.Meeting.{Meets, NoneMeets, IsMet};
 
 use rl_graph::{Multigraph, Parts};

@@ -3,7 +3,7 @@
 
 ghost use Rattle.std.specs.Prelude.{◌≡◌, ℕ, ◌<◌, length, false, IfOk};
 ghost use Rattle.rl_graph.specs.Parts.{number_of};
-ghost use Rattle.rl_expo.specs.Search.{NoneStay};
+ghost use Rattle.rl_expo.specs.internal.Search.{NoneStay};
 ghost use Rattle.rl_expo.specs.internal.Blocks.{AreForking, AreForkingUpTo};
 
 use rl_graph::{Components, Multigraph};

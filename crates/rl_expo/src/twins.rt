@@ -5,7 +5,8 @@ ghost use Rattle.rl_graph.specs.Graph.{edges_of};
 ghost use Rattle.rl_graph.specs.Paths.{IsPath};
 ghost use Rattle.rl_graph.specs.Product.{pair_moves};
 ghost use Rattle.rl_graph.specs.Twins.{IsTwin, HasNoTwin};
-ghost use Rattle.rl_expo.specs.Search.{AreMoves, LeadsBack, AreSides, IsLonger, targets_of};
+ghost use Rattle.rl_expo.specs.internal.Search.{AreMoves, LeadsBack, IsLonger, targets_of};
+ghost use Rattle.rl_expo.specs.internal.Sides.{AreSides};
 
 use crate::blocks::fork_in;
 use crate::forks::Fork;

@@ -5,8 +5,9 @@ use Rattle.std.proofs.lemmas.List.{get_or-map, length-map, get_or_append_left, g
 use Rattle.rl_graph.specs.declared.parts.Place.{Place}
 use Rattle.rl_graph.specs.declared.parts.Place.TheVariants.{Unseen, Open, Done}
 use Rattle.rl_graph.specs.Paths.{Has, OnCycle, IsBounded}
-use Rattle.rl_graph.specs.Parts.{PartTable, IsParts, HasInner, HasInnerOn, IsNumbered, AreInner}
-use Rattle.rl_graph.specs.Search.{Stand, place_of, part_in, IsSearch, IsAllDone}
+use Rattle.rl_graph.specs.Parts.{PartTable, IsParts}
+use Rattle.rl_graph.specs.internal.InnerMoves.{HasInner, HasInnerOn, IsNumbered, AreInner}
+use Rattle.rl_graph.specs.internal.Search.{Stand, place_of, part_in, IsSearch, IsAllDone}
 use Rattle.rl_graph.proofs.Sums.{at-has, at-short, at-get_or, Has-get_or}
 use Rattle.rl_graph.proofs.PathLaws.{Reaches-move, OnCycle-move, OnCycle-first}
 use Rattle.rl_graph.proofs.SearchEnds.{none-open, done-order, done-same_part}

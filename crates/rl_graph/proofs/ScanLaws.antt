@@ -4,7 +4,7 @@ use Rattle.std.proofs.lemmas.Bool.{cases_lt, cases_eq}
 use Rattle.std.proofs.lemmas.List.{get_or_past, length_push}
 use Rattle.rl_graph.specs.declared.parts.Place.TheVariants.{Unseen, Open}
 use Rattle.rl_graph.specs.declared.parts.Frame.{Frame}
-use Rattle.rl_graph.specs.Search.{Stand, place_of, unseen, IsSearch, with_top, opened, first_frame, IsMet, IsKept, IsCut, IsUnseenMove, StaysSeen}
+use Rattle.rl_graph.specs.internal.Search.{Stand, place_of, unseen, IsSearch, with_top, opened, first_frame, IsMet, IsKept, IsCut, IsUnseenMove, StaysSeen}
 use Rattle.rl_graph.proofs.Sums.{Has-last, Has-at, get_or-at}
 use Rattle.rl_graph.proofs.SearchLaws.{unseen-open, unseen-set, moved_on, move_on, joined, with_marks, cut-low, open_next}
 

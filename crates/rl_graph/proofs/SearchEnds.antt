@@ -6,7 +6,7 @@ use Rattle.rl_graph.specs.declared.parts.Place.{Place}
 use Rattle.rl_graph.specs.declared.parts.Place.TheVariants.{Unseen, Open, Done}
 use Rattle.rl_graph.specs.declared.parts.Frame.{Frame}
 use Rattle.rl_graph.specs.Paths.{one, Has, Pairs, Reaches, IsBounded}
-use Rattle.rl_graph.specs.Search.{Stand, place_of, is_unseen, unseen, NoMark, Settled, Before, IsSearch, with_top, start_of, opened, closed_place, IsClosed, IsFinished}
+use Rattle.rl_graph.specs.internal.Search.{Stand, place_of, is_unseen, unseen, NoMark, Settled, Before, IsSearch, with_top, start_of, opened, closed_place, IsClosed, IsFinished}
 use Rattle.rl_graph.proofs.Sums.{Has-left, Has-last, Has-push, at-has, Pairs-pop}
 use Rattle.rl_graph.proofs.PathLaws.{Reaches-trans, along_moves}
 use Rattle.rl_graph.proofs.SearchLaws.{open-done, open-same, done-same, unseen-open, unseen-done, top-marks, to_top, depth-in, open_one, with_marks, from_end, total-pointwise}

@@ -6,7 +6,7 @@ use Rattle.rl_graph.specs.declared.parts.Place.{Place}
 use Rattle.rl_graph.specs.declared.parts.Place.TheVariants.{Unseen, Open, Done}
 use Rattle.rl_graph.specs.declared.parts.Frame.{Frame}
 use Rattle.rl_graph.specs.Paths.{total, one, Has, Pairs, Reaches}
-use Rattle.rl_graph.specs.Search.{Stand, place_of, is_unseen, unseen, NoMark, Settled, Before, IsSearch, with_top, first_frame, opened, IsCut}
+use Rattle.rl_graph.specs.internal.Search.{Stand, place_of, is_unseen, unseen, NoMark, Settled, Before, IsSearch, with_top, first_frame, opened, IsCut}
 use Rattle.rl_graph.proofs.Sums.{Has-left, Has-append, Has-last, Has-push, at-short, Each-has, each-has, Pairs-push, Pairs-pop}
 use Rattle.rl_graph.proofs.PathLaws.{Reaches-self, Reaches-move, Reaches-trans}
 

@@ -5,7 +5,7 @@ use Rattle.std.proofs.lemmas.List.{length_push, get_or_past}
 use Rattle.rl_graph.specs.declared.parts.Place.{Place}
 use Rattle.rl_graph.specs.declared.parts.Place.TheVariants.{Unseen, Open, Done}
 use Rattle.rl_graph.specs.Paths.{Has}
-use Rattle.rl_graph.specs.Search.{Stand, place_of, closed_place, closed_below, IsListed, IsCut, IsSearch}
+use Rattle.rl_graph.specs.internal.Search.{Stand, place_of, closed_place, closed_below, IsListed, IsCut, IsSearch}
 use Rattle.rl_graph.proofs.SearchLaws.{unseen-open}
 
 -- marks taken off

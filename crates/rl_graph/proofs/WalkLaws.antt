@@ -4,7 +4,9 @@ use Rattle.std.proofs.lemmas.Bool.{cases_lt, cases_eq}
 use Rattle.std.proofs.lemmas.List.{length_push, get_or_push, get_or_append_left, get_or-replicate, length-replicate, get_or_past, reverse-append, length-reverse}
 use Rattle.rl_graph.specs.declared.walks.Node.{Node}
 use Rattle.rl_graph.specs.Paths.{total, one, Has, paths, IsPath, OnCycle, led, onto, IsBounded}
-use Rattle.rl_graph.specs.Walks.{Steps, node_of, seen_of, root_node, start_steps, IsStep, IsWalk, Near, Passed, IsAt, Missed, IsRooted, reached, IsReached, Extends, IsFurther, IsWayTo, IsShortest, NoPath}
+use Rattle.rl_graph.specs.Walks.{IsShortest, NoPath}
+use Rattle.rl_graph.specs.internal.Nodes.{Steps}
+use Rattle.rl_graph.specs.internal.Nodes.{node_of, seen_of, root_node, start_steps, IsStep, IsWalk, Near, Passed, IsAt, Missed, IsRooted, reached, IsReached, Extends, IsFurther, IsWayTo}
 use Rattle.rl_graph.proofs.Sums.{at-has, at-short, Has-at, total-there}
 use Rattle.rl_graph.proofs.PathLaws.{nil-same, one-le}
 use Rattle.rl_graph.proofs.SearchLaws.{total-set}

@@ -4,5 +4,5 @@ pub mod Bounds
 pub mod Graph
 pub mod Product
 pub mod Parts
-pub mod Search
 pub mod Walks
+pub mod internal

@@ -2,8 +2,9 @@
 
 ghost use Rattle.std.specs.Prelude.{◌≡◌, ◌<◌, ◌≤◌, ◌+◌, ◌^◌, ◌↔◌, ℕ, [], length, IfOk, OnOk, IfSome, IfNone, IsTrue, map, false, slice_index_or};
 ghost use Rattle.rl_graph.specs.Paths.{Has, Reaches, OnCycle};
-ghost use Rattle.rl_graph.specs.Parts.{number_of, cycle_of, IsParts, HasInner, HasInnerOn, IsNumbered, AreInner};
-ghost use Rattle.rl_graph.specs.Search.{stand_of, start_of, opened, place_of, part_in, unseen, with_top, IsSearch, IsCut, IsClosed, IsFinished, IsListed, IsAllDone, IsUnseenMove, IsMet, IsKept, StaysSeen, work_of};
+ghost use Rattle.rl_graph.specs.Parts.{number_of, cycle_of, IsParts};
+ghost use Rattle.rl_graph.specs.internal.InnerMoves.{HasInner, HasInnerOn, IsNumbered, AreInner};
+ghost use Rattle.rl_graph.specs.internal.Search.{stand_of, start_of, opened, place_of, part_in, unseen, with_top, IsSearch, IsCut, IsClosed, IsFinished, IsListed, IsAllDone, IsUnseenMove, IsMet, IsKept, StaysSeen, work_of};
 ghost use Rattle.rl_graph.specs.declared.parts.Place.TheVariants.{Unseen, Done};
 
 use crate::moves::NextStates;

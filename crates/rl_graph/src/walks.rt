@@ -2,7 +2,8 @@
 
 ghost use Rattle.std.specs.Prelude.{◌≡◌, ◌<◌, ◌≤◌, ◌+◌, length, IfOk, OnOk, IfSome, IfNone};
 ghost use Rattle.rl_graph.specs.Graph.{edges_of};
-ghost use Rattle.rl_graph.specs.Walks.{IsShortest, NoPath, IsShortestWord, steps_of, node_of, start_steps, IsWalk, IsAt, Missed, IsReached, IsRooted, IsFurther, IsWayTo};
+ghost use Rattle.rl_graph.specs.Walks.{IsShortest, NoPath, IsShortestWord};
+ghost use Rattle.rl_graph.specs.internal.Nodes.{steps_of, node_of, start_steps, IsWalk, IsAt, Missed, IsReached, IsRooted, IsFurther, IsWayTo};
 
 use crate::graph::Multigraph;
 use crate::moves::NextStates;

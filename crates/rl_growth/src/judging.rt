@@ -8,6 +8,7 @@ ghost use Rattle.rl_pairs.specs.PairTable.{moves_in};
 ghost use Rattle.rl_pairs.specs.RightVerdict.{RightVerdict};
 ghost use Rattle.rl_growth.specs.Texts.{HasTexts};
 ghost use Rattle.rl_growth.specs.Questions.{question_of, StandsForSome, IsLed, DecidesFor};
+ghost use Rattle.rl_growth.specs.Degrees.{IsClassOf, HasClass};
 
 use crate::spelling::family_of;
 use crate::words::{chain_words, twin_words};
@@ -33,7 +34,8 @@ fn exponential(
     requires led { IsLed a.now g.now }
     requires state_in { twin.now.state < g.now.graph.states }
     requires twin { IsTwin (moves_in g.now) twin.now.state twin.now.word twin.now.first twin.now.second }
-    ensures { IfOk result (DecidesFor a.now) }
+    ensures right { IfOk result (DecidesFor a.now) }
+    ensures class { IfOk result (IsClassOf (moves_in g.now)) }
 {
     let words = twin_words(alloc, g, twin)?;
     let family = family_of(alloc, a, &words)?;
@@ -59,7 +61,8 @@ fn polynomial(alloc: Global, a: &Prio, g: &PairGraph) -> Result<Verdict, OutOfMe
     requires stands { StandsForSome a.now }
     requires led { IsLed a.now g.now }
     requires no_twin { HasNoTwin (moves_in g.now) }
-    ensures { IfOk result (DecidesFor a.now) }
+    ensures right { IfOk result (DecidesFor a.now) }
+    ensures class { IfOk result (IsClassOf (moves_in g.now)) }
 {
     let chain = degree(alloc, g.graph())?;
     match &chain.cycle {
@@ -77,7 +80,8 @@ fn polynomial(alloc: Global, a: &Prio, g: &PairGraph) -> Result<Verdict, OutOfMe
 fn judged(alloc: Global, a: &Prio, g: &PairGraph) -> Result<Verdict, OutOfMemory>
     requires stands { StandsForSome a.now }
     requires led { IsLed a.now g.now }
-    ensures { IfOk result (DecidesFor a.now) }
+    ensures right { IfOk result (DecidesFor a.now) }
+    ensures class { IfOk result (IsClassOf (moves_in g.now)) }
 {
     match twin(alloc, g.graph())? {
         Some(twin) => exponential(alloc, a, g, &twin),
@@ -96,7 +100,8 @@ fn judged_small(
     requires few { max_pairs ≤ 1000 }
     requires inside { IsOver u (tree_of l.now.tree) }
     requires small { size (tree_of l.now.tree) ≤ 4000 }
-    ensures { IfOk result (RightVerdict (question_of l.now u max_pairs)) }
+    ensures right { IfOk result (RightVerdict (question_of l.now u max_pairs)) }
+    ensures class { IfOk result (HasClass (question_of l.now u max_pairs)) }
 {
     let a = match Prio::build(alloc, &l.tree, l.ending, u) {
         Ok(a) => a,
@@ -135,6 +140,7 @@ pub fn classify(
     requires inside { IsOver u (tree_of l.now.tree) }
     ensures right { IfOk result (RightVerdict (question_of l.now u max_pairs)) }
     ensures texts { IfOk result (HasTexts u) }
+    ensures class { IfOk result (HasClass (question_of l.now u max_pairs)) }
 {
     if l.tree.nodes() > MOST_NODES {
         return Ok(Verdict::Undecided(Limit::Size));

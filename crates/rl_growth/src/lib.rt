@@ -2,6 +2,7 @@
 #![tactic(auto)]
 
 mod judging;
+pub mod laws;
 pub mod spelling;
 pub mod words;
 

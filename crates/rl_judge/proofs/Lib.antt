@@ -1,5 +1,4 @@
 pub mod Parsing
-pub mod Bodies
 pub mod Values
 pub mod Placing
 pub mod Runs

@@ -6,7 +6,7 @@ use Rattle.rl_ranges.specs.declared.universe.Universe.{Universe}
 use Rattle.rl_ranges.specs.Text.{IsText, code_count}
 use Rattle.rl_syntax.specs.declared.span.Span.{Span}
 use Rattle.rl_pattern.specs.Placed.{ArePlaced}
-use Rattle.rl_judge.specs.Asked.{LiesIn}
+use Rattle.rl_judge.specs.internal.Asked.{LiesIn}
 use Rattle.rl_judge.specs.Sites.{codes_of}
 
 pub span_text : (u : Universe) (span : Span) (codes : List ℕ) → IsText u codes → IsText u (codes_of span codes)

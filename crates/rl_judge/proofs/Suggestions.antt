@@ -1,5 +1,5 @@
 -- What stands beside a verdict.
-use Rattle.std.proofs.Common.{◌≡◌, inl, inr, ℕ, true, false, List, Option, Some, None, refl, sym}
+use Rattle.std.proofs.Common.{◌≡◌, inl, inr, ℕ, true, false, List, Option, Some, None, refl, sym, subst, arith}
 use Rattle.std.specs.Prelude.{Result, Ok, Err, IfOk, IfSome}
 use Rattle.std.proofs.lemmas.Bool.{false≢true}
 use Rattle.rl_ranges.specs.declared.universe.Universe.{Universe}
@@ -16,8 +16,9 @@ use Rattle.rl_pattern.specs.declared.parsing.PatError.{PatError}
 use Rattle.rl_pattern.specs.declared.parsing.PatError.TheVariants as parsing
 use Rattle.rl_pattern.specs.Parsed.{IsParsed}
 use Rattle.rl_pairs.specs.RightVerdict.{Question, IsSmall, RightVerdict}
+use Rattle.rl_rewrite.specs.Plain.{empty_suggestion}
 use Rattle.rl_rewrite.specs.RightSuggestion.{IsRightSuggestion, ReadsAlike}
-use Rattle.rl_judge.specs.Asked.{is_beside, IsReadable, HasReadable, IsSuggestionOf}
+use Rattle.rl_judge.specs.internal.Asked.{is_beside, IsReadable, HasReadable, IsSuggestionOf, PartsLieIn}
 use Rattle.rl_judge.specs.declared.beside.Terms.{Terms}
 use Rattle.rl_judge.specs.Sites.{question_of, IsSuggested, IsTextVerdict}
 
@@ -73,6 +74,18 @@ right_reads flags p codes limit s h =
 
 pub text_within : (u : Universe) (codes : List ℕ) (s : Suggestion) → ((text : List ℕ) → s.text ≡ Some text → IsText u codes → IsText u text) → IsText u codes → IsSuggestionOf u s
 text_within u codes s h c = if_some (IsText u) s.text (λ text e. h text e c)
+
+-- of the suggestion that drops nothing there is no part and no text
+pub empty_within : (count : ℕ) (s : Suggestion) → s ≡ empty_suggestion → PartsLieIn count s
+empty_within count s e = subst (PartsLieIn count) (sym e) (record { dropped = λ i d l. absurd (omega (arith, l)); passed = λ i d l. absurd (omega (arith, l)) })
+
+pub empty_text : (u : Universe) (s : Suggestion) → s ≡ empty_suggestion → IsSuggestionOf u s
+empty_text u s e = subst (IsSuggestionOf u) (sym e) tt
+
+pub empty_reads : (flags : Flags) (u : Universe) (s : Suggestion) → s ≡ empty_suggestion → HasReadable flags u s
+empty_reads flags u s e = subst (HasReadable flags u) (sym e) tt
+
+pub ruleset empty_parts = (empty_within, empty_text, empty_reads)
 
 -- a right verdict on the pattern that a text gives is one on the text
 pub text_verdict : {E : Type 0} (flags : Flags) (terms : Terms) (u : Universe) (text : List ℕ) (p : Pattern) (r : Result Verdict E) → IsParsed flags u text (Ok p)

@@ -24,7 +24,7 @@ use Rattle.rl_pystr.specs.declared.placed.Placed.{Placed}
 use Rattle.rl_pystr.specs.Escapes.{is_octal, is_hex, number_of, octal, has_hex, hexadecimal, named_code, byte_escape, text_escape, named_or, escape, unit, size_of}
 use Rattle.rl_pystr.specs.Values.{empty, before, given, value_from}
 use Rattle.rl_pystr.specs.Runs.{is_literal, is_lettered, is_unlettered, has_letter, body_start, body_of, literal_value, token_value, values, has_bytes, value_of_run, universe_by, IsValue}
-use Rattle.rl_judge.proofs.Bodies.{body_utf8, literal_token}
+use Rattle.rl_pystr.proofs.Bounds.{body_utf8, literal_token}
 
 -- every code is below the bound
 abbrev Below : ℕ → List ℕ → Type 0

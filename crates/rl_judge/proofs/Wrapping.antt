@@ -21,7 +21,7 @@ use Rattle.rl_syntax.specs.Lowering.{lowered}
 use Rattle.rl_syntax.specs.Pattern.{body_of, is_anchored, trail_of, universe_of}
 use Rattle.rl_syntax.specs.Run.{one_more}
 use Rattle.rl_syntax.specs.Tree.{Tree, empty, one, guard, both, either, many, size, places, sets_in, guard_sets}
-use Rattle.rl_prio.specs.Attempts.{followed, lists_of, widest, width_of}
+use Rattle.rl_prio.specs.internal.Attempts.{followed, lists_of, widest, width_of}
 use Rattle.rl_prio.specs.Items.{Item, test_at, pass, all_guarded, replaced, first}
 use Rattle.rl_prio.specs.Letters.{all_sets}
 use Rattle.rl_prio.proofs.WidthLemmas.{width-both_left, width-both_right, width-longest, longest-width}
@@ -29,7 +29,7 @@ use Rattle.rl_pairs.specs.RightVerdict.{Question, IsSmall}
 use Rattle.rl_rewrite.specs.Verdicts.{PassesLimit}
 use Rattle.rl_judge.specs.declared.beside.Terms.{Terms}
 use Rattle.rl_judge.specs.Sites.{question_of}
-use Rattle.rl_judge.specs.Asked.{IsSmallWhole}
+use Rattle.rl_judge.specs.internal.Asked.{IsSmallWhole}
 
 -- ---- the numbers of places leave the lengths of the lists
 

@@ -1,5 +1,5 @@
 pub mod Faults
 pub mod Sites
 pub mod RightEntries
-pub mod Asked
 pub mod RightReport
+pub mod internal

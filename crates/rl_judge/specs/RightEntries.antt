@@ -1,5 +1,5 @@
 -- Which entries are right for a source, given its path, its bytes and the settings.
-use Rattle.std.specs.Prelude.{◌≡◌, ◌≢◌, ◌⊎◌, ◌≤◌, ℕ, List, [], ◌∷◌, map, take, drop, slice_get, Some, None, option_map, if◌then◌else◌}
+use Rattle.std.specs.Prelude.{◌≡◌, ◌≢◌, ◌⊎◌, ◌≤◌, ℕ, List, [], ◌∷◌, map, slice_get, Some, None, option_map, if◌then◌else◌}
 use Rattle.std.specs.List.{AllZip, list_any}
 use Rattle.rl_ranges.specs.declared.universe.Universe.TheVariants as universe
 use Rattle.rl_syntax.specs.declared.re.Mode.{Mode}
@@ -12,6 +12,7 @@ use Rattle.rl_sites.specs.declared.call.Call.{Call}
 use Rattle.rl_sites.specs.declared.call.Call.TheVariants as call
 use Rattle.rl_sites.specs.declared.site.Site.{Site}
 use Rattle.rl_sites.specs.Sites.{sites_of}
+use Rattle.rl_sites.specs.Runs.{run_of}
 use Rattle.rl_report.specs.declared.report.Entry.{Entry}
 use Rattle.rl_report.specs.declared.report.Mark.{Mark}
 use Rattle.rl_report.specs.declared.report.Marks.{Marks}
@@ -85,10 +86,6 @@ site_entry path source tokens site told = record {
   outcome = told.outcome;
   marks = marks_of source told.parts;
 }
-
--- the tokens of a site's literals, with the comments between them
-abbrev pub run_of : List Token → Site → List Token
-run_of tokens site = take site.count (drop site.first tokens)
 
 -- this is to be told of a site
 abbrev pub IsTold : List ℕ → List Token → Settings → Site → Told → Type 0

@@ -120,8 +120,8 @@ parts_of literal (Some s) = record {
 
 -- ---- sites
 
-abbrev pub told_not_whole : Told
-told_not_whole = record { universe = universe.Str; fault = None; outcome = outcome.NotWhole; parts = no_parts }
+abbrev pub told_not_whole : Universe → Told
+told_not_whole u = record { universe = u; fault = None; outcome = outcome.NotWhole; parts = no_parts }
 
 abbrev pub told_without_pattern : Literal → PatError → Told
 told_without_pattern literal e = record { universe = literal.universe; fault = pattern_fault literal e; outcome = outcome.Pattern e; parts = no_parts }
@@ -148,7 +148,18 @@ IsOfRun source run flags terms told =
     ((e : StrError) × IsWithoutValue source run told e)
     ⊎ ((literal : Literal) × IsWithValue source run flags terms told literal)
 
+-- the universe of a run of literals is that of its value, and text where it has none
+abbrev pub IsUniverseOfRun : List ℕ → List Token → Universe → Type 0
+IsUniverseOfRun source run u =
+    ((literal : Literal) × IsValue source run literal × (u ≡ literal.universe))
+    ⊎ ((e : StrError) × (value_of_run source run ≡ Err e) × (e ≢ valuing.OutOfMemory) × (u ≡ universe.Str))
+
+-- of a first argument that is more than this run
+pub record IsOfMore (source : List ℕ) (run : List Token) (told : Told) : Type 0 where
+  pub universe : IsUniverseOfRun source run told.universe
+  pub is : told ≡ told_not_whole told.universe
+
 -- of a first argument that begins with this run; the flag says whether it is the whole of it
 abbrev pub IsOfArgument : Bool → List ℕ → List Token → SiteFlags → Terms → Told → Type 0
-IsOfArgument false source run flags terms told = told ≡ told_not_whole
+IsOfArgument false source run flags terms told = IsOfMore source run told
 IsOfArgument true source run flags terms told = IsOfRun source run flags terms told

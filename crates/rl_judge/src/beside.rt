@@ -7,12 +7,12 @@ ghost use Rattle.rl_pattern.specs.Parsed.{IsParsed};
 ghost use Rattle.rl_rewrite.specs.RightSuggestion.{IsRightSuggestion};
 ghost use Rattle.rl_report.specs.Verdicts.{IsVerdictOf};
 ghost use Rattle.rl_judge.specs.Sites.{question_of, text_judged, IsSuggested, IsBecome, IsTextVerdict};
-ghost use Rattle.rl_judge.specs.Asked.{is_beside, IsSmallWhole, PartsLieIn, IsSuggestionOf, HasReadable, IsReadable};
+ghost use Rattle.rl_judge.specs.internal.Asked.{is_beside, IsSmallWhole, PartsLieIn, IsSuggestionOf, HasReadable, IsReadable};
 
 use rl_growth::classify;
 use rl_lists::{Codes, OutOfMemory};
 use rl_pattern::{Flags, PatError, parse};
-use rl_rewrite::{SuggestError, suggest};
+use rl_rewrite::{SuggestError, plain_suggestion, suggest};
 use rl_syntax::{Limit, LowerError, Mode, Pattern, Suggestion, Universe, Verdict, lower};
 use std::alloc::Global;
 
@@ -55,6 +55,7 @@ fn is_beside(verdict: &Verdict) -> bool
 }
 
 /// The suggestion for a pattern that passes no limit of the comparison.
+#[tactic(auto, using(crate::proofs::Suggestions::empty_parts))]
 fn suggestion_for(
     alloc: Global,
     pattern: &Pattern,
@@ -69,6 +70,9 @@ fn suggestion_for(
     ensures texts { IfOk result (IsSuggestionOf (universe_of pattern.now)) }
     ensures readable { IfOk result (HasReadable flags (universe_of pattern.now)) }
 {
+    if let Some(suggestion) = plain_suggestion(alloc, pattern)? {
+        return Ok(suggestion);
+    }
     match suggest(alloc, pattern, codes, flags, MOST_SET_PAIRS) {
         Ok(suggestion) => Ok(suggestion),
         Err(SuggestError::OutOfMemory) => Err(OutOfMemory),

@@ -4,7 +4,7 @@ ghost use Rattle.rl_report.specs.Layouts.{IsOfItsUniverse};
 ghost use Rattle.rl_walk.specs.Visits.{is_unreadable};
 ghost use Rattle.rl_judge.specs.RightEntries.{IsValid};
 ghost use Rattle.rl_judge.specs.RightReport.{path_entry, IsRightFor, HasChecked};
-ghost use Rattle.rl_judge.specs.Asked.{IsOfUniverse};
+ghost use Rattle.rl_judge.specs.internal.Asked.{IsOfUniverse};
 ghost use Rattle.rl_ranges.specs.declared.universe.Universe.TheVariants as universe;
 
 use crate::judging::judge;
@@ -45,7 +45,7 @@ fn entries_of(alloc: Global, visit: &Visit, settings: &Settings) -> Result<Entri
     ensures universe { IfOk result (All IsOfItsUniverse) }
 {
     match visit {
-        Visit::Source(path, content) => judge(alloc, path, content.as_slice(), settings),
+        Visit::Source(path, content) => Ok(judge(alloc, path, content.as_slice(), settings)?),
         Visit::Unreadable(path) => path_entries(alloc, path, Outcome::Unreadable),
         Visit::TooDeep(path) => path_entries(alloc, path, Outcome::TooDeepFolder),
         Visit::NotPlain(path) => path_entries(alloc, path, Outcome::NotPlain),

@@ -3,11 +3,11 @@ ghost use Rattle.std.specs.Prelude.{◌≡◌, ◌≢◌, ◌≤◌, ◌++◌, �
 ghost use Rattle.std.specs.List.{AllZip, list_any};
 ghost use Rattle.rl_pylex.specs.declared.fault.LexError.TheVariants as lexing;
 ghost use Rattle.rl_pylex.specs.Source.{IsTokenList, IsFault};
-ghost use Rattle.rl_sites.specs.Sites.{sites_of};
+ghost use Rattle.rl_sites.specs.Runs.{HasRun};
 ghost use Rattle.rl_report.specs.Findings.{is_finding};
 ghost use Rattle.rl_report.specs.Layouts.{IsOfItsUniverse};
 ghost use Rattle.rl_report.specs.Places.{IsAt, place_of};
-ghost use Rattle.rl_judge.specs.Asked.{HasRun, IsOfUniverse};
+ghost use Rattle.rl_judge.specs.internal.Asked.{IsOfUniverse};
 ghost use Rattle.rl_judge.specs.Faults.{source_fault};
 ghost use Rattle.rl_judge.specs.RightEntries.{IsValid, mode_of, terms_of, marks_of, fault_entry, site_entry, IsTold, IsSiteEntry, IsFaultEntry, AreSiteEntries, AreRight, status_of};
 
@@ -18,7 +18,7 @@ use crate::told::{Told, told_of_site};
 use rl_lists::OutOfMemory;
 use rl_pylex::{LexError, TokenList, tokens};
 use rl_report::{Cursor, Entries, Entry, Outcome};
-use rl_sites::{Call, Site, SiteList, sites};
+use rl_sites::{Call, Site, sites};
 use rl_source::Name;
 use rl_syntax::{Mode, Universe};
 use std::alloc::Global;
@@ -190,20 +190,6 @@ fn judged_all(
     Ok(entries)
 }
 
-/// The sites of a source.
-fn sites_with_runs(
-    alloc: Global,
-    source: &[u8],
-    tokens: &TokenList,
-) -> Result<SiteList, OutOfMemory>
-    requires { IsTokenList source.now tokens.now }
-    ensures sites { IfOk result (λ sites. sites ≡ sites_of source.now tokens.now) }
-    ensures runs { IfOk result (All (HasRun tokens.now)) }
-{
-    let sites = sites(alloc, source, tokens)?;
-    Ok(sites)
-}
-
 /// The entries of a source with tokens.
 fn site_entries(
     alloc: Global,
@@ -217,9 +203,35 @@ fn site_entries(
     ensures right { IfOk result (AreSiteEntries path.now source.now settings.now) }
     ensures universe { IfOk result (All IsOfItsUniverse) }
 {
-    let sites = sites_with_runs(alloc, source, tokens)?;
+    let sites = sites(alloc, source, tokens)?;
     let entries = judged_all(alloc, path, source, tokens, settings, sites.as_slice())?;
     Ok(entries)
+}
+
+/// Why a source isn't judged.
+#[derive(Clone, Copy, Debug, PartialEq, Eq)]
+pub enum JudgeError {
+    /// Memory was refused.
+    OutOfMemory,
+}
+
+impl From<OutOfMemory> for JudgeError {
+    ghost use Rattle.std.specs.Prelude.{◌≡◌};
+    ghost use Rattle.rl_judge.specs.declared.judging.JudgeError.TheVariants as error;
+
+    ghost from_gives = { λ _ e. e ≡ error.OutOfMemory };
+
+    fn from(_: OutOfMemory) -> Self {
+        JudgeError::OutOfMemory
+    }
+}
+
+impl From<JudgeError> for OutOfMemory {
+    fn from(error: JudgeError) -> Self {
+        match error {
+            JudgeError::OutOfMemory => OutOfMemory,
+        }
+    }
 }
 
 /// The entries of one source: one that says why it has no tokens, or one for each of its sites, in their order.
@@ -230,21 +242,22 @@ fn site_entries(
 /// the verdict on the suggested pattern.
 ///
 /// # Errors
-/// [`OutOfMemory`] where memory was refused.
+/// [`JudgeError::OutOfMemory`] where memory was refused.
 pub fn judge(
     alloc: Global,
     path: &Name,
     source: &[u8],
     settings: &Settings,
-) -> Result<Entries, OutOfMemory>
+) -> Result<Entries, JudgeError>
     requires { IsValid settings.now }
     ensures right { IfOk result (AreRight path.now source.now settings.now) }
     ensures universe { IfOk result (All IsOfItsUniverse) }
 {
-    match tokens(alloc, source) {
-        Ok(tokens) => site_entries(alloc, path, source, &tokens, settings),
-        Err(fault) => fault_entries(alloc, path, source, fault),
-    }
+    let entries = match tokens(alloc, source) {
+        Ok(tokens) => site_entries(alloc, path, source, &tokens, settings)?,
+        Err(fault) => fault_entries(alloc, path, source, fault)?,
+    };
+    Ok(entries)
 }
 
 /// The status of a report on these entries: 1 where one of them is a finding, else 0. It takes no memory.

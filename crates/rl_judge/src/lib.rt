@@ -10,7 +10,7 @@ mod settings;
 mod told;
 
 pub use checking::Checker;
-pub use judging::{judge, status_of};
+pub use judging::{JudgeError, judge, status_of};
 pub use settings::{Layout, Settings};
 
 #[cfg(test)]

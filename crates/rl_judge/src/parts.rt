@@ -2,7 +2,7 @@
 ghost use Rattle.std.specs.Prelude.{◌≡◌, All, Some, length, map, option_map, IfOk, IfSome};
 ghost use Rattle.rl_ranges.specs.Text.{IsText};
 ghost use Rattle.rl_report.specs.Verdicts.{quoted_text};
-ghost use Rattle.rl_judge.specs.Asked.{LiesIn, PartsLieIn};
+ghost use Rattle.rl_judge.specs.internal.Asked.{LiesIn, PartsLieIn};
 ghost use Rattle.rl_judge.specs.Faults.{code_place};
 ghost use Rattle.rl_judge.specs.Sites.{codes_of, bare_part, quoted_part, no_parts, parts_of};
 

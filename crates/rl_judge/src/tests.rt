@@ -107,7 +107,7 @@ fn becomes(entry: &Entry, degree: Option<u32>) -> bool {
 fn entries_of(alloc: Global, source: &str, report: u32) -> Result<Entries, OutOfMemory> {
     let path = Name::from_text(alloc, "s.py")?;
     let settings = in_version(if report == 1 { 1 } else { 2 });
-    judge(alloc, &path, source.as_bytes(), &settings)
+    Ok(judge(alloc, &path, source.as_bytes(), &settings)?)
 }
 
 // Two branches and a quantifier go.

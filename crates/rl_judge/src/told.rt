@@ -5,11 +5,11 @@ ghost use Rattle.rl_syntax.specs.Pattern.{universe_of};
 ghost use Rattle.rl_pattern.specs.Parsed.{IsParsed};
 ghost use Rattle.rl_pylex.specs.Source.{IsTokenList};
 ghost use Rattle.rl_pystr.specs.Runs.{IsValue, IsLiteralRun};
+ghost use Rattle.rl_sites.specs.Runs.{run_of, HasRun};
 ghost use Rattle.rl_report.specs.Findings.{suggestion_of};
 ghost use Rattle.rl_judge.specs.Faults.{literal_fault, pattern_fault};
-ghost use Rattle.rl_judge.specs.Sites.{told_without_pattern, told_without_value, parts_of, IsOfCodes, IsOfValue, IsOfRun, IsOfArgument};
-ghost use Rattle.rl_judge.specs.RightEntries.{run_of};
-ghost use Rattle.rl_judge.specs.Asked.{HasRun, IsOfUniverse};
+ghost use Rattle.rl_judge.specs.Sites.{told_without_pattern, told_without_value, parts_of, IsOfCodes, IsOfValue, IsOfRun, IsUniverseOfRun, IsOfMore, IsOfArgument};
+ghost use Rattle.rl_judge.specs.internal.Asked.{IsOfUniverse};
 ghost use Rattle.rl_report.specs.declared.report.Outcome.TheVariants as outcome;
 ghost use Rattle.rl_pattern.specs.declared.parsing.PatError.TheVariants as parsing;
 ghost use Rattle.rl_pystr.specs.declared.fault.StrError.TheVariants as valuing;
@@ -210,6 +210,45 @@ fn told_of_run(
     }
 }
 
+/// The universe of the run of literals of a site: text where it has no value.
+fn universe_of_run(
+    alloc: Global,
+    source: &[u8],
+    tokens: &TokenList,
+    site: Site,
+) -> Result<Universe, OutOfMemory>
+    requires tokens { IsTokenList source.now tokens.now }
+    requires run { HasRun tokens.now site }
+    ensures { IfOk result (IsUniverseOfRun source.now (run_of tokens.now site)) }
+{
+    match value(alloc, source, tokens, site.first, site.count) {
+        Ok(literal) => Ok(literal.universe),
+        Err(StrError::OutOfMemory) => Err(OutOfMemory),
+        Err(_) => Ok(Universe::Str),
+    }
+}
+
+/// What is told of a site whose first argument is more than literals.
+fn told_of_more(
+    alloc: Global,
+    source: &[u8],
+    tokens: &TokenList,
+    site: Site,
+) -> Result<Told, OutOfMemory>
+    requires tokens { IsTokenList source.now tokens.now }
+    requires run { HasRun tokens.now site }
+    ensures more { IfOk result (IsOfMore source.now (run_of tokens.now site)) }
+    ensures texts { IfOk result (λ told. IsOfUniverse told.universe told.outcome) }
+{
+    let universe = universe_of_run(alloc, source, tokens, site)?;
+    Ok(Told {
+        universe,
+        fault: None,
+        outcome: Outcome::NotWhole,
+        parts: no_parts(alloc),
+    })
+}
+
 /// What is told of a site.
 pub fn told_of_site(
     alloc: Global,
@@ -228,11 +267,6 @@ pub fn told_of_site(
     if site.whole {
         told_of_run(alloc, source, tokens, site, terms)
     } else {
-        Ok(Told {
-            universe: Universe::Str,
-            fault: None,
-            outcome: Outcome::NotWhole,
-            parts: no_parts(alloc),
-        })
+        told_of_more(alloc, source, tokens, site)
     }
 }

@@ -3,7 +3,8 @@ use Rattle.std.proofs.Common.{◌≡◌, ℕ, ◌+◌, ◌*◌, ◌/◌, ◌%◌
 use Rattle.std.specs.Int.{bit_at}
 use Rattle.std.proofs.lemmas.Bool.{eq-eqb, cases_lt}
 use Rattle.std.proofs.lemmas.Nat.Bits.{bit_at-zero}
-use Rattle.rl_lanes.specs.Packed.{bit, NoBitFrom, IsLeastBitFrom}
+use Rattle.rl_lanes.specs.Packed.{bit}
+use Rattle.rl_lanes.specs.internal.PackedWords.{NoBitFrom, IsLeastBitFrom}
 use Rattle.rl_lanes.proofs.PackedLemmas.{bit-at, bit_past}
 
 -- each place from `start` up to `end` holds false

@@ -5,7 +5,7 @@ use Rattle.std.proofs.lemmas.Bool.{eq-eqb, cases_eq, cases_lt}
 use Rattle.std.proofs.lemmas.List.{ext_get_or, get_or_past, get_or-set_same, get_or-set_other, length-set}
 use Rattle.std.proofs.lemmas.List.FromFn.{length-map-range_with_len, get_or-map-range_with_len}
 use Rattle.std.proofs.lemmas.Nat.Bits.{bit_at-lt, bit_at-zero, bit_at_and, bit_at_or, bit_at_not, bit_at-trailing_zeros}
-use Rattle.rl_lanes.specs.Words.{JoinsEach, SomePair, NoPair, and_not}
+use Rattle.rl_lanes.specs.internal.Words.{JoinsEach, SomePair, NoPair, and_not}
 use Rattle.std.specs.Simd.Lanes.{zip2}
 use Rattle.std.proofs.lemmas.Simd.{length-zip2, length-replicate}
 use Rattle.rl_lanes.specs.Packed.{bit, truths, IsPacked}

@@ -6,7 +6,7 @@ use Rattle.std.proofs.lemmas.Bool.{eqb-true, eqb-false, cases_eq}
 use Rattle.std.proofs.lemmas.Nat.{le_or_l, le_or_r}
 use Rattle.std.proofs.Math.Seq.{take-add}
 use Rattle.std.proofs.lemmas.List.{map_more, map-append}
-use Rattle.rl_lanes.specs.Words.{JoinsAt, SomeWord, NoWord, SomePairAt, NoPairAt}
+use Rattle.rl_lanes.specs.internal.Words.{JoinsAt, SomeWord, NoWord, SomePairAt, NoPairAt}
 
 -- the words before `at` are joined by f with the other list's, and the others are as they were
 pub record JoinsBelow (f : ℕ → ℕ → ℕ) (at : ℕ) (old other new : List ℕ) : Type 0 where

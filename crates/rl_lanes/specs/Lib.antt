@@ -1,4 +1,4 @@
 pub mod Packed
 pub mod Rows
 pub mod Tables
-pub mod Words
+pub mod internal

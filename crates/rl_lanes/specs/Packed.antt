@@ -1,8 +1,8 @@
 -- How words of 64 bits hold the truth values of a row.
-use Rattle.std.specs.Prelude.{◌≡◌, ℕ, ◌*◌, ◌/◌, ◌%◌, ◌<◌, ◌≤◌, Bool, true, false, ◌==◌, List, length, map, take, drop, slice_index}
+use Rattle.std.specs.Prelude.{◌≡◌, ℕ, ◌*◌, ◌/◌, ◌%◌, ◌<◌, ◌≤◌, Bool, false, ◌==◌, List, length, map, slice_index}
 use Rattle.std.specs.Int.{bit_at, div_ceil}
 use Rattle.std.specs.List.{range_with_len}
-use Rattle.std.specs.Simd.Lanes.{chunk, mask_l}
+use Rattle.std.specs.Simd.Lanes.{chunk}
 
 -- the truth value at a place: a bit of the word that 64 places share
 unfoldable pub bit : List ℕ → ℕ → Bool
@@ -16,20 +16,6 @@ truths len words = map (bit words) (range_with_len 0 len)
 pub record IsPacked (len : ℕ) (words : List ℕ) : Type 0 where
   pub enough : length words ≡ div_ceil len 64
   pub clear : (i : ℕ) → len ≤ i → bit words i ≡ false
-
--- the words that hold the truth values of a row, each with the value of the least place in its lowest bit
-unfoldable pub words_of : List Bool → List ℕ
-words_of row = map (λ k. mask_l (take 64 (drop (64 * k) row))) (range_with_len 0 (div_ceil (length row) 64))
-
--- no place from `start` on holds true
-abbrev pub NoBitFrom : List ℕ → ℕ → Type 0
-NoBitFrom words start = (k : ℕ) → start ≤ k → bit words k ≡ false
-
--- the least place at or above `start` that holds true
-pub record IsLeastBitFrom (words : List ℕ) (start least : ℕ) : Type 0 where
-  pub after : start ≤ least
-  pub member : bit words least ≡ true
-  pub before : (k : ℕ) → start ≤ k → k < least → bit words k ≡ false
 
 -- the words of row number `row` of a table, where each row has `width` words
 abbrev pub words_at : ℕ → List ℕ → ℕ → List ℕ

@@ -1,7 +1,7 @@
 // Lists of words of 64 bits: eight words at a time by lanes, and the rest one by one.
 ghost use Rattle.std.specs.Prelude.{◌≡◌, ◌≢◌, ℕ, ◌+◌, ◌*◌, ◌^◌, ◌<◌, ◌≤◌, length, map, slice_index, bit_and, bit_or, count_ones, MatchBool};
 ghost use Rattle.std.specs.Simd.Lanes.{sum_l, chunk};
-ghost use Rattle.rl_lanes.specs.Words.{JoinsAt, JoinsEach, SomePair, NoPair, SomePairAt, NoPairAt, SomeWord, NoWord, and_not};
+ghost use Rattle.rl_lanes.specs.internal.Words.{JoinsAt, JoinsEach, SomePair, NoPair, SomePairAt, NoPairAt, SomeWord, NoWord, and_not};
 
 use std::simd::prelude::*;
 

@@ -25,7 +25,7 @@ mod told;
 mod verify;
 mod word;
 
-pub use rl_judge::{Layout, Settings, judge, status_of};
+pub use rl_judge::{JudgeError, Layout, Settings, judge, status_of};
 pub use rl_sample::sample_source;
 pub use rl_settings::SettingsError;
 pub use run::relint_main;

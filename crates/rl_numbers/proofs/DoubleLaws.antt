@@ -13,7 +13,8 @@ use Rattle.rl_graph.proofs.GraphLaws.{bounded-whole}
 use Rattle.rl_numbers.specs.declared.double.Double.{Double}
 use Rattle.rl_numbers.specs.declared.doubling.Pair.{Pair}
 use Rattle.rl_numbers.specs.contracts.doubling.PairPartialEq.TheImpl as pair
-use Rattle.rl_numbers.specs.Doubled.{double_at, is_double, double_number, OnceEach, IsInside, AreDoubles, FirstsFall, StepsFall, ApartsFall, LeavesFall, HoldsIn, EqualsHeld, number_in, IsIndex}
+use Rattle.rl_numbers.specs.Doubled.{double_at, is_double, double_number, OnceEach, IsInside, AreDoubles, EqualsHeld, number_in, IsIndex}
+use Rattle.rl_numbers.specs.internal.DoubledFalls.{FirstsFall, StepsFall, ApartsFall, LeavesFall, HoldsIn}
 
 -- past the last letter there is no move
 no-row : (g : Graph) (q l count : ℕ) → IsWhole g → g.letters ≤ count → count ≤ l → edges_of g q l ≡ []

@@ -13,7 +13,7 @@ use Rattle.rl_graph.proofs.Sums.{each-has, Each-has, Has-map, has-map, Has-at, H
 use Rattle.rl_degree.specs.FallingNumbers.{IsDoubles}
 use Rattle.rl_numbers.specs.declared.double.Double.{Double}
 use Rattle.rl_numbers.specs.Closed.{AreClosedDoubles}
-use Rattle.rl_numbers.specs.Diagonal.{IsDiagonalUpTo, double_of, doubles_in}
+use Rattle.rl_numbers.specs.internal.Diagonal.{IsDiagonalUpTo, double_of, doubles_in}
 use Rattle.rl_numbers.specs.Doubled.{double_at, is_double, double_number, OnceEach, IsInside, AreDoubles}
 use Rattle.rl_numbers.specs.Reached.{IsReached, IsReach}
 use Rattle.rl_numbers.proofs.DoubleLaws.{at-there, at-once}

@@ -7,7 +7,7 @@ use Rattle.rl_graph.specs.Graph.{Graph, edges_of, IsBare, IsAdded}
 use Rattle.rl_graph.specs.Parts.{PartTable, number_of}
 use Rattle.rl_graph.proofs.Sums.{Has-push, Has-left, Has-last, at-has, at-short, at-get_or}
 use Rattle.rl_graph.proofs.GraphLaws.{edges-state, edges-letter}
-use Rattle.rl_numbers.specs.Inner.{IsKept, IsInner, Before, IsInnerUpTo}
+use Rattle.rl_numbers.specs.internal.Inner.{IsKept, IsInner, Before, IsInnerUpTo}
 
 -- a state and a letter with a move are in range
 pub move-state : (g : Graph) (q l m : ℕ) → Has m (edges_of g q l) → q < g.states

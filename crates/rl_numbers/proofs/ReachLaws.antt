@@ -6,7 +6,8 @@ use Rattle.std.specs.List.{list_any}
 use Rattle.rl_graph.specs.Paths.{Has, Pairs, IsBounded}
 use Rattle.rl_graph.proofs.Sums.{Each-has, each-has, Has-left, Has-last, Has-push, Pairs-push, at-has, at-short, at-get_or, Has-get_or}
 use Rattle.rl_graph.proofs.PathLaws.{Reaches-self, Reaches-move, Reaches-trans, along_moves}
-use Rattle.rl_numbers.specs.Reached.{IsReached, AreMore, IsReach, IsPut, IsFinding, Grows, IsClosedUpTo, IsSpread, Spreads, Overflows, IsTargetUpTo, IsTarget}
+use Rattle.rl_numbers.specs.Reached.{IsReached, AreMore, IsReach}
+use Rattle.rl_numbers.specs.internal.Spreading.{IsPut, IsFinding, Grows, IsClosedUpTo, IsSpread, Spreads, Overflows, IsTargetUpTo, IsTarget}
 
 any-step : (b c : Bool) → (b || c) ≡ true → (b ≡ true) ⊎ (c ≡ true)
 any-step true c h = inl refl

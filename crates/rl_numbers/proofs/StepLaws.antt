@@ -9,7 +9,8 @@ use Rattle.rl_graph.proofs.Sums.{Each-has, each-has}
 use mathlib.Core.Path.{fun_ext}
 use Rattle.rl_graph.proofs.GraphLaws.{bounded-whole}
 use Rattle.rl_numbers.specs.declared.triple.Triple.{Triple}
-use Rattle.rl_numbers.specs.Numbered.{triple_at, is_triple, triple_number, OnceEach, IsLevel, AreTriples, FirstsFall, StepsFall, IsApart, StartsHeld, HoldsIn, AllHold}
+use Rattle.rl_numbers.specs.Numbered.{triple_at, is_triple, triple_number, OnceEach, IsLevel, AreTriples}
+use Rattle.rl_numbers.specs.internal.NumberedFalls.{FirstsFall, StepsFall, IsApart, StartsHeld, HoldsIn, AllHold}
 use Rattle.rl_numbers.proofs.IndexLaws.{at-there, at-once}
 
 -- past the last letter there is no move

@@ -1,7 +1,7 @@
 -- Lists of doubles, by their states: what is held, and with which number.
-use Rattle.std.specs.Prelude.{◌≡◌, ◌≢◌, ℕ, ◌+◌, ◌<◌, Bool, IsTrue, ◌&&◌, nat_eq, if◌then◌else◌, List, [], ◌∷◌, Option, Some, None, is_some, slice_get}
+use Rattle.std.specs.Prelude.{[], ◌≡◌, ℕ, ◌<◌, Bool, IsTrue, ◌&&◌, nat_eq, if◌then◌else◌, List, ◌∷◌, Option, Some, None, is_some}
 use Rattle.std.specs.Option.{option_map_or}
-use Rattle.rl_graph.specs.Paths.{Has, Each, Pairs}
+use Rattle.rl_graph.specs.Paths.{Each, Pairs}
 use Rattle.rl_degree.specs.FallingNumbers.{IsDoubles}
 use Rattle.indexmap.specs.IndexMap.{IndexMap, get_by}
 use Rattle.rl_numbers.specs.declared.double.Double.{Double}
@@ -30,38 +30,6 @@ pub record AreDoubles (next : ℕ → ℕ → List ℕ) (n : ℕ) (l : List Doub
   pub once : OnceEach l
   pub inside : Each (IsInside n) l
   pub numbers : IsDoubles next n (is_double l) (double_number l)
-
--- ---- what is looked at, double by double. For private clauses
-
--- two states are held by a number below `most`
-abbrev pub FallsBelow : (ℕ → ℕ → Option ℕ) → ℕ → ℕ → ℕ → Type 0
-FallsBelow at most x y = (k : ℕ) × (at x y ≡ Some k) × (k < most)
-
--- each two targets in two rows
-abbrev pub SecondsFall : (ℕ → ℕ → Option ℕ) → ℕ → ℕ → List ℕ → Type 0
-SecondsFall at most x row = (y : ℕ) → Has y row → FallsBelow at most x y
-
-abbrev pub FirstsFall : (ℕ → ℕ → Option ℕ) → ℕ → List ℕ → List ℕ → Type 0
-FirstsFall at most row second = (x : ℕ) → Has x row → SecondsFall at most x second
-
--- no step of the double leads to two states that aren't held or have a greater number
-abbrev pub StepsFall : (ℕ → ℕ → List ℕ) → (ℕ → ℕ → Option ℕ) → Double → Type 0
-StepsFall next at d = (letter : ℕ) → FirstsFall at (d.number + 1) (next d.p letter) (next d.q letter)
-
--- the second of two different moves of a row, with the first one
-abbrev pub OthersFall : (ℕ → ℕ → Option ℕ) → ℕ → ℕ → ℕ → List ℕ → Type 0
-OthersFall at most i x row = (j y : ℕ) → i ≢ j → slice_get row j ≡ Some y → FallsBelow at most x y
-
--- each two different moves of a row
-abbrev pub ApartsFall : (ℕ → ℕ → Option ℕ) → ℕ → List ℕ → Type 0
-ApartsFall at most row = (i x : ℕ) → slice_get row i ≡ Some x → OthersFall at most i x row
-
--- where the double is a state with itself, two different moves on one letter lead to a smaller number
-abbrev pub LeavesFall : (ℕ → ℕ → List ℕ) → (ℕ → ℕ → Option ℕ) → Double → Type 0
-LeavesFall next at d = d.p ≡ d.q → (letter : ℕ) → ApartsFall at d.number (next d.p letter)
-
-abbrev pub HoldsIn : (ℕ → ℕ → List ℕ) → ℕ → (ℕ → ℕ → Option ℕ) → Double → Type 0
-HoldsIn next n at d = IsInside n d × StepsFall next at d × LeavesFall next at d
 
 -- each state is held with itself
 abbrev pub EqualsHeld : ℕ → (ℕ → ℕ → Option ℕ) → Type 0

@@ -9,5 +9,4 @@ pub mod Columns
 pub mod Doubled
 pub mod Starts
 pub mod Listed
-pub mod Inner
-pub mod Diagonal
+pub mod internal

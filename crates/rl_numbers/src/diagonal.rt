@@ -3,7 +3,7 @@
 ghost use Rattle.std.specs.Prelude.{◌≡◌, ℕ, ◌*◌, ◌/◌, ◌%◌, ◌<◌, ◌^◌, length, IfOk};
 ghost use Rattle.rl_graph.specs.Parts.{number_of};
 ghost use Rattle.rl_graph.specs.Paths.{Each};
-ghost use Rattle.rl_numbers.specs.Diagonal.{IsDiagonalUpTo, double_of, doubles_in};
+ghost use Rattle.rl_numbers.specs.internal.Diagonal.{IsDiagonalUpTo, double_of, doubles_in};
 
 use crate::double::{Double, Doubles};
 use indexmap::IndexSet;

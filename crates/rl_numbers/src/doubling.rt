@@ -3,7 +3,8 @@
 ghost use Rattle.std.specs.Prelude.{◌≡◌, ◌≢◌, ℕ, ◌+◌, ◌<◌, ◌≤◌, ◌^◌, ◌↔◌, IsTrue, All, List, None, Some, length, slice_get, slice_index, is_some, IfOk, IfSome, IfNone};
 ghost use Rattle.rl_graph.specs.Graph.{edges_of};
 ghost use Rattle.rl_graph.specs.Paths.{Each};
-ghost use Rattle.rl_numbers.specs.Doubled.{OnceEach, IsInside, AreDoubles, FallsBelow, SecondsFall, FirstsFall, StepsFall, OthersFall, ApartsFall, LeavesFall, HoldsIn, EqualsHeld, number_in, IsIndex};
+ghost use Rattle.rl_numbers.specs.Doubled.{OnceEach, IsInside, AreDoubles, EqualsHeld, number_in, IsIndex};
+ghost use Rattle.rl_numbers.specs.internal.DoubledFalls.{FallsBelow, SecondsFall, FirstsFall, StepsFall, OthersFall, ApartsFall, LeavesFall, HoldsIn};
 
 use crate::double::Double;
 use indexmap::IndexMap;

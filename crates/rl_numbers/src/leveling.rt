@@ -1,7 +1,7 @@
 //! The moves of a graph that stay on the rank of their state.
 
 ghost use Rattle.std.specs.Prelude.{◌≡◌, ℕ, ◌<◌, ◌+◌, length, slice_index, IfOk, OnOk};
-ghost use Rattle.rl_numbers.specs.Inner.{IsInnerUpTo};
+ghost use Rattle.rl_numbers.specs.internal.Inner.{IsInnerUpTo};
 ghost use Rattle.rl_graph.specs.Graph.{edges_of};
 ghost use Rattle.rl_numbers.specs.Level.{table_of, IsLevelOf};
 

@@ -9,8 +9,9 @@ use Rattle.rl_graph.specs.Graph.{Graph, edges_of, IsBare, IsAdded}
 use Rattle.rl_sets.specs.Walk.{Walk, set_at}
 use Rattle.rl_pairs.specs.declared.pair.Pair.{Pair}
 use Rattle.rl_pairs.specs.declared.finder.Key.{Key}
-use Rattle.rl_pairs.specs.Finding.{pair_of}
-use Rattle.rl_pairs.specs.PairTable.{HasRow, HasRows}
+use Rattle.rl_pairs.specs.internal.Finding.{pair_of}
+use Rattle.rl_pairs.specs.PairTable.{HasRow}
+use Rattle.rl_pairs.specs.internal.Rows.{HasRows}
 
 pub row-start : (g : Graph) (from letter : ℕ) → edges_of g from letter ≡ [] → HasRow g g from letter []
 row-start g from letter e = record { states = refl; letters = refl; here = e; elsewhere = λ q l ne. refl }

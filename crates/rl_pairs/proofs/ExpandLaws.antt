@@ -16,8 +16,8 @@ use Rattle.rl_pairs.specs.declared.finder.Key.{Key}
 use Rattle.rl_pairs.specs.LivePairs.{pairs_from, next_pairs}
 use Rattle.rl_pairs.specs.PairGraph.{KeptLive, seen_after}
 use Rattle.rl_pairs.specs.Counted.{moved}
-use Rattle.rl_pairs.specs.Counting.{IsCounted, IsCounting, Keeps, IsOnward, IsNumberOf, Stands}
-use Rattle.rl_pairs.specs.Finding.{Found, with_row, first_key, key_at, pair_of, pair_at, rest_at, width, next_in, next_of, flat, IsFound, Stays, IsRowOf, IsMoved, IsNoted, IsTrying, IsFurther, tried, set_for}
+use Rattle.rl_pairs.specs.internal.Counting.{IsCounted, IsCounting, Keeps, IsOnward, IsNumberOf, Stands}
+use Rattle.rl_pairs.specs.internal.Finding.{Found, with_row, first_key, key_at, pair_of, pair_at, rest_at, width, next_in, next_of, flat, IsFound, Stays, IsRowOf, IsMoved, IsNoted, IsTrying, IsFurther, tried, set_for}
 use Rattle.rl_pairs.proofs.SetLaws.{has-holds}
 use Rattle.rl_pairs.proofs.CountingLaws.{image-counted, Keeps-trans, onward-refl, onward-trans}
 use Rattle.rl_pairs.proofs.RowLaws.{flat-push, next-at, next-last, next-old, Each-push, Each-weaker, KeptLive-same, KeptLive-dead, KeptLive-live, pairs-step, pairs-has, tried-for}

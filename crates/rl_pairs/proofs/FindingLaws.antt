@@ -17,8 +17,8 @@ use Rattle.rl_pairs.specs.declared.finder.Key.{Key}
 use Rattle.rl_pairs.specs.LivePairs.{next_pairs, LivePair, move}
 use Rattle.rl_pairs.specs.PairGraph.{AreFirstSeen, seen_after}
 use Rattle.rl_pairs.specs.Counted.{MoreThan}
-use Rattle.rl_pairs.specs.Counting.{Keeps, IsNumberOf}
-use Rattle.rl_pairs.specs.Finding.{Found, with_row, first_key, key_at, pair_of, pair_at, lead_at, rest_at, width, next_of, flat, IsLed, IsFound, Stays, IsNoted}
+use Rattle.rl_pairs.specs.internal.Counting.{Keeps, IsNumberOf}
+use Rattle.rl_pairs.specs.internal.Finding.{Found, with_row, first_key, key_at, pair_of, pair_at, lead_at, rest_at, width, next_of, flat, IsLed, IsFound, Stays, IsNoted}
 use Rattle.rl_pairs.proofs.SetLaws.{Has-below}
 use Rattle.rl_pairs.proofs.CountLaws.{length-below}
 use Rattle.rl_pairs.proofs.RowLaws.{AreFirstSeen-push, seen-old, seen-new, flat-last, flat-nil, next-more, next-nil, next-last, Each-push, Each-weaker}

@@ -9,7 +9,7 @@ use Rattle.rl_sets.specs.Live.{joined, IsLive}
 use Rattle.rl_pairs.specs.declared.pair.Pair.{Pair}
 use Rattle.rl_pairs.specs.LivePairs.{pairs_from}
 use Rattle.rl_pairs.specs.PairGraph.{KeptLive, AreFirstSeen, seen_after}
-use Rattle.rl_pairs.specs.Finding.{next_in, flat, tried, set_for}
+use Rattle.rl_pairs.specs.internal.Finding.{next_in, flat, tried, set_for}
 
 -- numbers by first sight
 

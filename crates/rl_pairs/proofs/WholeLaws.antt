@@ -14,15 +14,16 @@ use Rattle.rl_sets.specs.Rests.{IsRefusedRest}
 use Rattle.rl_sets.specs.Walk.{Walk}
 use Rattle.rl_pairs.specs.declared.error.PairsError.{PairsError}
 use Rattle.rl_pairs.specs.declared.error.PairsError.TheVariants.{Sets, Pairs as TooMany, OutOfMemory}
-use Rattle.rl_pairs.specs.Errors.{IsRightError}
+use Rattle.rl_pairs.specs.internal.Errors.{IsRightError}
 use Rattle.rl_pairs.specs.declared.pair.Pair.{Pair}
 use Rattle.rl_pairs.specs.declared.finder.Key.{Key}
 use Rattle.rl_pairs.specs.LivePairs.{first_pair, next_pairs, LivePair, first, refused}
 use Rattle.rl_pairs.specs.PairGraph.{IsPairGraph, IsNumbered, AreFirstSeen, seen_after, seen_before, targets_of}
 use Rattle.rl_pairs.specs.Counted.{CountedSet, moved, imaged, MoreThan}
-use Rattle.rl_pairs.specs.Counting.{IsCounting, Keeps, IsOnward, Stands, IsClosed}
-use Rattle.rl_pairs.specs.Finding.{Found, first_key, key_at, pair_of, pair_at, lead_at, rest_at, width, next_of, flat, IsFound, IsRowOf, IsMoved, IsFurther}
-use Rattle.rl_pairs.specs.PairTable.{PairTable, IsBuilt, moves_in, pair_in, lead_in, rest_in, IsFull}
+use Rattle.rl_pairs.specs.internal.Counting.{IsCounting, Keeps, IsOnward, Stands, IsClosed}
+use Rattle.rl_pairs.specs.internal.Finding.{Found, first_key, key_at, pair_of, pair_at, lead_at, rest_at, width, next_of, flat, IsFound, IsRowOf, IsMoved, IsFurther}
+use Rattle.rl_pairs.specs.PairTable.{PairTable, moves_in, pair_in, lead_in, rest_in, IsFull}
+use Rattle.rl_pairs.specs.internal.Rows.{IsBuilt}
 use Rattle.rl_pairs.proofs.CountLaws.{distinct-short, number-there}
 use Rattle.rl_pairs.proofs.CountingLaws.{one-only}
 use Rattle.rl_pairs.proofs.RowLaws.{flat-append, flat-push, next-at, next-out, seen_after-append, AreFirstSeen-split}

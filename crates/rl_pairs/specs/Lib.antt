@@ -3,7 +3,5 @@ pub mod PairGraph
 pub mod Counted
 pub mod Families
 pub mod RightVerdict
-pub mod Errors
-pub mod Counting
-pub mod Finding
 pub mod PairTable
+pub mod internal

@@ -1,10 +1,8 @@
 -- What a graph of live pairs is seen as.
-use Rattle.std.specs.Prelude.{◌≡◌, ◌≢◌, ℕ, ◌+◌, ◌*◌, ◌<◌, ◌≤◌, ◌⊎◌, List, [], length, map, slice_index_or}
-use Rattle.rl_sets.specs.Walk.{Walk}
+use Rattle.std.specs.Prelude.{[], ◌≡◌, ◌≢◌, ℕ, ◌⊎◌, List, length, slice_index_or}
 use Rattle.rl_graph.specs.Graph.{Graph, edges_of}
 use Rattle.rl_pairs.specs.declared.pair.Pair.{Pair}
 use Rattle.rl_pairs.specs.LivePairs.{first_pair}
-use Rattle.rl_pairs.specs.Finding.{Found, pair_of}
 
 -- a multigraph, and the pair of each of its states with a lead and a rest
 pub record PairTable : Type 0 where
@@ -39,17 +37,3 @@ pub record HasRow (old new : Graph) (from letter : ℕ) (row : List ℕ) : Type 
   pub letters : new.letters ≡ old.letters
   pub here : edges_of new from letter ≡ row
   pub elsewhere : (q l : ℕ) → (q ≢ from) ⊎ (l ≢ letter) → edges_of new q l ≡ edges_of old q l
-
--- the moves of the graph are the first `count` rows
-pub record HasRows (g : Graph) (states letters : ℕ) (rows : List (List ℕ)) (count : ℕ) : Type 0 where
-  pub all_states : g.states ≡ states
-  pub all_letters : g.letters ≡ letters
-  pub before : (q l : ℕ) → l < letters → q * letters + l < count → edges_of g q l ≡ slice_index_or rows (q * letters + l) []
-  pub behind : (q l : ℕ) → l < letters → count ≤ q * letters + l → edges_of g q l ≡ []
-
--- the graph of the pairs that were found
-pub record IsBuilt (w : Walk) (f : Found) (letters : ℕ) (g : PairTable) : Type 0 where
-  pub rows : HasRows g.graph (length f.keys) letters f.rows (length f.rows)
-  pub pairs : g.pairs ≡ map (pair_of w) f.keys
-  pub leads : g.leads ≡ f.leads
-  pub rests : g.rests ≡ f.rests

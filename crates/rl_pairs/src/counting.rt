@@ -5,8 +5,8 @@ ghost use Rattle.rl_prio.specs.Automaton.{letters_count, accepting_state};
 ghost use Rattle.rl_sets.specs.Live.{holds, image, joined, IsLive};
 ghost use Rattle.rl_sets.specs.Rests.{IsRefusedRest};
 ghost use Rattle.rl_sets.specs.Walk.{set_at};
-ghost use Rattle.rl_pairs.specs.Errors.{IsRightError};
-ghost use Rattle.rl_pairs.specs.Counting.{IsCounted, IsCounting, IsOnward, IsNumberOf, IsClosed};
+ghost use Rattle.rl_pairs.specs.internal.Errors.{IsRightError};
+ghost use Rattle.rl_pairs.specs.internal.Counting.{IsCounted, IsCounting, IsOnward, IsNumberOf, IsClosed};
 
 use crate::error::PairsError;
 use rl_lists::Word;

@@ -5,9 +5,9 @@ ghost use Rattle.rl_prio.specs.Automaton.{letters_count};
 ghost use Rattle.rl_graph.specs.Paths.{Has};
 ghost use Rattle.rl_sets.specs.Walk.{set_at};
 ghost use Rattle.rl_pairs.specs.LivePairs.{next_pairs};
-ghost use Rattle.rl_pairs.specs.Errors.{IsRightError};
-ghost use Rattle.rl_pairs.specs.Counting.{IsCounted, IsCounting, IsOnward, IsNumberOf};
-ghost use Rattle.rl_pairs.specs.Finding.{found_of, with_row, first_key, key_at, pair_of, pair_at, lead_at, width, IsFound, Stays, IsMoved, IsNoted, IsFurther, set_for};
+ghost use Rattle.rl_pairs.specs.internal.Errors.{IsRightError};
+ghost use Rattle.rl_pairs.specs.internal.Counting.{IsCounted, IsCounting, IsOnward, IsNumberOf};
+ghost use Rattle.rl_pairs.specs.internal.Finding.{found_of, with_row, first_key, key_at, pair_of, pair_at, lead_at, width, IsFound, Stays, IsMoved, IsNoted, IsFurther, set_for};
 
 use crate::counting::{image_of, joined_with, rest_of};
 use crate::error::PairsError;

@@ -8,9 +8,10 @@ ghost use Rattle.rl_sets.specs.Live.{IsRest};
 ghost use Rattle.rl_pairs.specs.LivePairs.{LivePair, refused};
 ghost use Rattle.rl_pairs.specs.PairGraph.{IsPairGraph, IsNumbered};
 ghost use Rattle.rl_pairs.specs.Counted.{CountedSet, MoreThan};
-ghost use Rattle.rl_pairs.specs.PairTable.{moves_in, pair_in, lead_in, rest_in, IsFull, HasRow, HasRows, IsBuilt};
+ghost use Rattle.rl_pairs.specs.PairTable.{moves_in, pair_in, lead_in, rest_in, IsFull, HasRow};
+ghost use Rattle.rl_pairs.specs.internal.Rows.{HasRows, IsBuilt};
 ghost use Rattle.rl_pairs.specs.declared.error.PairsError.TheVariants as error;
-ghost use Rattle.rl_pairs.specs.Finding.{found_of, pair_of};
+ghost use Rattle.rl_pairs.specs.internal.Finding.{found_of, pair_of};
 
 use crate::counting::{close, start};
 use crate::error::PairsError;

@@ -11,7 +11,7 @@ use Rattle.rl_pattern.specs.Thinned.{MayMeet, Thinned, kept_from}
 use Rattle.rl_pattern.proofs.Sifted.{Sifted, count_from}
 use Rattle.rl_pattern.specs.Cut.{gone}
 use Rattle.rl_pattern.specs.Found.{items_of, inner_of, inner}
-use Rattle.rl_pattern.specs.Left.{moved_front, AllKept, left_first, left_whole}
+use Rattle.rl_pattern.specs.internal.Left.{moved_front, AllKept, left_first, left_whole}
 use Rattle.rl_pattern.proofs.Locality.{whole_left}
 use Rattle.rl_pattern.proofs.Holes.{hole, branch_holes, drops_in, some_left, whole_holes, body_holes, branches_within}
 use Rattle.rl_pattern.proofs.InnerBare.{items_are}

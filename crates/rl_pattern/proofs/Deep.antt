@@ -6,7 +6,7 @@ use Rattle.rl_pattern.specs.Tree.{Kind, Node, Branch, Front}
 use Rattle.rl_pattern.specs.Codes.{left, inside}
 use Rattle.rl_pattern.specs.Grammar.{At, Quest, Items, outermost}
 use Rattle.rl_pattern.specs.Viable.{Begins, Part, part_first, part_next, Open, none_open, one_open, TooDeepAt}
-use Rattle.rl_pattern.specs.Machine.{Frame, Last, nothing_yet, Base, Lex, between, line, remark, in_braces, counted, at_slash, in_escape, in_head, set_open, in_class, State, at, settled, InHead, paren, quest, after_p, after_less, group_name, group_name_goes, reference_name, reference_name_goes, asks, asks_digits, asks_name_goes, letters_on, letters_dash, letters_off, run, observe, start}
+use Rattle.rl_pattern.specs.internal.Machine.{Frame, Last, nothing_yet, Base, Lex, between, line, remark, in_braces, counted, at_slash, in_escape, in_head, set_open, in_class, State, at, settled, InHead, paren, quest, after_p, after_less, group_name, group_name_goes, reference_name, reference_name_goes, asks, asks_digits, asks_name_goes, letters_on, letters_dash, letters_off, run, observe, start}
 use Rattle.rl_pattern.proofs.Steps.{Fair, reads_from, sign_goes}
 use Rattle.rl_pattern.proofs.Reading.{Out, frame, base, Bt, items_go, branches_go, Outermost, fronts_go, opening_between, at_the_end, at_the_start, signs, bar_goes}
 use Rattle.rl_pattern.proofs.Sound.{LexOk, BaseOk, BelowOk, BranchesOk, none_yet, some_yet, all_items}

@@ -3,7 +3,7 @@ use Rattle.std.proofs.Common.{◌≡◌, ℕ, zero, suc, sub-one, ◌-◌, ◌<�
 use Rattle.std.proofs.lemmas.Bool.{ne_eqb, cond_both}
 use Rattle.rl_pattern.specs.Tree.{span, Escaped, code, too_large, by_name, reference, Member, range, glyph, members, Whole, greedy, Kind, named, scoped, lookaround, conditional}
 use Rattle.rl_pattern.specs.Codes.{with_digit, sign, numeral, is_digit, hex, slashed, begins_name, goes_in_name, on_letter, off_letter, headed, no_flags, with_letter, counts, octal_code, hex_code, code_of, is_kind}
-use Rattle.rl_pattern.specs.Machine.{stops, goes, ends, InEscape, in_hex, name_brace, name_begins, name_goes, in_octal, after_low, after_high, after_two, escape_next, escape_rest, InSet, set_first, set_next, set_slash, set_escape, set_side, set_dash, dash_slash, dash_escape, in_set, escape_set_next, escape_dash_next, set_answer, InHead, paren, quest, after_p, after_less, group_name, group_name_goes, reference_name, reference_name_goes, asks, asks_digits, asks_name_goes, letters_on, letters_dash, letters_off, Frame, Base, Lex, between, line, remark, in_braces, counted, at_slash, in_escape, in_head, set_open, in_class, State, at, put_leaf, put_code, put_codes, no_count, put_repeat, open_group, close, escape_step, step_at, observe, finish_below, finish_escape, finish_at}
+use Rattle.rl_pattern.specs.internal.Machine.{stops, goes, ends, InEscape, in_hex, name_brace, name_begins, name_goes, in_octal, after_low, after_high, after_two, escape_next, escape_rest, InSet, set_first, set_next, set_slash, set_escape, set_side, set_dash, dash_slash, dash_escape, in_set, escape_set_next, escape_dash_next, set_answer, InHead, paren, quest, after_p, after_less, group_name, group_name_goes, reference_name, reference_name_goes, asks, asks_digits, asks_name_goes, letters_on, letters_dash, letters_off, Frame, Base, Lex, between, line, remark, in_braces, counted, at_slash, in_escape, in_head, set_open, in_class, State, at, put_leaf, put_code, put_codes, no_count, put_repeat, open_group, close, escape_step, step_at, observe, finish_below, finish_escape, finish_at}
 
 -- how an escape ends that was begun
 abbrev pub escape_ending : InEscape → List ℕ

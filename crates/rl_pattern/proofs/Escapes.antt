@@ -5,7 +5,7 @@ use mathlib.Core.Logic.{inl, inr, ⊎_elim}
 use Rattle.rl_pattern.specs.Tree.{Escaped, by_name, reference}
 use Rattle.rl_pattern.specs.Codes.{with_digit, Numeral, numeral, low_digit, high_digit, no_digit, is_digit, is_some_digit, Slashed, slashed, slashed_letter, slashed_digit, is_letter, single, kinds, hexes, naming, octal, low, high, edges, no_escape, octal_code, hex_code}
 use Rattle.rl_pattern.specs.Grammar.{At, Without, no_code, one_code, Hexes, no_hex, one_hex, Octals, no_octal, one_octal, OctalAt, DigitAt, Slash, Three, Refers, Escape, escape_single, escape_kind, escape_hex, escape_name, escape_octal, escape_three, reference_one, reference_two}
-use Rattle.rl_pattern.specs.Machine.{State, stops, goes, ends, InEscape, in_hex, name_brace, name_begins, name_goes, in_octal, after_low, after_high, after_two, escape_first, escape_next, escape_rest, hex_next, octal_next, low_next, high_next, two_next, step_at}
+use Rattle.rl_pattern.specs.internal.Machine.{State, stops, goes, ends, InEscape, in_hex, name_brace, name_begins, name_goes, in_octal, after_low, after_high, after_two, escape_first, escape_next, escape_rest, hex_next, octal_next, low_next, high_next, two_next, step_at}
 use Rattle.rl_pattern.proofs.Steps.{reads_from, goes_to, alike_steps}
 
 -- a number of hexadecimal digits to come isn't 0

@@ -6,7 +6,7 @@ use Rattle.rl_pattern.specs.declared.flags.Flags.{Flags}
 use Rattle.rl_pattern.specs.Tree.{Kind, capturing, named, scoped, lookaround, atomic, conditional, glyph, reference}
 use Rattle.rl_pattern.specs.Codes.{numeral, is_digit, begins_name, goes_in_name, Headed, headed, letter, colon, minus, letter_p, sharps, less, greater, condition, looks, on_letter, off_letter, no_flags, with_letter}
 use Rattle.rl_pattern.specs.Grammar.{At, Name, first_code, next_code, Digits, one_digit, next_digit, Letters, first_letter, next_letter, Quest, Opening, captures, captures_named, groups, groups_on, groups_both, groups_off, looks_ahead, looks_behind, cuts, asks_number, asks_name, FlagGroup, flag_group, Without, no_code, one_code}
-use Rattle.rl_pattern.specs.Machine.{State, Base, at, between, remark, stops, goes, ends, InHead, paren, quest, after_p, after_less, group_name, group_name_goes, reference_name, reference_name_goes, asks, asks_digits, asks_name_goes, letters_on, letters_dash, letters_off, Begun, begins_group, begins_remark, is_reference, is_front, quest_next, behind_next, head_step, head_answer, in_head, begin, open_group, put_leaf, put_front}
+use Rattle.rl_pattern.specs.internal.Machine.{State, Base, at, between, remark, stops, goes, ends, InHead, paren, quest, after_p, after_less, group_name, group_name_goes, reference_name, reference_name_goes, asks, asks_digits, asks_name_goes, letters_on, letters_dash, letters_off, Begun, begins_group, begins_remark, is_reference, is_front, quest_next, behind_next, head_step, head_answer, in_head, begin, open_group, put_leaf, put_front}
 use Rattle.rl_pattern.proofs.Steps.{reads_from, goes_to, same_step, differs}
 
 name_not : (text : Bool) → (goes_in_name text 62 ≡ false) × (goes_in_name text 41 ≡ false)

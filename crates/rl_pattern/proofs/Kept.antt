@@ -6,7 +6,7 @@ use mathlib.Core.Logic.{inl, inr}
 use Rattle.rl_pattern.specs.Tree.{Escaped, by_name, reference}
 use Rattle.rl_pattern.specs.Codes.{with_digit, Numeral, numeral, low_digit, high_digit, no_digit, is_digit, hex, Slashed, slashed, single, kinds, hexes, naming, octal, low, high, edges, no_escape, octal_code, hex_code}
 use Rattle.rl_pattern.specs.Grammar.{At, Without, no_code, one_code, Hexes, no_hex, one_hex, Octals, no_octal, one_octal, OctalAt, DigitAt, Slash, Three, Escape, escape_single, escape_kind, escape_hex, escape_name, escape_octal, escape_three, reference_one, reference_two}
-use Rattle.rl_pattern.specs.Machine.{Answer, stops, goes, ends, InEscape, in_hex, name_brace, name_begins, name_goes, in_octal, after_low, after_high, after_two, escape_first, escape_next, escape_rest, hex_next, octal_next, low_next, high_next, two_next}
+use Rattle.rl_pattern.specs.internal.Machine.{Answer, stops, goes, ends, InEscape, in_hex, name_brace, name_begins, name_goes, in_octal, after_low, after_high, after_two, escape_first, escape_next, escape_rest, hex_next, octal_next, low_next, high_next, two_next}
 use Rattle.rl_pattern.proofs.Steps.{same_code}
 use Rattle.rl_pattern.proofs.Escapes.{digit_from, digit_false, hexes_pos}
 

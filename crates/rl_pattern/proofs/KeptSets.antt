@@ -4,7 +4,7 @@ use Rattle.std.proofs.lemmas.Bool.{eqb-true, eqb-false, cond_both}
 use Rattle.rl_pattern.specs.Tree.{span, Escaped, code, Member, one, range}
 use Rattle.rl_pattern.specs.Codes.{slashed, is_kind}
 use Rattle.rl_pattern.specs.Grammar.{At, Escape, Side, plain_side, escaped_side, IsMember, is_one, is_range, Members, first_member, next_member}
-use Rattle.rl_pattern.specs.Machine.{Answer, stops, goes, ends, InEscape, escape_first, escape_next, escape_rest, InSet, set_first, set_next, set_slash, set_escape, set_side, set_dash, dash_slash, dash_escape, Set, in_set, with_one, side_first, member_first, side_next, escape_in_set, escape_set_next, range_ends, escape_in_dash, escape_dash_next, dash_next, set_step}
+use Rattle.rl_pattern.specs.internal.Machine.{Answer, stops, goes, ends, InEscape, escape_first, escape_next, escape_rest, InSet, set_first, set_next, set_slash, set_escape, set_side, set_dash, dash_slash, dash_escape, Set, in_set, with_one, side_first, member_first, side_next, escape_in_set, escape_set_next, range_ends, escape_in_dash, escape_dash_next, dash_next, set_step}
 use Rattle.rl_pattern.proofs.Steps.{same_code}
 use Rattle.rl_pattern.proofs.Escapes.{backslash}
 use Rattle.rl_pattern.proofs.Kept.{Answers, EscapeOk, first_ok, next_ok, Quiet, rest_ok}

@@ -7,7 +7,7 @@ use Rattle.std.specs.Prelude.{Box}
 use Rattle.std.proofs.Common.{Global}
 use Rattle.rl_pattern.specs.Tree as t
 use Rattle.rl_pattern.specs.declared.tree.Branch.{Branch}
-use Rattle.rl_pattern.specs.Views.{node_of, branch_of}
+use Rattle.rl_pattern.specs.internal.Views.{node_of, branch_of}
 
 pub node_of-repeat : (s q : t.Span) (n : t.Count) (g : t.Greed) (b : Box Node Global) → node_of (V.Repeat s q n g b) ≡ t.repeat s q n g (node_of b.value)
 node_of-repeat s q n g b = search the_lemmas

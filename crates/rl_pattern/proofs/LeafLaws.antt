@@ -17,7 +17,7 @@ use Rattle.rl_pattern.specs.Tree.{Named, Span, Escaped, Member, Leaf}
 use Rattle.rl_pattern.specs.Found.{code_member, some_member, kind_member, members_hold}
 use Rattle.rl_pattern.specs.Codes.{no_flags}
 use Rattle.rl_pattern.specs.Shape.{is_text, some_below, class_holds, closed_holds, within, leaf_codes}
-use Rattle.rl_pattern.specs.LeafSets.{closing_in, kind_in, escaped_in, code_in, codes_in, class_in, classes_in, members_in}
+use Rattle.rl_pattern.specs.internal.LeafSets.{closing_in, kind_in, escaped_in, code_in, codes_in, class_in, classes_in, members_in}
 
 -- a range cut off at the universe's end
 pub between_some : (u : Universe) (first last code n upto : ℕ) → n ≡ code_count u → upto ≡ min last (n - 1) → is_between first upto code ≡ within u (is_between first last) code

@@ -11,7 +11,7 @@ use Rattle.rl_pattern.specs.Tree.{Span, Count, Greed, Escaped, code, too_large, 
 use Rattle.rl_pattern.specs.Found.{Feature, fault_if, escaped_faults, member_faults, members_faults, leaf_faults, count_faults, kind_faults, node_faults, nodes_faults, branches_faults, Called, node_names, nodes_names, branches_names, is_leading, trail_of, code_member, kind_member, some_member, members_hold, reversed, is_most, below_least, is_possessive, overlap, closing, in_universe, is_locale, is_flag_clash, is_repeat_too_large, is_repeat_order, is_possessive_count, is_reversed_range}
 use Rattle.rl_pattern.specs.Shape.{is_text, shape, shapes, branch_shapes, leaf_codes, class_holds, closed_holds, within}
 use Rattle.rl_pattern.specs.Cut.{choice_of, left, left_items, left_branches}
-use Rattle.rl_pattern.specs.Left.{moved_member, moved_leaf}
+use Rattle.rl_pattern.specs.internal.Left.{moved_member, moved_leaf}
 use Rattle.rl_pattern.proofs.Holes.{drops_in}
 use Rattle.rl_pattern.proofs.InnerBare.{is_item, AllItems}
 use Rattle.rl_pattern.proofs.Nesting.{Has, HasSome, HasBranch}

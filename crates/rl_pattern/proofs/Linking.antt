@@ -14,7 +14,7 @@ use Rattle.rl_pattern.specs.Found.{is_inner_anchor, is_leading, trail_of, no_tra
 use Rattle.rl_pattern.specs.Grammar.{At, Quantifier, Blanks, no_blank, one_blank, Atom, literal, literal_brace, dotted, escaped, refers, bracketed, grouped, Item, once, repeated, edge_code, edge_escape, Items, no_items, pass_over, one_item, IsBranches, first_branch, next_branch}
 use Rattle.rl_pattern.specs.Shape.{is_text, shape, group_shape, mark_shape, is_greedy}
 use Rattle.rl_pattern.specs.Cut.{lies_in, in_dropped, left, gone}
-use Rattle.rl_pattern.specs.Left.{moved, moved_span, AllKept, AllGone, LeftAtom, left_leaf, left_group, left_once, left_repeat, left_mark, LeftItems, left_none, left_passed, left_item, left_unmarked, LeftBranches, left_first, left_next, left_gone}
+use Rattle.rl_pattern.specs.internal.Left.{moved, moved_span, AllKept, AllGone, LeftAtom, left_leaf, left_group, left_once, left_repeat, left_mark, LeftItems, left_none, left_passed, left_item, left_unmarked, LeftBranches, left_first, left_next, left_gone}
 use Rattle.rl_pattern.proofs.Tokens.{blanks_le, quantifier_lt, passed_lt, opening_lt}
 use Rattle.rl_pattern.proofs.Locality.{atom_lt, item_lt, items_le, branches_le}
 use Rattle.rl_pattern.proofs.Holes.{or_cases, or_false, lies_from, lies_to, hole, holes, hole_of, branch_holes, some_left, drops_in, holes_snoc, branch_holes_snoc, some_left_snoc, body_holes, whole_holes, atom_within, item_within, items_within, branches_within, dropped_within, cond_cases}

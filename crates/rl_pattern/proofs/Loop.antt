@@ -11,9 +11,10 @@ use Rattle.rl_pattern.specs.declared.state.State.{State as ProgramState}
 use Rattle.rl_pattern.specs.declared.tree.Whole.{Whole as ProgramWhole}
 use Rattle.rl_pattern.specs.declared.read.ReadError.{ReadError}
 use Rattle.rl_pattern.specs.declared.read.ReadError.TheVariants.{Syntax, TooDeep, OutOfMemory}
-use Rattle.rl_pattern.specs.Views.{FitsAt, state_of, whole_of}
-use Rattle.rl_pattern.specs.Answers.{Went, Ended, Answered, Shallow, is_code, opens_none, at_paren, is_too_deep, Standing}
-use Rattle.rl_pattern.specs.Machine.{InHead, paren, quest, after_p, after_less, group_name, group_name_goes, reference_name, reference_name_goes, asks, asks_digits, asks_name_goes, letters_on, letters_dash, letters_off, Lex, between, line, remark, in_braces, counted, at_slash, in_escape, in_head, set_open, in_class, State, behind_paren, step_at, run, finish_at, start}
+use Rattle.rl_pattern.specs.internal.Views.{FitsAt, state_of, whole_of}
+use Rattle.rl_pattern.specs.Answers.{Shallow}
+use Rattle.rl_pattern.specs.internal.Answering.{Went, Ended, Answered, is_code, opens_none, at_paren, is_too_deep, Standing}
+use Rattle.rl_pattern.specs.internal.Machine.{InHead, paren, quest, after_p, after_less, group_name, group_name_goes, reference_name, reference_name_goes, asks, asks_digits, asks_name_goes, letters_on, letters_dash, letters_off, Lex, between, line, remark, in_braces, counted, at_slash, in_escape, in_head, set_open, in_class, State, behind_paren, step_at, run, finish_at, start}
 use Rattle.rl_pattern.proofs.Reading.{text_length}
 use Rattle.rl_pattern.proofs.Sound.{LexOk, StateOk, read_is_spelled}
 use Rattle.rl_pattern.proofs.Viability.{run-append, run_ok, take_one, stops_at, stopped_spells_none, takes_all, run_then_finish, unread_spells_none}

@@ -8,7 +8,7 @@ use Rattle.rl_pattern.specs.Tree.{Span, Node, Branch, branch_body, branch, whole
 use Rattle.rl_pattern.specs.Codes.{joined}
 use Rattle.rl_pattern.specs.Found.{fault_if, Called, is_among, same_name, name_faults, node_names, node_faults, is_leading, trail_of, no_trail, run_of, drops, begins_leading, without_leading, without_trailing, trailing_run, inner_items, items_of, Inner, inner_of, inner, front_own, front_faults, whole_faults, refused, first_fault, is_locale, is_flag_clash, is_duplicate_name}
 use Rattle.rl_pattern.specs.Shape.{is_text}
-use Rattle.rl_pattern.specs.Left.{moved_front}
+use Rattle.rl_pattern.specs.internal.Left.{moved_front}
 use Rattle.rl_pattern.proofs.InnerBare.{AllItems, branch_items}
 use Rattle.rl_pattern.proofs.ShapeParts.{none_first}
 use Rattle.rl_pattern.proofs.Leaves.{nil_parts, nil_join, fault_moved, two_moved, name_of, tree, left_tree, Leaves, LeavesAll, all_none, all_more, all_snoc, body_leaves, LeavesSome, some_none, some_stays, some_goes}

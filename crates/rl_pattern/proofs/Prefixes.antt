@@ -10,7 +10,7 @@ use Rattle.rl_pattern.specs.Grammar.{At, Quest, Letters, first_letter, next_lett
 use Rattle.rl_pattern.specs.Viable.{Part, part_first, part_next, Open, none_open, one_open}
 use Rattle.rl_pattern.specs.Answers.{Shallow}
 use Rattle.rl_pattern.specs.Thinned.{Thinned}
-use Rattle.rl_pattern.specs.Left.{AllKept, AllGone, moved_front, LeftAtom, left_leaf, left_group, LeftItem, left_once, left_repeat, left_mark, LeftItems, left_none, left_passed, left_item, LeftBranches, left_first, left_next}
+use Rattle.rl_pattern.specs.internal.Left.{AllKept, AllGone, moved_front, LeftAtom, left_leaf, left_group, LeftItem, left_once, left_repeat, left_mark, LeftItems, left_none, left_passed, left_item, LeftBranches, left_first, left_next}
 use Rattle.rl_pattern.proofs.Steps.{same_code}
 use Rattle.rl_pattern.proofs.Tokens.{blanks_le, quantifier_lt, passed_lt, opening_lt, some_at, opening_moves, fronts_moves}
 use Rattle.rl_pattern.proofs.Locality.{atom_lt, item_lt, items_le, branches_le, items_left, branches_left}

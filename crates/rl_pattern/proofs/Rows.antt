@@ -8,7 +8,7 @@ use Rattle.std.proofs.lemmas.Option.{same_Some}
 use Rattle.rl_pattern.specs.Viable.{TooDeepAt}
 use Rattle.rl_pattern.proofs.Deep.{Behind, seen_too_deep}
 use Rattle.rl_pattern.specs.Found.{Fault, fault, refused, Inner, inner, no_trail, dollar_trail, end_trail, is_locale, is_flag_clash, is_duplicate_name, is_code_too_large, is_reversed_range, is_repeat_too_large, is_repeat_order, is_possessive_count, is_backreference, is_lookaround, is_named_escape, is_inner_anchor}
-use Rattle.rl_pattern.specs.Machine.{State, start, step_at, reads}
+use Rattle.rl_pattern.specs.internal.Machine.{State, start, step_at, reads}
 
 -- how many codes the machine takes before it stops, and one more
 abbrev taken : ℕ → Option State → List ℕ → ℕ

@@ -5,7 +5,7 @@ use mathlib.Core.Logic.{inl, inr, ⊎_elim}
 use Rattle.rl_pattern.specs.Tree.{span, Escaped, code, Member, range, members}
 use Rattle.rl_pattern.specs.Codes.{is_kind}
 use Rattle.rl_pattern.specs.Grammar.{At, Side, plain_side, escaped_side, Joins, IsMember, is_one, is_range, Members, first_member, next_member, SetHead, upright, inverted}
-use Rattle.rl_pattern.specs.Machine.{State, Base, at, between, stops, ends, escape_rest, InSet, set_first, set_next, set_slash, set_escape, set_side, set_dash, dash_slash, dash_escape, in_set, with_one, side_first, member_first, escape_in_set, escape_set_next, range_ends, escape_in_dash, escape_dash_next, set_open, in_class, set_answer, put_leaf, step_at}
+use Rattle.rl_pattern.specs.internal.Machine.{State, Base, at, between, stops, ends, escape_rest, InSet, set_first, set_next, set_slash, set_escape, set_side, set_dash, dash_slash, dash_escape, in_set, with_one, side_first, member_first, escape_in_set, escape_set_next, range_ends, escape_in_dash, escape_dash_next, set_open, in_class, set_answer, put_leaf, step_at}
 use Rattle.rl_pattern.proofs.Steps.{Fair, reads_from, goes_to, same_step, alike, alike_steps, same_code}
 use Rattle.rl_pattern.proofs.Escapes.{Reader, escape_goes, backslash}
 

@@ -5,9 +5,10 @@ use Rattle.std.proofs.lemmas.Option.{none-some, slice_get_within}
 use mathlib.Core.Logic.{inl, inr, ⊎_elim}
 use Rattle.rl_pattern.specs.declared.flags.Flags.{Flags}
 use Rattle.rl_pattern.specs.Tree.{span, Count, Greed, greedy, lazy, possessive, Escaped, Member, glyph, Kind, capturing, Node, Branch, branch, Front, Whole}
-use Rattle.rl_pattern.specs.Codes.{Sign, sign, left, right, bar, brace, slash, dot, bracket, times, edge, blank, sharp, plain, SignIs, is_blank, Slashed, slashed, single, kinds, hexes, naming, octal, low, high, edges, no_escape, counts, count_of, joined, inside, splits}
+use Rattle.rl_pattern.specs.Codes.{Sign, sign, left, right, bar, brace, slash, dot, bracket, times, edge, blank, sharp, plain, is_blank, Slashed, slashed, single, kinds, hexes, naming, octal, low, high, edges, no_escape, counts, count_of, joined, inside, splits}
+use Rattle.rl_pattern.specs.internal.Signs.{SignIs}
 use Rattle.rl_pattern.specs.Grammar.{is_literal, outermost, At, Without, no_code, one_code, Escape, SetHead, upright, inverted, Quest, Opening, captures, Text, no_text, one_text, Braces, braces, Counts, by_code, by_braces, Quantifier, is_greedy, is_lazy, is_possessive, Passed, pass_blank, pass_line, pass_last_line, pass_remark, Blanks, no_blank, one_blank, Atom, literal, literal_brace, dotted, escaped, bracketed, grouped, Item, once, repeated, edge_code, edge_escape, Items, no_items, pass_over, one_item, IsBranches, first_branch, next_branch, FlagGroup, Fronts, no_fronts, one_front, spelled, Spells}
-use Rattle.rl_pattern.specs.Machine.{Frame, Last, nothing_yet, an_atom, Base, Lex, between, line, remark, in_braces, counted, at_slash, in_escape, in_head, set_open, in_class, State, at, settled, put, put_item, put_leaf, put_code, put_codes, no_count, put_repeat, count_last, all_branches, next_branch as next_branch_base, split, open_group, close, is_nil, is_settled, at_front, put_front, begin, by_sign, go_on, end_braces, braces_step, counted_step, escape_begins, slash_step, escape_step, head_stops, behind_paren, head_answer, set_answer, set_opens, set_step, Set, set_first, step, step_at, observe, finish_below, finish, finish_escape, finish_lex, finish_at, start, reads, InEscape, escape_first, escape_next, escape_rest, Answer, stops, goes, ends, InHead, paren, quest, after_p, after_less, group_name, group_name_goes, reference_name, reference_name_goes, asks, asks_digits, asks_name_goes, letters_on, letters_dash, letters_off, head_step, Begun, begins_group, begins_remark, is_reference, is_front}
+use Rattle.rl_pattern.specs.internal.Machine.{Frame, Last, nothing_yet, an_atom, Base, Lex, between, line, remark, in_braces, counted, at_slash, in_escape, in_head, set_open, in_class, State, at, settled, put, put_item, put_leaf, put_code, put_codes, no_count, put_repeat, count_last, all_branches, next_branch as next_branch_base, split, open_group, close, is_nil, is_settled, at_front, put_front, begin, by_sign, go_on, end_braces, braces_step, counted_step, escape_begins, slash_step, escape_step, head_stops, behind_paren, head_answer, set_answer, set_opens, set_step, Set, set_first, step, step_at, observe, finish_below, finish, finish_escape, finish_lex, finish_at, start, reads, InEscape, escape_first, escape_next, escape_rest, Answer, stops, goes, ends, InHead, paren, quest, after_p, after_less, group_name, group_name_goes, reference_name, reference_name_goes, asks, asks_digits, asks_name_goes, letters_on, letters_dash, letters_off, head_step, Begun, begins_group, begins_remark, is_reference, is_front}
 use Rattle.rl_pattern.proofs.Steps.{same_code}
 use Rattle.rl_pattern.proofs.Reading.{put_more, counts_plain, brace_not, text_length}
 use Rattle.rl_pattern.proofs.Kept.{Answers, EscapeOk, first_ok, next_ok, rest_ok}

@@ -5,7 +5,7 @@ use Rattle.std.proofs.lemmas.Option.{same_Some}
 use Rattle.rl_pattern.specs.Tree.{glyph, Node, Count, greedy, Escaped}
 use Rattle.rl_pattern.specs.Codes.{sign, Sign}
 use Rattle.rl_pattern.specs.Grammar.{At}
-use Rattle.rl_pattern.specs.Machine.{State, Base, at, between, line, in_braces, counted, in_escape, in_class, set_open, InEscape, Set, escape_rest, no_count, put_repeat, put_leaf, step_at, observe, by_sign}
+use Rattle.rl_pattern.specs.internal.Machine.{State, Base, at, between, line, in_braces, counted, in_escape, in_class, set_open, InEscape, Set, escape_rest, no_count, put_repeat, put_leaf, step_at, observe, by_sign}
 
 drop_some : (w : List ℕ) (i c : ℕ) → slice_get w i ≡ Some c → drop i w ≡ c ∷ drop (suc i) w
 drop_some [] i c h = absurd (cc h)

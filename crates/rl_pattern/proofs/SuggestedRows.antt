@@ -3,7 +3,7 @@ use Rattle.std.proofs.Common.{◌≡◌, ℕ, true, false, List, [], ◌∷◌, 
 use Rattle.rl_ranges.specs.declared.universe.Universe.TheVariants.{Str}
 use Rattle.rl_pattern.specs.Tree.{Whole, span}
 use Rattle.rl_pattern.specs.Codes.{no_flags, sign, numeral, is_digit, hex, begins_name, goes_in_name, slashed, on_letter, off_letter, headed, with_letter, joined, scoped_flags, counts, count_of}
-use Rattle.rl_pattern.specs.Machine.{reads}
+use Rattle.rl_pattern.specs.internal.Machine.{reads}
 use Rattle.rl_pattern.specs.Shape.{shape}
 use Rattle.rl_syntax.specs.PatTree.{PatTree, nothing}
 use Rattle.rl_pattern.specs.Suggested.{branches_in, merged_in, text_of, may_go, among}

@@ -1,5 +1,5 @@
 -- What single codes are to the grammar of patterns.
-use Rattle.std.specs.Prelude.{◌≡◌, ℕ, ◌+◌, ◌-◌, ◌*◌, Bool, true, false, not, ◌&&◌, ◌||◌, if◌then◌else◌, nat_le, ◌==◌, List, [], ◌∷◌, Option, Some, None, min}
+use Rattle.std.specs.Prelude.{[], ℕ, ◌+◌, ◌-◌, ◌*◌, Bool, true, false, not, ◌&&◌, ◌||◌, if◌then◌else◌, nat_le, ◌==◌, List, ◌∷◌, Option, Some, None, min}
 use Rattle.rl_pattern.specs.declared.flags.Flags.{Flags}
 pub use Rattle.rl_pattern.specs.declared.lex.Sign.{Sign}
 pub use Rattle.rl_pattern.specs.declared.lex.Sign.TheVariants.{Left as left, Right as right, Bar as bar, Brace as brace, Slash as slash, Dot as dot, Bracket as bracket, Times as times, Edge as edge, Blank as blank, Sharp as sharp, Plain as plain}
@@ -35,21 +35,6 @@ sign c =
     else (if c == 35 then sharp
     else (if is_blank c then blank
     else plain)))))))))))))
-
--- the single code that a sign names
-abbrev pub SignIs : Sign → ℕ → Type 0
-SignIs left c = c ≡ 40
-SignIs right c = c ≡ 41
-SignIs bar c = c ≡ 124
-SignIs brace c = c ≡ 123
-SignIs slash c = c ≡ 92
-SignIs dot c = c ≡ 46
-SignIs bracket c = c ≡ 91
-SignIs sharp c = c ≡ 35
-SignIs (times n) c = Unit {0}
-SignIs (edge m) c = Unit {0}
-SignIs blank c = Unit {0}
-SignIs plain c = Unit {0}
 
 unfoldable pub numeral : ℕ → Numeral
 numeral c =
@@ -158,19 +143,6 @@ headed c =
     else (if c == 62 then greater
     else (if c == 40 then condition
     else no_head)))))))))
-
--- the single code that a sign behind (? names
-abbrev pub HeadIs : Headed → ℕ → Type 0
-HeadIs letter c = on_letter c ≡ true
-HeadIs colon c = c ≡ 58
-HeadIs minus c = c ≡ 45
-HeadIs letter_p c = c ≡ 80
-HeadIs sharps c = c ≡ 35
-HeadIs less c = c ≡ 60
-HeadIs greater c = c ≡ 62
-HeadIs condition c = c ≡ 40
-HeadIs looks c = Unit {0}
-HeadIs no_head c = Unit {0}
 
 abbrev pub no_flags : Flags
 no_flags = record { ignore_case = false; multiline = false; dot_all = false; verbose = false; ascii = false; unicode = false; locale = false }

@@ -1,10 +1,10 @@
 //! What the reader has read, with one thing more.
 
 ghost use Rattle.std.specs.Prelude.{◌≡◌, ℕ, ◌+◌, ◌-◌, ◌<◌, ◌≤◌, ◌^◌, List, [], ◌∷◌, ◌++◌, length, map, IfOk, option_map, Option, suc};
-ghost use Rattle.rl_pattern.specs.Views.{node_of, branch_of, last_of, frame_of, base_of, lex_of, state_of};
+ghost use Rattle.rl_pattern.specs.internal.Views.{node_of, branch_of, last_of, frame_of, base_of, lex_of, state_of};
 ghost use Rattle.rl_pattern.specs.Tree as t;
 ghost use Rattle.rl_pattern.specs.Codes.{inside, splits};
-ghost use Rattle.rl_pattern.specs.Machine as m;
+ghost use Rattle.rl_pattern.specs.internal.Machine as m;
 
 use crate::flags::{Flags, joined, scoped_flags};
 use crate::state::{Base, Frame, Last, Lex, State};

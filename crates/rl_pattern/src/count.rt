@@ -2,7 +2,7 @@
 
 ghost use Rattle.std.specs.Prelude.{◌≡◌};
 ghost use Rattle.rl_pattern.specs.Codes.{count_of};
-ghost use Rattle.rl_pattern.specs.Views.{part_next};
+ghost use Rattle.rl_pattern.specs.internal.Views.{part_next};
 
 use crate::escape::with_digit;
 use crate::lex::CountPart;

@@ -1,9 +1,9 @@
 //! The reader before the first code, and at the end of the codes.
 
 ghost use Rattle.std.specs.Prelude.{◌≡◌, ℕ, ◌+◌, ◌-◌, ◌<◌, ◌^◌, suc, length, List, map, IfOk, option_map};
-ghost use Rattle.rl_pattern.specs.Views.{node_of, branch_of, base_of, lex_of, state_of, whole_of, FitsAt};
+ghost use Rattle.rl_pattern.specs.internal.Views.{node_of, branch_of, base_of, lex_of, state_of, whole_of, FitsAt};
 ghost use Rattle.rl_pattern.specs.Tree as t;
-ghost use Rattle.rl_pattern.specs.Machine as m;
+ghost use Rattle.rl_pattern.specs.internal.Machine as m;
 
 use crate::base::{all_branches, no_count, put_leaf, put_repeat, whole_body};
 use crate::escape::escape_rest;

@@ -2,7 +2,7 @@
 
 ghost use Rattle.std.specs.Prelude.{◌≡◌, ℕ};
 ghost use Rattle.rl_pattern.specs.Codes.{with_digit, code_of, octal_code, hex_code, is_kind};
-ghost use Rattle.rl_pattern.specs.Machine.{escape_first, escape_next, escape_rest, hex_next, octal_next, low_next, high_next, two_next};
+ghost use Rattle.rl_pattern.specs.internal.Machine.{escape_first, escape_next, escape_rest, hex_next, octal_next, low_next, high_next, two_next};
 
 use crate::codes::{hex, numeral};
 use crate::lex::{Answer, InEscape, Numeral, Slashed};

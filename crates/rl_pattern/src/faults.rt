@@ -1,7 +1,7 @@
 //! What is refused in a tree: the first fault by its place, and of two at one place by the order of features.
 
 ghost use Rattle.std.specs.Prelude.{◌≡◌, ℕ, Bool, List, map, ◌||◌, ◌&&◌};
-ghost use Rattle.rl_pattern.specs.Views.{node_of, branch_of};
+ghost use Rattle.rl_pattern.specs.internal.Views.{node_of, branch_of};
 ghost use Rattle.rl_pattern.specs.Tree as t;
 ghost use Rattle.rl_pattern.specs.Found as f;
 

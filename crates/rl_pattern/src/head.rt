@@ -1,7 +1,7 @@
 //! The reader within the head of a group.
 
 ghost use Rattle.std.specs.Prelude.{◌≡◌, ℕ, Bool, if◌then◌else◌, nat_eq, IfOk};
-ghost use Rattle.rl_pattern.specs.Machine.{head_step, quest_next, behind_next, behind_paren};
+ghost use Rattle.rl_pattern.specs.internal.Machine.{head_step, quest_next, behind_next, behind_paren};
 
 use crate::codes::{begins_name, goes_in_name, headed, is_digit, off_letter, on_letter};
 use crate::flags::{Flags, no_flags, with_letter};

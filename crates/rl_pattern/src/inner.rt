@@ -1,8 +1,8 @@
 //! Taking off the outer anchors of a pattern.
 
 ghost use Rattle.std.specs.Prelude.{◌≡◌, List, [], ◌∷◌, map, reverse, Some, IfOk};
-ghost use Rattle.rl_pattern.specs.Views.{node_of, branch_of, whole_of};
-ghost use Rattle.rl_pattern.specs.Judged.{left_of, trail_at};
+ghost use Rattle.rl_pattern.specs.internal.Views.{node_of, branch_of, whole_of};
+ghost use Rattle.rl_pattern.specs.internal.Judged.{left_of, trail_at};
 ghost use Rattle.rl_pattern.specs.Tree as t;
 ghost use Rattle.rl_pattern.specs.Found as f;
 

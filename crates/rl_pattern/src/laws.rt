@@ -14,7 +14,7 @@ ghost use Rattle.rl_pattern.specs.Tree.{Whole};
 ghost use Rattle.rl_pattern.specs.Grammar.{Spells};
 ghost use Rattle.rl_pattern.specs.Parsed.{IsParsed};
 ghost use Rattle.rl_pattern.specs.Thinned.{Thinned};
-ghost use Rattle.rl_pattern.specs.Left.{LeftWhole};
+ghost use Rattle.rl_pattern.specs.internal.Left.{LeftWhole};
 ghost use Rattle.rl_pattern.specs.Cut.{left};
 ghost use Rattle.rl_pattern.specs.Suggested.{among, no_span, may_go, holds_guard, branches_in, merged_in, text_of, without};
 ghost use Rattle.rl_pattern.specs.Reread.{IsReread};

@@ -4,7 +4,7 @@ ghost use Rattle.std.specs.Prelude.{◌≡◌, ℕ, Bool, ◌&&◌, ◌||◌, �
 ghost use Rattle.rl_ranges.specs.Codes.{has, is_between, IsInside};
 ghost use Rattle.rl_pattern.specs.Tree.{Span, any, range};
 ghost use Rattle.rl_pattern.specs.Shape.{within, leaf_codes};
-ghost use Rattle.rl_pattern.specs.LeafSets.{closing_in, kind_in, escaped_in, code_in, codes_in, class_in, classes_in, members_in};
+ghost use Rattle.rl_pattern.specs.internal.LeafSets.{closing_in, kind_in, escaped_in, code_in, codes_in, class_in, classes_in, members_in};
 
 use crate::flags::Flags;
 use crate::tree::{Escaped, Leaf, Member};
@@ -75,7 +75,7 @@ fn kind_set(
 }
 
 /// The codes of a code or an escape.
-#[tactic(auto, unfolding(crate::specs::LeafSets::escaped_in))]
+#[tactic(auto, unfolding(crate::specs::internal::LeafSets::escaped_in))]
 fn escaped_set(
     alloc: Global,
     universe: Universe,
@@ -100,7 +100,7 @@ fn escaped_set(
 }
 
 /// The code or the range of a class's member, where it is one.
-#[tactic(auto, unfolding(crate::specs::LeafSets::code_in))]
+#[tactic(auto, unfolding(crate::specs::internal::LeafSets::code_in))]
 fn member_codes(alloc: Global, universe: Universe, member: Member) -> Result<CodeSet, OutOfMemory>
     ensures members { IfOk result (λ s. (c : ℕ) → has s c ≡ code_in universe member c) }
     ensures inside { IfOk result (IsInside universe) }
@@ -123,7 +123,7 @@ fn member_codes(alloc: Global, universe: Universe, member: Member) -> Result<Cod
 }
 
 /// The codes of a range of a class.
-#[tactic(auto, unfolding(crate::specs::LeafSets::code_in))]
+#[tactic(auto, unfolding(crate::specs::internal::LeafSets::code_in))]
 fn range_codes(
     alloc: Global,
     universe: Universe,
@@ -150,7 +150,7 @@ fn range_codes(
 }
 
 /// A set with the named class of a class's member, where the member is one.
-#[tactic(auto, using(crate::proofs::LeafLaws::or_none), unfolding(crate::specs::LeafSets::class_in))]
+#[tactic(auto, using(crate::proofs::LeafLaws::or_none), unfolding(crate::specs::internal::LeafSets::class_in))]
 fn with_kind(
     alloc: Global,
     universe: Universe,

@@ -1,8 +1,8 @@
 //! Names of groups that stand twice.
 
 ghost use Rattle.std.specs.Prelude.{◌≡◌, ℕ, ◌+◌, ◌<◌, List, [], ◌++◌, map, IfOk};
-ghost use Rattle.rl_pattern.specs.Views.{node_of, branch_of};
-ghost use Rattle.rl_pattern.specs.Judged.{called_of};
+ghost use Rattle.rl_pattern.specs.internal.Views.{node_of, branch_of};
+ghost use Rattle.rl_pattern.specs.internal.Judged.{called_of};
 ghost use Rattle.rl_pattern.specs.Tree as t;
 ghost use Rattle.rl_pattern.specs.Found as f;
 

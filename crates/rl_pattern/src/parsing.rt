@@ -4,10 +4,10 @@ ghost use Rattle.std.specs.Prelude.{◌≡◌, ℕ, ◌<◌, ◌≤◌, List, If
 ghost use Rattle.rl_ranges.specs.Text.{IsText};
 ghost use Rattle.rl_syntax.specs.IsPattern.{IsPattern};
 ghost use Rattle.rl_pattern.specs.Grammar.{Spells};
-ghost use Rattle.rl_pattern.specs.Judged.{left_of};
+ghost use Rattle.rl_pattern.specs.internal.Judged.{left_of};
 ghost use Rattle.rl_pattern.specs.Parsed.{IsParsed, IsPatternOf, IsOutcome};
 ghost use Rattle.rl_pattern.specs.Shape.{is_text, shape};
-ghost use Rattle.rl_pattern.specs.Views.{whole_of};
+ghost use Rattle.rl_pattern.specs.internal.Views.{whole_of};
 
 use crate::faults::refused_flags;
 use crate::flags::Flags;

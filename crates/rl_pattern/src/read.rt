@@ -1,9 +1,9 @@
 //! The reader of whole patterns.
 
 ghost use Rattle.std.specs.Prelude.{◌≡◌, ℕ, ◌<◌, ◌≤◌, ◌^◌, ◌-◌, ◌+◌, suc, length, slice_get, IfOk, option_map};
-ghost use Rattle.rl_pattern.specs.Views.{lex_of, state_of, FitsAt};
-ghost use Rattle.rl_pattern.specs.Machine.{step_at, finish_at};
-ghost use Rattle.rl_pattern.specs.Answers.{Answered, Went, Ended, is_code, opens_none, at_paren, is_too_deep};
+ghost use Rattle.rl_pattern.specs.internal.Views.{lex_of, state_of, FitsAt};
+ghost use Rattle.rl_pattern.specs.internal.Machine.{step_at, finish_at};
+ghost use Rattle.rl_pattern.specs.internal.Answering.{Answered, Went, Ended, is_code, opens_none, at_paren, is_too_deep};
 
 use crate::ends::{finish, start};
 use crate::flags::Flags;

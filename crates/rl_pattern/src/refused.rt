@@ -1,8 +1,8 @@
 //! What a whole pattern is judged to be.
 
 ghost use Rattle.std.specs.Prelude.{◌≡◌, IfOk};
-ghost use Rattle.rl_pattern.specs.Views.{whole_of};
-ghost use Rattle.rl_pattern.specs.Judged.{IsJudged};
+ghost use Rattle.rl_pattern.specs.internal.Views.{whole_of};
+ghost use Rattle.rl_pattern.specs.internal.Judged.{IsJudged};
 
 use crate::faults::{Fault, earlier, fronts_fault, node_fault};
 use crate::flags::Flags;

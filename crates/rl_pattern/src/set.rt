@@ -1,7 +1,7 @@
 //! The reader within a class.
 
 ghost use Rattle.std.specs.Prelude.{◌≡◌, ℕ, ◌<◌, ◌^◌, ◌-◌, IfOk};
-ghost use Rattle.rl_pattern.specs.Machine.{with_one, side_first, member_first, side_next, escape_in_set, escape_set_next, range_ends, escape_in_dash, escape_dash_next, dash_next, set_step, in_set};
+ghost use Rattle.rl_pattern.specs.internal.Machine.{with_one, side_first, member_first, side_next, escape_in_set, escape_set_next, range_ends, escape_in_dash, escape_dash_next, dash_next, set_step, in_set};
 
 use crate::codes::slashed;
 use crate::escape::{escape_first, escape_next, escape_rest, is_kind};

@@ -4,7 +4,7 @@ ghost use Rattle.std.specs.Prelude.{◌≡◌, ℕ, ◌<◌, ◌≤◌, ◌++◌
 ghost use Rattle.rl_syntax.specs.PatTree as s;
 ghost use Rattle.rl_syntax.specs.PatTree.{pat_of};
 ghost use Rattle.rl_syntax.specs.Counting.{branch_tree};
-ghost use Rattle.rl_pattern.specs.Views.{node_of, branch_of};
+ghost use Rattle.rl_pattern.specs.internal.Views.{node_of, branch_of};
 ghost use Rattle.rl_pattern.specs.Tree as t;
 ghost use Rattle.rl_pattern.specs.Shape as p;
 

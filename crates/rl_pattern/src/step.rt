@@ -1,9 +1,9 @@
 //! The reader of patterns, one code at a time.
 
 ghost use Rattle.std.specs.Prelude.{◌≡◌, ℕ, ◌<◌, ◌^◌, ◌-◌, ◌+◌, suc, length, IfOk, option_map};
-ghost use Rattle.rl_pattern.specs.Views.{node_of, base_of, lex_of, state_of, FitsAt};
+ghost use Rattle.rl_pattern.specs.internal.Views.{node_of, base_of, lex_of, state_of, FitsAt};
 ghost use Rattle.rl_pattern.specs.Codes.{sign, counts};
-ghost use Rattle.rl_pattern.specs.Machine as m;
+ghost use Rattle.rl_pattern.specs.internal.Machine as m;
 ghost use Rattle.rl_pattern.specs.Tree as t;
 
 use crate::base::{
@@ -60,7 +60,7 @@ fn put_mark(base: Base, from: u32, upto: u32, mark: Mark) -> Result<Option<State
 }
 
 /// The code at `i`, between items.
-#[tactic(auto, unfolding(crate::specs::Machine::go_on))]
+#[tactic(auto, unfolding(crate::specs::internal::Machine::go_on))]
 fn go_on(alloc: Global, i: u32, base: Base, code: u32) -> Result<Option<State>, OutOfMemory>
     requires { i < 2 ^ 32 - 1 }
     ensures { IfOk result (λ found. option_map state_of found ≡ m.go_on i (base_of base) code) }

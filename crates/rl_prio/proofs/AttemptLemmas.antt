@@ -8,8 +8,8 @@ use Rattle.std.proofs.lemmas.Grind.{flat_map-append}
 use Rattle.std.specs.List.{flat_map}
 use Rattle.rl_syntax.specs.declared.anchors.Guard.{Guard}
 use Rattle.rl_prio.specs.Items.{Item, test_at, pass, guarded, all_guarded, replaced}
-use Rattle.rl_prio.specs.GuardSets.{joined, guard_set}
-use Rattle.rl_prio.specs.Attempts.{attempt, attempts, behind, onward, ends_replaced}
+use Rattle.rl_prio.specs.internal.GuardSets.{joined, guard_set}
+use Rattle.rl_prio.specs.internal.Attempts.{attempt, attempts, behind, onward, ends_replaced}
 use Rattle.rl_prio.specs.declared.build.guards.Guards.{Guards}
 use Rattle.rl_prio.specs.declared.build.attempts.Attempt.{Attempt}
 use Rattle.rl_prio.specs.declared.build.attempts.Attempt.TheVariants.{Test, End}

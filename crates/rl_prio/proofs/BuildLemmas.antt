@@ -19,9 +19,9 @@ use Rattle.rl_prio.specs.Letters.{all_sets, kinds, kind_of}
 use Rattle.rl_prio.specs.States.{place_states, state_of, accepting, dead, state_count, test_target, ends_here, pass_target, moves_on, items_of, kind_before, moves_over}
 use Rattle.rl_prio.specs.Automaton.{Automaton, IsAutomaton, letters_count, accepting_state, dead_state, moves_at}
 use Rattle.rl_prio.specs.StandsFor.{StandsOver}
-use Rattle.rl_prio.specs.GuardSets.{guard_set, met, shown, holding}
-use Rattle.rl_prio.specs.Attempts.{attempt, attempts, lists_of}
-use Rattle.rl_prio.specs.Plans.{plan_letters, plan_kinds, plan_places, plan_states, holds_at, test_goes, may_end, end_goes, move_of, moves_of, attempts_at, before_at, row_at, IsPlaced, IsSound, AreRows, IsPlan}
+use Rattle.rl_prio.specs.internal.GuardSets.{guard_set, met, shown, holding}
+use Rattle.rl_prio.specs.internal.Attempts.{attempt, attempts, lists_of}
+use Rattle.rl_prio.specs.internal.Plans.{plan_letters, plan_kinds, plan_places, plan_states, holds_at, test_goes, may_end, end_goes, move_of, moves_of, attempts_at, before_at, row_at, IsPlaced, IsSound, AreRows, IsPlan}
 use Rattle.rl_prio.specs.declared.build.guards.Shown.{Shown}
 use Rattle.rl_prio.specs.declared.build.attempts.Attempt.{Attempt}
 use Rattle.rl_prio.specs.declared.build.attempts.Attempt.TheVariants.{Test, End}
@@ -32,7 +32,7 @@ use Rattle.rl_prio.specs.declared.build.attempts.ListError.{ListError}
 use Rattle.rl_prio.specs.declared.build.attempts.ListError.TheVariants.{TooLong, OutOfMemory as NoRoom}
 use Rattle.rl_prio.specs.declared.error.PrioError.{PrioError}
 use Rattle.rl_prio.specs.declared.error.PrioError.TheVariants.{Letters, Moves}
-use Rattle.rl_prio.specs.Errors.{letters_error, list_error}
+use Rattle.rl_prio.specs.internal.Errors.{letters_error, list_error}
 use Rattle.rl_prio.proofs.AutomatonLemmas.{automaton_of, moves_at-inside}
 use Rattle.rl_prio.proofs.LikenessLemmas.{Finer, Finer-itself, Finer-left, Finer-right, Like, Like-finer, all_hold-like, GuardsKnown, ItemsKnown, first-known, after-known, set_of-alike}
 use Rattle.rl_prio.proofs.KindLemmas.{few_kinds}

@@ -6,8 +6,8 @@ use Rattle.rl_syntax.specs.declared.anchors.Guard.{Guard}
 use Rattle.rl_syntax.specs.Tree.{Tree, empty, one, guard, both, either, many, places}
 use Rattle.rl_syntax.specs.Run.{one_more}
 use Rattle.rl_prio.specs.Items.{Item, test_at, pass, guarded, all_guarded, replaced, first}
-use Rattle.rl_prio.specs.GuardSets.{no_guards, only, joined, guard_set}
-use Rattle.rl_prio.specs.Attempts.{attempt, attempts, behind, onward, ends_replaced, followed, lists_of, widest, width_of, AreReplaced, AreEntered, AreShort, IsTooWide}
+use Rattle.rl_prio.specs.internal.GuardSets.{no_guards, only, joined, guard_set}
+use Rattle.rl_prio.specs.internal.Attempts.{attempt, attempts, behind, onward, ends_replaced, followed, lists_of, widest, width_of, AreReplaced, AreEntered, AreShort, IsTooWide}
 use Rattle.rl_prio.specs.declared.build.attempts.Attempt.{Attempt}
 use Rattle.rl_prio.specs.declared.build.attempts.Attempt.TheVariants.{Test, End}
 use Rattle.rl_prio.proofs.GuardLemmas.{guard_set-append, joined-none, only-joined}

@@ -5,7 +5,7 @@ use Rattle.rl_syntax.specs.declared.anchors.Guard.{Guard}
 use Rattle.rl_syntax.specs.declared.anchors.Guard.TheVariants.{Start, LineStart, LineEnd, TextEnd, Word, NotWord}
 use Rattle.rl_syntax.specs.Guards.{is_in, holds}
 use Rattle.rl_prio.specs.Items.{all_hold}
-use Rattle.rl_prio.specs.GuardSets.{no_guards, only, joined, guard_set, met, shown, holding}
+use Rattle.rl_prio.specs.internal.GuardSets.{no_guards, only, joined, guard_set, met, shown, holding}
 use Rattle.rl_prio.specs.declared.build.guards.Guards.{Guards}
 
 pub joined-none : (a : Guards) → joined no_guards a ≡ a

@@ -7,8 +7,8 @@ use Rattle.std.proofs.lemmas.List.{append-nil, take_more, get_or_default}
 use Rattle.std.proofs.lemmas.Nat.{mul-add-lt, mul-le, div-mul-add, mod-mul-add}
 use Rattle.std.proofs.Math.Nat.{div-lt_iff_lt-mul}
 use Rattle.std.proofs.lemmas.Bool.{and_parts, ltb-true}
-use Rattle.rl_prio.specs.GuardSets.{shown}
-use Rattle.rl_prio.specs.Plans.{plan_letters, plan_kinds, plan_places, plan_states, holds_at, test_goes, may_end, end_goes, move_of, moves_of, attempts_at, before_at, row_at, IsPlaced, IsSound, AreRows}
+use Rattle.rl_prio.specs.internal.GuardSets.{shown}
+use Rattle.rl_prio.specs.internal.Plans.{plan_letters, plan_kinds, plan_places, plan_states, holds_at, test_goes, may_end, end_goes, move_of, moves_of, attempts_at, before_at, row_at, IsPlaced, IsSound, AreRows}
 use Rattle.rl_prio.specs.declared.build.guards.Guards.{Guards}
 use Rattle.rl_prio.specs.declared.build.guards.Shown.{Shown}
 use Rattle.rl_prio.specs.declared.build.attempts.Attempt.{Attempt}

@@ -4,7 +4,7 @@ use Rattle.std.specs.List.{slice_range}
 use Rattle.std.proofs.lemmas.List.{drop-append-le, take-append-le}
 use Rattle.std.proofs.Math.ListN.{drop_of_length-le}
 use Rattle.std.proofs.Math.Seq.{take-length}
-use Rattle.rl_prio.specs.Rows.{rows_from, rows_of, last_end, start_at, RiseTo}
+use Rattle.rl_prio.specs.internal.Rows.{rows_from, rows_of, last_end, start_at, RiseTo}
 
 pub RiseTo-start : (size start : ℕ) (ends : List ℕ) → RiseTo size start ends → start ≤ size
 RiseTo-start size start [] r = r

@@ -6,7 +6,7 @@ use Rattle.rl_syntax.specs.declared.anchors.Guard.{Guard}
 use Rattle.rl_syntax.specs.Tree.{Tree, empty, one, guard, both, either, many, places}
 use Rattle.rl_syntax.specs.Run.{one_more}
 use Rattle.rl_prio.specs.Items.{Item, test_at, pass, all_guarded, replaced, first, after, longest_of, longest}
-use Rattle.rl_prio.specs.Attempts.{followed, lists_of, widest, width_of}
+use Rattle.rl_prio.specs.internal.Attempts.{followed, lists_of, widest, width_of}
 
 -- ---- some list of a tree has an end
 

@@ -1,11 +1,7 @@
 pub mod Items
 pub mod Letters
 pub mod States
-pub mod Rows
 pub mod Automaton
 pub mod Walk
 pub mod StandsFor
-pub mod GuardSets
-pub mod Errors
-pub mod Attempts
-pub mod Plans
+pub mod internal

@@ -27,7 +27,7 @@ use std::alloc::Global;
 
 impl From<LettersError> for PrioError {
     ghost use Rattle.std.specs.Prelude.{◌≡◌};
-    ghost use Rattle.rl_prio.specs.Errors.{letters_error};
+    ghost use Rattle.rl_prio.specs.internal.Errors.{letters_error};
 
     ghost from_gives = { λ x e. e ≡ letters_error x };
 
@@ -41,7 +41,7 @@ impl From<LettersError> for PrioError {
 
 impl From<ListError> for PrioError {
     ghost use Rattle.std.specs.Prelude.{◌≡◌};
-    ghost use Rattle.rl_prio.specs.Errors.{list_error};
+    ghost use Rattle.rl_prio.specs.internal.Errors.{list_error};
 
     ghost from_gives = { λ x e. e ≡ list_error x };
 

@@ -1,7 +1,7 @@
 //! Rows of numbers in one vector.
 
 ghost use Rattle.std.specs.Prelude.{◌≡◌, ◌<◌, ◌≤◌, [], ◌∷◌, ◌++◌, length, slice_index, slice_index_or, OnOk, OnErr};
-ghost use Rattle.rl_prio.specs.Rows.{rows_from, start_at, RiseTo};
+ghost use Rattle.rl_prio.specs.internal.Rows.{rows_from, start_at, RiseTo};
 
 use rl_lists::OutOfMemory;
 use std::alloc::Global;
@@ -16,7 +16,7 @@ pub(crate) struct RowTable {
 
 impl Model for RowTable {
     ghost use Rattle.std.specs.Prelude.{length};
-    ghost use Rattle.rl_prio.specs.Rows.{Rows, rows_of, RiseTo};
+    ghost use Rattle.rl_prio.specs.internal.Rows.{Rows, rows_of, RiseTo};
 
     ghost Value = { Rows };
 

@@ -1,6 +1,6 @@
 mod Numbers
 mod Bodies
-mod Bounds
+pub mod Bounds
 mod Ends
 mod Quotes
 mod HexLaws

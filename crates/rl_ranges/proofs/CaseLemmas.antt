@@ -16,7 +16,7 @@ use Rattle.rl_ranges.proofs.SetLemmas.{has-more, has-nil, or-false, within-above
 use Rattle.rl_ranges.specs.Building.{range_at}
 use Rattle.rl_ranges.specs.Case.{is_case_kin, is_letter_i}
 use Rattle.rl_ranges.specs.Codes.{has, is_between}
-use Rattle.rl_ranges.specs.Images.{IsLowerBound, KeysRise, has_kin, in_image, in_range_image, is_among}
+use Rattle.rl_ranges.specs.internal.Images.{IsLowerBound, KeysRise, has_kin, in_image, in_range_image, is_among}
 use Rattle.rl_ranges.specs.Named.{goes_by_ascii}
 use Rattle.rl_ranges.specs.Text.{code_count}
 use Rattle.rl_ranges.specs.declared.tables.TheConstants.{ASCII_PAIRS, I_PAIRS}

@@ -12,7 +12,8 @@ use Rattle.rl_ranges.proofs.FirstsLemmas.{IsLikeness, firsts-below, firsts-congr
 use Rattle.rl_ranges.proofs.SetLemmas.{and-true, and_assoc}
 use Rattle.rl_ranges.specs.Building.{range_at}
 use Rattle.rl_ranges.specs.Letters.{IsLetters, IsPlain, LetterTable, alike, class_of, classes, letter_at, letter_from, place_where}
-use Rattle.rl_ranges.specs.Numbering.{IsNumbered, IsPreferred, TellsApart, firsts, same_value}
+use Rattle.rl_ranges.specs.Numbering.{IsNumbered, firsts, same_value}
+use Rattle.rl_ranges.specs.internal.Splitting.{IsPreferred, TellsApart}
 
 beq-same : (x : Bool) → beq x x ≡ true
 beq-same true = refl

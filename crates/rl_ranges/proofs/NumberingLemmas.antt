@@ -10,7 +10,8 @@ use Rattle.rl_ranges.proofs.FirstsLemmas.{IsLikeness, any-push, any-same, firsts
 use Rattle.rl_ranges.proofs.StretchLemmas.{letter_from-at, letter_from-more}
 use Rattle.rl_ranges.specs.Building.{range_at}
 use Rattle.rl_ranges.specs.Letters.{letter_from, place_where}
-use Rattle.rl_ranges.specs.Numbering.{Covers, HasNumber, IsNumbered, ValuesBelow, firsts, same_value, start_or}
+use Rattle.rl_ranges.specs.Numbering.{Covers, IsNumbered, ValuesBelow, firsts, same_value}
+use Rattle.rl_ranges.specs.internal.Splitting.{HasNumber, start_or}
 
 unfoldable pub has_value : List (ℕ × ℕ) → ℕ → ℕ → Bool
 has_value pieces v d = v == letter_from 0 pieces d

@@ -7,7 +7,8 @@ use Rattle.rl_ranges.proofs.FirstsLemmas.{firsts-congr, place-same}
 use Rattle.rl_ranges.proofs.LetterLemmas.{alike-append, classes-append, classes-firsts}
 use Rattle.rl_ranges.specs.Codes.{has}
 use Rattle.rl_ranges.specs.Letters.{alike, classes, place_where}
-use Rattle.rl_ranges.specs.Numbering.{HasTooMany, TellsApart, TellsMore, firsts}
+use Rattle.rl_ranges.specs.Numbering.{firsts}
+use Rattle.rl_ranges.specs.internal.Splitting.{HasTooMany, TellsApart, TellsMore}
 use Rattle.rl_ranges.specs.internal.Order.{is_wide, picked}
 
 swap : (a b c : Bool) → (a && (b && c)) ≡ (b && (a && c))

@@ -3,7 +3,8 @@ use Rattle.std.proofs.Common.{Bool, List, [], add-one, ap, ap₂, arith, drop, f
 use Rattle.std.proofs.lemmas.Bool.{cases_lt, or_from, or_left, or_right}
 use Rattle.std.proofs.lemmas.Bool.Decides.{nat_tests}
 use Rattle.std.proofs.lemmas.List.{drop_more, length-set, take_all, take_more, take_more_set}
-use Rattle.rl_ranges.specs.Building.{ComeInOrder, last_first_or, range_at}
+use Rattle.rl_ranges.specs.Building.{range_at}
+use Rattle.rl_ranges.specs.internal.Ordering.{ComeInOrder, last_first_or}
 use Rattle.rl_ranges.specs.Codes.{Above, has, is_between}
 
 -- the test of a range, with what it tells

@@ -1,20 +1,6 @@
 -- How a set is built from ranges that come in order.
-use Rattle.std.specs.Prelude.{ℕ, ◌≤◌, ◌<◌, List, [], ◌∷◌, length, slice_index_or}
-
--- the first code of the last range, or `n` where there is no range
-unfoldable pub last_first_or : ℕ → List (ℕ × ℕ) → ℕ
-last_first_or n [] = n
-last_first_or n (r ∷ rs) = last_first_or r.0 rs
-
--- the last range begins no later than at the code
-abbrev pub BeginsBy : List (ℕ × ℕ) → ℕ → Type 0
-BeginsBy ranges code = last_first_or 0 ranges ≤ code
+use Rattle.std.specs.Prelude.{ℕ, List, slice_index_or}
 
 -- the range at a place
 abbrev pub range_at : List (ℕ × ℕ) → ℕ → ℕ × ℕ
 range_at ranges k = slice_index_or ranges k (0, 0)
-
--- each range has a code, and none begins before one that stands in front of it
-pub record ComeInOrder (ranges : List (ℕ × ℕ)) : Type 0 where
-  pub filled : (k : ℕ) → k < length ranges → (range_at ranges k).0 ≤ (range_at ranges k).1
-  pub rising : (j k : ℕ) → j ≤ k → k < length ranges → (range_at ranges j).0 ≤ (range_at ranges k).0

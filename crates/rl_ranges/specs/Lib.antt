@@ -3,7 +3,6 @@ pub mod Codes
 pub mod Building
 pub mod Named
 pub mod Case
-pub mod Images
 pub mod Letters
 pub mod Numbering
 pub mod internal

@@ -4,7 +4,7 @@ ghost use Rattle.std.specs.Prelude.{◌≡◌, ℕ, ◌<◌, ◌≤◌, ◌||◌
 ghost use Rattle.std.specs.List.Sorted.{IsNonDecreasing};
 ghost use Rattle.rl_ranges.specs.Codes.{has, Above};
 ghost use Rattle.rl_ranges.specs.Building.{range_at};
-ghost use Rattle.rl_ranges.specs.Images.{is_among, in_image, in_range_image, has_kin, KeysRise, IsLowerBound};
+ghost use Rattle.rl_ranges.specs.internal.Images.{is_among, in_image, in_range_image, has_kin, KeysRise, IsLowerBound};
 
 use crate::ranges::append;
 use crate::tables::{ASCII_PAIRS, I_PAIRS};

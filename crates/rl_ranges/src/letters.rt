@@ -4,7 +4,8 @@ ghost use Rattle.std.specs.Prelude.{◌≡◌, ◌<◌, ◌≤◌, ℕ, All, IfO
 ghost use Rattle.rl_ranges.specs.Text.{code_count};
 ghost use Rattle.rl_ranges.specs.Codes.{has, IsInside};
 ghost use Rattle.rl_ranges.specs.Letters.{LetterTable, IsLetters, classes, letter_at};
-ghost use Rattle.rl_ranges.specs.Numbering.{Covers, ValuesBelow, IsPreferred, IsTable, TellsMore, HasTooMany};
+ghost use Rattle.rl_ranges.specs.Numbering.{Covers, ValuesBelow, IsTable};
+ghost use Rattle.rl_ranges.specs.internal.Splitting.{IsPreferred, TellsMore, HasTooMany};
 ghost use Rattle.rl_ranges.specs.internal.Order.{is_wide, picked};
 
 use crate::code_set::CodeSet;

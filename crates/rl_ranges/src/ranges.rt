@@ -2,7 +2,8 @@
 
 ghost use Rattle.std.specs.Prelude.{◌≡◌, ℕ, ◌+◌, ◌≤◌, ◌<◌, ◌||◌, ◌&&◌, not, true, nat_lt, OnOk, IfOk, length, drop};
 ghost use Rattle.rl_ranges.specs.Codes.{has, is_between, Above};
-ghost use Rattle.rl_ranges.specs.Building.{BeginsBy, ComeInOrder, range_at};
+ghost use Rattle.rl_ranges.specs.Building.{range_at};
+ghost use Rattle.rl_ranges.specs.internal.Ordering.{BeginsBy, ComeInOrder};
 
 use rl_lists::OutOfMemory;
 use std::alloc::Global;

@@ -1,9 +1,8 @@
 //! A report in JSON.
-ghost use Rattle.std.specs.Prelude.{◌≡◌, ◌++◌, All, IfOk, IfSome, OnOk, codes, false, option_map};
+ghost use Rattle.std.specs.Prelude.{◌≡◌, All, IfOk, IfSome, OnOk, codes, false, option_map};
 ghost use Rattle.rl_ranges.specs.Text.{IsText};
 ghost use Rattle.serde_json.specs.Data.{no_members, object, put, string};
 ghost use Rattle.serde_json.specs.View.{items_of, items_view, members_view, view};
-ghost use Rattle.serde_json.specs.Written.{compact_text, has_float};
 ghost use Rattle.rl_report.specs.Document.{at_members, becomes_members, call_members, entries_data, entry_data, family_data, family_members, fault_members, front_members, json_report, judged_members, kind_members, marks_data, marks_members, outcome_members, place_data, place_members, refusal_members, report_data, suggest_members, suggestion_members, text_data, texts_data, verdict_members, whole};
 ghost use Rattle.rl_report.specs.Findings.{verdict_of};
 ghost use Rattle.rl_report.specs.Layouts.{IsOfItsUniverse};
@@ -14,6 +13,7 @@ use crate::lines::Terms;
 use crate::names::{call_name, limit_name, limit_number};
 use crate::places::Place;
 use crate::report::{Entry, Mark, Marks};
+use rl_json::line_of;
 use rl_lists::{Bytes, Codes, OutOfMemory};
 use rl_pystr::quote;
 use rl_sites::Call;
@@ -434,16 +434,6 @@ fn report_value(alloc: Global, terms: Terms, entries: &[Entry]) -> Result<Value,
     Ok(Value::Object(members))
 }
 
-/// A value as one line.
-fn line_of(alloc: Global, value: &Value) -> Result<Vec<u8>, OutOfMemory>
-    requires { has_float (view value.now) ≡ false }
-    ensures { IfOk result (λ line. line.items ≡ compact_text (view value.now) ++ codes "\n") }
-{
-    let mut line = value.to_vec(alloc)?;
-    line.push(b'\n')?;
-    Ok(line)
-}
-
 /// The report in JSON: one line.
 #[tactic(auto, using(crate::proofs::NoFloats::plain))]
 pub fn json_report(alloc: Global, terms: Terms, entries: &[Entry]) -> Result<Bytes, OutOfMemory>
@@ -452,6 +442,5 @@ pub fn json_report(alloc: Global, terms: Terms, entries: &[Entry]) -> Result<Byt
         ≡ json_report terms.max_degree terms.max_pairs terms.report entries.now) }
 {
     let value = report_value(alloc, terms, entries)?;
-    let line = line_of(alloc, &value)?;
-    Ok(Bytes::from_vec(line))
+    line_of(alloc, &value)
 }

@@ -7,3 +7,4 @@ pub mod Within
 pub mod GoneCodes
 pub mod Joining
 pub mod TriedOne
+pub mod PlainParts

@@ -3,6 +3,7 @@ use Rattle.std.proofs.Common.{◌≡◌, ℕ, Bool, true, false, List, [], ◌�
 use Rattle.rl_ranges.specs.declared.universe.Universe.{Universe}
 use Rattle.rl_syntax.specs.declared.span.Span.{Span}
 use Rattle.rl_syntax.specs.PatTree.{PatTree}
+use Rattle.rl_syntax.specs.Tree.{Tree}
 use Rattle.rl_pattern.specs.Suggested.{among, may_go, without, Tried, none_tried, left_alone, dropped_one, kept_one, passed_one, equal, apart, passed_by}
 use Rattle.rl_rewrite.specs.Verdicts.{IsVerdict}
 use Rattle.rl_rewrite.specs.declared.trial.Trial.{Trial}
@@ -42,9 +43,10 @@ module _ (u : Universe) (limit : ℕ) (body : PatTree) where
 pub last_of : (rest less bs all : List Span) (b : Span) → rest ≡ less ++ b ∷ [] → rest ++ bs ≡ all → less ++ b ∷ bs ≡ all
 last_of rest less bs all b e f = sym (append_assoc less (b ∷ []) bs) ∙ sym (ap (λ r. r ++ bs) e) ∙ f
 
--- what a trial told, said of the lists that it was given
-pub verdict_found : (u : Universe) (limit : ℕ) (body : PatTree) (d m dropped more : List Span) (t v : Trial) → d ≡ dropped → m ≡ more → t ≡ v → IsVerdict u limit (without d body) (without m body) (verdict_of t) → IsVerdict u limit (without dropped body) (without more body) (verdict_of v)
-verdict_found u limit body d m dropped more t v a b e h = subst (λ x. IsVerdict u limit (without dropped body) (without more body) (verdict_of x)) e (subst (λ x. IsVerdict u limit (without dropped body) (without x body) (verdict_of t)) b (subst (λ x. IsVerdict u limit (without x body) (without m body) (verdict_of t)) a h))
+-- what a trial of two trees told, said of what is left of the body
+module _ (u v : Universe) (limit : ℕ) (body : PatTree) (dropped more m : List Span) (s t : Tree) (found is : Trial) (a : v ≡ u) (b : s ≡ without dropped body) (c : t ≡ without m body) (d : m ≡ more) (e : found ≡ is) where
+  pub verdict_found : IsVerdict v limit s t (verdict_of found) → IsVerdict u limit (without dropped body) (without more body) (verdict_of is)
+  verdict_found h = subst (λ x. IsVerdict u limit (without dropped body) (without x body) (verdict_of is)) d (subst (λ x. IsVerdict u limit (without dropped body) x (verdict_of is)) c (subst (λ x. IsVerdict u limit x t (verdict_of is)) b (subst (λ x. IsVerdict x limit s t (verdict_of is)) a (subst (λ x. IsVerdict v limit s t (verdict_of x)) e h))))
 
-pub told_found : (u : Universe) (body : PatTree) (d m dropped more : List Span) (t v : Trial) → d ≡ dropped → m ≡ more → t ≡ v → IsTold u (without d body) (without m body) t → IsTold u (without dropped body) (without more body) v
-told_found u body d m dropped more t v a b e h = subst (λ x. IsTold u (without dropped body) (without more body) x) e (subst (λ x. IsTold u (without dropped body) (without x body) t) b (subst (λ x. IsTold u (without x body) (without m body) t) a h))
+  pub told_found : IsTold v s t found → IsTold u (without dropped body) (without more body) is
+  told_found h = subst (λ x. IsTold u (without dropped body) (without x body) is) d (subst (λ x. IsTold u (without dropped body) x is) c (subst (λ x. IsTold u x t is) b (subst (λ x. IsTold x s t is) a (subst (λ x. IsTold v s t x) e h))))

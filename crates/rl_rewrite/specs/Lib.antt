@@ -1,3 +1,4 @@
 pub mod Verdicts
 pub mod RightSuggestion
+pub mod Plain
 pub mod internal

@@ -1,3 +1,5 @@
+-- Definitions for the contracts of private functions. No public contract reaches them.
+pub mod Choices
 pub mod Holes
 pub mod LeftLists
 pub mod Merges

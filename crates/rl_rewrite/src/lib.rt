@@ -7,11 +7,13 @@ mod leaving;
 mod limits;
 mod merging;
 mod parts;
+pub mod plain;
 mod spelling;
 pub mod suggesting;
 mod trial;
 mod trying;
 
+pub use plain::plain_suggestion;
 pub use suggesting::{SuggestError, suggest};
 
 #[cfg(test)]

@@ -29,17 +29,19 @@ fn small_tree(alloc: Global, p: &Pattern) -> Result<Re, SuggestError>
     }
 }
 
-/// Nothing where a body as fullmatch passes no limit.
+/// The tree of a body as fullmatch, which passes no limit.
 ///
 /// # Errors
 /// [`SuggestError::Limit`] with the first limit that it passes; [`SuggestError::OutOfMemory`].
-pub(crate) fn check_limits(alloc: Global, p: &Pattern) -> Result<(), SuggestError>
+pub(crate) fn tree_within_limits(alloc: Global, p: &Pattern) -> Result<Re, SuggestError>
+    ensures tree { IfOk result (λ re. tree_of re ≡ lowered (body_of p.now)) }
+    ensures over { IfOk result (λ re. IsOver (universe_of p.now) (tree_of re)) }
     ensures within { OnOk result (IsWithin (universe_of p.now) (lowered (body_of p.now))) }
     ensures passed { IfErr result (λ e. (l : AnyLimit) → e ≡ error.Limit l → PassesLimit (universe_of p.now) (pattern_tree p.now Fullmatch) l) }
 {
     let tree = small_tree(alloc, p)?;
     match Prio::build(alloc, &tree, Ending::AtEnd, p.universe()) {
-        Ok(_) => Ok(()),
+        Ok(_) => Ok(tree),
         Err(PrioError::Letters) => Err(SuggestError::Limit(Limit::Letters)),
         Err(PrioError::Moves) => Err(SuggestError::Limit(Limit::Moves)),
         Err(PrioError::OutOfMemory) => Err(SuggestError::OutOfMemory),

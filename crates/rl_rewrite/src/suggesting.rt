@@ -12,7 +12,7 @@ ghost use Rattle.rl_rewrite.specs.RightSuggestion.{IsRightSuggestion};
 ghost use Rattle.rl_rewrite.specs.declared.suggesting.SuggestError.TheVariants as error;
 
 use crate::leaving::left_part;
-use crate::limits::check_limits;
+use crate::limits::tree_within_limits;
 use crate::merging::{Place, with_merged};
 use crate::spelling::text_of;
 use crate::trying::tries_of;
@@ -64,8 +64,8 @@ pub fn suggest(
     ensures passed_placed { IfOk result (λ s. ArePlaced (length codes.now) s.passed) }
     ensures texts { IfOk result (λ s. (text : List ℕ) → s.text ≡ Some text → IsText (universe_of p.now) codes.now → IsText (universe_of p.now) text) }
 {
-    check_limits(alloc, p)?;
-    let tries = tries_of(alloc, p, limit)?;
+    let tree = tree_within_limits(alloc, p)?;
+    let tries = tries_of(alloc, p, tree, limit)?;
     let left = left_part(alloc, p.body(), tries.dropped.as_slice())?;
     let merged = with_merged(alloc, &left, Place::Elsewhere, Spans::new(alloc))?;
     let text = text_of(

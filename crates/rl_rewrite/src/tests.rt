@@ -3,6 +3,7 @@ ghost use Rattle.std.specs.Prelude.{◌≡◌, ◌≤◌, IfOk};
 ghost use Rattle.rl_ranges.specs.declared.universe.Universe.{Universe as AnyUniverse};
 ghost use Rattle.rl_ranges.specs.Text.{IsText};
 
+use crate::plain::plain_suggestion;
 use crate::suggesting::{SuggestError, suggest};
 use rl_lists::OutOfMemory;
 use rl_pattern::{Flags, parse};
@@ -136,5 +137,36 @@ fn limits_are_told(rt: HostRuntime) -> Result<(), Fail> {
         Ok(_) => assert!(rt; false),
         Err(error) => assert_eq!(rt; error, SuggestError::Limit(Limit::Size)),
     }
+    Ok(())
+}
+
+/// Whether nothing goes of a pattern, as is told without a comparison.
+fn is_plain(rt: &(impl Abort + AllocGlobal), pattern: &str) -> Result<bool, Fail> {
+    let codes = codes_of(rt.alloc(), pattern)?;
+    let parsed = parse(rt.alloc(), &codes, flags_of(false), Universe::Str)?;
+    match plain_suggestion(rt.alloc(), &parsed)? {
+        Some(found) => Ok(
+            found.text.is_none()
+                && found.dropped.is_empty()
+                && found.merged.is_empty()
+                && found.passed.is_empty(),
+        ),
+        None => Ok(false),
+    }
+}
+
+#[test]
+fn nothing_goes_of_plain_patterns(rt: HostRuntime) -> Result<(), Fail> {
+    assert!(rt; is_plain(&rt, "ab*c")?);
+    assert!(rt; is_plain(&rt, "(?:a+)?")?);
+    assert!(rt; is_plain(&rt, "(a*)*")?);
+    assert!(rt; is_plain(&rt, "a{2001}")?);
+    Ok(())
+}
+
+#[test]
+fn other_patterns_are_left_to_trials(rt: HostRuntime) -> Result<(), Fail> {
+    assert!(rt; !is_plain(&rt, "a|b")?);
+    assert!(rt; !is_plain(&rt, "(?:a*)*")?);
     Ok(())
 }

@@ -1,19 +1,15 @@
 //! Trials of branches, each by the languages of a body with it and without it.
 
-ghost use Rattle.std.specs.Prelude.{◌≡◌, ◌≤◌, ◌∷◌, false, true, IfOk};
-ghost use Rattle.rl_syntax.specs.Pattern.{body_of, universe_of};
-ghost use Rattle.rl_syntax.specs.Lowering.{lowered};
+ghost use Rattle.std.specs.Prelude.{◌≤◌, IfOk};
 ghost use Rattle.rl_syntax.specs.Tree.{tree_of, IsOver};
 ghost use Rattle.rl_equiv.specs.Limits.{AreWithin};
-ghost use Rattle.rl_pattern.specs.Suggested.{among, may_go, holds_guard, without};
 ghost use Rattle.rl_rewrite.specs.Verdicts.{IsVerdict};
-ghost use Rattle.rl_rewrite.specs.internal.Trials.{verdict_of, IsTold, IsWithin};
+ghost use Rattle.rl_rewrite.specs.internal.Trials.{verdict_of, IsTold};
 
-use crate::leaving::tree_without;
 use rl_equiv::{SameError, Sameness, same};
 use rl_lists::OutOfMemory;
 use rl_ranges::Universe;
-use rl_syntax::{Pattern, Re, Span};
+use rl_syntax::Re;
 use std::alloc::Global;
 
 /// What a trial finds.
@@ -27,8 +23,8 @@ pub(crate) enum Trial {
     Passed,
 }
 
-/// The trial of two trees that pass no limit.
-fn compared(
+/// The trial of a branch, by the trees of a body with it and without it, which pass no limit.
+pub(crate) fn run_trial(
     alloc: Global,
     before: &Re,
     after: &Re,
@@ -50,28 +46,4 @@ fn compared(
         Err(SameError::OutOfMemory) => Err(OutOfMemory),
         Err(SameError::Size | SameError::Letters | SameError::Moves) => unreachable!(),
     }
-}
-
-/// The trial of a branch on what is left of a body without some branches.
-pub(crate) fn run_trial(
-    alloc: Global,
-    p: &Pattern,
-    branch: Span,
-    dropped: &[Span],
-    more: &[Span],
-    limit: u32,
-) -> Result<Trial, OutOfMemory>
-    requires guardless { holds_guard (body_of p.now) ≡ false }
-    requires within { IsWithin (universe_of p.now) (lowered (body_of p.now)) }
-    requires before { may_go (among dropped.now) (body_of p.now) ≡ true }
-    requires after { may_go (among more.now) (body_of p.now) ≡ true }
-    requires one_more { more.now ≡ branch ∷ dropped.now }
-    requires some { 1 ≤ limit }
-    requires low { limit ≤ 20000 }
-    ensures verdict { IfOk result (λ t. IsVerdict (universe_of p.now) limit (without dropped.now (body_of p.now)) (without more.now (body_of p.now)) (verdict_of t)) }
-    ensures told { IfOk result (IsTold (universe_of p.now) (without dropped.now (body_of p.now)) (without more.now (body_of p.now))) }
-{
-    let before = tree_without(alloc, p, dropped)?;
-    let after = tree_without(alloc, p, more)?;
-    compared(alloc, &before, &after, p.universe(), limit)
 }

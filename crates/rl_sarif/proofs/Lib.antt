@@ -7,7 +7,5 @@ mod ResultLemmas
 mod SelfKnown
 mod NamesKnown
 mod KeysBack
-mod LineEnd
-mod Writable
 mod ReportWritable
 mod OwnBaseline

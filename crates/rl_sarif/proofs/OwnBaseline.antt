@@ -8,7 +8,7 @@ use Rattle.rl_sarif.specs.Keys.{EntryKey}
 use Rattle.rl_sarif.specs.Laws.{IsOwnBaseline}
 use Rattle.rl_sarif.proofs.KeysBack.{keys-back}
 use Rattle.rl_sarif.proofs.ReportWritable.{report-writable}
-use Rattle.rl_sarif.proofs.Writable.{line-reads, line-utf8}
+use Rattle.rl_json.proofs.Writable.{line-reads, line-utf8}
 
 is-version : (report : ℕ) → (report ≡ 1) ⊎ (report ≡ 2) → (report == 1 || report == 2) ≡ true
 is-version report (inl e) = rw e

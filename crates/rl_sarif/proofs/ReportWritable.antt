@@ -26,7 +26,7 @@ use Rattle.rl_report.specs.Names.{Text, call_name, cause_name, kind_name, limit_
 use Rattle.rl_report.proofs.Ascii.{quoted_utf8}
 use Rattle.rl_sarif.specs.Laws.{FitsPlace, FitsVerdict, IsAnswer, IsSound}
 use Rattle.rl_sarif.proofs.NamesKnown.{call-utf8, limit-utf8, kind-utf8, cause-utf8, lexing-known, literal-known, pattern-known}
-use Rattle.rl_sarif.proofs.Writable.{IsWritable, AreWritable, AreWritableItems, put-writable}
+use Rattle.rl_json.proofs.Writable.{IsWritable, AreWritable, AreWritableItems, put-writable}
 
 -- a member with a name in ASCII
 put-named : (n : ℕ) (k : List ℕ) (d : Data) (ms : Members) → are_ascii k ≡ true → IsWritable n d → AreWritable n ms → AreWritable n (put k d ms)

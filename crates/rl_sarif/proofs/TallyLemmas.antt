@@ -12,7 +12,7 @@ use Rattle.rl_sarif.specs.declared.key.Key.{Key}
 use Rattle.rl_sarif.specs.contracts.key.KeyPartialEq.TheImpl as key
 use Rattle.rl_sarif.specs.Keys.{EntryKey, same_key, key_in}
 use Rattle.rl_sarif.specs.Known.{times, is_unknown, is_known, unknown_keys}
-use Rattle.rl_sarif.specs.Tally.{left, one_if_same, Holds}
+use Rattle.rl_sarif.specs.internal.Tally.{left, one_if_same, Holds}
 use Rattle.rl_sarif.proofs.KeyLemmas.{same_key-equal, same_key-flip, key-eq, found}
 
 unwrap-cond : (b : Bool) (w : ℕ) (o : Option ℕ) → unwrap_or (cond b (Some w) o) 0 ≡ cond b w (unwrap_or o 0)

@@ -1,6 +1,6 @@
 pub mod Keys
 pub mod Known
-pub mod Tally
 pub mod Sarif
 pub mod Baseline
 pub mod Laws
+pub mod internal

@@ -1,11 +1,11 @@
 //! A report as a document of SARIF 2.1.0.
-ghost use Rattle.std.specs.Prelude.{◌≡◌, ◌++◌, IfOk, codes, false, option_map};
+ghost use Rattle.std.specs.Prelude.{◌≡◌, IfOk, false, option_map};
 ghost use Rattle.serde_json.specs.View.{view};
-ghost use Rattle.serde_json.specs.Written.{compact_text, has_float};
 ghost use Rattle.rl_sarif.specs.Sarif.{document_data, is_told, location_data, physical_data, result_data, results_data, run_data, sarif_text, tool_data};
 
 use crate::message::message;
 use crate::uri::uri_of;
+use rl_json::line_of;
 use rl_lists::{Bytes, OutOfMemory};
 use rl_report::{Entries, Entry};
 use rl_syntax::Verdict;
@@ -99,16 +99,6 @@ fn document_value(alloc: Global, results: Value) -> Result<Value, OutOfMemory>
     Ok(json!(in alloc; {"runs": [run], "version": "2.1.0"})?)
 }
 
-/// A value as one line.
-fn line_of(alloc: Global, value: &Value) -> Result<Vec<u8>, OutOfMemory>
-    requires { has_float (view value.now) ≡ false }
-    ensures { IfOk result (λ line. line.items ≡ compact_text (view value.now) ++ codes "\n") }
-{
-    let mut line = value.to_vec(alloc)?;
-    line.push(b'\n')?;
-    Ok(line)
-}
-
 /// The report as a document of SARIF 2.1.0, one line with the keys in the order of their bytes. Its results are the entries
 /// in order, without those whose verdict is a degree up to `max_degree`. `max_pairs` is the limit of the live pairs.
 ///
@@ -125,6 +115,5 @@ pub fn sarif(
 {
     let results = results_value(alloc, entries.as_slice(), max_degree, max_pairs)?;
     let document = document_value(alloc, results)?;
-    let line = line_of(alloc, &document)?;
-    Ok(Bytes::from_vec(line))
+    line_of(alloc, &document)
 }

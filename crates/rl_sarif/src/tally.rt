@@ -2,7 +2,7 @@
 ghost use Rattle.std.specs.Prelude.{◌≡◌, ◌+◌, ◌-◌, ◌<◌, ◌^◌, IfOk, OnOk, map, nat_lt};
 ghost use Rattle.rl_sarif.specs.Keys.{key_in};
 ghost use Rattle.rl_sarif.specs.Known.{times};
-ghost use Rattle.rl_sarif.specs.Tally.{Holds, left, one_if_same};
+ghost use Rattle.rl_sarif.specs.internal.Tally.{Holds, left, one_if_same};
 
 use crate::key::Key;
 use indexmap::IndexMap;

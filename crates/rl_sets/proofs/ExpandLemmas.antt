@@ -8,7 +8,7 @@ use Rattle.rl_sets.specs.declared.rests.Way.{Way}
 use Rattle.rl_sets.specs.Live.{holds, image, IsLive}
 use Rattle.rl_sets.specs.Rests.{IsGrown, IsOver, HasRoute}
 use Rattle.rl_sets.specs.Walk.{Walk, set_at, IsMadeFor}
-use Rattle.rl_sets.specs.Search.{Found, number_at, way_at, found_set, IsSearch, IsLookedAt, IsImageAt, GoesOn}
+use Rattle.rl_sets.specs.internal.Search.{Found, number_at, way_at, found_set, IsSearch, IsLookedAt, IsImageAt, GoesOn}
 use Rattle.rl_sets.proofs.GrowthLemmas.{IsGrown-trans, IsOver-grown, set-kept}
 use Rattle.rl_sets.proofs.LiveLemmas.{end-refused, refuses-image}
 use Rattle.rl_sets.proofs.RouteLemmas.{HasRoute-more, HasRoute-end}

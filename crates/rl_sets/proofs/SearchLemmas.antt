@@ -10,7 +10,7 @@ use Rattle.rl_sets.specs.declared.error.SetsError.{SetsError}
 use Rattle.rl_sets.specs.declared.error.SetsError.TheVariants.{Sets}
 use Rattle.rl_sets.specs.Rests.{Reached, here, further, IsGrown, IsOver}
 use Rattle.rl_sets.specs.Walk.{Walk, set_at, IsMadeFor, IsListed, IsFull}
-use Rattle.rl_sets.specs.Search.{Found, number_at, way_at, root_way, found_set, IsStep, IsSearch, IsCovered, IsPast, IsLookedAt, Extends, IsImageAt}
+use Rattle.rl_sets.specs.internal.Search.{Found, number_at, way_at, root_way, found_set, IsStep, IsSearch, IsCovered, IsPast, IsLookedAt, Extends, IsImageAt}
 use Rattle.rl_sets.proofs.LiveLemmas.{all-dead}
 use Rattle.rl_sets.proofs.GrowthLemmas.{grown-length, set-kept, IsGrown-same, IsGrown-listed, IsOver-full}
 

@@ -6,7 +6,7 @@ use Rattle.rl_prio.specs.Automaton.{Automaton, IsAutomaton, accepting_state}
 use Rattle.rl_sets.specs.Live.{holds, IsLive}
 use Rattle.rl_sets.specs.Rests.{IsGrown, IsOver}
 use Rattle.rl_sets.specs.Walk.{Walk, set_at, IsMadeFor}
-use Rattle.rl_sets.specs.Search.{Found, number_at, found_set, root_way, IsSearch, IsLookedAt, GoesOn}
+use Rattle.rl_sets.specs.internal.Search.{Found, number_at, found_set, root_way, IsSearch, IsLookedAt, GoesOn}
 use Rattle.rl_sets.proofs.GrowthLemmas.{IsGrown-same, IsGrown-trans, IsOver-grown, set-kept}
 use Rattle.rl_sets.proofs.SearchLemmas.{IsSearch-start, IsLookedAt-start, all-looked}
 use Rattle.rl_sets.proofs.VisitLemmas.{place_of}

@@ -12,7 +12,7 @@ use Rattle.rl_sets.specs.declared.rests.Way.{Way}
 use Rattle.rl_sets.specs.Live.{holds, image, IsLive}
 use Rattle.rl_sets.specs.Rests.{IsGrown, HasRoute, IsLife}
 use Rattle.rl_sets.specs.Walk.{Walk, set_at, IsMadeFor}
-use Rattle.rl_sets.specs.Search.{Found, number_at, found_set, IsSearch, IsLookedAt, IsAdded, Extends, IsImageAt, GoesOn}
+use Rattle.rl_sets.specs.internal.Search.{Found, number_at, found_set, IsSearch, IsLookedAt, IsAdded, Extends, IsImageAt, GoesOn}
 use Rattle.rl_sets.proofs.GrowthLemmas.{IsGrown-same, IsGrown-trans}
 use Rattle.rl_sets.proofs.LiveLemmas.{accepting-dead, refuses-image}
 use Rattle.rl_sets.proofs.RouteLemmas.{HasRoute-more}

@@ -2,4 +2,4 @@ pub mod Live
 pub mod Rows
 pub mod Rests
 pub mod Walk
-pub mod Search
+pub mod internal

@@ -6,7 +6,7 @@ ghost use Rattle.rl_sets.specs.declared.error.SetsError.TheVariants.{Sets};
 ghost use Rattle.rl_sets.specs.Live.{holds, IsLive};
 ghost use Rattle.rl_sets.specs.Rests.{IsRefusedRest, HasRoute, IsGrown, IsOver};
 ghost use Rattle.rl_sets.specs.Walk.{set_at, IsMadeFor};
-ghost use Rattle.rl_sets.specs.Search.{found_of, found_set, root_way, IsSearch, IsLookedAt, IsAdded, IsImageAt, GoesOn};
+ghost use Rattle.rl_sets.specs.internal.Search.{found_of, found_set, root_way, IsSearch, IsLookedAt, IsAdded, IsImageAt, GoesOn};
 
 use crate::error::SetsError;
 use crate::life::Life;

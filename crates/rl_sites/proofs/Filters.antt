@@ -6,7 +6,7 @@ use Rattle.rl_sites.specs.declared.mark.Mark.{Mark}
 use Rattle.rl_sites.specs.declared.arguments.Form.TheVariants as form
 use Rattle.rl_sites.specs.Marks.{is_word, is_op, stands}
 use Rattle.rl_sites.specs.Flags.{is_named}
-use Rattle.rl_sites.specs.Walks.{is_filled, has_form}
+use Rattle.rl_sites.specs.internal.Walks.{is_filled, has_form}
 
 -- one is among them exactly where a filter leaves one
 pub any-filled : (p : List Mark → Bool) (xs : List (List Mark)) → list_any p xs ≡ is_filled (filter p xs)

@@ -4,7 +4,7 @@ use Rattle.std.specs.Prelude.{filter, slice_get}
 use Rattle.rl_sites.specs.declared.mark.Mark.{Mark}
 use Rattle.rl_sites.specs.declared.arguments.Form.{Form}
 use Rattle.rl_sites.specs.Arguments.{arguments_of}
-use Rattle.rl_sites.specs.Walks.{argument_size, first_argument, others_from, has_form, IsTable}
+use Rattle.rl_sites.specs.internal.Walks.{argument_size, first_argument, others_from, has_form, IsTable}
 use Rattle.rl_sites.proofs.Tables.{table_drop}
 use Rattle.rl_sites.proofs.Walking.{arguments-front}
 

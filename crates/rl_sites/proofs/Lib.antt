@@ -7,3 +7,5 @@ mod Filters
 mod Numbers
 mod Tabled
 mod NoAliases
+mod Runs
+mod InOrder

@@ -6,7 +6,7 @@ use Rattle.rl_pylex.specs.Source.{IsTokenList, IsInOrder}
 use Rattle.rl_pylex.proofs.TokenFacts.{IsInOrder-tokens}
 use Rattle.rl_sites.specs.declared.mark.Mark.{Mark}
 use Rattle.rl_sites.specs.Marks.{marks_from, is_comment_kind}
-use Rattle.rl_sites.specs.Walks.{IsNumbered}
+use Rattle.rl_sites.specs.internal.Walks.{IsNumbered}
 use Rattle.rl_sites.proofs.Tables.{table_drop}
 
 pub numbered_drop : (k : ℕ) (ms : List Mark) → IsNumbered ms → IsNumbered (drop k ms)

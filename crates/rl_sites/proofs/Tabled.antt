@@ -13,7 +13,7 @@ use Rattle.rl_sites.specs.declared.flag.Flag.{Flag}
 use Rattle.rl_sites.specs.declared.meaning.Meaning.{Meaning}
 use Rattle.rl_sites.specs.Marks.{word_of}
 use Rattle.rl_sites.specs.Names.{calls, call_word, flags, flag_word, call_of, flag_of, is_of_module, is_of_member, names_module, names_member, names_any_module, names_any_member, first_call, first_flag}
-use Rattle.rl_sites.specs.Meanings.{call_rank, flag_rank, earlier, nothing, joined, own_meaning, meaning_with, meaning_of, meaning_in, IsMeant}
+use Rattle.rl_sites.specs.internal.Meanings.{call_rank, flag_rank, earlier, nothing, joined, own_meaning, meaning_with, meaning_of, meaning_in, IsMeant}
 
 -- the ranks rise along the list
 abbrev above : {X : Type 0} → (X → ℕ) → ℕ → List X → Bool

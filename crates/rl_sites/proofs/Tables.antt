@@ -4,7 +4,7 @@ use Rattle.std.specs.Prelude.{slice_get}
 use Rattle.std.proofs.lemmas.List.{drop-drop}
 use Rattle.rl_sites.specs.declared.mark.Mark.{Mark}
 use Rattle.rl_sites.specs.Arguments.{opens, closes}
-use Rattle.rl_sites.specs.Walks.{inside_size, IsTable}
+use Rattle.rl_sites.specs.internal.Walks.{inside_size, IsTable}
 
 -- three numbers, each at most n
 three_within : (b c : Bool) (x y z n : ℕ) → x ≤ n → y ≤ n → z ≤ n → suc (cond b x (cond c y z)) ≤ suc n

@@ -2,7 +2,7 @@
 use Rattle.std.proofs.Common.{◌≡◌, ℕ, zero, suc, ◌+◌, ◌<◌, ◌≤◌, Bool, true, false, not, ◌&&◌, ◌||◌, cond, List, [], ◌∷◌, take, drop, length, get_or, refl, ap, sym, ◌∙◌, arith, subst}
 use Rattle.rl_sites.specs.declared.mark.Mark.{Mark}
 use Rattle.rl_sites.specs.Arguments.{opens, closes, lambda_after, parts, onto, arguments_from, arguments_of}
-use Rattle.rl_sites.specs.Walks.{inside_size, argument_size, others_from, IsTable}
+use Rattle.rl_sites.specs.internal.Walks.{inside_size, argument_size, others_from, IsTable}
 use Rattle.std.proofs.lemmas.List.{length-drop}
 use Rattle.rl_sites.proofs.Tables.{table_drop, three_split}
 

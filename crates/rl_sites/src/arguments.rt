@@ -1,7 +1,7 @@
 // The arguments of a call, one by one.
 ghost use Rattle.std.specs.Prelude.{◌≡◌, ◌≤◌, ◌<◌, ◌+◌, ◌∷◌, [], ◌&&◌, ◌||◌, not, true, false, length, take, drop, filter, slice_get, Some, None, MatchOption, IfSome};
 ghost use Rattle.rl_sites.specs.Arguments.{opens, closes, lambda_after, parts, arguments_of};
-ghost use Rattle.rl_sites.specs.Walks.{IsTable, argument_size, first_argument, others_from, other_arguments, has_form};
+ghost use Rattle.rl_sites.specs.internal.Walks.{IsTable, argument_size, first_argument, others_from, other_arguments, has_form};
 ghost use Rattle.rl_sites.specs.Flags.{is_named, is_flags_argument, is_starred};
 ghost use Rattle.rl_sites.specs.Marks.{is_name, is_word};
 

@@ -1,7 +1,7 @@
 // Brackets, and how far it is to the closing one.
 ghost use Rattle.std.specs.Prelude.{◌≡◌, ◌≤◌, ◌<◌, ◌+◌, ◌&&◌, not, length, drop, IfOk, if◌then◌else◌};
 ghost use Rattle.rl_sites.specs.Arguments.{opens, closes};
-ghost use Rattle.rl_sites.specs.Walks.{inside_size, IsTable};
+ghost use Rattle.rl_sites.specs.internal.Walks.{inside_size, IsTable};
 
 use crate::mark::Mark;
 use crate::marks::{is_op, rest_from};

@@ -2,9 +2,9 @@
 ghost use Rattle.std.specs.Prelude.{◌≡◌, ◌≤◌, Some, slice_get, length, filter};
 ghost use Rattle.std.specs.List.{list_any};
 ghost use Rattle.rl_sites.specs.Arguments.{arguments_of};
-ghost use Rattle.rl_sites.specs.Walks.{IsTable, others_from, has_form, is_filled};
+ghost use Rattle.rl_sites.specs.internal.Walks.{IsTable, others_from, has_form, is_filled};
 ghost use Rattle.rl_sites.specs.Flags.{is_starred, is_flags_argument, position, flags_by, flags_by_place, flags_by_name, flags_of};
-ghost use Rattle.rl_sites.specs.Meanings.{IsMeant};
+ghost use Rattle.rl_sites.specs.internal.Meanings.{IsMeant};
 
 use crate::arguments::{Form, argument_at, find_argument, is_named, other_arguments};
 use crate::mark::Mark;

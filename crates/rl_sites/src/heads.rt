@@ -3,7 +3,7 @@ ghost use Rattle.std.specs.Prelude.{◌≡◌, ◌≤◌, ◌<◌, ◌&&◌, IsT
 ghost use Rattle.rl_sites.specs.Marks.{is_op, stands};
 ghost use Rattle.rl_sites.specs.Names.{is_module, call_named, call_aliased};
 ghost use Rattle.rl_sites.specs.Sites.{head, call_by, dotted_head, bare_head, head_of};
-ghost use Rattle.rl_sites.specs.Meanings.{IsMeant};
+ghost use Rattle.rl_sites.specs.internal.Meanings.{IsMeant};
 
 use crate::Call;
 use crate::mark::Mark;

@@ -2,7 +2,7 @@
 ghost use Rattle.std.specs.Prelude.{◌≡◌, ℕ, List, None, IfOk, OnOk};
 ghost use Rattle.rl_sites.specs.Names.{call_of, flag_of, is_module, call_named, flag_named, call_aliased, flag_aliased};
 ghost use Rattle.rl_sites.specs.Marks.{word_of};
-ghost use Rattle.rl_sites.specs.Meanings.{call_rank, flag_rank, earlier, nothing, joined, own_meaning, meaning_with, meaning_of, meaning_in, IsMeant};
+ghost use Rattle.rl_sites.specs.internal.Meanings.{call_rank, flag_rank, earlier, nothing, joined, own_meaning, meaning_with, meaning_of, meaning_in, IsMeant};
 
 use crate::Call;
 use crate::flag::Flag;

@@ -1,13 +1,14 @@
 // The sites of a source.
-ghost use Rattle.std.specs.Prelude.{◌≡◌, ◌≤◌, ◌<◌, ◌+◌, ◌-◌, ◌++◌, List, [], length, take, drop, slice_get, not, false, position, IfOk, OnOk, option_to_list, if◌then◌else◌};
+ghost use Rattle.std.specs.Prelude.{◌≡◌, ◌≤◌, ◌<◌, ◌+◌, ◌-◌, ◌++◌, List, [], length, take, drop, slice_get, not, false, position, All, IfOk, OnOk, option_to_list, if◌then◌else◌};
 ghost use Rattle.std.specs.List.{prefix_len};
 ghost use Rattle.rl_pylex.specs.Source.{IsTokenList};
 ghost use Rattle.rl_sites.specs.Marks.{is_literal};
-ghost use Rattle.rl_sites.specs.Walks.{IsTable, IsNumbered};
+ghost use Rattle.rl_sites.specs.internal.Walks.{IsTable, IsNumbered};
 ghost use Rattle.rl_sites.specs.Arguments.{arguments_of};
 ghost use Rattle.rl_sites.specs.Imports.{aliases_of};
 ghost use Rattle.rl_sites.specs.Sites.{pattern_size, site_of_run, ends_whole, flags_if, site_behind, site_by, site_here, hides, sites_from, sites_of};
-ghost use Rattle.rl_sites.specs.Meanings.{IsMeant};
+ghost use Rattle.rl_sites.specs.Runs.{HasRun, AreInOrder};
+ghost use Rattle.rl_sites.specs.internal.Meanings.{IsMeant};
 
 use crate::brackets::sizes_of;
 use crate::flags::flags_of;
@@ -220,12 +221,17 @@ fn sites_by(
 /// The sites of a source with these tokens, which are its own: each call of the module `re` by an alias that its
 /// imports make, whose first argument is a run of literals, in the order of their places.
 ///
+/// A site's run of tokens begins and ends with a literal and holds only literals and comments. No two runs overlap: each
+/// ends before the next site's begins.
+///
 /// # Errors
 /// [`OutOfMemory`] where memory was refused.
 #[tactic(auto, unfolding(crate::specs::Sites::sites_of))]
 pub fn sites(alloc: Global, source: &[u8], tokens: &TokenList) -> Result<SiteList, OutOfMemory>
     requires { IsTokenList source.now tokens.now }
-    ensures { IfOk result (λ sites. sites ≡ sites_of source.now tokens.now) }
+    ensures sites { IfOk result (λ sites. sites ≡ sites_of source.now tokens.now) }
+    ensures runs { IfOk result (All (HasRun tokens.now)) }
+    ensures order { IfOk result AreInOrder }
 {
     let marks = marks_of(alloc, tokens.as_slice())?;
     let aliases = aliases_of(alloc, source, marks.as_slice())?;

@@ -4,7 +4,7 @@ ghost use Rattle.std.specs.List.{prefix_len};
 ghost use Rattle.rl_sites.specs.Marks.{is_op};
 ghost use Rattle.rl_sites.specs.Names.{is_module};
 ghost use Rattle.rl_sites.specs.Flags.{no_flags, with_flag, lone_term, dotted_term, term, flags_by, is_bar};
-ghost use Rattle.rl_sites.specs.Meanings.{IsMeant};
+ghost use Rattle.rl_sites.specs.internal.Meanings.{IsMeant};
 
 use crate::SiteFlags;
 use crate::flag::Flag;

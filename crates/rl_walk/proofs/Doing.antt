@@ -19,7 +19,7 @@ use Rattle.rl_walk.specs.declared.visits.Visit.TheVariants.{Source, Unreadable, 
 use Rattle.rl_walk.specs.Children.{path_below, has_source_name, IsInOrder}
 use Rattle.rl_walk.specs.Steps.{Step, named, file, folder, other, step_for, steps_below, child_steps, is_met, with_path}
 use Rattle.rl_walk.specs.Visits.{IsWalk, done, unknown, known, not_plain, file_again, unread, source, folder_again, too_deep, unlisted, listed, Moment, Walked, is_unreadable, has_failed, has_unreadable}
-use Rattle.rl_walk.specs.Parts.{Begins, Does}
+use Rattle.rl_walk.specs.internal.Parts.{Begins, Does}
 use Rattle.rl_walk.proofs.Paths.{met-new, met-again, with_path-new, with_path-again}
 use Rattle.std.proofs.lemmas.List.{take_more, map_push}
 use Rattle.std.proofs.Math.Seq.{take-length}

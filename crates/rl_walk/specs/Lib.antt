@@ -1,5 +1,5 @@
 pub mod Children
 pub mod Steps
 pub mod Visits
-pub mod Parts
 pub mod OneWalk
+pub mod internal

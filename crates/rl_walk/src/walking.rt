@@ -3,7 +3,7 @@ ghost use Rattle.std.specs.Prelude.{◌≡◌, ◌≤◌, ◌∷◌, [], ◌+◌
 ghost use Rattle.rl_walk.specs.Steps.{named, file, folder, child_steps, steps_below};
 ghost use Rattle.rl_walk.specs.Children.{path_below, IsInOrder};
 ghost use Rattle.rl_walk.specs.Visits.{Walked, moment_of};
-ghost use Rattle.rl_walk.specs.Parts.{Does};
+ghost use Rattle.rl_walk.specs.internal.Parts.{Does};
 
 use crate::children::{has_source_name, in_order, path_below};
 use crate::met::Met;

@@ -2,8 +2,8 @@
 use Rattle.std.specs.Prelude.{◌≡◌, ℕ, ◌<◌, Bool, false, List, length, slice_index_or}
 use Rattle.rl_graph.specs.Graph.{Graph}
 use Rattle.rl_graph.specs.Parts.{PartTable, number_of}
-use Rattle.rl_expo.specs.Forks.{AnyFork}
-use Rattle.rl_expo.specs.Search.{NoneStay}
+use Rattle.rl_expo.specs.internal.Forks.{AnyFork}
+use Rattle.rl_expo.specs.internal.Search.{NoneStay}
 
 -- a mark for each component: where it is false, none of its states below `end` has two moves on one letter that stay there
 pub record AreForkingUpTo (g : Graph) (p : PartTable) (end : ℕ) (marks : List Bool) : Type 0 where

@@ -1,7 +1,7 @@
 //! Lists of attempts.
 
 ghost use Rattle.std.specs.Prelude.{◌≡◌, ℕ, ◌<◌, ◌≤◌, ◌+◌, ◌++◌, ◌∷◌, [], List, map, length, IfOk, IfErr, OnOk, slice_index_or};
-ghost use Rattle.rl_prio.specs.Attempts.{behind, onward, ends_replaced, AreReplaced, AreShort};
+ghost use Rattle.rl_prio.specs.internal.Attempts.{behind, onward, ends_replaced, AreReplaced, AreShort};
 
 use crate::build::guards::Guards;
 use rl_lists::{Items, OutOfMemory};

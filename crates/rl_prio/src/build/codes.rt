@@ -5,7 +5,7 @@ ghost use Rattle.rl_ranges.specs.Codes.{has};
 ghost use Rattle.rl_ranges.specs.Letters.{letter_at};
 ghost use Rattle.rl_syntax.specs.Guards.{is_word};
 ghost use Rattle.rl_syntax.specs.Tree.{tree_of, sets_in};
-ghost use Rattle.rl_prio.specs.GuardSets.{shown};
+ghost use Rattle.rl_prio.specs.internal.GuardSets.{shown};
 
 use crate::build::guards::{Shown, Words};
 use rl_lists::{Items, OutOfMemory};

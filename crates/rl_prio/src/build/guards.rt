@@ -3,7 +3,7 @@
 ghost use Rattle.std.specs.Prelude.{◌≡◌, ℕ, true, false, None, Some, IfOk};
 ghost use Rattle.rl_syntax.specs.Guards.{is_word};
 ghost use Rattle.rl_ranges.specs.Codes.{has};
-ghost use Rattle.rl_prio.specs.GuardSets.{no_guards, only, joined, met, shown, holding};
+ghost use Rattle.rl_prio.specs.internal.GuardSets.{no_guards, only, joined, met, shown, holding};
 
 use rl_lists::OutOfMemory;
 use rl_ranges::{CodeSet, Named, Universe};
@@ -41,7 +41,7 @@ pub(crate) struct Words {
 
 impl Guards {
     /// No guard.
-    #[tactic(auto, unfolding(crate::specs::GuardSets::no_guards))]
+    #[tactic(auto, unfolding(crate::specs::internal::GuardSets::no_guards))]
     pub(crate) fn none() -> Guards
         ensures { result ≡ no_guards }
     {
@@ -58,7 +58,7 @@ impl Guards {
     }
 
     /// The guard alone.
-    #[tactic(auto, unfolding(crate::specs::GuardSets::only))]
+    #[tactic(auto, unfolding(crate::specs::internal::GuardSets::only))]
     pub(crate) fn only(guard: Guard) -> Guards
         ensures { result ≡ only guard }
     {
@@ -77,7 +77,7 @@ impl Guards {
     }
 
     /// The guards of both sets.
-    #[tactic(auto, unfolding(crate::specs::GuardSets::joined))]
+    #[tactic(auto, unfolding(crate::specs::internal::GuardSets::joined))]
     pub(crate) fn join(self, other: Guards) -> Guards
         ensures { result ≡ joined self other }
     {
@@ -94,7 +94,7 @@ impl Guards {
     }
 
     /// Whether each guard is one of those that hold.
-    #[tactic(auto, unfolding(crate::specs::GuardSets::met))]
+    #[tactic(auto, unfolding(crate::specs::internal::GuardSets::met))]
     pub(crate) fn are_met(self, holding: Guards) -> bool
         ensures { result ≡ met self holding }
     {
@@ -109,7 +109,7 @@ impl Guards {
     }
 
     /// The guards that hold between what is shown before and what is shown next.
-    #[tactic(auto, unfolding(crate::specs::GuardSets::holding))]
+    #[tactic(auto, unfolding(crate::specs::internal::GuardSets::holding))]
     pub(crate) fn holding(before: Shown, next: Shown) -> Guards
         ensures { result ≡ holding before next }
     {
@@ -130,7 +130,7 @@ impl Guards {
 
 impl Shown {
     /// What is shown where there is no code.
-    #[tactic(auto, unfolding(crate::specs::GuardSets::shown))]
+    #[tactic(auto, unfolding(crate::specs::internal::GuardSets::shown))]
     pub(crate) fn nothing() -> Shown
         ensures { result ≡ shown None }
     {
@@ -159,7 +159,7 @@ impl Words {
     }
 
     /// What a code shows.
-    #[tactic(auto, unfolding(crate::specs::GuardSets::shown))]
+    #[tactic(auto, unfolding(crate::specs::internal::GuardSets::shown))]
     pub(crate) fn shown(&self, code: u32) -> Shown
         requires all { (c : ℕ) → has self.now.all c ≡ is_word false c }
         requires ascii { (c : ℕ) → has self.now.ascii c ≡ is_word true c }

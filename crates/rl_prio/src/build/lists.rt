@@ -3,8 +3,8 @@
 ghost use Rattle.std.specs.Prelude.{◌≡◌, ℕ, ◌<◌, ◌≤◌, ◌+◌, ◌++◌, ◌⊎◌, ◌∷◌, [], List, length, IfOk, IfErr, OnOk};
 ghost use Rattle.rl_syntax.specs.Tree.{tree_of};
 ghost use Rattle.rl_syntax.specs.Run.{one_more};
-ghost use Rattle.rl_prio.specs.GuardSets.{no_guards};
-ghost use Rattle.rl_prio.specs.Attempts.{ends_replaced, width_of, AreReplaced, AreEntered, AreShort, IsTooWide};
+ghost use Rattle.rl_prio.specs.internal.GuardSets.{no_guards};
+ghost use Rattle.rl_prio.specs.internal.Attempts.{ends_replaced, width_of, AreReplaced, AreEntered, AreShort, IsTooWide};
 
 use crate::build::attempts::{
     Attempt, AttemptList, ListError, put_behind, replace_ends, single, with_ends_replaced,

@@ -4,9 +4,9 @@ ghost use Rattle.std.specs.Prelude.{◌≡◌, ℕ, suc, ◌+◌, ◌*◌, ◌-�
 ghost use Rattle.rl_syntax.specs.Tree.{tree_of, sets_in};
 ghost use Rattle.rl_ranges.specs.Codes.{has};
 ghost use Rattle.rl_ranges.specs.Letters.{letter_at};
-ghost use Rattle.rl_prio.specs.GuardSets.{shown, holding};
-ghost use Rattle.rl_prio.specs.Attempts.{width_of};
-ghost use Rattle.rl_prio.specs.Plans.{plan_letters, plan_kinds, plan_places, plan_states, holds_at, test_goes, may_end, end_goes, move_of, moves_of, attempts_at, before_at, row_at, IsPlaced, IsSound, AreRows, IsPlan};
+ghost use Rattle.rl_prio.specs.internal.GuardSets.{shown, holding};
+ghost use Rattle.rl_prio.specs.internal.Attempts.{width_of};
+ghost use Rattle.rl_prio.specs.internal.Plans.{plan_letters, plan_kinds, plan_places, plan_states, holds_at, test_goes, may_end, end_goes, move_of, moves_of, attempts_at, before_at, row_at, IsPlaced, IsSound, AreRows, IsPlan};
 
 use crate::build::attempts::{Attempt, AttemptList, ListError};
 use crate::build::codes::{add_members, kinds_of, samples, shown_before, shown_next};

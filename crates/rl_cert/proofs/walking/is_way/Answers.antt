@@ -2,7 +2,8 @@ use Rattle.std.proofs.Common.{◌≡◌, ◌∙◌, ◌↔◌, IsTrue, ◌+◌, 
 use Rattle.std.proofs.lemmas.Result.{IfOk-weaker}
 use Rattle.rl_numbers.proofs.RowLoops.{never-both}
 use Rattle.rl_pairs.specs.PairTable.{moves_in, pair_in}
-use Rattle.rl_cert.specs.Ways.{IsWay, IsEnd, Fits}
+use Rattle.rl_cert.specs.Ways.{IsWay}
+use Rattle.rl_cert.specs.internal.WayParts.{IsEnd, Fits}
 use Rattle.rl_cert.proofs.WayLaws.{way-fits, way-link, way-decided, word-at, no_anchor}
 use Rattle.rl_cert.proofs.walking.is_way.Goals as goal
 

@@ -1,5 +1,5 @@
 use Rattle.std.proofs.Common.{ℕ, ◌<◌, ◌≡◌, false}
-use Rattle.rl_expo.specs.Search.{Stays, NoTwoStay}
+use Rattle.rl_expo.specs.internal.Search.{Stays, NoTwoStay}
 use Rattle.rl_expo.proofs.stays.stays_twice.Given as goal
 
 abbrev pub invariant-loop-place : goal.invariant-loop-place

@@ -1,5 +1,5 @@
 use Rattle.std.proofs.Common.{ℕ, ◌<◌}
-use Rattle.rl_expo.specs.Search.{NoneStay}
+use Rattle.rl_expo.specs.internal.Search.{NoneStay}
 use Rattle.rl_expo.proofs.stays.stays_twice_from.Given as goal
 
 abbrev pub invariant-loop-letter : goal.invariant-loop-letter

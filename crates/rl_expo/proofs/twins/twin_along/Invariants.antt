@@ -1,5 +1,5 @@
 use Rattle.rl_graph.specs.Graph.{edges_of}
-use Rattle.rl_expo.specs.Search.{IsOnWay}
+use Rattle.rl_expo.specs.internal.Sides.{IsOnWay}
 use Rattle.rl_expo.proofs.twins.twin_along.Given as goal
 
 abbrev pub invariant-loop-place : goal.invariant-loop-place

@@ -1,5 +1,5 @@
 use Rattle.std.proofs.Common.{sym, arith, true≢false, below_more}
-use Rattle.rl_graph.specs.Parts.{HasInnerOn}
+use Rattle.rl_graph.specs.internal.InnerMoves.{HasInnerOn}
 use Rattle.rl_graph.proofs.PartLaws.{inner-letters}
 use Rattle.rl_graph.proofs.parts.has_inner.Goals as goal
 

@@ -1,5 +1,5 @@
 use Rattle.std.proofs.Common.{◌<◌, ℕ}
-use Rattle.rl_graph.specs.Parts.{HasInnerOn}
+use Rattle.rl_graph.specs.internal.InnerMoves.{HasInnerOn}
 use Rattle.rl_graph.proofs.parts.has_inner.Given as goal
 
 abbrev pub invariant-loop-letter : goal.invariant-loop-letter

@@ -1,6 +1,6 @@
 use Rattle.std.proofs.Common.{Bool, List, ◌+◌, ◌↔◌, IsTrue, false, get_or, length, sym, subst, ◌∙◌, ap}
 use Rattle.std.proofs.lemmas.List.{length_push}
-use Rattle.rl_graph.specs.Parts.{HasInner}
+use Rattle.rl_graph.specs.internal.InnerMoves.{HasInner}
 use Rattle.rl_graph.proofs.PartLaws.{marks-more}
 use Rattle.rl_graph.proofs.parts.inner_marks.Goals as goal
 

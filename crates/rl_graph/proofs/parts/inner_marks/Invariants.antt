@@ -1,5 +1,5 @@
 use Rattle.std.proofs.Common.{◌≡◌, ◌<◌, ◌↔◌, ℕ, IsTrue, false, length, get_or}
-use Rattle.rl_graph.specs.Parts.{HasInner}
+use Rattle.rl_graph.specs.internal.InnerMoves.{HasInner}
 use Rattle.rl_graph.proofs.parts.inner_marks.Given as goal
 
 abbrev pub invariant-loop-state : goal.invariant-loop-state

@@ -1,7 +1,7 @@
 use Rattle.std.proofs.Common.{List, ◌≡◌, ◌∙◌, ap, map}
 use Rattle.std.proofs.lemmas.Result.{IfOk-weaker}
-use Rattle.rl_graph.specs.Parts.{IsNumbered}
-use Rattle.rl_graph.specs.Search.{stand_of, part_in}
+use Rattle.rl_graph.specs.internal.InnerMoves.{IsNumbered}
+use Rattle.rl_graph.specs.internal.Search.{stand_of, part_in}
 use Rattle.rl_graph.specs.declared.parts.Place.{Place}
 use Rattle.rl_graph.proofs.PartLaws.{numbered}
 use Rattle.rl_graph.proofs.parts.part_numbers.Goals as goal

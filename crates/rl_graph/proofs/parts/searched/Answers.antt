@@ -1,7 +1,7 @@
 use Rattle.std.proofs.Common.{ℕ, ◌<◌, ◌≡◌, sym, subst, arith, ap, ◌∙◌}
 use Rattle.std.proofs.lemmas.List.{get_or_read}
 use Rattle.rl_graph.specs.declared.parts.Place.TheVariants.{Unseen}
-use Rattle.rl_graph.specs.Search.{Stand, stand_of, place_of, start_of, IsSearch}
+use Rattle.rl_graph.specs.internal.Search.{Stand, stand_of, place_of, start_of, IsSearch}
 use Rattle.rl_graph.proofs.SearchEnds.{started, open_root}
 use Rattle.rl_graph.proofs.PartLaws.{all-done}
 use Rattle.rl_graph.proofs.parts.searched.Goals as goal

@@ -1,7 +1,9 @@
 use Rattle.std.proofs.Common.{ℕ, ◌≡◌, ◌≢◌, ◌<◌, ◌≤◌, ◌+◌, length, sym, subst, ap, ◌∙◌, arith}
 use Rattle.std.proofs.lemmas.List.{get_or_read}
 use Rattle.rl_graph.specs.declared.walks.Node.{Node}
-use Rattle.rl_graph.specs.Walks.{Steps, steps_of, start_steps, node_of, root_node, IsWalk, IsAt, IsShortest, NoPath}
+use Rattle.rl_graph.specs.Walks.{IsShortest, NoPath}
+use Rattle.rl_graph.specs.internal.Nodes.{Steps}
+use Rattle.rl_graph.specs.internal.Nodes.{steps_of, start_steps, node_of, root_node, IsWalk, IsAt}
 use Rattle.rl_graph.proofs.WalkLaws.{started_walk, started_at, answer-found, found-none, missed-more, missed-kept, few-nodes}
 use Rattle.rl_graph.proofs.walks.shortest.Goals as goal
 use Rattle.rl_graph.proofs.walks.shortest.Goals.{else-place-least-via-then-place-least+else-index-to, else-place-least-via-else-place-least}

@@ -1,5 +1,5 @@
 use Rattle.std.proofs.Common.{◌≡◌, ◌-◌, ◌+◌, ◌≤◌, length}
-use Rattle.rl_graph.specs.Walks.{steps_of, node_of, IsWalk, IsAt, Missed}
+use Rattle.rl_graph.specs.internal.Nodes.{steps_of, node_of, IsWalk, IsAt, Missed}
 use Rattle.rl_graph.proofs.walks.shortest.Given as goal
 
 abbrev pub invariant-loop-place : goal.invariant-loop-place

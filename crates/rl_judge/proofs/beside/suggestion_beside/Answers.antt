@@ -1,5 +1,5 @@
 use Rattle.std.proofs.Common.{◌≡◌, true, arith}
-use Rattle.rl_judge.specs.Asked.{is_beside}
+use Rattle.rl_judge.specs.internal.Asked.{is_beside}
 use Rattle.rl_judge.specs.Sites.{question_of}
 use Rattle.rl_judge.proofs.Suggestions.{small_beside}
 use Rattle.rl_judge.proofs.Wrapping.{small_whole}

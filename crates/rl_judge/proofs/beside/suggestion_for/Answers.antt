@@ -1,4 +1,8 @@
-use Rattle.std.proofs.Common.{length}
+use Rattle.std.proofs.Common.{List, ℕ, Option, length, subst}
+use Rattle.std.specs.Prelude.{IfSome}
+use Rattle.rl_syntax.specs.declared.verdict.Suggestion.{Suggestion}
+use Rattle.rl_pattern.specs.declared.flags.Flags.{Flags}
+use Rattle.rl_rewrite.specs.RightSuggestion.{IsRightSuggestion}
 use Rattle.rl_judge.proofs.Spans.{placed_within}
 use Rattle.rl_judge.proofs.Suggestions.{right_reads}
 use Rattle.rl_judge.proofs.beside.suggestion_for.Goals as goal
@@ -16,3 +20,8 @@ returns-in-Ok-clause-within c = record {
 pub returns-in-Ok-clause-readable : goal.returns-in-Ok-clause-readable
 returns-in-Ok-clause-readable c =
     right_reads c.args.flags c.args.pattern.now c.args.codes.now 20000 c.in-Ok.suggestion c.in-Ok.ensures.right
+
+pub returns-in-Some-clause-right : goal.returns-in-Some-clause-right
+returns-in-Some-clause-right c =
+    subst (λ (o : Option Suggestion). IfSome o (λ s. (flags : Flags) (codes : List ℕ) (limit : ℕ) → IsRightSuggestion flags c.args.pattern.now codes limit s)) c.in-Some.is c.in_ok-suggestion.ensures.right
+    c.args.flags c.args.codes.now 20000

@@ -1,5 +1,5 @@
 use Rattle.std.proofs.Common.{◌≡◌, ℕ, ◌-◌, ◌<◌, ◌≤◌, get_or}
-use Rattle.rl_lanes.specs.Words.{and_not}
+use Rattle.rl_lanes.specs.internal.Words.{and_not}
 use Rattle.rl_lanes.proofs.words.any_outside.Given as goal
 
 abbrev pub invariant-lanes : goal.invariant-lanes

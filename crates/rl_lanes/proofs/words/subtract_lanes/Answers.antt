@@ -3,7 +3,7 @@ use Rattle.std.specs.Int.{bit_not}
 use Rattle.std.specs.Simd.Lanes.{chunk, zip2}
 use Rattle.std.proofs.lemmas.Simd.{length-chunk, get_or-chunk, length-zip2, get_or-zip2}
 use Rattle.std.proofs.lemmas.List.{length-map, get_or-map}
-use Rattle.rl_lanes.specs.Words.{and_not}
+use Rattle.rl_lanes.specs.internal.Words.{and_not}
 use Rattle.rl_lanes.proofs.WordLemmas.{JoinsAt-put_chunk}
 use Rattle.rl_lanes.proofs.words.subtract_lanes.Goals as goal
 

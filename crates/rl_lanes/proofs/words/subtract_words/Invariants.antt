@@ -1,6 +1,6 @@
 use Rattle.std.proofs.Common.{◌-◌}
 use Rattle.rl_lanes.proofs.WordLemmas.{JoinsBelow}
-use Rattle.rl_lanes.specs.Words.{and_not}
+use Rattle.rl_lanes.specs.internal.Words.{and_not}
 use Rattle.rl_lanes.proofs.words.subtract_words.Given as goal
 
 abbrev pub invariant-lanes : goal.invariant-lanes

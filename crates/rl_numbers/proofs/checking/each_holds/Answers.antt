@@ -3,7 +3,7 @@ use Rattle.rl_graph.specs.Paths.{Has}
 use Rattle.rl_graph.specs.Graph.{edges_of}
 use Rattle.rl_graph.proofs.Sums.{each-has, at-has, at-short, at-get_or}
 use Rattle.rl_numbers.specs.declared.triple.Triple.{Triple}
-use Rattle.rl_numbers.specs.Numbered.{HoldsIn}
+use Rattle.rl_numbers.specs.internal.NumberedFalls.{HoldsIn}
 use Rattle.rl_numbers.specs.Index.{number_in}
 use Rattle.rl_numbers.proofs.IndexLaws.{no_triple}
 use Rattle.rl_numbers.proofs.checking.each_holds.Goals as goal

@@ -1,6 +1,6 @@
 use Rattle.std.proofs.Common.{ℕ, get_or, sym, refl, arith, true≢false, below_more}
 use Rattle.rl_graph.specs.Graph.{edges_of}
-use Rattle.rl_numbers.specs.Numbered.{FirstsFall}
+use Rattle.rl_numbers.specs.internal.NumberedFalls.{FirstsFall}
 use Rattle.rl_numbers.specs.Index.{number_in}
 use Rattle.rl_numbers.proofs.RowLoops.{never-both, row-in}
 use Rattle.rl_numbers.proofs.StepLaws.{all-letters}

@@ -1,4 +1,4 @@
-use Rattle.rl_numbers.specs.Diagonal.{IsDiagonalUpTo}
+use Rattle.rl_numbers.specs.internal.Diagonal.{IsDiagonalUpTo}
 use Rattle.rl_numbers.proofs.diagonal.diagonal.Given as goal
 
 abbrev pub invariant-loop-state : goal.invariant-loop-state

@@ -1,6 +1,7 @@
 use Rattle.std.proofs.Common.{ℕ, get_or, sym, refl, subst, arith, true≢false, below_more}
 use Rattle.rl_graph.proofs.Sums.{at-short, at-get_or, get_or-at}
-use Rattle.rl_numbers.specs.Doubled.{OthersFall, number_in}
+use Rattle.rl_numbers.specs.Doubled.{number_in}
+use Rattle.rl_numbers.specs.internal.DoubledFalls.{OthersFall}
 use Rattle.rl_numbers.proofs.RowLoops.{never-both}
 use Rattle.rl_numbers.proofs.doubling.aparts_fall.Goals as goal
 

@@ -3,7 +3,8 @@ use Rattle.rl_graph.specs.Paths.{Has}
 use Rattle.rl_graph.specs.Graph.{edges_of}
 use Rattle.rl_graph.proofs.Sums.{each-has, Each-has, at-has, at-short, at-get_or, Has-get_or}
 use Rattle.rl_numbers.specs.declared.double.Double.{Double}
-use Rattle.rl_numbers.specs.Doubled.{HoldsIn, number_in}
+use Rattle.rl_numbers.specs.Doubled.{number_in}
+use Rattle.rl_numbers.specs.internal.DoubledFalls.{HoldsIn}
 use Rattle.rl_numbers.proofs.RowLoops.{never-both}
 use Rattle.rl_numbers.proofs.DoubleLaws.{no_double}
 use Rattle.rl_numbers.proofs.doubling.each_holds.Goals as goal

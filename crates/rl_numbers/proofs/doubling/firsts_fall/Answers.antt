@@ -1,5 +1,6 @@
 use Rattle.std.proofs.Common.{ℕ, get_or, arith, below_more}
-use Rattle.rl_numbers.specs.Doubled.{SecondsFall, number_in}
+use Rattle.rl_numbers.specs.Doubled.{number_in}
+use Rattle.rl_numbers.specs.internal.DoubledFalls.{SecondsFall}
 use Rattle.rl_numbers.proofs.RowLoops.{passed-all, failed-one, never-both}
 use Rattle.rl_numbers.proofs.doubling.firsts_fall.Goals as goal
 

@@ -1,6 +1,7 @@
 use Rattle.std.proofs.Common.{◌+◌, ℕ, sym, refl, arith, true≢false, below_more}
 use Rattle.rl_graph.specs.Graph.{edges_of}
-use Rattle.rl_numbers.specs.Doubled.{FirstsFall, number_in}
+use Rattle.rl_numbers.specs.Doubled.{number_in}
+use Rattle.rl_numbers.specs.internal.DoubledFalls.{FirstsFall}
 use Rattle.rl_numbers.proofs.RowLoops.{never-both}
 use Rattle.rl_numbers.proofs.DoubleLaws.{all-letters}
 use Rattle.rl_numbers.proofs.doubling.steps_fall.Goals as goal

@@ -1,4 +1,4 @@
-use Rattle.rl_numbers.specs.Inner.{IsInnerUpTo}
+use Rattle.rl_numbers.specs.internal.Inner.{IsInnerUpTo}
 use Rattle.rl_numbers.specs.Level.{table_of}
 use Rattle.rl_numbers.proofs.leveling.add_level_from.Given as goal
 

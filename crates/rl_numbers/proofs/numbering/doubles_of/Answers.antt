@@ -5,7 +5,7 @@ use Rattle.rl_graph.specs.Paths.{Each}
 use Rattle.rl_graph.specs.Product.{pair_moves}
 use Rattle.rl_graph.proofs.GraphLaws.{bounded-whole}
 use Rattle.rl_graph.proofs.Sums.{Has-get_or}
-use Rattle.rl_numbers.specs.Diagonal.{IsDiagonalUpTo, doubles_in}
+use Rattle.rl_numbers.specs.internal.Diagonal.{IsDiagonalUpTo, doubles_in}
 use Rattle.rl_numbers.specs.Reached.{IsReach}
 use Rattle.rl_numbers.proofs.DoubleList.{listed_doubles}
 use Rattle.rl_numbers.proofs.numbering.doubles_of.Goals as goal

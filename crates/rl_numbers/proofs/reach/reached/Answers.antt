@@ -1,7 +1,7 @@
 use Rattle.std.proofs.Common.{ℕ, sym, subst, arith}
 use Rattle.std.proofs.lemmas.Result.{err_from_is_err_and}
 use Rattle.rl_graph.proofs.Sums.{at-get_or}
-use Rattle.rl_numbers.specs.Reached.{IsFinding}
+use Rattle.rl_numbers.specs.internal.Spreading.{IsFinding}
 use Rattle.rl_numbers.proofs.ReachLaws.{search-start, search-inside, search-more, search-over, search-end}
 use Rattle.rl_numbers.proofs.reach.reached.Goals as goal
 

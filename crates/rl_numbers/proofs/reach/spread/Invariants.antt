@@ -1,5 +1,5 @@
 use Rattle.std.proofs.Common.{◌≤◌, length}
-use Rattle.rl_numbers.specs.Reached.{Spreads, IsTargetUpTo}
+use Rattle.rl_numbers.specs.internal.Spreading.{Spreads, IsTargetUpTo}
 use Rattle.rl_numbers.proofs.reach.spread.Given as goal
 
 abbrev pub invariant-loop-letter : goal.invariant-loop-letter

@@ -1,6 +1,6 @@
 use Rattle.std.proofs.Common.{◌≤◌, length, take}
 use Rattle.rl_graph.specs.Paths.{Has}
-use Rattle.rl_numbers.specs.Reached.{Spreads}
+use Rattle.rl_numbers.specs.internal.Spreading.{Spreads}
 use Rattle.rl_numbers.proofs.reach.spread_on.Given as goal
 
 abbrev pub invariant-loop-number : goal.invariant-loop-number

@@ -3,7 +3,7 @@ use Rattle.std.proofs.lemmas.Result.{err_from_is_err_and}
 use Rattle.rl_prio.specs.Automaton.{accepting_state}
 use Rattle.rl_sets.specs.Live.{holds}
 use Rattle.rl_sets.specs.Walk.{Walk, set_at}
-use Rattle.rl_pairs.specs.Counting.{IsClosed}
+use Rattle.rl_pairs.specs.internal.Counting.{IsClosed}
 use Rattle.rl_pairs.proofs.CountingLaws.{IsClosing, closing-start, closing-set, closing-free, closing-few, closed-none}
 use Rattle.rl_pairs.proofs.counting.close.Goals as goal
 use Rattle.rl_pairs.proofs.counting.close.Goals.{then-not-holds+in_ok-close_set, else-not-holds}

@@ -1,4 +1,4 @@
-use Rattle.rl_pairs.specs.PairTable.{HasRows}
+use Rattle.rl_pairs.specs.internal.Rows.{HasRows}
 use Rattle.rl_pairs.proofs.pair_graph.graph_of.Given as goal
 
 abbrev pub invariant-loop-place : goal.invariant-loop-place

@@ -1,5 +1,5 @@
 use Rattle.std.proofs.Common.{◌≡◌, take, map}
-use Rattle.rl_pairs.specs.Finding.{pair_of}
+use Rattle.rl_pairs.specs.internal.Finding.{pair_of}
 use Rattle.rl_pairs.proofs.pair_graph.listed.Given as goal
 
 abbrev pub invariant-loop-k : goal.invariant-loop-k

@@ -2,8 +2,8 @@ use Rattle.std.proofs.Common.{◌≡◌, ℕ, ◌*◌, length, sym, subst, ap, �
 use Rattle.std.proofs.lemmas.Result.{err_from_is_err_and}
 use Rattle.rl_ranges.specs.Letters.{LetterTable}
 use Rattle.rl_prio.specs.Automaton.{letters_count}
-use Rattle.rl_pairs.specs.Errors.{IsRightError}
-use Rattle.rl_pairs.specs.Finding.{Found, found_of, width, IsFound, IsMoved}
+use Rattle.rl_pairs.specs.internal.Errors.{IsRightError}
+use Rattle.rl_pairs.specs.internal.Finding.{Found, found_of, width, IsFound, IsMoved}
 use Rattle.rl_pairs.proofs.WholeLaws.{answer, found-start, moved-start, all-targets, all-sets, right-pairs, right-sets}
 use Rattle.rl_pairs.proofs.pair_graph.pairs.Goals as goal
 

@@ -1,7 +1,7 @@
 -- The codes read so far are literals behind the brace, and the others follow.
 use Rattle.std.proofs.Common.{◌≡◌, ◌+◌, suc, drop}
-use Rattle.rl_pattern.specs.Views.{base_of}
-use Rattle.rl_pattern.specs.Machine as m
+use Rattle.rl_pattern.specs.internal.Views.{base_of}
+use Rattle.rl_pattern.specs.internal.Machine as m
 use Rattle.rl_pattern.proofs.base.no_count.Given as goal
 
 abbrev pub invariant-loop-code : goal.invariant-loop-code

@@ -1,7 +1,7 @@
 -- What the codes left make of the part is the count of the whole text.
 use Rattle.std.proofs.Common.{◌≡◌, drop}
 use Rattle.rl_pattern.specs.Codes.{least_of}
-use Rattle.rl_pattern.specs.Views.{part_rest}
+use Rattle.rl_pattern.specs.internal.Views.{part_rest}
 use Rattle.rl_pattern.proofs.count.count_of.Given as goal
 
 abbrev pub invariant-loop-code : goal.invariant-loop-code

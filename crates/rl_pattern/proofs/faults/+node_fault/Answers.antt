@@ -1,7 +1,7 @@
 -- A node's own faults stand before those of its body.
 use Rattle.std.proofs.Common.{◌≡◌, ℕ, ◌+◌, ◌<◌, Bool, List, length, drop, map, Option, ◌++◌, sym, ap, ◌∙◌}
 use Rattle.rl_pattern.specs.Tree as t
-use Rattle.rl_pattern.specs.Views.{node_of, branch_of}
+use Rattle.rl_pattern.specs.internal.Views.{node_of, branch_of}
 use Rattle.rl_pattern.specs.Found.{Fault, earlier, first_fault, node_faults, nodes_faults, branches_faults, count_faults, kind_faults}
 use Rattle.rl_pattern.proofs.FirstFault.{first_of_joined, best_of_more}
 use Rattle.rl_pattern.proofs.Layers.{node_of-repeat, node_of-group, branch_of-fields}

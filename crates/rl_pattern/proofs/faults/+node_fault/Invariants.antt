@@ -1,6 +1,6 @@
 -- The first fault so far, and that of the nodes or branches left.
 use Rattle.std.proofs.Common.{◌≡◌, drop, map}
-use Rattle.rl_pattern.specs.Views.{node_of, branch_of}
+use Rattle.rl_pattern.specs.internal.Views.{node_of, branch_of}
 use Rattle.rl_pattern.specs.Tree as t
 use Rattle.rl_pattern.specs.Found.{earlier, first_fault, nodes_faults, branches_faults}
 use Rattle.rl_pattern.proofs.faults.+node_fault.Given as goal

@@ -1,6 +1,6 @@
 -- The letters' step is that of the head, in text or not.
 use Rattle.std.proofs.Common.{sym, ap, ◌∙◌}
-use Rattle.rl_pattern.specs.Machine.{head_step}
+use Rattle.rl_pattern.specs.internal.Machine.{head_step}
 use Rattle.rl_pattern.proofs.head.head_step.Goals as goal
 
 pub returns-in-LettersOn : goal.returns-in-LettersOn

@@ -1,7 +1,7 @@
 use Rattle.std.proofs.Common.{◌≡◌, map, sym, ap, ◌∙◌}
 use Rattle.rl_pattern.specs.Tree as t
 use Rattle.rl_pattern.specs.Found.{begins_leading}
-use Rattle.rl_pattern.specs.Views.{node_of}
+use Rattle.rl_pattern.specs.internal.Views.{node_of}
 use Rattle.rl_pattern.proofs.Layers.{branch_of-fields}
 use Rattle.rl_pattern.proofs.Anchors.{ends_taken}
 use Rattle.rl_pattern.proofs.inner.inner_branch.Goals as goal

@@ -1,4 +1,4 @@
-use Rattle.rl_pattern.specs.Views.{node_of}
+use Rattle.rl_pattern.specs.internal.Views.{node_of}
 use Rattle.rl_pattern.proofs.Anchors.{taken_in_front}
 use Rattle.rl_pattern.proofs.inner.take_leading.Goals as goal
 

@@ -1,7 +1,7 @@
 -- A branch of several items.
 use Rattle.std.proofs.Common.{map, Some, sym, ap, ◌∙◌}
 use Rattle.rl_pattern.specs.Tree.{nothing}
-use Rattle.rl_pattern.specs.Views.{node_of}
+use Rattle.rl_pattern.specs.internal.Views.{node_of}
 use Rattle.rl_pattern.specs.Found.{items_of, inner_of}
 use Rattle.rl_pattern.proofs.Anchors.{listed-nodes, node_of-seq}
 use Rattle.rl_pattern.proofs.inner.without_anchors.Goals as goal

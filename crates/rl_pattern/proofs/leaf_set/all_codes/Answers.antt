@@ -2,7 +2,7 @@
 use Rattle.std.proofs.Common.{◌||◌, ◌∙◌, sym, ap, arith}
 use Rattle.std.proofs.lemmas.List.{drop_all}
 use Rattle.rl_ranges.specs.Codes.{has}
-use Rattle.rl_pattern.specs.LeafSets.{codes_in}
+use Rattle.rl_pattern.specs.internal.LeafSets.{codes_in}
 use Rattle.rl_pattern.proofs.LeafLaws.{codes_step, codes_end}
 use Rattle.rl_pattern.proofs.leaf_set.all_codes.Goals as goal
 

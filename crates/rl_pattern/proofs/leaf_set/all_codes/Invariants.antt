@@ -1,7 +1,7 @@
 -- What is held so far, and what the members left hold.
 use Rattle.std.proofs.Common.{◌≡◌, ◌||◌, ℕ, drop}
 use Rattle.rl_ranges.specs.Codes.{has, IsInside}
-use Rattle.rl_pattern.specs.LeafSets.{codes_in}
+use Rattle.rl_pattern.specs.internal.LeafSets.{codes_in}
 use Rattle.rl_pattern.proofs.leaf_set.all_codes.Given as goal
 
 abbrev pub invariant-loop-member : goal.invariant-loop-member

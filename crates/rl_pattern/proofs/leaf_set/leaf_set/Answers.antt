@@ -1,6 +1,6 @@
 use Rattle.std.proofs.Common.{◌∙◌, ap}
 use Rattle.rl_ranges.specs.Codes.{has}
-use Rattle.rl_pattern.specs.LeafSets.{members_in}
+use Rattle.rl_pattern.specs.internal.LeafSets.{members_in}
 use Rattle.rl_pattern.proofs.LeafLaws.{any_held, glyph_held, class_held, inverse_held}
 use Rattle.rl_pattern.proofs.leaf_set.leaf_set.Goals as goal
 

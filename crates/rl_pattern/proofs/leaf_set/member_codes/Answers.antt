@@ -1,6 +1,6 @@
 use Rattle.std.proofs.Common.{◌∙◌, ap, sym}
 use Rattle.rl_ranges.specs.Codes.{has}
-use Rattle.rl_pattern.specs.LeafSets.{code_in}
+use Rattle.rl_pattern.specs.internal.LeafSets.{code_in}
 use Rattle.rl_pattern.proofs.LeafLaws.{one_held}
 use Rattle.rl_pattern.proofs.leaf_set.member_codes.Goals as goal
 

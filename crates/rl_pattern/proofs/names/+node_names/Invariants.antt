@@ -1,7 +1,7 @@
 -- The names so far, and those of the nodes or branches left.
 use Rattle.std.proofs.Common.{◌≡◌, drop, map, ◌++◌}
-use Rattle.rl_pattern.specs.Views.{node_of, branch_of}
-use Rattle.rl_pattern.specs.Judged.{called_of}
+use Rattle.rl_pattern.specs.internal.Views.{node_of, branch_of}
+use Rattle.rl_pattern.specs.internal.Judged.{called_of}
 use Rattle.rl_pattern.specs.Tree as t
 use Rattle.rl_pattern.specs.Found.{nodes_names, branches_names}
 use Rattle.rl_pattern.proofs.names.+node_names.Given as goal

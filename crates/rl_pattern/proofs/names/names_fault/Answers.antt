@@ -8,7 +8,7 @@ use Rattle.std.specs.Ordering.{nat_cmp, is_eq}
 use Rattle.std.specs.Cmp.Lexicographic.{slice_cmp}
 use Rattle.std.specs.Str.{bytes_eq}
 use Rattle.rl_pattern.specs.declared.names.Called.{Called}
-use Rattle.rl_pattern.specs.Judged.{called_of}
+use Rattle.rl_pattern.specs.internal.Judged.{called_of}
 use Rattle.rl_pattern.specs.Found.{Fault, Called as Name, is_duplicate_name, earlier, first_fault, fault_if, same_name, is_among, name_faults}
 use Rattle.rl_pattern.proofs.FirstFault.{best_of_more}
 use Rattle.rl_pattern.proofs.names.names_fault.Goals as goal

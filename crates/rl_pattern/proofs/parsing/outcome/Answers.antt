@@ -1,4 +1,4 @@
-use Rattle.rl_pattern.specs.Views.{whole_of}
+use Rattle.rl_pattern.specs.internal.Views.{whole_of}
 use Rattle.rl_pattern.proofs.InnerBare.{left_pattern}
 use Rattle.rl_pattern.proofs.parsing.outcome.Goals as goal
 

@@ -3,8 +3,8 @@ use Rattle.std.proofs.Common.{◌≡◌, ℕ, ◌<◌, ◌+◌, suc, List, lengt
 use Rattle.std.specs.Prelude.{slice_index_or}
 use Rattle.std.proofs.lemmas.Option.{slice_get-get_or}
 use Rattle.std.proofs.lemmas.Result.{err_from_is_err_and}
-use Rattle.rl_pattern.specs.Views.{state_of}
-use Rattle.rl_pattern.specs.Answers.{Standing}
+use Rattle.rl_pattern.specs.internal.Views.{state_of}
+use Rattle.rl_pattern.specs.internal.Answering.{Standing}
 use Rattle.rl_pattern.proofs.Loop.{stand_fits, went_on, went_wrong, ended_right}
 use Rattle.rl_pattern.proofs.read.read.Goals as goal
 

@@ -1,7 +1,7 @@
 -- The machine took the codes so far, and no group opens too deep among them.
 use Rattle.std.proofs.Common.{◌≡◌}
-use Rattle.rl_pattern.specs.Views.{state_of}
-use Rattle.rl_pattern.specs.Answers.{Standing}
+use Rattle.rl_pattern.specs.internal.Views.{state_of}
+use Rattle.rl_pattern.specs.internal.Answering.{Standing}
 use Rattle.rl_pattern.proofs.read.read.Given as goal
 
 abbrev pub invariant-loop-code : goal.invariant-loop-code

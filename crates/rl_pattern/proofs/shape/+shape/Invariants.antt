@@ -2,7 +2,7 @@
 use Rattle.std.proofs.Common.{◌≡◌, ◌++◌, drop, map}
 use Rattle.rl_syntax.specs.PatTree.{pat_of}
 use Rattle.rl_syntax.specs.Counting.{branch_tree}
-use Rattle.rl_pattern.specs.Views.{node_of, branch_of}
+use Rattle.rl_pattern.specs.internal.Views.{node_of, branch_of}
 use Rattle.rl_pattern.specs.Tree as t
 use Rattle.rl_pattern.specs.Shape.{shapes, branch_shapes}
 use Rattle.rl_pattern.proofs.shape.+shape.Given as goal

@@ -2,7 +2,7 @@ use Rattle.std.proofs.Common.{ap, sym, take, ◌||◌, ◌∙◌}
 use Rattle.rl_ranges.proofs.CaseLemmas.{in_image-more, in_image-nil}
 use Rattle.rl_ranges.proofs.SetLemmas.{or-false, or_assoc}
 use Rattle.rl_ranges.specs.Building.{range_at}
-use Rattle.rl_ranges.specs.Images.{in_image, in_range_image, is_among}
+use Rattle.rl_ranges.specs.internal.Images.{in_image, in_range_image, is_among}
 use Rattle.rl_ranges.proofs.case.add_image.Goals as goal
 
 pub loop-first-init : goal.loop-first-init

@@ -1,5 +1,5 @@
 use Rattle.std.proofs.Common.{take, ℕ, ◌||◌, ◌≡◌}
-use Rattle.rl_ranges.specs.Images.{in_image, is_among}
+use Rattle.rl_ranges.specs.internal.Images.{in_image, is_among}
 use Rattle.rl_ranges.proofs.case.add_image.Given as goal
 
 abbrev pub invariant-loop-first : goal.invariant-loop-first

@@ -2,7 +2,7 @@ use Rattle.std.proofs.Common.{ap, arith, length, sym, take, ◌<◌, ◌==◌, �
 use Rattle.rl_ranges.proofs.CaseLemmas.{in_range_image-after, in_range_image-before, in_range_image-more, is_among-push}
 use Rattle.rl_ranges.proofs.SetLemmas.{or-false, or_assoc}
 use Rattle.rl_ranges.specs.Building.{range_at}
-use Rattle.rl_ranges.specs.Images.{in_range_image, is_among}
+use Rattle.rl_ranges.specs.internal.Images.{in_range_image, is_among}
 use Rattle.rl_ranges.proofs.case.add_range_image.Goals as goal
 
 pub loop-place-init : goal.loop-place-init

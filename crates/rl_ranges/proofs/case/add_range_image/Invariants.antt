@@ -1,5 +1,5 @@
 use Rattle.std.proofs.Common.{take, ℕ, ◌||◌, ◌≡◌}
-use Rattle.rl_ranges.specs.Images.{in_range_image, is_among}
+use Rattle.rl_ranges.specs.internal.Images.{in_range_image, is_among}
 use Rattle.rl_ranges.proofs.case.add_range_image.Given as goal
 
 abbrev pub invariant-loop-place : goal.invariant-loop-place

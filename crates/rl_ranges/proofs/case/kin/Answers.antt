@@ -4,7 +4,7 @@ use Rattle.std.proofs.lemmas.Result.{IfOk-weaker}
 use Rattle.std.specs.List.Sorted.{IsNonDecreasing}
 use Rattle.rl_ranges.proofs.CaseLemmas.{KeysRise-ASCII_PAIRS, KeysRise-fold_pairs, is_among-IsPermutation, is_among-nil}
 use Rattle.rl_ranges.specs.Codes.{has}
-use Rattle.rl_ranges.specs.Images.{KeysRise, has_kin, in_image, is_among}
+use Rattle.rl_ranges.specs.internal.Images.{KeysRise, has_kin, in_image, is_among}
 use Rattle.rl_ranges.specs.declared.tables.TheConstants.{ASCII_PAIRS, I_PAIRS}
 use Rattle.rl_ranges.proofs.case.kin.Goals.{else-ascii+in_ok-add_image-2+in_ok-add_image-3, then-ascii+in_ok-add_image}
 use Rattle.rl_ranges.proofs.case.kin.Goals as goal

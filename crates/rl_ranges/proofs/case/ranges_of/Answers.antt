@@ -1,7 +1,7 @@
 use Rattle.std.proofs.Common.{ap, ap₂, arith, get_or, length, subst, sym, ◌+◌, ◌<◌, ◌||◌, ◌∙◌}
 use Rattle.rl_ranges.proofs.CaseLemmas.{is_among-more, is_among-nil, within_single}
 use Rattle.rl_ranges.proofs.SetLemmas.{has-nil, last_first_or-nil}
-use Rattle.rl_ranges.specs.Building.{last_first_or}
+use Rattle.rl_ranges.specs.internal.Ordering.{last_first_or}
 use Rattle.rl_ranges.specs.Codes.{Above, has}
 use Rattle.rl_ranges.proofs.case.ranges_of.Goals as goal
 

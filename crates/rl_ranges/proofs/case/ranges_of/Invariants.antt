@@ -1,7 +1,7 @@
 use Rattle.std.proofs.Common.{get_or, length, take, ℕ, ◌<◌, ◌≡◌}
-use Rattle.rl_ranges.specs.Building.{BeginsBy}
+use Rattle.rl_ranges.specs.internal.Ordering.{BeginsBy}
 use Rattle.rl_ranges.specs.Codes.{Above, has}
-use Rattle.rl_ranges.specs.Images.{is_among}
+use Rattle.rl_ranges.specs.internal.Images.{is_among}
 use Rattle.rl_ranges.proofs.case.ranges_of.Given as goal
 
 abbrev pub invariant-loop-code : goal.invariant-loop-code

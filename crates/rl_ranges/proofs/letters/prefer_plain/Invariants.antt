@@ -1,5 +1,5 @@
 use Rattle.std.proofs.Common.{get_or, length, ℕ, ◌-◌, ◌<◌, ◌≡◌}
-use Rattle.rl_ranges.specs.Numbering.{IsPreferred}
+use Rattle.rl_ranges.specs.internal.Splitting.{IsPreferred}
 use Rattle.rl_ranges.proofs.letters.prefer_plain.Given as goal
 
 abbrev pub invariant-loop-back : goal.invariant-loop-back

@@ -4,7 +4,7 @@ use Rattle.std.proofs.lemmas.List.{take_all}
 use Rattle.std.proofs.lemmas.Result.{err_from_is_err_and}
 use Rattle.rl_ranges.proofs.OrderLemmas.{many-later, many-more, picked-more, picked-passed, picked-rest, tells-more, tells-none}
 use Rattle.rl_ranges.specs.Codes.{has}
-use Rattle.rl_ranges.specs.Numbering.{HasTooMany, TellsMore}
+use Rattle.rl_ranges.specs.internal.Splitting.{HasTooMany, TellsMore}
 use Rattle.rl_ranges.specs.internal.Order.{picked}
 use Rattle.rl_ranges.specs.Text.{code_count}
 use Rattle.rl_ranges.proofs.letters.refined_by.Goals.{else-is_wide-wide, then-is_wide-wide+in_ok-known}

@@ -1,5 +1,6 @@
 use Rattle.std.proofs.Common.{take}
-use Rattle.rl_ranges.specs.Numbering.{IsTable, TellsMore}
+use Rattle.rl_ranges.specs.Numbering.{IsTable}
+use Rattle.rl_ranges.specs.internal.Splitting.{TellsMore}
 use Rattle.rl_ranges.specs.internal.Order.{picked}
 use Rattle.rl_ranges.specs.Text.{code_count}
 use Rattle.rl_ranges.proofs.letters.refined_by.Given as goal

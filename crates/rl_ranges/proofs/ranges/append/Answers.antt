@@ -1,7 +1,7 @@
 use Rattle.std.proofs.Common.{Bool, ap, arith, false, length, max, refl, subst, sym, true, ℕ, ◌-◌, ◌||◌, ◌∙◌, ◌≡◌, ◌≤◌}
 use Rattle.std.proofs.lemmas.List.{nil_from_length}
 use Rattle.rl_ranges.proofs.SetLemmas.{Above-parts, Above-push, free_from, free_from-nil, free_from-push, front_last, front_new, has-push, last_first_or-push, within_tells}
-use Rattle.rl_ranges.specs.Building.{last_first_or}
+use Rattle.rl_ranges.specs.internal.Ordering.{last_first_or}
 use Rattle.rl_ranges.specs.Codes.{Above, has, is_between}
 use Rattle.rl_ranges.proofs.ranges.append.Goals.{else-len-gt0, then-len-gt0+else-saturating_sub-le1}
 use Rattle.rl_ranges.proofs.ranges.append.Goals as goal

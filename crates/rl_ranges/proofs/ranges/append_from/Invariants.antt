@@ -1,6 +1,7 @@
 use Rattle.std.proofs.Common.{◌≡◌, ℕ, ◌<◌, ◌≤◌, ◌||◌, length, drop}
 use Rattle.rl_ranges.specs.Codes.{has, Above}
-use Rattle.rl_ranges.specs.Building.{BeginsBy, range_at}
+use Rattle.rl_ranges.specs.Building.{range_at}
+use Rattle.rl_ranges.specs.internal.Ordering.{BeginsBy}
 use Rattle.rl_ranges.proofs.ranges.append_from.Given as goal
 
 abbrev pub invariant-loop-i : goal.invariant-loop-i

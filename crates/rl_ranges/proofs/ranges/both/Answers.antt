@@ -2,7 +2,8 @@ use Rattle.std.proofs.Common.{Global, Vec, ap, ap₂, arith, drop, false, length
 use Rattle.std.proofs.lemmas.Bool.{and_left, and_right}
 use Rattle.std.proofs.lemmas.List.{drop_all}
 use Rattle.rl_ranges.proofs.SetLemmas.{Above-at, Above-gap, has-nil, last_first_or-nil, left_passes, or-false, right_passes, within-empty}
-use Rattle.rl_ranges.specs.Building.{last_first_or, range_at}
+use Rattle.rl_ranges.specs.Building.{range_at}
+use Rattle.rl_ranges.specs.internal.Ordering.{last_first_or}
 use Rattle.rl_ranges.specs.Codes.{Above, has, is_between}
 use Rattle.rl_ranges.proofs.ranges.both.Goals.{else-first-last, else-loop-i-test, then-first-last+in_ok-append, then-loop-i-test+else-j-right}
 use Rattle.rl_ranges.proofs.ranges.both.Goals as goal

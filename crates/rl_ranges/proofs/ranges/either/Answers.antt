@@ -1,6 +1,6 @@
 use Rattle.std.proofs.Common.{ap, arith, subst, sym, ◌+◌, ◌||◌, ◌∙◌}
 use Rattle.rl_ranges.proofs.SetLemmas.{has-nil, last_first_or-nil, left_moves, right_moves}
-use Rattle.rl_ranges.specs.Building.{last_first_or}
+use Rattle.rl_ranges.specs.internal.Ordering.{last_first_or}
 use Rattle.rl_ranges.specs.Codes.{Above, has}
 use Rattle.rl_ranges.proofs.ranges.either.Goals.{else-loop-i-test, then-loop-i-test+else-j-right}
 use Rattle.rl_ranges.proofs.ranges.either.Goals as goal

@@ -2,7 +2,8 @@ use Rattle.std.proofs.Common.{Global, Vec, ap, arith, inl, inr, length, ltb, not
 use Rattle.std.proofs.lemmas.Bool.{and_left, false≢true, le-ltb, lt-ltb, or_cases}
 use Rattle.std.proofs.lemmas.List.{take_all}
 use Rattle.rl_ranges.proofs.SetLemmas.{Above-at, Above-gap, gap_added, has-at, has-more, has-nil, last_first_or-nil, last_gap_added, or-false, within-true, within_tells}
-use Rattle.rl_ranges.specs.Building.{last_first_or, range_at}
+use Rattle.rl_ranges.specs.Building.{range_at}
+use Rattle.rl_ranges.specs.internal.Ordering.{last_first_or}
 use Rattle.rl_ranges.specs.Codes.{Above, has, is_between}
 use Rattle.rl_ranges.proofs.ranges.gaps.Goals.{else-next-count, else-next-first, then-next-count+in_ok-append-2, then-next-first+in_ok-append}
 use Rattle.rl_ranges.proofs.ranges.gaps.Goals as goal

@@ -1,6 +1,7 @@
 use Rattle.std.proofs.Common.{◌≡◌, ℕ, ◌<◌, ◌≤◌, true, not, ◌&&◌, take, ltb, length}
 use Rattle.rl_ranges.specs.Codes.{has, Above}
-use Rattle.rl_ranges.specs.Building.{BeginsBy, range_at}
+use Rattle.rl_ranges.specs.Building.{range_at}
+use Rattle.rl_ranges.specs.internal.Ordering.{BeginsBy}
 use Rattle.rl_ranges.proofs.ranges.gaps.Given as goal
 
 abbrev pub invariant-loop-first : goal.invariant-loop-first

@@ -1,6 +1,7 @@
 use Rattle.std.proofs.Common.{length, take, true, ℕ, ◌<◌, ◌≡◌}
 use Rattle.std.specs.Prelude.{if◌then◌else◌}
-use Rattle.rl_ranges.specs.Building.{BeginsBy, range_at}
+use Rattle.rl_ranges.specs.Building.{range_at}
+use Rattle.rl_ranges.specs.internal.Ordering.{BeginsBy}
 use Rattle.rl_ranges.specs.Codes.{has}
 use Rattle.rl_ranges.specs.Letters.{letter_from}
 use Rattle.rl_ranges.specs.Numbering.{Covers, ValuesBelow}

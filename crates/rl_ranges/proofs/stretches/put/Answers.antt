@@ -3,7 +3,8 @@ use Rattle.std.proofs.lemmas.List.{get_or_read}
 use Rattle.std.specs.Prelude.{if◌then◌else◌}
 use Rattle.rl_ranges.proofs.SetLemmas.{front_last, front_new, last_first_or-push}
 use Rattle.rl_ranges.proofs.StretchLemmas.{Covers-push, letter_from-push, replaced}
-use Rattle.rl_ranges.specs.Building.{last_first_or, range_at}
+use Rattle.rl_ranges.specs.Building.{range_at}
+use Rattle.rl_ranges.specs.internal.Ordering.{last_first_or}
 use Rattle.rl_ranges.specs.Letters.{letter_from}
 use Rattle.rl_ranges.specs.Numbering.{Covers}
 use Rattle.rl_ranges.proofs.stretches.put.Goals as goal

@@ -1,5 +1,6 @@
 use Rattle.std.proofs.Common.{length, take, ℕ, ◌*◌, ◌+◌, ◌-◌, ◌<◌, ◌≡◌, ◌≤◌}
-use Rattle.rl_ranges.specs.Building.{BeginsBy, range_at}
+use Rattle.rl_ranges.specs.Building.{range_at}
+use Rattle.rl_ranges.specs.internal.Ordering.{BeginsBy}
 use Rattle.rl_ranges.specs.Letters.{letter_from}
 use Rattle.rl_ranges.specs.Numbering.{Covers, ValuesBelow}
 use Rattle.rl_ranges.proofs.stretches.zipped.Given as goal

@@ -2,7 +2,7 @@
 use Rattle.std.proofs.Common.{◌≡◌, ◌-◌, map, take}
 use Rattle.rl_sarif.specs.Keys.{key_in, key_of}
 use Rattle.rl_sarif.specs.Known.{times}
-use Rattle.rl_sarif.specs.Tally.{Holds}
+use Rattle.rl_sarif.specs.internal.Tally.{Holds}
 use Rattle.rl_sarif.proofs.TallyLemmas.{so_far}
 use Rattle.rl_sarif.proofs.positions.unknown_to.Given as goal
 

@@ -2,7 +2,7 @@
 use Rattle.std.proofs.Common.{map, take}
 use Rattle.rl_sarif.specs.Keys.{key_in}
 use Rattle.rl_sarif.specs.Known.{times}
-use Rattle.rl_sarif.specs.Tally.{Holds}
+use Rattle.rl_sarif.specs.internal.Tally.{Holds}
 use Rattle.rl_sarif.proofs.tally.tally_of.Given as goal
 
 abbrev pub invariant-loop-key : goal.invariant-loop-key

@@ -2,7 +2,7 @@
 use Rattle.std.proofs.Common.{◌≡◌}
 use Rattle.std.specs.Prelude.{slice_get}
 use Rattle.rl_sites.specs.Arguments.{arguments_of}
-use Rattle.rl_sites.specs.Walks.{IsTable}
+use Rattle.rl_sites.specs.internal.Walks.{IsTable}
 use Rattle.rl_sites.proofs.arguments.argument_at.Given as goal
 
 abbrev pub invariant-loop-left : goal.invariant-loop-left

@@ -1,6 +1,6 @@
 -- What is passed, and what is left, is the whole.
 use Rattle.std.proofs.Common.{◌≡◌, ◌≤◌, ◌+◌, length, false}
-use Rattle.rl_sites.specs.Walks.{IsTable, argument_size}
+use Rattle.rl_sites.specs.internal.Walks.{IsTable, argument_size}
 use Rattle.rl_sites.proofs.arguments.argument_size.Given as goal
 
 abbrev pub invariant-loop-left : goal.invariant-loop-left

@@ -1,7 +1,7 @@
 -- The argument in front has the form, or it is passed.
 use Rattle.std.proofs.Common.{◌∙◌, sym, ap}
 use Rattle.std.specs.Prelude.{filter}
-use Rattle.rl_sites.specs.Walks.{has_form}
+use Rattle.rl_sites.specs.internal.Walks.{has_form}
 use Rattle.rl_sites.proofs.Finding.{find_here, find_on, table_others}
 use Rattle.rl_sites.proofs.arguments.find_argument.Goals as goal
 

@@ -2,7 +2,7 @@
 use Rattle.std.proofs.Common.{◌≡◌, length}
 use Rattle.std.specs.Prelude.{filter}
 use Rattle.rl_sites.specs.Arguments.{arguments_of}
-use Rattle.rl_sites.specs.Walks.{IsTable, has_form}
+use Rattle.rl_sites.specs.internal.Walks.{IsTable, has_form}
 use Rattle.rl_sites.proofs.arguments.find_argument.Given as goal
 
 abbrev pub invariant-arguments : goal.invariant-arguments

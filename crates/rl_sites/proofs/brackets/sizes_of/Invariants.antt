@@ -1,6 +1,6 @@
 -- The table for the marks so far, from the end.
 use Rattle.std.proofs.Common.{◌≡◌, ◌≤◌, ◌+◌, length, drop}
-use Rattle.rl_sites.specs.Walks.{IsTable}
+use Rattle.rl_sites.specs.internal.Walks.{IsTable}
 use Rattle.rl_sites.proofs.brackets.sizes_of.Given as goal
 
 abbrev pub invariant-loop-left : goal.invariant-loop-left

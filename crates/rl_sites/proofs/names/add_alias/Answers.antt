@@ -1,7 +1,7 @@
 -- The entry of the alias's name is written.
 use Rattle.std.proofs.Common.{◌∙◌, ap, ap₂, cond, ℕ, List}
 use Rattle.std.specs.Prelude.{bytes_eq}
-use Rattle.rl_sites.specs.Meanings.{joined, meaning_in, own_meaning}
+use Rattle.rl_sites.specs.internal.Meanings.{joined, meaning_in, own_meaning}
 use Rattle.rl_sites.proofs.Tabled.{added}
 use Rattle.rl_sites.proofs.names.add_alias.Goals as goal
 

@@ -1,6 +1,6 @@
 -- The table for the aliases so far.
 use Rattle.std.proofs.Common.{take}
-use Rattle.rl_sites.specs.Meanings.{IsMeant}
+use Rattle.rl_sites.specs.internal.Meanings.{IsMeant}
 use Rattle.rl_sites.proofs.names.meanings_of.Given as goal
 
 abbrev pub invariant-loop-alias : goal.invariant-loop-alias

@@ -1,6 +1,6 @@
 -- The sites so far, in front of those of the rest, are the whole.
 use Rattle.std.proofs.Common.{◌≡◌, ◌++◌, length, false}
-use Rattle.rl_sites.specs.Walks.{IsTable, IsNumbered}
+use Rattle.rl_sites.specs.internal.Walks.{IsTable, IsNumbered}
 use Rattle.rl_sites.specs.Sites.{sites_from}
 use Rattle.rl_sites.proofs.reading.sites_among.Given as goal
 

@@ -1,7 +1,7 @@
 use Rattle.std.proofs.Common.{◌≡◌, ◌≤◌, ◌+◌, ◌-◌, ◌*◌, take}
 use Rattle.rl_walk.specs.Steps.{steps_below}
 use Rattle.rl_walk.specs.Visits.{moment_of}
-use Rattle.rl_walk.specs.Parts.{Does}
+use Rattle.rl_walk.specs.internal.Parts.{Does}
 use Rattle.rl_walk.proofs.walking.+folders.Given as goal
 
 abbrev pub decreases-enter : goal.decreases-enter

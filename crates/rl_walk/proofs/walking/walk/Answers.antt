@@ -1,5 +1,5 @@
 use Rattle.std.proofs.Common.{◌≡◌, ◌<◌, ◌∙◌, length, [], refl, sym, subst, arith}
-use Rattle.rl_walk.specs.Parts.{Does}
+use Rattle.rl_walk.specs.internal.Parts.{Does}
 use Rattle.rl_walk.specs.Visits.{moment_of}
 use Rattle.rl_walk.proofs.Doing.{Does-none, named-turn, walked-all}
 use Rattle.rl_walk.proofs.walking.walk.Goals as goal

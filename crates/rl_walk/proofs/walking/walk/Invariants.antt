@@ -1,7 +1,7 @@
 use Rattle.std.proofs.Common.{◌≡◌, ◌≤◌, take, map, []}
 use Rattle.rl_walk.specs.Steps.{named}
 use Rattle.rl_walk.specs.Visits.{moment_of}
-use Rattle.rl_walk.specs.Parts.{Does}
+use Rattle.rl_walk.specs.internal.Parts.{Does}
 use Rattle.rl_walk.proofs.walking.walk.Given as goal
 
 abbrev pub invariant-loop-path : goal.invariant-loop-path

@@ -1,5 +1,5 @@
 use Rattle.std.proofs.Common.{◌≤◌, length, ◌∙◌}
-use Rattle.rl_graph.specs.Search.{stand_of}
+use Rattle.rl_graph.specs.internal.Search.{stand_of}
 use Rattle.rl_graph.proofs.SearchLaws.{turn}
 use Rattle.rl_graph.proofs.ScanLaws.{none-end}
 use Rattle.rl_graph.proofs.parts.Search.advance.Goals as goal

@@ -1,5 +1,5 @@
 use Rattle.std.proofs.Common.{◌-◌}
-use Rattle.rl_graph.specs.Search.{stand_of, with_top, IsSearch, IsKept}
+use Rattle.rl_graph.specs.internal.Search.{stand_of, with_top, IsSearch, IsKept}
 use Rattle.rl_graph.proofs.parts.Search.advance.Given as goal
 
 abbrev pub invariant-loop-frame : goal.invariant-loop-frame

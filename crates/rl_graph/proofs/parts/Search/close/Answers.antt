@@ -1,7 +1,7 @@
 use Rattle.std.proofs.Common.{ℕ, List, ◌≡◌, ◌+◌, ◌<◌, length, get_or, take, set, arith, ◌∙◌, ap, length-set}
 use Rattle.std.proofs.lemmas.List.{get_or_read}
 use Rattle.rl_graph.specs.declared.parts.Place.TheVariants.{Unseen, Done}
-use Rattle.rl_graph.specs.Search.{stand_of}
+use Rattle.rl_graph.specs.internal.Search.{stand_of}
 use Rattle.rl_graph.proofs.StackLaws.{below-more, below-all, listed-in}
 use Rattle.rl_graph.proofs.parts.Search.close.Goals as goal
 

@@ -1,6 +1,6 @@
 use Rattle.std.proofs.Common.{◌≡◌, ℕ, length, get_or}
 use Rattle.rl_graph.specs.declared.parts.Place.TheVariants.{Unseen}
-use Rattle.rl_graph.specs.Search.{closed_below}
+use Rattle.rl_graph.specs.internal.Search.{closed_below}
 use Rattle.rl_graph.proofs.parts.Search.close.Given as goal
 
 abbrev pub invariant-loop-depth : goal.invariant-loop-depth

@@ -1,4 +1,4 @@
-use Rattle.rl_graph.specs.Search.{stand_of, IsSearch, StaysSeen, work_of}
+use Rattle.rl_graph.specs.internal.Search.{stand_of, IsSearch, StaysSeen, work_of}
 use Rattle.rl_graph.proofs.parts.Search.run.Given as goal
 
 abbrev pub invariant-loop-frame : goal.invariant-loop-frame

@@ -1,6 +1,6 @@
 use Rattle.std.proofs.Common.{ℕ, ◌<◌, length, sym, subst, ◌∙◌, ap, arith}
 use Rattle.rl_graph.specs.Paths.{Has}
-use Rattle.rl_graph.specs.Search.{Stand, stand_of, place_of}
+use Rattle.rl_graph.specs.internal.Search.{Stand, stand_of, place_of}
 use Rattle.rl_graph.proofs.Sums.{Has-get_or}
 use Rattle.rl_graph.proofs.ScanLaws.{top-in, met}
 use Rattle.rl_graph.proofs.parts.Search.scan.Goals as goal

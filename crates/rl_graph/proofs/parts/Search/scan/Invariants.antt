@@ -1,5 +1,5 @@
 use Rattle.std.proofs.Common.{◌≡◌, ◌-◌, ◌<◌, length}
-use Rattle.rl_graph.specs.Search.{stand_of, with_top, IsSearch, IsKept}
+use Rattle.rl_graph.specs.internal.Search.{stand_of, with_top, IsSearch, IsKept}
 use Rattle.rl_graph.proofs.parts.Search.scan.Given as goal
 
 abbrev pub invariant-loop-frame : goal.invariant-loop-frame

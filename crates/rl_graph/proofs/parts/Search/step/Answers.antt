@@ -1,6 +1,6 @@
 use Rattle.std.proofs.Common.{List, ◌≡◌, ◌∙◌, length, ap, arith}
 use Rattle.rl_graph.specs.declared.parts.Frame.{Frame}
-use Rattle.rl_graph.specs.Search.{stand_of, opened, with_top, unseen}
+use Rattle.rl_graph.specs.internal.Search.{stand_of, opened, with_top, unseen}
 use Rattle.rl_graph.proofs.Sums.{Has-last}
 use Rattle.rl_graph.proofs.SearchLaws.{depth-in}
 use Rattle.rl_graph.proofs.SearchEnds.{finished, finished-unseen, finished-frames}

@@ -1,5 +1,5 @@
 use Rattle.std.proofs.Common.{arith}
-use Rattle.rl_graph.specs.Walks.{steps_of}
+use Rattle.rl_graph.specs.internal.Nodes.{steps_of}
 use Rattle.rl_graph.proofs.WalkLaws.{next-node}
 use Rattle.rl_graph.proofs.walks.Walk.expand.Goals as goal
 

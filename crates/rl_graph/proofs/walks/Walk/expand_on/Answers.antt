@@ -1,7 +1,7 @@
 use Rattle.std.proofs.Common.{◌≡◌, ◌<◌, ◌+◌, length, slice_get, Some, sym, subst, ap, ◌∙◌, arith}
 use Rattle.std.proofs.lemmas.List.{get_or_read}
 use Rattle.rl_graph.specs.declared.walks.Node.{Node}
-use Rattle.rl_graph.specs.Walks.{steps_of, node_of, root_node, IsReached}
+use Rattle.rl_graph.specs.internal.Nodes.{steps_of, node_of, root_node, IsReached}
 use Rattle.rl_graph.proofs.Sums.{get_or-at}
 use Rattle.rl_graph.proofs.WalkLaws.{reach_one, next-letter, Extends-trans}
 use Rattle.rl_graph.proofs.walks.Walk.expand_on.Goals as goal

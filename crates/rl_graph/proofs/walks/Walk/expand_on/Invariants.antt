@@ -1,4 +1,4 @@
-use Rattle.rl_graph.specs.Walks.{steps_of, IsFurther}
+use Rattle.rl_graph.specs.internal.Nodes.{steps_of, IsFurther}
 use Rattle.rl_graph.proofs.walks.Walk.expand_on.Given as goal
 
 abbrev pub invariant-loop-number : goal.invariant-loop-number

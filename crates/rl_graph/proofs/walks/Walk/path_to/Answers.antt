@@ -1,6 +1,6 @@
 use Rattle.std.proofs.Common.{◌≡◌, ◌∙◌, arith}
 use Rattle.std.proofs.lemmas.List.{get_or_read}
-use Rattle.rl_graph.specs.Walks.{steps_of, node_of, root_node}
+use Rattle.rl_graph.specs.internal.Nodes.{steps_of, node_of, root_node}
 use Rattle.rl_graph.proofs.WalkLaws.{way-more, way-to}
 use Rattle.rl_graph.proofs.walks.Walk.path_to.Goals as goal
 

@@ -1,4 +1,4 @@
-use Rattle.rl_graph.specs.Walks.{steps_of}
+use Rattle.rl_graph.specs.internal.Nodes.{steps_of}
 use Rattle.rl_graph.proofs.WalkLaws.{IsWayBack}
 use Rattle.rl_graph.proofs.walks.Walk.path_to.Given as goal
 

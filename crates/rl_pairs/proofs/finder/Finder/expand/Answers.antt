@@ -2,8 +2,8 @@ use Rattle.std.proofs.Common.{◌≡◌, ℕ, ◌+◌, ◌*◌, length, subst, a
 use Rattle.std.proofs.lemmas.Result.{err_from_is_err_and}
 use Rattle.rl_ranges.specs.Letters.{LetterTable}
 use Rattle.rl_prio.specs.Automaton.{letters_count}
-use Rattle.rl_pairs.specs.Errors.{IsRightError}
-use Rattle.rl_pairs.specs.Finding.{found_of, width, IsFurther}
+use Rattle.rl_pairs.specs.internal.Errors.{IsRightError}
+use Rattle.rl_pairs.specs.internal.Finding.{found_of, width, IsFurther}
 use Rattle.rl_pairs.proofs.ExpandLaws.{further-start, further-letter, further-pair, last-letter}
 use Rattle.rl_pairs.proofs.finder.Finder.expand.Goals as goal
 

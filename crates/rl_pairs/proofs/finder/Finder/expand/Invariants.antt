@@ -1,5 +1,5 @@
 use Rattle.std.proofs.Common.{◌+◌, ◌*◌}
-use Rattle.rl_pairs.specs.Finding.{found_of, width, IsFurther}
+use Rattle.rl_pairs.specs.internal.Finding.{found_of, width, IsFurther}
 use Rattle.rl_pairs.proofs.finder.Finder.expand.Given as goal
 
 abbrev pub invariant-loop-letter : goal.invariant-loop-letter

@@ -2,8 +2,8 @@ use Rattle.std.proofs.Common.{ℕ, suc, ◌+◌, ◌*◌, ◌<◌, List, length,
 use Rattle.std.proofs.lemmas.Result.{err_from_is_err_and}
 use Rattle.rl_sets.specs.Live.{image}
 use Rattle.rl_pairs.specs.declared.finder.Key.{Key}
-use Rattle.rl_pairs.specs.Errors.{IsRightError}
-use Rattle.rl_pairs.specs.Finding.{Found, found_of, pair_at, width, IsTrying, IsFurther}
+use Rattle.rl_pairs.specs.internal.Errors.{IsRightError}
+use Rattle.rl_pairs.specs.internal.Finding.{Found, found_of, pair_at, width, IsTrying, IsFurther}
 use Rattle.rl_pairs.proofs.ExpandLaws.{pair-image, move-pairs, key-read, number-read, trying-start, trying-counted, trying-reached, trying-found, trying-more, letter-done}
 use Rattle.rl_pairs.proofs.finder.Finder.expand_on.Goals as goal
 

@@ -1,5 +1,5 @@
 use Rattle.rl_sets.specs.Live.{image}
-use Rattle.rl_pairs.specs.Finding.{found_of, pair_at, IsTrying}
+use Rattle.rl_pairs.specs.internal.Finding.{found_of, pair_at, IsTrying}
 use Rattle.rl_pairs.proofs.finder.Finder.expand_on.Given as goal
 
 abbrev pub invariant-loop-k : goal.invariant-loop-k

@@ -1,7 +1,7 @@
 use Rattle.std.proofs.Common.{◌≡◌, ℕ, ◌*◌, length, subst, arith}
 use Rattle.std.proofs.lemmas.Result.{err_from_is_err_and}
-use Rattle.rl_pairs.specs.Errors.{IsRightError}
-use Rattle.rl_pairs.specs.Finding.{found_of, width, IsFurther}
+use Rattle.rl_pairs.specs.internal.Errors.{IsRightError}
+use Rattle.rl_pairs.specs.internal.Finding.{found_of, width, IsFurther}
 use Rattle.rl_pairs.proofs.ExpandLaws.{further-start, next-pair}
 use Rattle.rl_pairs.proofs.finder.Finder.find.Goals as goal
 

@@ -1,5 +1,5 @@
 use Rattle.std.proofs.Common.{◌*◌, ◌-◌, ◌≤◌, length}
-use Rattle.rl_pairs.specs.Finding.{found_of, width, IsFurther}
+use Rattle.rl_pairs.specs.internal.Finding.{found_of, width, IsFurther}
 use Rattle.rl_pairs.proofs.finder.Finder.find.Given as goal
 
 abbrev pub invariant-loop-place : goal.invariant-loop-place

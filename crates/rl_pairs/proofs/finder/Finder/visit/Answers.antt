@@ -4,7 +4,7 @@ use Rattle.rl_sets.specs.Rests.{IsRefusedRest}
 use Rattle.rl_sets.specs.Walk.{set_at}
 use Rattle.rl_sets.proofs.WalkLemmas.{room_left}
 use Rattle.rl_pairs.specs.LivePairs.{move}
-use Rattle.rl_pairs.specs.Finding.{found_of}
+use Rattle.rl_pairs.specs.internal.Finding.{found_of}
 use Rattle.rl_pairs.proofs.FindingLaws.{visited-old, visited-new, too-many-pairs}
 use Rattle.rl_pairs.proofs.CountingLaws.{onward-refl}
 use Rattle.rl_pairs.proofs.finder.Finder.visit.Goals as goal

@@ -1,5 +1,5 @@
 use Rattle.std.proofs.Common.{◌≡◌, ◌≤◌, ◌++◌, length, map, take}
-use Rattle.rl_prio.specs.Attempts.{behind}
+use Rattle.rl_prio.specs.internal.Attempts.{behind}
 use Rattle.rl_prio.proofs.build.attempts.put_behind.Given as goal
 
 abbrev pub invariant-loop-attempt : goal.invariant-loop-attempt

@@ -1,5 +1,5 @@
 use Rattle.std.proofs.Common.{◌≡◌, ℕ, ◌<◌, ◌≤◌, [], length, get_or}
-use Rattle.rl_prio.specs.Attempts.{AreReplaced}
+use Rattle.rl_prio.specs.internal.Attempts.{AreReplaced}
 use Rattle.rl_prio.proofs.build.attempts.replace_ends.Given as goal
 
 abbrev pub invariant-loop-place : goal.invariant-loop-place

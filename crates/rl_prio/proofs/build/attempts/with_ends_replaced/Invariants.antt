@@ -1,5 +1,5 @@
 use Rattle.std.proofs.Common.{◌≡◌, ◌≤◌, length, take}
-use Rattle.rl_prio.specs.Attempts.{ends_replaced}
+use Rattle.rl_prio.specs.internal.Attempts.{ends_replaced}
 use Rattle.rl_prio.proofs.build.attempts.with_ends_replaced.Given as goal
 
 abbrev pub invariant-loop-attempt : goal.invariant-loop-attempt

@@ -1,5 +1,5 @@
 use Rattle.std.proofs.Common.{◌≡◌, ◌++◌, Some, map, take}
-use Rattle.rl_prio.specs.GuardSets.{shown}
+use Rattle.rl_prio.specs.internal.GuardSets.{shown}
 use Rattle.rl_prio.proofs.build.codes.add_shown.Given as goal
 
 abbrev pub invariant-loop-code : goal.invariant-loop-code

@@ -1,5 +1,5 @@
 use Rattle.std.proofs.Common.{◌++◌, map, ap, ◌∙◌}
-use Rattle.rl_prio.specs.Attempts.{behind}
+use Rattle.rl_prio.specs.internal.Attempts.{behind}
 use Rattle.rl_prio.proofs.EnterLemmas.{behind-none}
 use Rattle.rl_prio.proofs.build.lists.alternatives.Goals as goal
 

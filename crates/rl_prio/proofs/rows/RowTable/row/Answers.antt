@@ -1,5 +1,5 @@
 use Rattle.std.proofs.Common.{◌<◌, length, sym, subst}
-use Rattle.rl_prio.specs.Rows.{Rows}
+use Rattle.rl_prio.specs.internal.Rows.{Rows}
 use Rattle.rl_prio.proofs.RowsLemmas.{length-rows_from}
 use Rattle.rl_prio.proofs.rows.RowTable.row.Goals as goal
 

@@ -2,9 +2,10 @@ use Rattle.std.proofs.Common.{List, ap, ap₂, arith, inl, inr, le_refl, length,
 use Rattle.std.proofs.lemmas.Bool.{or_cases}
 use Rattle.rl_ranges.proofs.CaseLemmas.{kin_complete, kin_inside, kin_sound}
 use Rattle.rl_ranges.proofs.SetLemmas.{Above-at, ComeInOrder-from_Above, has-at, within-true}
-use Rattle.rl_ranges.specs.Building.{ComeInOrder, range_at}
+use Rattle.rl_ranges.specs.Building.{range_at}
+use Rattle.rl_ranges.specs.internal.Ordering.{ComeInOrder}
 use Rattle.rl_ranges.specs.Codes.{Above, IsInside, has}
-use Rattle.rl_ranges.specs.Images.{has_kin}
+use Rattle.rl_ranges.specs.internal.Images.{has_kin}
 use Rattle.rl_ranges.specs.Named.{goes_by_ascii}
 use Rattle.rl_ranges.specs.Text.{code_count}
 use Rattle.rl_ranges.specs.declared.universe.Universe.{Universe}

@@ -1,6 +1,6 @@
 use Rattle.std.proofs.Common.{subst, sym}
 use Rattle.rl_ranges.proofs.SetLemmas.{ComeInOrder-from_Above}
-use Rattle.rl_ranges.specs.Building.{ComeInOrder}
+use Rattle.rl_ranges.specs.internal.Ordering.{ComeInOrder}
 use Rattle.rl_ranges.proofs.code_set.CodeSet.union.Goals as goal
 
 pub either-requires-clause-left : goal.either-requires-clause-left

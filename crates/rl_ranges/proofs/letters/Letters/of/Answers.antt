@@ -4,7 +4,7 @@ use Rattle.std.proofs.lemmas.Result.{err_from_is_err_and}
 use Rattle.rl_ranges.proofs.LetterLemmas.{IsLetters-from, TellsApart-none}
 use Rattle.rl_ranges.proofs.OrderLemmas.{TellsApart-congr, alike-order, many-congr, many-more}
 use Rattle.rl_ranges.specs.Codes.{has}
-use Rattle.rl_ranges.specs.Numbering.{IsPreferred}
+use Rattle.rl_ranges.specs.internal.Splitting.{IsPreferred}
 use Rattle.rl_ranges.specs.internal.Order.{picked}
 use Rattle.rl_ranges.specs.Text.{code_count}
 use Rattle.rl_ranges.specs.declared.universe.Universe.{Universe}

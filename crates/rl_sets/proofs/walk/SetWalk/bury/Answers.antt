@@ -1,6 +1,6 @@
 use Rattle.std.proofs.Common.{length, sym, ◌∙◌, arith}
 use Rattle.std.proofs.lemmas.Option.{get_or_from_slice_get}
-use Rattle.rl_sets.specs.Search.{found_of}
+use Rattle.rl_sets.specs.internal.Search.{found_of}
 use Rattle.rl_sets.proofs.ExpandLemmas.{note-dead}
 use Rattle.rl_sets.proofs.walk.SetWalk.bury.Goals as goal
 

@@ -7,7 +7,7 @@ use Rattle.rl_sets.specs.declared.error.SetsError.TheVariants.{Sets}
 use Rattle.rl_sets.specs.Live.{holds}
 use Rattle.rl_sets.specs.Rests.{IsOver}
 use Rattle.rl_sets.specs.Walk.{set_at}
-use Rattle.rl_sets.specs.Search.{found_of, found_set, IsImageAt, IsLookedAt}
+use Rattle.rl_sets.specs.internal.Search.{found_of, found_set, IsImageAt, IsLookedAt}
 use Rattle.rl_sets.proofs.ExpandLemmas.{expanding-start, expanding-more, route-at-end, grown-on, over-on, none-at}
 use Rattle.rl_sets.proofs.SearchLemmas.{IsLookedAt-next}
 use Rattle.rl_sets.proofs.walk.SetWalk.expand.Goals as goal

@@ -1,4 +1,4 @@
-use Rattle.rl_sets.specs.Search.{found_of}
+use Rattle.rl_sets.specs.internal.Search.{found_of}
 use Rattle.rl_sets.proofs.ExpandLemmas.{IsExpanding}
 use Rattle.rl_sets.proofs.walk.SetWalk.expand.Given as goal
 

@@ -4,7 +4,7 @@ use Rattle.rl_sets.specs.declared.error.SetsError.{SetsError}
 use Rattle.rl_sets.specs.declared.error.SetsError.TheVariants.{Sets}
 use Rattle.rl_sets.specs.Rests.{HasRoute, IsOver}
 use Rattle.rl_sets.specs.Walk.{set_at}
-use Rattle.rl_sets.specs.Search.{found_of, found_set, IsLookedAt}
+use Rattle.rl_sets.specs.internal.Search.{found_of, found_set, IsLookedAt}
 use Rattle.rl_sets.proofs.SearchingLemmas.{searching-start, searching-grown, searching-over, searching-more, searching-few, searching-done, searching-dead, root-again}
 use Rattle.rl_sets.proofs.VisitLemmas.{grown-again}
 use Rattle.rl_sets.proofs.walk.SetWalk.search.Goals as goal

@@ -1,5 +1,5 @@
 use Rattle.std.proofs.Common.{◌-◌}
-use Rattle.rl_sets.specs.Search.{found_of}
+use Rattle.rl_sets.specs.internal.Search.{found_of}
 use Rattle.rl_sets.proofs.SearchingLemmas.{IsSearching}
 use Rattle.rl_sets.proofs.walk.SetWalk.search.Given as goal
 

@@ -1,6 +1,6 @@
 use Rattle.std.proofs.Common.{sym}
 use Rattle.std.proofs.lemmas.Option.{get_or_from_slice_get}
-use Rattle.rl_sets.specs.Search.{found_of}
+use Rattle.rl_sets.specs.internal.Search.{found_of}
 use Rattle.rl_sets.proofs.SearchLemmas.{grown-step, over-step, image-step}
 use Rattle.rl_sets.proofs.walk.SetWalk.step_from.Goals as goal
 

@@ -2,7 +2,7 @@ use Rattle.std.proofs.Common.{◌≡◌, ap, sym, ◌∙◌, arith}
 use Rattle.std.proofs.lemmas.List.{get_or_read}
 use Rattle.std.proofs.lemmas.Option.{get_or_from_slice_get}
 use Rattle.rl_sets.specs.declared.rests.Way.{Way}
-use Rattle.rl_sets.specs.Search.{found_of, number_at, way_at, root_way}
+use Rattle.rl_sets.specs.internal.Search.{found_of, number_at, way_at, root_way}
 use Rattle.rl_sets.proofs.ExpandLemmas.{note-live, trace-step}
 use Rattle.rl_sets.proofs.walk.SetWalk.trace.Goals as goal
 

@@ -1,7 +1,7 @@
 use Rattle.std.proofs.Common.{◌≡◌, ◌<◌, length}
 use Rattle.rl_sets.specs.Rests.{HasRoute}
 use Rattle.rl_sets.specs.Walk.{IsMadeFor}
-use Rattle.rl_sets.specs.Search.{found_of, found_set}
+use Rattle.rl_sets.specs.internal.Search.{found_of, found_set}
 use Rattle.rl_sets.proofs.walk.SetWalk.trace.Given as goal
 
 abbrev pub invariant-loop-at : goal.invariant-loop-at

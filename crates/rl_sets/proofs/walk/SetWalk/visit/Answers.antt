@@ -2,7 +2,7 @@ use Rattle.std.proofs.Common.{◌≡◌, ℕ, ◌-◌, true, ap, sym, ◌∙◌}
 use Rattle.rl_prio.specs.Automaton.{accepting_state}
 use Rattle.rl_sets.specs.Live.{holds}
 use Rattle.rl_sets.specs.Walk.{set_at}
-use Rattle.rl_sets.specs.Search.{found_of, found_set}
+use Rattle.rl_sets.specs.internal.Search.{found_of, found_set}
 use Rattle.rl_sets.proofs.VisitLemmas.{GoesOn-same, grown-again, looked-dead, looked-accepting, route-through, added-goes-on, added-looked, life-dead, life-live}
 use Rattle.rl_sets.proofs.walk.SetWalk.visit.Goals as goal
 

@@ -1,5 +1,5 @@
 use Rattle.std.proofs.Common.{◌≡◌, ◌++◌, take}
-use Rattle.rl_prio.specs.Plans.{moves_of}
+use Rattle.rl_prio.specs.internal.Plans.{moves_of}
 use Rattle.rl_prio.proofs.build.plan.Plan.put_each.Given as goal
 
 abbrev pub invariant-loop-attempt : goal.invariant-loop-attempt

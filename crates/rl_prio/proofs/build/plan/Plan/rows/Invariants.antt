@@ -1,5 +1,5 @@
 use Rattle.std.proofs.Common.{◌≡◌, ℕ, ◌/◌, ◌%◌, ◌<◌, [], length, get_or}
-use Rattle.rl_prio.specs.Plans.{row_at}
+use Rattle.rl_prio.specs.internal.Plans.{row_at}
 use Rattle.rl_prio.proofs.build.plan.Plan.rows.Given as goal
 
 abbrev pub invariant-loop-i : goal.invariant-loop-i

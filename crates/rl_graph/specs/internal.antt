@@ -1,0 +1,4 @@
+-- Definitions for the contracts of private functions. No public contract reaches them.
+pub mod Search
+pub mod InnerMoves
+pub mod Nodes

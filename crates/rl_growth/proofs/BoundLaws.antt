@@ -1,0 +1,67 @@
+-- The bound from above: by numbers that never rise along a move, by ranks, and where there is no cycle.
+use Rattle.std.proofs.Common.{◌≡◌, ℕ, suc, ◌+◌, ◌*◌, ◌^◌, ◌<◌, ◌≤◌, ◌⊎◌, inl, inr, List, [], ◌∷◌, length, subst, arith}
+use Rattle.std.proofs.Math.Nat.{pow-zero}
+use Rattle.std.proofs.lemmas.Bool.{cases_lt}
+use Rattle.rl_graph.specs.Paths.{Has, paths}
+use Rattle.rl_graph.specs.Twins.{HasNoTwin, IsSplit, IsRank}
+use Rattle.rl_graph.specs.Bounds.{bound_n, bound_k, bound_c}
+use Rattle.rl_graph.proofs.Sums.{total-there}
+use Rattle.rl_graph.proofs.PathLaws.{nil-same}
+use Rattle.rl_degree.specs.Leavers.{NeverRises, HasNoEqualSplit}
+use Rattle.rl_degree.specs.Chains.{HasNoCycle}
+use Rattle.rl_degree.proofs.RankPaths.{by_ranks}
+use Rattle.rl_degree.proofs.SplitLaws.{ranks-fall, ranks-split}
+use Rattle.rl_ranges.specs.Text.{IsText}
+use Rattle.rl_syntax.specs.Tree.{size}
+use Rattle.rl_syntax.specs.Cost.{cost}
+use Rattle.rl_prio.specs.Automaton.{Automaton, IsAutomaton}
+use Rattle.rl_prio.specs.Letters.{all_sets}
+use Rattle.rl_pairs.specs.declared.pair.Pair.{Pair}
+use Rattle.rl_pairs.specs.PairGraph.{IsPairGraph, IsNumbered}
+use Rattle.rl_pairs.specs.RightVerdict.{Question, IsMachine, IsBounded}
+use Rattle.rl_pairs.proofs.VerdictLaws.{graph-bounded, graph-within, few-states, bounded_degree}
+use Rattle.rl_growth.proofs.VerdictLaws.{flat_bound}
+
+none-there : (row : List ℕ) (m : ℕ) → row ≡ [] → Has m row → ⊥
+none-there row m e h = subst (Has m) e h
+
+product-one : (c m p : ℕ) → p ≡ 1 → m ≤ c * p → m ≤ c
+product-one c m p e h =
+    let one : m ≤ c * 1 = subst (λ (x : ℕ). m ≤ c * x) e h in
+    omega (arith, one)
+
+module _ (q : Question) (a : Automaton) (next : ℕ → ℕ → List ℕ) (at : ℕ → Pair) (n : ℕ) (machine : IsMachine q a) (whole : IsAutomaton a) (g : IsPairGraph a next at n) (numbered : IsNumbered a next at n) where
+  some-bound : 0 < bound_n (size q.tree)
+  some-bound = omega (arith, g.some, few-states a q.tree q.ending (all_sets q.tree) next at n whole machine.stands g numbered)
+
+  pub numbers_bound : HasNoTwin next → (number : ℕ → ℕ) (d : ℕ) → NeverRises next n number → HasNoEqualSplit next n number → number 0 ≤ d → IsBounded q (suc d)
+  numbers_bound none number d falls apart low =
+      bounded_degree q a next at n machine whole g numbered d
+      (λ p u. by_ranks next (bound_n (size q.tree)) (bound_k (size q.tree)) number (graph-bounded a q.tree q.ending (all_sets q.tree) next at n whole machine.stands g numbered) none falls-all apart-all d 0 p u some-bound low)
+    where
+      falls-all : NeverRises next (bound_n (size q.tree)) number
+      falls-all s l m lt h = by (cases_lt s n)
+        where
+          by : (s < n) ⊎ (n ≤ s) → number m ≤ number s
+          by (inl small) = falls s l m small h
+          by (inr out) = absurd (none-there (next s l) m (g.empty s l (inl out)) h)
+
+      apart-all : HasNoEqualSplit next (bound_n (size q.tree)) number
+      apart-all r t y lt e split = by (cases_lt r n) y split
+        where
+          by : (r < n) ⊎ (n ≤ r) → (y : List ℕ) → IsSplit next r t y → ⊥
+          by (inl small) y split = apart r t y small e split
+          by (inr out) [] split = split.apart (nil-same next r t split.over)
+          by (inr out) (l ∷ y) split =
+              let m = total-there (λ m. paths next m t y) (next r l) split.over in
+              none-there (next r l) m.0 (g.empty r l (inl out)) m.1
+
+  pub ranks_bound : HasNoTwin next → (rank : ℕ → ℕ) → ((i : ℕ) → i < n → IsRank next i (rank i)) → IsBounded q (suc (rank 0))
+  ranks_bound none rank ranks =
+      let within = graph-within a q.tree q.ending (all_sets q.tree) next at n machine.stands g in
+      numbers_bound none rank (rank 0) (ranks-fall next n (bound_k (size q.tree)) rank within ranks) (ranks-split next n (bound_k (size q.tree)) rank within ranks) (omega arith)
+
+  pub cost_without_cycle : HasNoCycle next → (w : List ℕ) → IsText q.universe w → cost q.tree q.ending w ≤ bound_c (size q.tree) 0
+  cost_without_cycle none w text =
+      product-one (bound_c (size q.tree) 0) (cost q.tree q.ending w) ((length w + 1) ^ 0) (pow-zero (length w + 1))
+      (flat_bound q a next at n machine whole g numbered none w text)

@@ -1,0 +1,33 @@
+//! Laws of growth, for all questions. The functions do nothing: what they ensure is what is proved.
+
+ghost use Rattle.std.specs.Prelude.{◌≡◌, ℕ, suc, ◌+◌, ◌*◌, ◌^◌, ◌<◌, ◌≤◌, List, length};
+ghost use Rattle.rl_ranges.specs.Text.{IsText};
+ghost use Rattle.rl_syntax.specs.Tree.{size};
+ghost use Rattle.rl_syntax.specs.Cost.{cost};
+ghost use Rattle.rl_prio.specs.Automaton.{Automaton, IsAutomaton};
+ghost use Rattle.rl_graph.specs.Twins.{HasNoTwin, IsRank};
+ghost use Rattle.rl_graph.specs.Bounds.{bound_c};
+ghost use Rattle.rl_degree.specs.Leavers.{NeverRises, HasNoEqualSplit};
+ghost use Rattle.rl_degree.specs.Chains.{HasNoCycle};
+ghost use Rattle.rl_pairs.specs.declared.pair.Pair.{Pair};
+ghost use Rattle.rl_pairs.specs.PairGraph.{IsPairGraph, IsNumbered};
+ghost use Rattle.rl_pairs.specs.RightVerdict.{Question, IsMachine};
+
+/// The whole bound from above, with no word of a search. Let `s` be the size of a question's tree, and let no live pair have a
+/// twin. Where the live pairs have numbers that never rise along a move, with no split between pairs of equal number, and the
+/// number of the first pair, and so every number, is at most `d`, each text of `n` codes costs at most
+/// `C(s, d + 1) (n + 1)^(d + 1)`: so says `numbers`. By `ranks` the ranks are such numbers. By `flat` each text costs at most
+/// `C(s, 0)` where no live pair lies on a cycle.
+pub fn live_pairs_bound_costs()
+    ensures numbers { (q : Question) (a : Automaton) (next : ℕ → ℕ → List ℕ) (at : ℕ → Pair) (n : ℕ)
+        → IsMachine q a → IsAutomaton a → IsPairGraph a next at n → IsNumbered a next at n → HasNoTwin next
+        → (number : ℕ → ℕ) (d : ℕ) → NeverRises next n number → HasNoEqualSplit next n number → number 0 ≤ d
+        → (w : List ℕ) → IsText q.universe w → cost q.tree q.ending w ≤ bound_c (size q.tree) (suc d) * (length w + 1) ^ suc d }
+    ensures ranks { (q : Question) (a : Automaton) (next : ℕ → ℕ → List ℕ) (at : ℕ → Pair) (n : ℕ)
+        → IsMachine q a → IsAutomaton a → IsPairGraph a next at n → IsNumbered a next at n → HasNoTwin next
+        → (rank : ℕ → ℕ) → ((i : ℕ) → i < n → IsRank next i (rank i))
+        → (w : List ℕ) → IsText q.universe w → cost q.tree q.ending w ≤ bound_c (size q.tree) (suc (rank 0)) * (length w + 1) ^ suc (rank 0) }
+    ensures flat { (q : Question) (a : Automaton) (next : ℕ → ℕ → List ℕ) (at : ℕ → Pair) (n : ℕ)
+        → IsMachine q a → IsAutomaton a → IsPairGraph a next at n → IsNumbered a next at n → HasNoCycle next
+        → (w : List ℕ) → IsText q.universe w → cost q.tree q.ending w ≤ bound_c (size q.tree) 0 }
+{}

@@ -1,0 +1,2 @@
+pub mod LineEnd
+pub mod Writable

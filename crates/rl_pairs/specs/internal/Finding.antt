@@ -1,0 +1,135 @@
+-- Where the search for live pairs stands. It goes breadth first from the first pair, the letters of a pair in rising order, the
+-- end letter last. A pair is found by its key, its state and the number of its set in the walk.
+use Rattle.std.specs.Prelude.{◌≡◌, ℕ, zero, suc, ◌-◌, ◌+◌, ◌*◌, ◌<◌, ◌≤◌, ◌⊎◌, nat_lt, if◌then◌else◌, List, [], ◌∷◌, ◌++◌, length, take, flat_map, slice_index_or}
+use Rattle.rl_prio.specs.Automaton.{Automaton, letters_count}
+use Rattle.rl_graph.specs.Paths.{Has, Each}
+use Rattle.rl_sets.specs.Live.{joined, IsLive}
+use Rattle.rl_sets.specs.Rests.{IsRefusedRest}
+use Rattle.rl_sets.specs.Walk.{Walk, set_at}
+use Rattle.rl_pairs.specs.declared.pair.Pair.{Pair}
+use Rattle.rl_pairs.specs.declared.finder.Key.{Key}
+use Rattle.rl_pairs.specs.declared.finder.Finder.{Finder}
+use Rattle.rl_pairs.specs.LivePairs.{pairs_from, next_pairs, LivePair}
+use Rattle.rl_pairs.specs.PairGraph.{KeptLive, AreFirstSeen, seen_after}
+use Rattle.rl_pairs.specs.internal.Counting.{IsNumberOf, Stands, IsOnward}
+
+-- the keys of the pairs that are found, how many there may be, a lead and a rest for each, and a row of targets for each pair
+-- and letter that was looked at
+pub record Found : Type 0 where
+  pub limit : ℕ
+  pub keys : List Key
+  pub leads : List (List ℕ)
+  pub rests : List (List ℕ)
+  pub rows : List (List ℕ)
+
+abbrev pub found_of : Finder → Found
+found_of f = record { limit = f.limit; keys = f.keys.keys; leads = f.leads.items; rests = f.rests.items; rows = f.rows.items }
+
+-- the same with one more row
+abbrev pub with_row : Found → List ℕ → Found
+with_row f row = record { limit = f.limit; keys = f.keys; leads = f.leads; rests = f.rests; rows = f.rows ++ row ∷ [] }
+
+-- the key of the first pair; the empty set is the first one of the walk
+abbrev pub first_key : Key
+first_key = record { state = 0; set = 0 }
+
+abbrev pub key_at : Found → ℕ → Key
+key_at f k = slice_index_or f.keys k first_key
+
+abbrev pub pair_of : Walk → Key → Pair
+pair_of w key = record { state = key.state; set = set_at w key.set }
+
+-- the pair with a number
+abbrev pub pair_at : Walk → Found → ℕ → Pair
+pair_at w f k = pair_of w (key_at f k)
+
+abbrev pub lead_at : Found → ℕ → List ℕ
+lead_at f k = slice_index_or f.leads k []
+
+abbrev pub rest_at : Found → ℕ → List ℕ
+rest_at f k = slice_index_or f.rests k []
+
+-- how many rows a pair has
+abbrev pub width : Automaton → ℕ
+width a = suc (letters_count a)
+
+-- the targets of the moves of a pair on a letter
+abbrev pub next_in : ℕ → List (List ℕ) → ℕ → ℕ → List ℕ
+next_in wide rows q letter = if nat_lt letter wide then slice_index_or rows (q * wide + letter) [] else []
+
+abbrev pub next_of : Automaton → Found → ℕ → ℕ → List ℕ
+next_of a f = next_in (width a) f.rows
+
+-- all targets, in the order in which they were met
+abbrev pub flat : List (List ℕ) → List ℕ
+flat rows = flat_map (λ row. row) rows
+
+-- the lead of a pair is that of an earlier one with a move to it, and the letter of the move
+abbrev pub IsLed : Automaton → Found → ℕ → Type 0
+IsLed a f k = (i : ℕ) × (letter : ℕ) × (i < k) × Has k (next_of a f i letter) × (lead_at f k ≡ lead_at f i ++ letter ∷ [])
+
+-- the pairs that are found are different live pairs, and were numbered by first sight
+pub record IsFound (a : Automaton) (w : Walk) (f : Found) : Type 0 where
+  pub some : 0 < length f.keys
+  pub few : length f.keys ≤ f.limit
+  pub first : key_at f 0 ≡ first_key
+  pub sets : (k : ℕ) → k < length f.keys → (key_at f k).set < length w.sets
+  pub states : (k : ℕ) → k < length f.keys → (key_at f k).state < a.states
+  pub apart : (j k : ℕ) → j < length f.keys → k < length f.keys → key_at f j ≡ key_at f k → j ≡ k
+  pub live : (k : ℕ) → k < length f.keys → LivePair a (pair_at w f k)
+  pub led : length f.leads ≡ length f.keys
+  pub start : lead_at f 0 ≡ []
+  pub leads : (k : ℕ) → 0 < k → k < length f.keys → IsLed a f k
+  pub refused : length f.rests ≡ length f.keys
+  pub rests : (k : ℕ) → k < length f.keys → IsRefusedRest a (pair_at w f k).set (rest_at f k)
+  pub targets : Each (λ k. k < length f.keys) (flat f.rows)
+  pub seen : AreFirstSeen 1 (flat f.rows)
+  pub count : seen_after 1 (flat f.rows) ≡ length f.keys
+
+-- the pairs that were found before stay
+pub record Stays (old new : Found) : Type 0 where
+  pub limit : new.limit ≡ old.limit
+  pub longer : length old.keys ≤ length new.keys
+  pub same : (k : ℕ) → k < length old.keys → key_at new k ≡ key_at old k
+
+-- the row has the numbers of the live ones among pairs, and the sets of the pairs stand in the walk
+pub record IsRowOf (a : Automaton) (w : Walk) (f : Found) (pairs : List Pair) (row : List ℕ) : Type 0 where
+  pub kept : KeptLive a (pair_at w f) pairs row
+  pub standing : Each (λ p. Stands w p.set) pairs
+
+-- the first rows are those of the moves of the first pairs; a pair was found before its moves were looked at
+pub record IsMoved (a : Automaton) (w : Walk) (f : Found) (count : ℕ) : Type 0 where
+  pub long : length f.rows ≡ count
+  pub moves : (q letter : ℕ) → letter ≤ letters_count a → q * width a + letter < count → IsRowOf a w f (next_pairs a (pair_at w f q) letter) (next_of a f q letter)
+  pub order : (q : ℕ) → q * width a < count → q < seen_after 1 (flat (take (q * width a) f.rows))
+
+-- the set for the move behind moves to the given states
+abbrev pub tried : Automaton → List ℕ → List ℕ → List ℕ
+tried a set [] = set
+tried a set (target ∷ targets) = tried a (joined a target set) targets
+
+-- the set for the move `k`, from that for the move before; that for the first move is the image itself
+abbrev pub set_for : Automaton → List ℕ → ℕ → List ℕ → List ℕ
+set_for a targets zero set = set
+set_for a targets (suc k) set = joined a (slice_index_or targets k 0) set
+
+-- the first `k` of the moves to given states were tried, from a walk and pairs on; `first` is the set for the first move
+pub record IsTrying (a : Automaton) (old w : Walk) (f g : Found) (first targets row : List ℕ) (k set : ℕ) : Type 0 where
+  pub onward : IsOnward a old w
+  pub found : IsFound a w (with_row g row)
+  pub stays : Stays f g
+  pub rows : g.rows ≡ f.rows
+  pub row_of : IsRowOf a w g (pairs_from a first (take k targets)) row
+  pub number : IsNumberOf w (tried a first (take (k - 1) targets)) set
+
+-- the search has gone on
+pub record IsFurther (a : Automaton) (old w : Walk) (f g : Found) (count : ℕ) : Type 0 where
+  pub onward : IsOnward a old w
+  pub found : IsFound a w g
+  pub stays : Stays f g
+  pub moved : IsMoved a w g count
+
+-- a pair's number was put behind a row if the pair is live
+abbrev pub IsNoted : Automaton → Walk → Found → Pair → List ℕ → List ℕ → Type 0
+IsNoted a w f p old new =
+    ((IsLive a p.set → ⊥) × (new ≡ old)) ⊎ ((k : ℕ) × IsLive a p.set × (k < length f.keys) × (pair_at w f k ≡ p) × (new ≡ old ++ k ∷ []))

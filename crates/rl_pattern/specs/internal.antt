@@ -1,0 +1,8 @@
+-- Definitions for the contracts of private functions. No public contract reaches them.
+pub mod Judged
+pub mod LeafSets
+pub mod Machine
+pub mod Views
+pub mod Left
+pub mod Answering
+pub mod Signs

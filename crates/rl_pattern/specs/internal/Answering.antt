@@ -1,0 +1,66 @@
+-- For private clauses: what the reader has answered of the codes up to a place.
+use Rattle.std.specs.Prelude.{◌≡◌, ℕ, suc, ◌<◌, Bool, true, false, not, ◌&&◌, ◌||◌, ◌==◌, List, length, Option, Some, None, Result, Ok, Err, slice_get, take}
+use Rattle.rl_pattern.specs.declared.flags.Flags.{Flags}
+use Rattle.rl_pattern.specs.declared.tree.Whole.{Whole}
+use Rattle.rl_pattern.specs.declared.read.ReadError.{ReadError}
+use Rattle.rl_pattern.specs.declared.read.ReadError.TheVariants.{Syntax, TooDeep, OutOfMemory}
+use Rattle.rl_pattern.specs.declared.state.State.{State as ProgramState}
+use Rattle.rl_pattern.specs.Tree as t
+use Rattle.rl_pattern.specs.Grammar.{Spells}
+use Rattle.rl_pattern.specs.Viable.{Viable, TooDeepAt}
+use Rattle.rl_pattern.specs.internal.Views.{state_of, whole_of}
+use Rattle.rl_pattern.specs.internal.Machine.{State, Lex, between, line, remark, in_braces, counted, at_slash, in_escape, in_head, set_open, in_class, behind_paren, run, start}
+use Rattle.rl_pattern.specs.Answers.{Shallow}
+
+-- a group that opens too deep comes first, the first of several, then that no pattern is spelled, with the length of the
+-- longest prefix that begins one
+abbrev pub Answered : Flags → Bool → List ℕ → Result Whole ReadError → Type 0
+Answered call text w (Ok p) = Spells call text w (whole_of p) × Shallow call text w
+Answered call text w (Err (Syntax n)) = Viable call text w n × ((p : t.Whole) → ¬ Spells call text w p) × Shallow call text w
+Answered call text w (Err (TooDeep p)) = TooDeepAt call text w p × ((q : ℕ) → q < p → ¬ TooDeepAt call text w q)
+Answered call text w (Err OutOfMemory) = Unit {0}
+
+-- whether this code is there
+abbrev pub is_code : Option ℕ → ℕ → Bool
+is_code None c = false
+is_code (Some d) c = d == c
+
+-- the codes behind a parenthesis at p are ?# or ?P=
+abbrev pub opens_none : List ℕ → ℕ → Bool
+opens_none w p = is_code (slice_get w (suc p)) 63 && (is_code (slice_get w (suc (suc p))) 35 || (is_code (slice_get w (suc (suc p))) 80 && is_code (slice_get w (suc (suc (suc p)))) 61))
+
+-- the machine stands behind a parenthesis
+abbrev pub at_paren : Lex → Bool
+at_paren (in_head a h) = behind_paren h
+at_paren between = false
+at_paren line = false
+at_paren remark = false
+at_paren (in_braces a t) = false
+at_paren (counted a p q n) = false
+at_paren (at_slash a) = false
+at_paren (in_escape a x) = false
+at_paren (set_open a) = false
+at_paren (in_class a v s) = false
+
+-- a group opens too deep at p, by the state behind its parenthesis
+abbrev pub is_too_deep : State → List ℕ → ℕ → Bool
+is_too_deep s w p = at_paren s.lex && ((length s.base.below == 100) && not (opens_none w p))
+
+-- the machine took the first i codes, and no group opens too deep among them
+pub record Standing (call : Flags) (text : Bool) (w : List ℕ) (i : ℕ) (s : State) : Type 0 where
+  pub runs : run text 0 (Some (start call)) (take i w) ≡ Some s
+  pub shallow : (q : ℕ) → q < i → ¬ TooDeepAt call text w q
+
+-- the program's answer to the code at i, by the machine's
+abbrev pub Went : List ℕ → ℕ → Option State → Result ProgramState ReadError → Type 0
+Went w i o (Ok r) = (o ≡ Some (state_of r)) × (is_too_deep (state_of r) w i ≡ false)
+Went w i o (Err (Syntax n)) = (o ≡ None) × (n ≡ i)
+Went w i o (Err (TooDeep n)) = (r : State) × (o ≡ Some r) × (is_too_deep r w i ≡ true) × (n ≡ i)
+Went w i o (Err OutOfMemory) = Unit {0}
+
+-- the program's answer at the end, by the machine's
+abbrev pub Ended : ℕ → Option t.Whole → Result Whole ReadError → Type 0
+Ended k o (Ok p) = o ≡ Some (whole_of p)
+Ended k o (Err (Syntax n)) = (o ≡ None) × (n ≡ k)
+Ended k o (Err (TooDeep n)) = ⊥
+Ended k o (Err OutOfMemory) = Unit {0}

@@ -1,0 +1,92 @@
+-- What the program's values are to the grammar and the machine.
+use Rattle.std.specs.Prelude.{◌≡◌, ℕ, suc, ◌+◌, List, map, reverse, length, Option, Some, None, if◌then◌else◌, ◌==◌, ◌-◌}
+use Rattle.rl_pattern.specs.declared.tree.Node.{Node}
+use Rattle.rl_pattern.specs.declared.tree.Node.TheOpen as Open
+use Rattle.rl_pattern.specs.declared.tree.Node.TheFolds.{fold-Node, fold-Branch}
+use Rattle.rl_pattern.specs.declared.tree.Branch.{Branch}
+use Rattle.rl_pattern.specs.declared.tree.Whole.{Whole}
+use Rattle.rl_pattern.specs.declared.state.Frame.{Frame}
+use Rattle.rl_pattern.specs.declared.state.Last.{Last}
+use Rattle.rl_pattern.specs.declared.state.Last.TheVariants.{NothingYet, AnAtom}
+use Rattle.rl_pattern.specs.declared.state.Base.{Base}
+use Rattle.rl_pattern.specs.declared.state.Lex.{Lex}
+use Rattle.rl_pattern.specs.declared.state.Lex.TheVariants.{Between, Line, Remark, InBraces, Counted, AtSlash, InEscape, InHead, SetOpen, InClass}
+use Rattle.rl_pattern.specs.declared.state.State.{State}
+use Rattle.rl_pattern.specs.declared.lex.CountPart.{CountPart}
+use Rattle.rl_pattern.specs.declared.lex.CountPart.TheVariants.{Least, Upper, Most}
+use Rattle.rl_pattern.specs.Codes.{with_digit, least_of, upper_of, most_of}
+use Rattle.rl_pattern.specs.Tree as t
+use Rattle.rl_pattern.specs.internal.Machine as m
+
+-- one layer of a node, and a branch
+abbrev pub node_layer : Open.Node-F t.Node t.Branch → t.Node
+node_layer (Open.Node-F.Leaf s f x) = t.leaf s f x
+node_layer (Open.Node-F.Mark s f k) = t.mark s f k
+node_layer (Open.Node-F.Repeat s q n g body) = t.repeat s q n g body.value
+node_layer (Open.Node-F.Group s k body) = t.group s k body.value
+node_layer (Open.Node-F.Nothing s) = t.nothing s
+node_layer (Open.Node-F.Seq s ps) = t.seq s (t.nodes ps)
+node_layer (Open.Node-F.Choice s bs) = t.choice s (t.branches bs)
+
+abbrev pub branch_layer : Open.Branch-F t.Node t.Branch → t.Branch
+branch_layer b = record { place = b.place; body = b.body }
+
+abbrev pub node_of : Node → t.Node
+node_of = fold-Node t.Node t.Branch node_layer branch_layer
+
+abbrev pub branch_of : Branch → t.Branch
+branch_of = fold-Branch t.Node t.Branch node_layer branch_layer
+
+abbrev pub whole_of : Whole → t.Whole
+whole_of p = record { fronts = p.fronts; place = p.place; body = node_of p.body }
+
+abbrev pub frame_of : Frame → m.Frame
+frame_of f = record { flags = f.flags; kind = f.kind; opened = f.opened; start = f.start; from = f.from; branches = map branch_of f.branches; items = map node_of f.items }
+
+abbrev pub last_of : Last → m.Last
+last_of NothingYet = m.nothing_yet
+last_of (AnAtom a p) = m.an_atom a (node_of p)
+
+-- the program keeps the innermost frame below at the end
+abbrev pub base_of : Base → m.Base
+base_of b = record { top = frame_of b.top; last = last_of b.last; below = map frame_of (reverse b.below.items); fronts = b.fronts }
+
+abbrev pub lex_of : Lex → m.Lex
+lex_of Between = m.between
+lex_of Line = m.line
+lex_of Remark = m.remark
+lex_of (InBraces a t) = m.in_braces a t
+lex_of (Counted a p q n) = m.counted a (node_of p) q n
+lex_of (AtSlash a) = m.at_slash a
+lex_of (InEscape a x) = m.in_escape a x
+lex_of (InHead a h) = m.in_head a h
+lex_of (SetOpen a) = m.set_open a
+lex_of (InClass a v s) = m.in_class a v s
+
+abbrev pub state_of : State → m.State
+state_of s = record { base = base_of s.base; lex = lex_of s.lex }
+
+-- the text of a brace goes up to here
+abbrev pub FitsAt : m.Lex → ℕ → Type 0
+FitsAt (m.in_braces a t) i = i ≡ suc a + length t
+FitsAt m.between i = Unit {0}
+FitsAt m.line i = Unit {0}
+FitsAt m.remark i = Unit {0}
+FitsAt (m.counted a p q n) i = Unit {0}
+FitsAt (m.at_slash a) i = Unit {0}
+FitsAt (m.in_escape a x) i = Unit {0}
+FitsAt (m.in_head a h) i = Unit {0}
+FitsAt (m.set_open a) i = Unit {0}
+FitsAt (m.in_class a v s) i = Unit {0}
+
+-- the count that the rest of the text makes of a part
+abbrev pub part_rest : CountPart → List ℕ → Option t.Count
+part_rest (Least m) cs = least_of m cs
+part_rest (Upper m) cs = upper_of m cs
+part_rest (Most m n) cs = most_of m n cs
+
+-- a part with one code more
+abbrev pub part_next : CountPart → ℕ → Option CountPart
+part_next (Least m) c = if c == 44 then Some (Upper m) else Some (Least (with_digit 10 m (c - 48)))
+part_next (Upper m) c = if c == 44 then None else Some (Most m (with_digit 10 0 (c - 48)))
+part_next (Most m n) c = if c == 44 then None else Some (Most m (with_digit 10 n (c - 48)))

@@ -1,0 +1,23 @@
+-- For the function that tells whether a pattern holds a branch.
+use Rattle.std.specs.Prelude.{Bool, true, false, ◌||◌}
+use Rattle.rl_syntax.specs.PatTree.{PatTree, PatTrees, BranchTrees, nothing, class, seq, choice, repeat, group, anchor, boundary, outside, no_items, item, no_branches, branch}
+
+abbrev pub is_some_branch : BranchTrees → Bool
+is_some_branch no_branches = false
+is_some_branch (branch s p bs) = true
+
+abbrev mutual
+  pub holds_branch : PatTree → Bool
+  holds_branch (nothing s) = false
+  holds_branch (class s set) = false
+  holds_branch (seq s ps) = items_hold_branch ps
+  holds_branch (choice s bs) = is_some_branch bs
+  holds_branch (repeat s q least most greedy p) = holds_branch p
+  holds_branch (group s captures p) = holds_branch p
+  holds_branch (anchor s kind multiline) = false
+  holds_branch (boundary s negated ascii) = false
+  holds_branch (outside s what) = false
+
+  pub items_hold_branch : PatTrees → Bool
+  items_hold_branch no_items = false
+  items_hold_branch (item p ps) = holds_branch p || items_hold_branch ps

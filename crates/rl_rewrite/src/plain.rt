@@ -1,0 +1,70 @@
+//! Patterns of which nothing can go.
+
+ghost use Rattle.std.specs.Prelude.{◌≡◌, ℕ, List, map, IfOk, IfSome, IfNone};
+ghost use Rattle.rl_syntax.specs.PatTree.{pat_of, items_of};
+ghost use Rattle.rl_syntax.specs.Pattern.{body_of};
+ghost use Rattle.rl_pattern.specs.declared.flags.Flags.{Flags as AnyFlags};
+ghost use Rattle.rl_rewrite.specs.RightSuggestion.{IsRightSuggestion};
+ghost use Rattle.rl_rewrite.specs.Plain.{IsPlain, empty_suggestion};
+ghost use Rattle.rl_rewrite.specs.internal.Choices.{holds_branch as branch_in, items_hold_branch as branch_among};
+
+use crate::merging::{Place, with_merged};
+use rl_lists::OutOfMemory;
+use rl_syntax::{Pat, Pattern, Spans, Suggestion};
+use std::alloc::Global;
+
+/// Whether a part holds a branch of a choice.
+#[cycle(choices)]
+fn holds_branch(part: &Pat) -> bool
+    ensures { result ≡ branch_in (pat_of part.now) }
+{
+    match part {
+        Pat::Nothing { .. }
+        | Pat::Class { .. }
+        | Pat::Anchor { .. }
+        | Pat::Boundary { .. }
+        | Pat::Outside { .. } => false,
+        Pat::Seq { items, .. } => items_hold_branch(items.as_slice()),
+        Pat::Choice { branches, .. } => !branches.is_empty(),
+        Pat::Repeat { body, .. } | Pat::Group { body, .. } => holds_branch(body),
+    }
+}
+
+/// Whether one of the items does.
+#[cycle(choices)]
+fn items_hold_branch(items: &[Pat]) -> bool
+    ensures { result ≡ branch_among (items_of (map pat_of items.now)) }
+{
+    let mut held = false;
+    for item in items {
+        held = holds_branch(item) || held;
+    }
+    held
+}
+
+/// The suggestion that drops and takes out nothing, for a pattern without a branch and without a quantifier that is taken
+/// out; none for another pattern. It is right under all flags, for all codes and every limit, also where the body passes a
+/// limit. Memory is asked for only where a quantifier is taken out.
+///
+/// # Errors
+/// [`OutOfMemory`].
+pub fn plain_suggestion(alloc: Global, p: &Pattern) -> Result<Option<Suggestion>, OutOfMemory>
+    ensures plain { IfOk result (λ o. IfSome o (λ s. IsPlain (body_of p.now))) }
+    ensures other { IfOk result (λ o. IfNone o (IsPlain (body_of p.now) → ⊥)) }
+    ensures empty { IfOk result (λ o. IfSome o (λ s. s ≡ empty_suggestion)) }
+    ensures right { IfOk result (λ o. IfSome o (λ s. (flags : AnyFlags) (codes : List ℕ) (limit : ℕ) → IsRightSuggestion flags p.now codes limit s)) }
+{
+    if holds_branch(p.body()) {
+        return Ok(None);
+    }
+    let merged = with_merged(alloc, p.body(), Place::Elsewhere, Spans::new(alloc))?;
+    if !merged.is_empty() {
+        return Ok(None);
+    }
+    Ok(Some(Suggestion {
+        text: None,
+        dropped: Spans::new(alloc),
+        merged,
+        passed: Spans::new(alloc),
+    }))
+}
