@@ -110,7 +110,7 @@ fn links(alloc: Global, graph: &Multigraph) -> Result<u64, WorkError> {
 /// How many links a longest chain has in the graph of a name with about so many states.
 ///
 /// # Errors
-/// [`WorkError::Refused`] where no graph has the name, and [`WorkError::OutOfMemory`] where memory was refused.
+/// [`WorkError::Refused`] where no graph has the name, and [`WorkError::OutOfMemory`] when out of memory.
 pub fn links_of(alloc: Global, name: &str, states: u32) -> Result<u64, WorkError> {
     let half = states / 2;
     let third = states / 3;

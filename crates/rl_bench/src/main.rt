@@ -10,7 +10,7 @@
 //! | `degree GRAPH STATES` | a longest chain of splits is found in a `chain` of loops, in `stars`, `two-rings`, `three-rings`, `slow-rings` or a component with a `tail` |
 //!
 //! It prints one number that depends on the work. With other words, or where a file isn't read, it prints nothing and ends
-//! with status 2, and where memory was refused with status 5.
+//! with status 2, and when out of memory with status 5.
 #![tactic(auto)]
 
 mod graphs;

@@ -15,7 +15,7 @@ use std::alloc::Global;
 pub enum WorkError {
     /// The words name no work, or a file wasn't read or has no tokens.
     Refused,
-    /// Memory was refused.
+    /// Out of memory.
     OutOfMemory,
 }
 
@@ -135,7 +135,7 @@ fn parts(alloc: Global, states: u32) -> Result<u64, WorkError> {
 /// Does the work that the words name, and answers a number that depends on it.
 ///
 /// # Errors
-/// [`WorkError::Refused`] where the words name no work, and [`WorkError::OutOfMemory`] where memory was refused.
+/// [`WorkError::Refused`] where the words name no work, and [`WorkError::OutOfMemory`] when out of memory.
 pub fn work_of(rt: &HostRuntime, words: &[String]) -> Result<u64, WorkError> {
     let alloc = rt.alloc();
     let name = match words.first() {

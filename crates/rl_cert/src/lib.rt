@@ -19,6 +19,3 @@ pub use reading::{ReadError, read};
 pub use rl_numbers::double::{Double, Doubles};
 pub use rl_numbers::triple::{Triple, Triples};
 pub use writing::write;
-
-#[cfg(test)]
-mod tests;

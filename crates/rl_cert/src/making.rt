@@ -37,7 +37,7 @@ pub enum CertError {
     Undecided(Limit),
     /// More than 1,000,000 triples would be needed.
     TooLarge,
-    /// Memory was refused.
+    /// Out of memory.
     OutOfMemory,
 }
 

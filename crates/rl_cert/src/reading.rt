@@ -20,7 +20,7 @@ use std::alloc::{AllocError, AllocFailed, Global};
 pub enum ReadError {
     /// They are too many, no JSON, or not in the form of a certificate.
     Refused,
-    /// Memory was refused.
+    /// Out of memory.
     OutOfMemory,
 }
 

@@ -127,7 +127,7 @@ fn object_of(alloc: Global, c: &Certificate) -> Result<Value, OutOfMemory>
 /// A certificate as one line of JSON.
 ///
 /// # Errors
-/// [`OutOfMemory`] where memory was refused.
+/// [`OutOfMemory`] when out of memory.
 pub fn write(alloc: Global, c: &Certificate) -> Result<Bytes, OutOfMemory>
     requires { IsTold c.now.verdict }
     ensures { IfOk result (λ bytes. bytes ≡ form_text c.now) }

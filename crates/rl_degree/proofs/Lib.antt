@@ -9,6 +9,7 @@ pub mod RankPaths
 pub mod FallingLaws
 pub mod PairLaws
 pub mod KernelLaws
+pub mod GroupLaws
 pub mod TableLaws
 pub mod RowLaws
 pub mod SearchLaws

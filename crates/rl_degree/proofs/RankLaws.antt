@@ -1,5 +1,5 @@
 -- The longest chains by components.
-use Rattle.std.proofs.Common.{◌≡◌, ℕ, zero, suc, ◌+◌, ◌<◌, ◌≤◌, ◌⊎◌, inl, inr, List, [], ◌∷◌, ◌++◌, length, get_or, refl, sym, ◌∙◌, ap, subst, arith}
+use Rattle.std.proofs.Common.{◌≡◌, ℕ, true, false, zero, suc, true≢false, Option, Some, None, is_some, MatchOption, ◌+◌, ◌<◌, ◌≤◌, ◌⊎◌, inl, inr, List, [], ◌∷◌, ◌++◌, length, get_or, refl, sym, ◌∙◌, ap, subst, arith}
 use Rattle.std.proofs.lemmas.Bool.{cases_lt}
 use Rattle.std.proofs.lemmas.List.{length_push, get_or_push, get_or_append_left}
 use Rattle.rl_graph.specs.Paths.{Has, paths, Reaches, IsBounded}
@@ -10,6 +10,8 @@ use Rattle.rl_graph.proofs.PathLaws.{along_moves, Reaches-self, Reaches-move, Re
 use Rattle.rl_degree.specs.internal.Splits.{HasSplit}
 use Rattle.rl_degree.specs.internal.Ranks.{best_at, no_best, IsFirst, IsGood, BeatsLetter, BeatsMoves, BeatsSplits, IsBest, AreBests}
 use Rattle.rl_degree.specs.declared.ranks.Best.{Best}
+use Rattle.rl_kernel.specs.Members.{is_member}
+use Rattle.rl_kernel.proofs.MemberLaws.{member-there}
 use Rattle.rl_degree.proofs.SearchLaws.{split-below}
 
 -- the better one of two good ones
@@ -81,14 +83,33 @@ letters-all next n k p bests q c d b le old l m has lt = by (cases_lt l c)
     by (inl a) = old l a m has lt
     by (inr a) = absurd (subst (λ (r : List ℕ). Has m r) (b.letters q l (omega arith)) has)
 
-pub splits-more : (next : ℕ → ℕ → List ℕ) (p : PartTable) (bests : List Best) (q end d e : ℕ) → BeatsSplits next end p bests q d → d ≤ e → (HasSplit next q end → (best_at bests (number_of p end)).rank + 1 ≤ e) → BeatsSplits next (end + 1) p bests q e
-splits-more next p bests q end d e old le here t h s = by (cases_lt t end)
+-- no split from the state to one of the first states of a list begins a better chain
+abbrev pub BeatsListed : (ℕ → ℕ → List ℕ) → PartTable → List Best → ℕ → List ℕ → ℕ → ℕ → Type 0
+BeatsListed next p bests q states end d =
+    (i : ℕ) → i < end → HasSplit next q (get_or states i 0) → (best_at bests (number_of p (get_or states i 0))).rank + 1 ≤ d
+
+pub splits-more : (next : ℕ → ℕ → List ℕ) (p : PartTable) (bests : List Best) (q : ℕ) (states : List ℕ) (end d e : ℕ) → BeatsListed next p bests q states end d → d ≤ e
+    → (HasSplit next q (get_or states end 0) → (best_at bests (number_of p (get_or states end 0))).rank + 1 ≤ e) → BeatsListed next p bests q states (end + 1) e
+splits-more next p bests q states end d e old le here i h s = by (cases_lt i end)
   where
-    by : (t < end) ⊎ (end ≤ t) → (best_at bests (number_of p t)).rank + 1 ≤ e
-    by (inl a) = omega (arith, old t a s)
+    by : (i < end) ⊎ (end ≤ i) → (best_at bests (number_of p (get_or states i 0))).rank + 1 ≤ e
+    by (inl a) = omega (arith, old i a s)
     by (inr a) =
-        let k : t ≡ end = omega arith in
-        subst (λ (z : ℕ). (best_at bests (number_of p z)).rank + 1 ≤ e) (sym k) (here (subst (λ (z : ℕ). HasSplit next q z) k s))
+        let k : i ≡ end = omega arith in
+        subst (λ (z : ℕ). (best_at bests (number_of p (get_or states z 0))).rank + 1 ≤ e) (sym k) (here (subst (λ (z : ℕ). HasSplit next q (get_or states z 0)) k s))
+
+-- where there is no place
+pub none-some : {A : Type 0} (o : Option A) (P : Type 0) (Q : A → Type 0) → is_some o ≡ false → MatchOption o P Q → P
+none-some None P Q e h = h
+none-some (Some x) P Q e h = absurd (true≢false e)
+
+-- a split leads to a state of the list
+pub splits-all : (next : ℕ → ℕ → List ℕ) (n : ℕ) (p : PartTable) (bests : List Best) (q : ℕ) (states places : List ℕ) (end d : ℕ) → length states ≤ end
+    → ((t : ℕ) → t < n → HasSplit next q t → is_member states places t ≡ true) → BeatsListed next p bests q states end d → BeatsSplits next n p bests q d
+splits-all next n p bests q states places end d long there old t h s =
+    let m = member-there states places t (there t h s) in
+    subst (λ (z : ℕ). (best_at bests (number_of p z)).rank + 1 ≤ d) m.1
+    (old (get_or places t 0) (omega (arith, m.0)) (subst (λ (z : ℕ). HasSplit next q z) (sym m.1) s))
 
 pub moves-raised : (next : ℕ → ℕ → List ℕ) (p : PartTable) (bests : List Best) (q d e : ℕ) → BeatsMoves next p bests q d → d ≤ e → BeatsMoves next p bests q e
 moves-raised next p bests q d e old le l m has lt = omega (arith, old l m has lt)

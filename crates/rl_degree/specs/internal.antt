@@ -1,5 +1,6 @@
 -- Definitions for the contracts of private functions. No public contract reaches them.
 pub mod Kernel
+pub mod Groups
 pub mod Pairs
 pub mod Moves
 pub mod Rows

@@ -13,6 +13,13 @@ ghost use Rattle.rl_degree.specs.FallingNumbers.{IsDoubles, IsTriples};
 /// paths from one state that leave its level at different times, the later ones first, there are five of which each two cross
 /// in the same states: the path of the later time is in `r` at the earlier time, and that of the earlier time is in `q` at the
 /// later time. These two states are a split.
+///
+/// The law of two states is a case of it. Let `a` and `b` lie in different strong components, and let there be `bound_b n`
+/// different times, for each of which some path from `s` to `t` along `w` moves from `a` to `b` at that time. Say that the
+/// states that reach `a` have level 1, and the others level 0. No move rises: where its target reaches `a`, so does its start.
+/// Such a path is on level 1 up to its time, as `s` is, since it goes on to `a`. At its time it moves to `b`, on level 0: as `a`
+/// moves to `b` and lies in another component, `b` doesn't reach `a`. So these paths leave the level of `s` at these times, and
+/// there are five of the times of which each two have the same `r` and `q`, a split.
 pub fn five_times()
     ensures alone { (next : ℕ → ℕ → List ℕ) → HasNoTwin next → (s t : ℕ) (w back : List ℕ) → 1 ≤ paths next t s back → paths next s t w ≤ 1 }
     ensures cross { (next : ℕ → ℕ → List ℕ) (n k : ℕ) (level : ℕ → ℕ) → IsWithin next n k → NeverRises next n level

@@ -2,6 +2,7 @@
 #![tactic(auto)]
 
 mod chains;
+mod groups;
 mod kernel;
 pub mod laws;
 mod moves;
@@ -11,6 +12,3 @@ mod rows;
 mod searches;
 
 pub use chains::{Chain, Loop, Split, Splits, degree};
-
-#[cfg(test)]
-mod tests;

@@ -4,11 +4,13 @@ ghost use Rattle.std.specs.Prelude.{◌≡◌, ℕ, ◌<◌, ◌≤◌, ◌+◌,
 ghost use Rattle.rl_graph.specs.Graph.{edges_of};
 ghost use Rattle.rl_graph.specs.Parts.{IsParts, number_of};
 ghost use Rattle.rl_graph.specs.Twins.{HasNoTwin};
+ghost use Rattle.rl_degree.specs.internal.Groups.{AreGroupsFrom};
 ghost use Rattle.rl_degree.specs.internal.Pairs.{IsTable};
 ghost use Rattle.rl_degree.specs.internal.Splits.{HasSplit, AreMarks};
 ghost use Rattle.rl_degree.specs.internal.Ranks.{best_at, IsGood, BeatsLetter, BeatsMoves, BeatsSplits, IsBest, AreBests};
 ghost use Rattle.rl_degree.specs.Chains.{AreRanks};
 
+use crate::groups::{Groups, groups_of};
 use crate::pairs::PairTable;
 use crate::searches::{is_split, no_marks};
 use rl_graph::{Components, Multigraph};
@@ -128,7 +130,8 @@ fn best_by_split(
     })
 }
 
-/// The better one of a chain and those that begin with a split from a state.
+/// The better one of a chain and those that begin with a split from a state. Such a split leads from one of the states that a
+/// split may join to another one of them.
 fn best_by_splits(
     g: &Multigraph,
     table: &PairTable,
@@ -149,8 +152,13 @@ fn best_by_splits(
     ensures splits { IfOk result (λ b. BeatsSplits (edges_of g.now) g.now.states table.now.components bests.now state b.rank) }
     ensures marks { OnOk result (AreMarks g.now table.now marks.new.items) }
 {
+    let _states = g.states();
     let mut best = start;
-    for to in 0..g.states() {
+    if table.kernel.place_of(state).is_none() {
+        return Ok(best);
+    }
+    for place in 0..table.kernel.states.len() {
+        let to = table.kernel.states[place];
         best = best_by_split(g, table, marks, bests, state, to, best)?;
     }
     Ok(best)
@@ -160,6 +168,7 @@ fn best_by_splits(
 fn best_of(
     g: &Multigraph,
     table: &PairTable,
+    groups: &Groups,
     marks: &mut Vec<Option<bool>>,
     bests: &[Best],
     component: u32,
@@ -168,6 +177,8 @@ fn best_of(
     requires table { IsTable g.now table.now }
     requires no_twin { HasNoTwin (edges_of g.now) }
     requires marks { AreMarks g.now table.now marks.old.items }
+    requires component_in { component < g.now.states }
+    requires groups { AreGroupsFrom table.now.components g.now.states 0 groups.now.firsts.items groups.now.nexts.items }
     requires bests { AreBests (edges_of g.now) g.now.states table.now.components component bests.now }
     ensures best { IfOk result (λ b. (q : ℕ) → q < g.now.states → number_of table.now.components q ≡ component → IsBest (edges_of g.now) g.now.states table.now.components bests.now q b) }
     ensures marks { OnOk result (AreMarks g.now table.now marks.new.items) }
@@ -177,11 +188,13 @@ fn best_of(
         from: 0,
         to: 0,
     };
-    for state in 0..g.states() {
-        if table.components.of(state) == component {
-            let by_moves = best_by_moves(g, &table.components, bests, state, best);
-            best = best_by_splits(g, table, marks, bests, state, by_moves)?;
-        }
+    let count = g.states();
+    let mut state = groups.firsts[component as usize];
+    while state < count {
+        let by_moves = best_by_moves(g, &table.components, bests, state, best);
+        best = best_by_splits(g, table, marks, bests, state, by_moves)?;
+        let next = groups.nexts[state as usize];
+        state = next;
     }
     Ok(best)
 }
@@ -200,10 +213,11 @@ pub(crate) fn all_bests(
     requires no_twin { HasNoTwin (edges_of g.now) }
     ensures { IfOk result (λ v. AreBests (edges_of g.now) g.now.states table.now.components g.now.states v.items) }
 {
+    let groups = groups_of(alloc, &table.components, g.states())?;
     let mut marks = no_marks(alloc, table)?;
-    let mut bests = Vec::new(alloc);
+    let mut bests = Vec::with_capacity(alloc, g.states() as usize)?;
     for component in 0..g.states() {
-        let best = best_of(g, table, &mut marks, &bests, component)?;
+        let best = best_of(g, table, &groups, &mut marks, &bests, component)?;
         bests.push(best)?;
     }
     Ok(bests)

@@ -1,4 +1,5 @@
 pub mod FoundLaws
+pub mod BaseLaws
 pub mod ImageLaws
 pub mod ClosedLaws
 pub mod CheckLaws

@@ -3,6 +3,7 @@ pub mod Languages
 pub mod Limits
 pub mod Numbering
 pub mod Joined
+pub mod Bases
 pub mod Regions
 pub mod Told
 pub mod internal

@@ -1,8 +1,11 @@
--- The limits of two trees that are compared: their nodes, the letters of both, and the lengths of their item lists.
+-- The limits of trees that are compared: their nodes, the letters of both, and the lengths of their item lists.
 use Rattle.std.specs.Prelude.{◌<◌, ◌≤◌, ◌⊎◌, length}
 use Rattle.rl_ranges.specs.declared.universe.Universe.{Universe}
+use Rattle.rl_ranges.specs.Letters.{classes}
+use Rattle.rl_ranges.specs.Text.{code_count}
 use Rattle.rl_syntax.specs.Tree.{Tree, size}
 use Rattle.rl_prio.specs.Items.{longest}
+use Rattle.rl_prio.specs.Letters.{all_sets}
 use Rattle.rl_prio.specs.declared.error.PrioError.{PrioError}
 use Rattle.rl_prio.specs.declared.error.PrioError.TheVariants.{Letters as LettersError, Moves as MovesError, OutOfMemory as NoMemory}
 use Rattle.rl_equiv.specs.declared.error.SameError.{SameError}
@@ -14,6 +17,12 @@ pub record AreSmall (s t : Tree) : Type 0 where
   pub first_small : size s ≤ 4000
   pub second_small : size t ≤ 4000
 
+-- the tree alone passes no limit
+pub record IsWithin (u : Universe) (t : Tree) : Type 0 where
+  pub small : size t ≤ 4000
+  pub few_letters : length (classes (all_sets t) (code_count u)) ≤ 128
+  pub few_moves : longest t ≤ 256
+
 -- no limit is passed
 pub record AreWithin (u : Universe) (s t : Tree) : Type 0 where
   pub small : AreSmall s t
@@ -21,12 +30,19 @@ pub record AreWithin (u : Universe) (s t : Tree) : Type 0 where
   pub first_moves : longest s ≤ 256
   pub second_moves : longest t ≤ 256
 
--- the error names the first limit that is passed; it tells nothing where memory was refused
+-- the error names the first limit that is passed; it tells nothing when out of memory
 abbrev pub IsPassed : Universe → Tree → Tree → SameError → Type 0
 IsPassed u s t Size = (4000 < size s) ⊎ (4000 < size t)
 IsPassed u s t Letters = AreSmall s t × (128 < length (joint_letters u s t))
 IsPassed u s t Moves = AreSmall s t × (length (joint_letters u s t) ≤ 128) × ((256 < longest s) ⊎ (256 < longest t))
 IsPassed u s t OutOfMemory = Unit {0}
+
+-- the same of one tree
+abbrev pub IsPassedBy : Universe → Tree → SameError → Type 0
+IsPassedBy u t Size = 4000 < size t
+IsPassedBy u t Letters = (size t ≤ 4000) × (128 < length (classes (all_sets t) (code_count u)))
+IsPassedBy u t Moves = (size t ≤ 4000) × (length (classes (all_sets t) (code_count u)) ≤ 128) × (256 < longest t)
+IsPassedBy u t OutOfMemory = Unit {0}
 
 -- what the error of an automaton says of the two trees
 abbrev pub same_error : PrioError → SameError

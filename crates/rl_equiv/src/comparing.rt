@@ -36,7 +36,7 @@ pub fn same(alloc: Global, a: &Re, b: &Re, u: Universe, limit: u32) -> Result<Sa
     ensures told { IfOk result (IsTold u (tree_of a.now) (tree_of b.now)) }
 {
     let joint = Joint::new(alloc, a, b, u)?;
-    let mut search = Search::new(alloc, &joint, limit)?;
-    let found = search.run(alloc, &joint)?;
+    let mut search = Search::new(alloc, &joint.first, &joint.second, limit)?;
+    let found = search.run(alloc, &joint.first, &joint.second)?;
     Ok(found)
 }

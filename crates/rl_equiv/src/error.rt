@@ -13,7 +13,7 @@ pub enum SameError {
     Letters,
     /// Sizes and letters are within their limits, and a list of items of one of the trees has more than 256.
     Moves,
-    /// Memory was refused.
+    /// Out of memory.
     OutOfMemory,
 }
 

@@ -58,7 +58,7 @@ impl Index {
         }
     }
 
-    /// Puts a set pair behind the others, unless it is there.
+    /// Appends a set pair, unless it is there.
     fn add(&mut self, pair: &SetPair) -> Result<(), OutOfMemory>
         ensures { OnOk result (self.new ≡ with_one self.old pair.now) }
     {

@@ -15,7 +15,7 @@ use rl_syntax::{Ending, Re};
 use std::alloc::Global;
 
 /// The most nodes that a compared tree has.
-const MOST_NODES: u64 = 4_000;
+pub(crate) const MOST_NODES: u64 = 4_000;
 
 /// The automata of two trees as fullmatch, over the letters of both.
 #[derive(Drop)]
@@ -75,7 +75,7 @@ impl Joint {
         }
         let sets = letter_sets(alloc, a, b)?;
         let first = Prio::build_over(alloc, a, Ending::AtEnd, u, &sets)?;
-        let second = Prio::build_over(alloc, b, Ending::AtEnd, u, &sets)?;
+        let second = Prio::build_beside(alloc, &first, b, Ending::AtEnd, u)?;
         // Reading the numbers of states shows that both are whole automata.
         let _states = (first.states(), second.states());
         Ok(Joint { first, second })

@@ -1,6 +1,7 @@
 //! Equality of languages: whether two trees span the same texts, by the pairs of sets of states that their automata reach.
 #![tactic(auto)]
 
+mod baseline;
 mod checking;
 mod compared;
 mod comparing;
@@ -15,6 +16,7 @@ mod searching;
 mod sides;
 mod walks;
 
+pub use baseline::Baseline;
 pub use checking::check;
 pub use compared::Compared;
 pub use comparing::same;
@@ -22,6 +24,3 @@ pub use error::SameError;
 pub use pair::{Relation, SetPair};
 pub use region_texts::regions;
 pub use sameness::Sameness;
-
-#[cfg(test)]
-mod tests;

@@ -15,6 +15,7 @@ use crate::error::SameError;
 use crate::joint::Joint;
 use crate::searching::{Ends, Search};
 use rl_lists::{Codes, OutOfMemory};
+use rl_prio::Prio;
 use rl_ranges::Universe;
 use rl_syntax::Re;
 use std::alloc::Global;
@@ -29,19 +30,20 @@ fn are(ends: Ends, first: bool, second: bool) -> bool
 /// The text of the first set pair that was seen with the given ends, if there is one.
 fn text_of(
     alloc: Global,
-    joint: &Joint,
+    a: &Prio,
+    b: &Prio,
     search: &Search,
     seen: &Vec<Ends>,
     first: bool,
     second: bool,
 ) -> Result<Option<Codes>, OutOfMemory>
-    requires readers { AreReaders joint.now.first joint.now.second }
-    requires seen { IsSeen joint.now.first joint.now.second (state_of search.now).limit (state_of search.now) seen.now.items }
-    ensures { IfOk result (IsFirstText joint.now.first (state_of search.now) seen.now.items first second) }
+    requires readers { AreReaders a.now b.now }
+    requires seen { IsSeen a.now b.now (state_of search.now).limit (state_of search.now) seen.now.items }
+    ensures { IfOk result (IsFirstText a.now (state_of search.now) seen.now.items first second) }
 {
     for place in 0..seen.len() {
         if are(seen[place], first, second) {
-            let text = search.text_to(alloc, &joint.first, place)?;
+            let text = search.text_to(alloc, a, place)?;
             return Ok(Some(text));
         }
     }
@@ -70,11 +72,35 @@ pub fn regions(
     ensures told { IfOk result (AreTold u (matched (tree_of a.now) AtEnd) (matched (tree_of b.now) AtEnd)) }
 {
     let joint = Joint::new(alloc, a, b, u)?;
-    let mut search = Search::new(alloc, &joint, limit)?;
-    let seen = search.look(alloc, &joint, true)?;
-    let first = text_of(alloc, &joint, &search, &seen, true, false)?;
-    let second = text_of(alloc, &joint, &search, &seen, false, true)?;
-    let both = text_of(alloc, &joint, &search, &seen, true, true)?;
+    let mut search = Search::new(alloc, &joint.first, &joint.second, limit)?;
+    let seen = search.look(alloc, &joint.first, &joint.second, true)?;
+    let first = text_of(
+        alloc,
+        &joint.first,
+        &joint.second,
+        &search,
+        &seen,
+        true,
+        false,
+    )?;
+    let second = text_of(
+        alloc,
+        &joint.first,
+        &joint.second,
+        &search,
+        &seen,
+        false,
+        true,
+    )?;
+    let both = text_of(
+        alloc,
+        &joint.first,
+        &joint.second,
+        &search,
+        &seen,
+        true,
+        true,
+    )?;
     let more = search.keys.len() > limit as usize;
     Ok(Compared {
         first,

@@ -8,7 +8,6 @@ ghost use Rattle.rl_equiv.specs.Numbering.{Reached, next_reached, with_all_reach
 ghost use Rattle.rl_equiv.specs.internal.Machines.{pair_on, pairs_of};
 ghost use Rattle.rl_equiv.specs.internal.Searching.{AreReaders, state_of, pairs_in, pair_at, key_at, way_at, reached_in, reached_at, reached_on, with_reached_within, IsSearch, IsOnward, AreCapped, ends_of, is_apart, IsSeen, IsThrough, IsSeenApart, Leads, sample_of, TellsApart};
 
-use crate::joint::Joint;
 use crate::pair::{Relation, SetPair};
 use crate::sameness::Sameness;
 use crate::sides::{ends_at, start_side, step_to};
@@ -46,7 +45,7 @@ pub(crate) struct Ends {
 }
 
 /// The set pairs that are found, in the order in which they were found. Once there are more than the limit, no further ones are
-/// put behind them.
+/// appended.
 #[derive(Drop)]
 pub(crate) struct Search {
     /// How many set pairs are looked at.
@@ -70,16 +69,16 @@ fn stops(all: bool, ends: Ends) -> bool
 
 impl Search {
     /// A search that has found the first set pair.
-    pub(crate) fn new(alloc: Global, joint: &Joint, limit: u32) -> Result<Search, OutOfMemory>
-        requires readers { AreReaders joint.now.first joint.now.second }
+    pub(crate) fn new(alloc: Global, a: &Prio, b: &Prio, limit: u32) -> Result<Search, OutOfMemory>
+        requires readers { AreReaders a.now b.now }
         requires some { 1 ≤ limit }
         requires low { limit ≤ 20000 }
-        ensures search { IfOk result (λ s. IsSearch joint.now.first joint.now.second (state_of s)) }
+        ensures search { IfOk result (λ s. IsSearch a.now b.now (state_of s)) }
         ensures limit { IfOk result (λ s. s.limit ≡ limit) }
         ensures one { IfOk result (λ s. pairs_in (state_of s) ≡ first_pair ∷ []) }
     {
-        let (first, start) = start_side(alloc, &joint.first, limit)?;
-        let (second, other_start) = start_side(alloc, &joint.second, limit)?;
+        let (first, start) = start_side(alloc, a, limit)?;
+        let (second, other_start) = start_side(alloc, b, limit)?;
         let mut keys = IndexSet::new(alloc);
         keys.insert(Key {
             first: start,
@@ -100,38 +99,38 @@ impl Search {
     }
 
     /// Which sets of the set pair at a place the end letter leads to the accepting state.
-    fn ends(&mut self, joint: &Joint, place: usize) -> Result<Ends, OutOfMemory>
-        requires readers { AreReaders joint.now.first joint.now.second }
-        requires search { IsSearch joint.now.first joint.now.second (state_of self.old) }
+    fn ends(&mut self, a: &Prio, b: &Prio, place: usize) -> Result<Ends, OutOfMemory>
+        requires readers { AreReaders a.now b.now }
+        requires search { IsSearch a.now b.now (state_of self.old) }
         requires place_in { place < length (state_of self.old).keys }
-        ensures ends { IfOk result (λ ends. ends ≡ ends_of (pairs_of joint.now.first joint.now.second) (pair_at (state_of self.old) place)) }
-        ensures search { OnOk result (IsSearch joint.now.first joint.now.second (state_of self.new)) }
+        ensures ends { IfOk result (λ ends. ends ≡ ends_of (pairs_of a.now b.now) (pair_at (state_of self.old) place)) }
+        ensures search { OnOk result (IsSearch a.now b.now (state_of self.new)) }
         ensures limit { OnOk result ((state_of self.new).limit ≡ (state_of self.old).limit) }
         ensures pairs { OnOk result (pairs_in (state_of self.new) ≡ pairs_in (state_of self.old)) }
         ensures ways { OnOk result ((state_of self.new).ways ≡ (state_of self.old).ways) }
     {
         let key = self.keys[place];
-        let first = ends_at(&mut self.first, &joint.first, key.first)?;
-        let second = ends_at(&mut self.second, &joint.second, key.second)?;
+        let first = ends_at(&mut self.first, a, key.first)?;
+        let second = ends_at(&mut self.second, b, key.second)?;
         Ok(Ends { first, second })
     }
 
-    /// Puts the next set pair of the one at a place, on a letter, behind the others, unless it is there.
-    fn visit(&mut self, joint: &Joint, place: usize, letter: u32) -> Result<(), OutOfMemory>
-        requires readers { AreReaders joint.now.first joint.now.second }
-        requires search { IsSearch joint.now.first joint.now.second (state_of self.old) }
+    /// Appends the next set pair of the one at a place, on a letter,, unless it is there.
+    fn visit(&mut self, a: &Prio, b: &Prio, place: usize, letter: u32) -> Result<(), OutOfMemory>
+        requires readers { AreReaders a.now b.now }
+        requires search { IsSearch a.now b.now (state_of self.old) }
         requires place_in { place < length (state_of self.old).keys }
-        requires letter_in { letter < letters_count joint.now.first }
-        ensures onward { OnOk result (IsOnward joint.now.first joint.now.second (state_of self.old) (state_of self.new)) }
+        requires letter_in { letter < letters_count a.now }
+        ensures onward { OnOk result (IsOnward a.now b.now (state_of self.old) (state_of self.new)) }
         ensures reached { OnOk result (reached_in (state_of self.new)
-            ≡ with_reached_within (state_of self.old).limit (reached_in (state_of self.old)) (reached_on joint.now.first joint.now.second (reached_at (state_of self.old) place) letter)) }
+            ≡ with_reached_within (state_of self.old).limit (reached_in (state_of self.old)) (reached_on a.now b.now (reached_at (state_of self.old) place) letter)) }
     {
         if self.keys.len() > self.limit as usize {
             return Ok(());
         }
         let key = self.keys[place];
-        let first = step_to(&mut self.first, &joint.first, key.first, letter)?;
-        let second = step_to(&mut self.second, &joint.second, key.second, letter)?;
+        let first = step_to(&mut self.first, a, key.first, letter)?;
+        let second = step_to(&mut self.second, b, key.second, letter)?;
         if self.keys.insert(Key { first, second })? {
             self.ways.push(Way {
                 parent: place,
@@ -141,17 +140,17 @@ impl Search {
         Ok(())
     }
 
-    /// Puts the next set pairs of the one at a place behind the others, the letters in order.
-    fn expand(&mut self, joint: &Joint, place: usize) -> Result<(), OutOfMemory>
-        requires readers { AreReaders joint.now.first joint.now.second }
-        requires search { IsSearch joint.now.first joint.now.second (state_of self.old) }
+    /// Appends the next set pairs of the one at a place, the letters in order.
+    fn expand(&mut self, a: &Prio, b: &Prio, place: usize) -> Result<(), OutOfMemory>
+        requires readers { AreReaders a.now b.now }
+        requires search { IsSearch a.now b.now (state_of self.old) }
         requires place_in { place < length (state_of self.old).keys }
-        ensures onward { OnOk result (IsOnward joint.now.first joint.now.second (state_of self.old) (state_of self.new)) }
+        ensures onward { OnOk result (IsOnward a.now b.now (state_of self.old) (state_of self.new)) }
         ensures reached { OnOk result ((whole : List Reached) → AreCapped (state_of self.old).limit (reached_in (state_of self.old)) whole
-            → AreCapped (state_of self.old).limit (reached_in (state_of self.new)) (with_all_reached whole (next_reached (pairs_of joint.now.first joint.now.second) (reached_at (state_of self.old) place)))) }
+            → AreCapped (state_of self.old).limit (reached_in (state_of self.new)) (with_all_reached whole (next_reached (pairs_of a.now b.now) (reached_at (state_of self.old) place)))) }
     {
-        for letter in 0..joint.first.letters().count() {
-            self.visit(joint, place, letter)?;
+        for letter in 0..a.letters().count() {
+            self.visit(a, b, place, letter)?;
         }
         Ok(())
     }
@@ -161,13 +160,14 @@ impl Search {
     pub(crate) fn look(
         &mut self,
         alloc: Global,
-        joint: &Joint,
+        a: &Prio,
+        b: &Prio,
         all: bool,
     ) -> Result<Vec<Ends>, OutOfMemory>
-        requires readers { AreReaders joint.now.first joint.now.second }
-        requires search { IsSearch joint.now.first joint.now.second (state_of self.old) }
+        requires readers { AreReaders a.now b.now }
+        requires search { IsSearch a.now b.now (state_of self.old) }
         requires one { pairs_in (state_of self.old) ≡ first_pair ∷ [] }
-        ensures seen { IfOk result (λ seen. IsSeen joint.now.first joint.now.second (state_of self.old).limit (state_of self.new) seen.items) }
+        ensures seen { IfOk result (λ seen. IsSeen a.now b.now (state_of self.old).limit (state_of self.new) seen.items) }
         ensures some { IfOk result (λ seen. 0 < length seen.items) }
         ensures through { IfOk result (λ seen. all ≡ true → IsThrough (state_of self.old).limit (state_of self.new) seen.items) }
         ensures apart { IfOk result (λ seen. all ≡ false → IsSeenApart (state_of self.old).limit (state_of self.new) seen.items) }
@@ -178,8 +178,8 @@ impl Search {
             if place >= self.limit as usize {
                 return Ok(seen);
             }
-            let ends = self.ends(joint, place)?;
-            self.expand(joint, place)?;
+            let ends = self.ends(a, b, place)?;
+            self.expand(a, b, place)?;
             seen.push(ends)?;
             if stops(all, ends) {
                 return Ok(seen);
@@ -228,18 +228,18 @@ impl Search {
     }
 
     /// What the first set pairs show.
-    pub(crate) fn run(&mut self, alloc: Global, joint: &Joint) -> Result<Sameness, OutOfMemory>
-        requires readers { AreReaders joint.now.first joint.now.second }
-        requires search { IsSearch joint.now.first joint.now.second (state_of self.old) }
+    pub(crate) fn run(&mut self, alloc: Global, a: &Prio, b: &Prio) -> Result<Sameness, OutOfMemory>
+        requires readers { AreReaders a.now b.now }
+        requires search { IsSearch a.now b.now (state_of self.old) }
         requires one { pairs_in (state_of self.old) ≡ first_pair ∷ [] }
-        ensures answer { IfOk result (IsAnswer (pairs_of joint.now.first joint.now.second) (state_of self.old).limit) }
-        ensures apart { IfOk result (TellsApart joint.now.first joint.now.second) }
+        ensures answer { IfOk result (IsAnswer (pairs_of a.now b.now) (state_of self.old).limit) }
+        ensures apart { IfOk result (TellsApart a.now b.now) }
     {
-        let seen = self.look(alloc, joint, false)?;
+        let seen = self.look(alloc, a, b, false)?;
         let place = seen.len() - 1;
         let last = seen[place];
         if last.first != last.second {
-            let text = self.text_to(alloc, &joint.first, place)?;
+            let text = self.text_to(alloc, a, place)?;
             return Ok(Sameness::Apart(text));
         }
         if self.keys.len() > self.limit as usize {

@@ -45,7 +45,7 @@ impl TwinPaths {
         }
     }
 
-    /// Puts a letter and a move of each path behind the others.
+    /// Appends a letter and a move of each path.
     fn push(&mut self, letter: u32, first: u32, second: u32) -> Result<(), OutOfMemory>
         ensures { OnOk result (IsLonger letter first second self.old self.new) }
     {

@@ -3,6 +3,7 @@
 
 mod components;
 mod graph;
+pub mod laws;
 mod moves;
 mod parts;
 mod walks;

@@ -40,7 +40,7 @@ struct Walk {
 }
 
 impl Walk {
-    /// Puts a node behind the others unless its state is seen.
+    /// Appends a node unless its state is seen.
     fn reach(&mut self, node: Node) -> Result<(), OutOfMemory>
         requires { node.state < length (steps_of self.old).seen }
         ensures { OnOk result (IsReached node (steps_of self.old) (steps_of self.new)) }

@@ -85,7 +85,7 @@ no_path-reached g h from to o same e none reach =
     let there : NoPath (edges_of g) 0 from to = subst (λ (x : Graph). NoPath (edges_of x) 0 from to) same here in
     there reach.0 (omega arith) reach.1
 
--- one more split's words were put behind the others
+-- one more split's words were appended
 pub way-pushed : (next : ℕ → ℕ → List ℕ) (n : ℕ) (splits : List Split) (k : ℕ) (heads pumps heads2 pumps2 : List (List ℕ)) (lead round : List ℕ) (x : Split) → IsRoute next n splits → k < length splits → IsWay next splits k heads pumps
     → 1 ≤ paths next (state_before splits k) (split_at splits k).from lead → heads2 ≡ heads ++ lead ∷ [] → pumps2 ≡ pumps ++ round ∷ [] → round ≡ (get_or splits k x).word → IsWay next splits (k + 1) heads2 pumps2
 way-pushed next n splits k heads pumps heads2 pumps2 lead round x route lt way leads same_heads same_pumps same_round =

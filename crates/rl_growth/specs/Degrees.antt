@@ -16,7 +16,8 @@ abbrev pub IsDegreeOf : (ℕ → ℕ → List ℕ) → ℕ → Type 0
 IsDegreeOf next zero = HasNoCycle next
 IsDegreeOf next (suc d) = HasNoTwin next × ((i : ℕ) × OnCycle next i) × IsRank next 0 d
 
--- some pair has two paths to itself along one word
+-- some pair has two paths to itself along one word, which are counted here as in `HasNoTwin`; by the law `counts_are_paths` of
+-- `rl_graph` this is so exactly where a pair has a twin, `IsTwin`
 abbrev pub HasTwin : (ℕ → ℕ → List ℕ) → Type 0
 HasTwin next = (i : ℕ) × (w : List ℕ) × (2 ≤ paths next i i w)
 

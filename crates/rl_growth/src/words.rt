@@ -36,7 +36,7 @@ impl FamilyWords {
         }
     }
 
-    /// Puts a head and the pump after it behind the others.
+    /// Appends a head and the pump after it.
     fn push(&mut self, head: Word, pump: Word) -> Result<(), OutOfMemory>
         ensures heads { OnOk result (self.new.heads ≡ self.old.heads ++ head ∷ []) }
         ensures pumps { OnOk result (self.new.pumps ≡ self.old.pumps ++ pump ∷ []) }
@@ -122,7 +122,7 @@ fn split_words(alloc: Global, g: &PairGraph, splits: &[Split]) -> Result<FamilyW
     Ok(words)
 }
 
-/// Puts the words of a cycle behind the others: what leads to it, its word, and what the set of its state refuses.
+/// Appends the words of a cycle: what leads to it, its word, and what the set of its state refuses.
 fn put_cycle(
     alloc: Global,
     g: &PairGraph,

@@ -12,7 +12,7 @@ use std::alloc::Global;
 /// A value that holds no number with a fraction, as one line: its compact text and a line end.
 ///
 /// # Errors
-/// [`OutOfMemory`] where memory was refused.
+/// [`OutOfMemory`] when out of memory.
 pub fn line_of(alloc: Global, value: &Value) -> Result<Bytes, OutOfMemory>
     requires { has_float (view value.now) ≡ false }
     ensures { IfOk result (λ line. line ≡ compact_text (view value.now) ++ codes "\n") }

@@ -1,7 +1,6 @@
 pub mod Parsing
 pub mod Values
 pub mod Placing
-pub mod Runs
 pub mod Zipping
 pub mod VisitLemmas
 pub mod Spans

@@ -59,7 +59,7 @@ fn is_unread(before: bool, visit: &Visit) -> bool
     before || matches!(visit, Visit::Unreadable(_))
 }
 
-/// Puts entries behind the others.
+/// Appends entries.
 fn put_behind(entries: &mut Entries, later: Entries) -> Result<(), OutOfMemory>
     ensures { OnOk result (entries.new ≡ entries.old ++ later) }
 {

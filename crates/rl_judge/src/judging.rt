@@ -211,7 +211,7 @@ fn site_entries(
 /// Why a source isn't judged.
 #[derive(Clone, Copy, Debug, PartialEq, Eq)]
 pub enum JudgeError {
-    /// Memory was refused.
+    /// Out of memory.
     OutOfMemory,
 }
 
@@ -242,7 +242,7 @@ impl From<JudgeError> for OutOfMemory {
 /// the verdict on the suggested pattern.
 ///
 /// # Errors
-/// [`JudgeError::OutOfMemory`] where memory was refused.
+/// [`JudgeError::OutOfMemory`] when out of memory.
 pub fn judge(
     alloc: Global,
     path: &Name,

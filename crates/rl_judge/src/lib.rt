@@ -12,6 +12,3 @@ mod told;
 pub use checking::Checker;
 pub use judging::{JudgeError, judge, status_of};
 pub use settings::{Layout, Settings};
-
-#[cfg(test)]
-mod tests;

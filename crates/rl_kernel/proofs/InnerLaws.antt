@@ -28,7 +28,7 @@ move-letter g q l m h = by (cases_lt l g.letters)
     by (inr a) = absurd (subst (λ (r : List ℕ). Has m r) (edges-letter g q l a) h)
 
 -- the rows of a graph with one more move
-added-row : (h k : Graph) (s c t q l x : ℕ) → IsAdded h k s c t → Has x (edges_of k q l) → Has x (edges_of h q l) ⊎ ((q ≡ s) × (l ≡ c) × (x ≡ t))
+pub added-row : (h k : Graph) (s c t q l x : ℕ) → IsAdded h k s c t → Has x (edges_of k q l) → Has x (edges_of h q l) ⊎ ((q ≡ s) × (l ≡ c) × (x ≡ t))
 added-row h k s c t q l x a i = by (cases_eq q s) (cases_eq l c)
   where
     by : (q ≡ s) ⊎ (q ≢ s) → (l ≡ c) ⊎ (l ≢ c) → Has x (edges_of h q l) ⊎ ((q ≡ s) × (l ≡ c) × (x ≡ t))
@@ -40,7 +40,7 @@ added-row h k s c t q l x a i = by (cases_eq q s) (cases_eq l c)
         last (inl j) = inl (rw (e, f) j)
         last (inr j) = inr (e, f, j)
 
-row-added : (h k : Graph) (s c t q l x : ℕ) → IsAdded h k s c t → Has x (edges_of h q l) → Has x (edges_of k q l)
+pub row-added : (h k : Graph) (s c t q l x : ℕ) → IsAdded h k s c t → Has x (edges_of h q l) → Has x (edges_of k q l)
 row-added h k s c t q l x a i = by (cases_eq q s) (cases_eq l c)
   where
     by : (q ≡ s) ⊎ (q ≢ s) → (l ≡ c) ⊎ (l ≢ c) → Has x (edges_of k q l)

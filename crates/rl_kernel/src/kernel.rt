@@ -35,7 +35,7 @@ impl Kernel {
         })
     }
 
-    /// Puts a state with the number of its component behind the others.
+    /// Appends a state with the number of its component.
     ///
     /// # Errors
     /// [`OutOfMemory`] where there was no memory for the state; the list is of no use then.

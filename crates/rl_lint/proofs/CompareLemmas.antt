@@ -1,5 +1,5 @@
 -- Two patterns compared.
-use Rattle.std.proofs.Common.{◌≡◌, ℕ, ◌<◌, ◌≤◌, Bool, false, List, Option, Some, None, Result, Ok, Err, IfOk, inl, inr, refl, arith}
+use Rattle.std.proofs.Common.{◌≡◌, ℕ, ◌≤◌, Bool, false, List, Option, Some, None, Result, Ok, Err, IfOk, inl, inr, refl, arith}
 use Rattle.std.specs.Prelude.{IfSome}
 use Rattle.rl_ranges.specs.Text.{IsText}
 use Rattle.rl_ranges.specs.declared.universe.Universe.TheVariants.{Str}
@@ -12,9 +12,10 @@ use Rattle.rl_compare.specs.Passed.{IsComparePassed}
 use Rattle.rl_compare.specs.Told.{IsOfRegion}
 use Rattle.rl_compare.specs.declared.error.CompareError.{CompareError}
 use Rattle.rl_compare.specs.declared.error.CompareError.TheVariants as error
-use Rattle.rl_lint.specs.CompareEnding.{CompareEnds, compared_text, passed_line, relation_of, tells_apart}
-use Rattle.rl_lint.specs.Endings.{ending_of, writes}
-use Rattle.rl_lint.specs.Uses.{Text}
+use Rattle.rl_lint.specs.CompareEnding.{CompareEnds, compared_text, passed_line, relation_of, is_difference}
+use Rattle.rl_lint.specs.Endings.{writes}
+use Rattle.rl_lint.specs.internal.Plans.{ending_of}
+use Rattle.rl_lint.specs.Text.{Text}
 use Rattle.rl_lint.specs.declared.plan.Plan.{Plan}
 use Rattle.rl_lint.specs.internal.Compared.{AreTexts, IsFound, PassesSize}
 
@@ -36,19 +37,19 @@ module _ (s : Tree) (e : MatchEnd) (t : Tree) (f : MatchEnd) where
   second-passes error.Moves large = absurd large
   second-passes error.OutOfMemory large = tt
 
-  pub tells-regions : {E : Type 0} (result : Result Plan E) (c : Compared) → IsFound s e t f c
-      → IfOk result (λ plan. ending_of plan ≡ writes (compared_text c) (tells_apart (relation_of c)) false)
+  pub writes-regions : {E : Type 0} (result : Result Plan E) (c : Compared) → IsFound s e t f c
+      → IfOk result (λ plan. ending_of plan ≡ writes (compared_text c) (is_difference (relation_of c)) false)
       → IfOk result (λ plan. CompareEnds s e t f (ending_of plan))
-  tells-regions (Ok plan) c found ends =
+  writes-regions (Ok plan) c found ends =
       inr (record { compared = c; within = found.within; regions = found.regions; told = found.told; ends = ends })
-  tells-regions (Err failed) c found ends = tt
+  writes-regions (Err failed) c found ends = tt
 
-  pub passes-limit : {E : Type 0} (result : Result Plan E) (limit : CompareError) (line : Text)
+  pub names-passed : {E : Type 0} (result : Result Plan E) (limit : CompareError) (line : Text)
       → IsComparePassed Str (matched_tree Str s e) (matched_tree Str t f) limit → passed_line limit ≡ Some line
       → IfOk result (λ plan. ending_of plan ≡ writes line false false) → IfOk result (λ plan. CompareEnds s e t f (ending_of plan))
-  passes-limit (Ok plan) limit line passed named ends =
+  names-passed (Ok plan) limit line passed named ends =
       inl (record { limit = limit; line = line; passed = passed; named = named; ends = ends })
-  passes-limit (Err failed) limit line passed named ends = tt
+  names-passed (Err failed) limit line passed named ends = tt
 
 -- the texts of regions are such
 text_of : (test : List ℕ → Bool) (more : Bool) (o : Option (List ℕ)) → IsOfRegion Str test more o → IfSome o (IsText Str)

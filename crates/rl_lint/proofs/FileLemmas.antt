@@ -1,15 +1,20 @@
--- What came of a file.
-use Rattle.std.proofs.Common.{◌≡◌, ◌<◌, ℕ, List, Option, Some, None, length, take, Result, Ok, Err, IfOk, ap, sym, ◌∙◌, subst, refl, arith}
+-- Files that the words name: what a read gives, and how the run goes on.
+use Rattle.std.proofs.Common.{◌≡◌, ◌<◌, ◌++◌, ℕ, List, Option, Some, None, codes, length, take, Result, Ok, Err, IfOk, ap, sym, ◌∙◌, subst, refl, arith}
 use Rattle.std.specs.Prelude.{IfSome, IsSomeAnd, option_map}
 use Rattle.std.proofs.Math.Seq.{take-length}
 use Rattle.std.proofs.lemmas.List.{length-take, take_min}
 use Rattle.rl_source.specs.NodeMap.{bytes_at}
 use Rattle.rl_source.specs.Told.{Told}
 use Rattle.rl_source.specs.declared.nodes.Node.{Node}
-use Rattle.rl_lint.specs.Files.{CameFrom, HasRead, IsGiven, bytes_up_to, whole_bytes}
-use Rattle.rl_lint.specs.Uses.{Asking, Text}
-use Rattle.rl_lint.specs.declared.files.Came.{Came}
-use Rattle.rl_lint.specs.declared.files.Came.TheVariants.{Unread}
+use Rattle.rl_walk.specs.Visits.{Moment}
+use Rattle.rl_lint.specs.Endings.{Ending, refuses, unreadable}
+use Rattle.rl_lint.specs.internal.Plans.{ending_of}
+use Rattle.rl_lint.specs.Files.{ReadsFile, ReadsThen, file_refused, file_taken, file_unreadable, whole_bytes}
+use Rattle.rl_lint.specs.Text.{Text}
+use Rattle.rl_lint.specs.declared.files.FileRead.{FileRead}
+use Rattle.rl_lint.specs.declared.files.FileRead.TheVariants.{Unreadable, Refused, Taken}
+use Rattle.rl_lint.specs.declared.plan.Plan.{Plan}
+use Rattle.rl_lint.specs.internal.Reads.{IsFileRead, IsGiven, bytes_up_to}
 
 -- ---- the bytes that are there
 
@@ -35,55 +40,88 @@ all_of (Some content) bytes limit short is =
     let whole : take limit content ≡ content = sym (take_min limit content) ∙ ap (λ n. take n content) (omega arith) ∙ take-length content in
     ap Some (sym whole ∙ same)
 
-module _ (limit : ℕ) (path : Text) (tree : Asking) where
-  whole_read : (bytes : Text) → length bytes < limit → HasRead (bytes_up_to limit) path (Some bytes) tree → HasRead whole_bytes path (Some bytes) tree
-  whole_read bytes short read = record {
-    trail = read.trail;
-    right = λ t is. all_of (bytes_at t.nodes path) bytes limit short (read.right t is);
-    later = read.later;
+module _ (limit : ℕ) (path : Text) (old new : Moment) where
+  whole_read : (bytes : Text) → length bytes < limit → ReadsFile (bytes_up_to limit) path (Some bytes) old new → ReadsFile whole_bytes path (Some bytes) old new
+  whole_read bytes short reads = record {
+    trail = reads.trail;
+    right = λ t is. all_of (bytes_at t.nodes path) bytes limit short (reads.right t is);
+    later = reads.later;
     cause = λ never. cc;
   }
 
   -- nothing was read, however much was asked for
-  none_read : HasRead (bytes_up_to limit) path None tree → HasRead whole_bytes path None tree
-  none_read read = record {
-    trail = read.trail;
+  none_read : ReadsFile (bytes_up_to limit) path None old new → ReadsFile whole_bytes path None old new
+  none_read reads = record {
+    trail = reads.trail;
     right = λ t is. tt;
-    later = read.later;
-    cause = read.cause;
+    later = reads.later;
+    cause = reads.cause;
   }
 
--- ---- what came of them
+-- ---- what they give
 
-module _ {A : Type 0} (Gives : Text → A → Type 0) (there : Text → List Node → Option Text) (path : Text) (tree : Asking) where
-  of_bytes : {E : Type 0} (result : Result (Came A) E) (bytes : Text) → HasRead there path (Some bytes) tree → IfOk result (IsGiven Gives (Some bytes))
-      → IfOk result (CameFrom Gives there path tree)
-  of_bytes (Ok came) bytes read is = record { read = Some bytes; has_read = read; gives = is }
-  of_bytes (Err e) bytes read is = tt
+module _ {A : Type 0} (Gives : Text → A → Type 0) (there : Text → List Node → Option Text) (path : Text) (old new : Moment) where
+  of_bytes : {E : Type 0} (result : Result (FileRead A) E) (bytes : Text) → ReadsFile there path (Some bytes) old new → IfOk result (IsGiven Gives (Some bytes))
+      → IfOk result (IsFileRead Gives there path old new)
+  of_bytes (Ok found) bytes reads is = record { read = Some bytes; reads = reads; gives = is }
+  of_bytes (Err e) bytes reads is = tt
 
-  pub came-from : {E V : Type 0} (result : Result (Came A) E) (text : V → Text) (o : Option V) (v : V) → o ≡ Some v → HasRead there path (option_map text o) tree
-      → IfOk result (IsGiven Gives (Some (text v))) → IfOk result (CameFrom Gives there path tree)
-  came-from result text o v is read gives = of_bytes result (text v) (subst (λ r. HasRead there path (option_map text r) tree) is read) gives
+  pub file-given : {E V : Type 0} (result : Result (FileRead A) E) (text : V → Text) (o : Option V) (v : V) → o ≡ Some v
+      → ReadsFile there path (option_map text o) old new → IfOk result (IsGiven Gives (Some (text v))) → IfOk result (IsFileRead Gives there path old new)
+  file-given result text o v is reads gives = of_bytes result (text v) (subst (λ r. ReadsFile there path (option_map text r) old new) is reads) gives
 
-  pub came-unread : {V : Type 0} (text : V → Text) (o : Option V) → o ≡ None → HasRead there path (option_map text o) tree → CameFrom Gives there path tree Unread
-  came-unread text o is read = record {
+  pub file-unreadable : {V : Type 0} (text : V → Text) (o : Option V) → o ≡ None → ReadsFile there path (option_map text o) old new
+      → IsFileRead Gives there path old new Unreadable
+  file-unreadable text o is reads = record {
     read = None;
-    has_read = subst (λ r. HasRead there path (option_map text r) tree) is read;
+    reads = subst (λ r. ReadsFile there path (option_map text r) old new) is reads;
     gives = refl;
   }
 
 -- the same of a file that is read whole
-module _ {A : Type 0} (Gives : Text → A → Type 0) (limit : ℕ) (path : Text) (tree : Asking) where
-  pub came-whole : {E V : Type 0} (result : Result (Came A) E) (text : V → Text) (o : Option V) (v : V) → o ≡ Some v → length (text v) < limit
-      → HasRead (bytes_up_to limit) path (option_map text o) tree → IfOk result (IsGiven Gives (Some (text v))) → IfOk result (CameFrom Gives whole_bytes path tree)
-  came-whole result text o v is short read gives =
-      of_bytes Gives whole_bytes path tree result (text v)
-      (whole_read limit path tree (text v) short (subst (λ r. HasRead (bytes_up_to limit) path (option_map text r) tree) is read)) gives
+module _ {A : Type 0} (Gives : Text → A → Type 0) (limit : ℕ) (path : Text) (old new : Moment) where
+  pub whole-given : {E V : Type 0} (result : Result (FileRead A) E) (text : V → Text) (o : Option V) (v : V) → o ≡ Some v → length (text v) < limit
+      → ReadsFile (bytes_up_to limit) path (option_map text o) old new → IfOk result (IsGiven Gives (Some (text v)))
+      → IfOk result (IsFileRead Gives whole_bytes path old new)
+  whole-given result text o v is short reads gives =
+      of_bytes Gives whole_bytes path old new result (text v)
+      (whole_read limit path old new (text v) short (subst (λ r. ReadsFile (bytes_up_to limit) path (option_map text r) old new) is reads)) gives
 
-  pub none-whole : {V : Type 0} (text : V → Text) (o : Option V) → o ≡ None → HasRead (bytes_up_to limit) path (option_map text o) tree
-      → CameFrom Gives whole_bytes path tree Unread
-  none-whole text o is read = record {
+  pub whole-unreadable : {V : Type 0} (text : V → Text) (o : Option V) → o ≡ None → ReadsFile (bytes_up_to limit) path (option_map text o) old new
+      → IsFileRead Gives whole_bytes path old new Unreadable
+  whole-unreadable text o is reads = record {
     read = None;
-    has_read = none_read limit path tree (subst (λ r. HasRead (bytes_up_to limit) path (option_map text r) tree) is read);
+    reads = none_read limit path old new (subst (λ r. ReadsFile (bytes_up_to limit) path (option_map text r) old new) is reads);
     gives = refl;
   }
+
+-- ---- how the run goes on
+
+module _ {A : Type 0} (name : Text) (there : Text → List Node → Option Text) (Gives : Text → A → Type 0) (Next : A → Moment → Moment → Ending → Type 0)
+    (path : Text) (old : Moment) where
+  pub reads-unreadable : (new : Moment) (found : FileRead A) → IsFileRead Gives there path old new found → found ≡ Unreadable
+      → ReadsThen name there Gives Next path old new (unreadable (codes "relint: " ++ (name ++ codes " unreadable\n")))
+  reads-unreadable new found file is = by_read file.read file.reads (subst (IsGiven Gives file.read) is file.gives)
+    where
+      by_read : (read : Option Text) → ReadsFile there path read old new → IsGiven Gives read Unreadable
+          → ReadsThen name there Gives Next path old new (unreadable (codes "relint: " ++ (name ++ codes " unreadable\n")))
+      by_read None reads gives = file_unreadable reads
+      by_read (Some bytes) reads gives = absurd gives
+
+  pub reads-refused : (new : Moment) (found : FileRead A) → IsFileRead Gives there path old new found → found ≡ Refused
+      → ReadsThen name there Gives Next path old new (refuses (codes "relint: " ++ (name ++ codes " refused\n")))
+  reads-refused new found file is = by_read file.read file.reads (subst (IsGiven Gives file.read) is file.gives)
+    where
+      by_read : (read : Option Text) → ReadsFile there path read old new → IsGiven Gives read Refused
+          → ReadsThen name there Gives Next path old new (refuses (codes "relint: " ++ (name ++ codes " refused\n")))
+      by_read None reads gives = let never : Refused ≡ Unreadable = gives in cc
+      by_read (Some bytes) reads gives = file_refused reads gives
+
+  pub reads-taken : {E : Type 0} (result : Result Plan E) (mid new : Moment) (found : FileRead A) (x : A) → IsFileRead Gives there path old mid found → found ≡ Taken x
+      → IfOk result (λ plan. Next x mid new (ending_of plan)) → IfOk result (λ plan. ReadsThen name there Gives Next path old new (ending_of plan))
+  reads-taken (Ok plan) mid new found x file is next = by_read file.read file.reads (subst (IsGiven Gives file.read) is file.gives)
+    where
+      by_read : (read : Option Text) → ReadsFile there path read old mid → IsGiven Gives read (Taken x) → ReadsThen name there Gives Next path old new (ending_of plan)
+      by_read None reads gives = let never : Taken x ≡ Unreadable = gives in cc
+      by_read (Some bytes) reads gives = file_taken reads gives next
+  reads-taken (Err e) mid new found x file is next = tt

@@ -1,9 +1,9 @@
+mod CauseLemmas
 mod CheckLemmas
 mod CodeLemmas
 mod CompareLemmas
+mod CostLineLemmas
 mod FileLemmas
-mod LineLemmas
-mod PlanLemmas
-mod PlannedLemmas
-mod RefusalLemmas
-mod ShownLemmas
+mod FilterLemmas
+mod PatternLemmas
+mod RunLemmas

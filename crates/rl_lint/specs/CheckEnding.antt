@@ -1,32 +1,43 @@
 -- How `check` ends, by its settings, by its baseline and by the walk over its paths.
-use Rattle.std.specs.Prelude.{◌≡◌, ℕ, List, Option}
+use Rattle.std.specs.Prelude.{◌≡◌, ℕ, List, [], Option, Some, None, codes}
 use Rattle.std.specs.List.{list_any}
-use Rattle.rl_source.specs.declared.nodes.Call.{Call}
 use Rattle.rl_walk.specs.declared.visits.Visit.{Visit}
-use Rattle.rl_walk.specs.Visits.{has_failed}
+use Rattle.rl_walk.specs.Visits.{Moment, Walked, has_unreadable}
 use Rattle.rl_report.specs.declared.report.Entry.{Entry}
 use Rattle.rl_report.specs.Findings.{is_finding}
 use Rattle.rl_report.specs.Reports.{report_text}
+use Rattle.rl_sarif.specs.Baseline.{IsBaseline}
 use Rattle.rl_sarif.specs.Keys.{EntryKey}
 use Rattle.rl_sarif.specs.Sarif.{sarif_text}
 use Rattle.rl_judge.specs.declared.settings.Layout.{Layout}
 use Rattle.rl_judge.specs.declared.settings.Layout.TheVariants.{Report, Sarif}
 use Rattle.rl_judge.specs.declared.settings.Settings.{Settings}
 use Rattle.rl_judge.specs.RightReport.{AreRightFor}
-use Rattle.rl_lint.specs.Uses.{Text}
 use Rattle.rl_lint.specs.Endings.{Ending, writes}
-use Rattle.rl_lint.specs.Shown.{hidden_by, shown_by}
+use Rattle.rl_lint.specs.Files.{ReadsThen, first_bytes}
+use Rattle.rl_lint.specs.Filter.{hidden_count, visible_entries}
+use Rattle.rl_lint.specs.Text.{Text}
 
--- the text is the report on the entries in the layout; so many others are hidden, where that is told
-abbrev pub IsLaidOut : Layout → Settings → Option ℕ → List Entry → Text → Type 0
-IsLaidOut (Report format) s hidden entries text = text ≡ report_text format s.max_degree s.max_pairs s.report hidden entries
-IsLaidOut Sarif s hidden entries text = text ≡ sarif_text s.max_degree s.max_pairs entries
+-- the text is the report on the entries in the layout; where a number of hidden ones is given, it stands in the report
+abbrev pub IsReport : Layout → Settings → Option ℕ → List Entry → Text → Type 0
+IsReport (Report format) s hidden entries text = text ≡ report_text format s.max_degree s.max_pairs s.report hidden entries
+IsReport Sarif s hidden entries text = text ≡ sarif_text s.max_degree s.max_pairs entries
 
 -- Of entries that are right for the visits, a report is written on those that the baseline doesn't hide. It has a finding where
 -- one of these is one
-pub record IsCheckEnding (s : Settings) (known : Option (List EntryKey)) (calls : List Call) (visits : List Visit) (ending : Ending) : Type 0 where
+pub record WritesReport (s : Settings) (baseline : Option (List EntryKey)) (visits : List Visit) (ending : Ending) : Type 0 where
   pub entries : List Entry
   pub text : Text
   pub right : AreRightFor s visits entries
-  pub layout : IsLaidOut s.format s (hidden_by known entries) (shown_by known entries) text
-  pub ends : ending ≡ writes text (list_any (is_finding s.max_degree) (shown_by known entries)) (has_failed calls)
+  pub report : IsReport s.format s (hidden_count baseline entries) (visible_entries baseline entries) text
+  pub ends : ending ≡ writes text (list_any (is_finding s.max_degree) (visible_entries baseline entries)) (has_unreadable visits)
+
+-- the tree is walked from the paths on, and the report is on the visits of this walk and on no others
+abbrev pub ReportsWalk : Settings → List Text → Option (List EntryKey) → Moment → Moment → Ending → Type 0
+ReportsWalk s paths baseline old new ending = Walked old new paths (λ visits. visits ≡ []) (λ visits. WritesReport s baseline visits ending)
+
+-- the baseline is read before the walk, where one is named
+abbrev pub IsCheckEnding : Settings → List Text → Option Text → Moment → Moment → Ending → Type 0
+IsCheckEnding s paths None old new ending = ReportsWalk s paths None old new ending
+IsCheckEnding s paths (Some file) old new ending =
+    ReadsThen (codes "baseline") first_bytes IsBaseline (λ keys. ReportsWalk s paths (Some keys)) file old new ending

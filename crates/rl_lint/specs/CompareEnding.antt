@@ -14,9 +14,9 @@ use Rattle.rl_compare.specs.Told.{AreTold}
 use Rattle.rl_compare.specs.declared.error.CompareError.{CompareError}
 use Rattle.rl_compare.specs.declared.error.CompareError.TheVariants as error
 use Rattle.rl_report.specs.Verdicts.{quoted_text}
-use Rattle.rl_lint.specs.Uses.{Text}
 use Rattle.rl_lint.specs.Endings.{Ending, writes}
-use Rattle.rl_lint.specs.Readings.{IsPatternEnding}
+use Rattle.rl_lint.specs.Patterns.{ParsesThen}
+use Rattle.rl_lint.specs.Text.{Text}
 use Rattle.rl_lint.specs.declared.relation.Relation.{Relation}
 use Rattle.rl_lint.specs.declared.relation.Relation.TheVariants.{Overlapping, Passed, Equal, Included, Includes, Disjoint}
 
@@ -41,13 +41,13 @@ relation_name Includes = codes "includes"
 relation_name Disjoint = codes "disjoint"
 
 -- whether the relation is a finding
-abbrev pub tells_apart : Relation → Bool
-tells_apart Overlapping = true
-tells_apart Passed = false
-tells_apart Equal = false
-tells_apart Included = true
-tells_apart Includes = true
-tells_apart Disjoint = true
+abbrev pub is_difference : Relation → Bool
+is_difference Overlapping = true
+is_difference Passed = false
+is_difference Equal = false
+is_difference Included = true
+is_difference Includes = true
+is_difference Disjoint = true
 
 -- the line of a region, where there is a text
 abbrev pub region_line : Text → Option (List ℕ) → Text
@@ -60,7 +60,7 @@ compared_text c =
     relation_name (relation_of c) ++ (codes "\n"
     ++ (region_line (codes "first") c.first ++ (region_line (codes "second") c.second ++ region_line (codes "both") c.both)))
 
--- the line on the limit that is passed. Want of memory is no limit
+-- the line on the limit that is passed. Out of memory is no limit
 abbrev pub passed_line : CompareError → Option Text
 passed_line error.Size = Some (codes "undecided size over 4000\n")
 passed_line error.Letters = Some (codes "undecided letters over 128\n")
@@ -70,7 +70,7 @@ passed_line error.OutOfMemory = None
 -- ---- the endings
 
 -- this is the first limit that one of two trees passes, the letters taken over both
-pub record PassesLimit (s t : Tree) (ending : Ending) : Type 0 where
+pub record NamesPassed (s t : Tree) (ending : Ending) : Type 0 where
   pub limit : CompareError
   pub line : Text
   pub passed : IsComparePassed Str s t limit
@@ -79,17 +79,17 @@ pub record PassesLimit (s t : Tree) (ending : Ending) : Type 0 where
 
 -- No limit is passed, and the texts are those of the regions. So each text is matched by the patterns that its region names and by no
 -- other, and where no more set pairs are reached a region without a text has none at all
-pub record TellsRegions (s : Tree) (e : MatchEnd) (t : Tree) (f : MatchEnd) (ending : Ending) : Type 0 where
+pub record WritesRegions (s : Tree) (e : MatchEnd) (t : Tree) (f : MatchEnd) (ending : Ending) : Type 0 where
   pub compared : Compared
   pub within : AreWithin Str (matched_tree Str s e) (matched_tree Str t f)
   pub regions : AreRegions Str (matched_tree Str s e) (matched_tree Str t f) 20000 compared
   pub told : AreTold Str (matched s e) (matched t f) compared
-  pub ends : ending ≡ writes (compared_text compared) (tells_apart (relation_of compared)) false
+  pub ends : ending ≡ writes (compared_text compared) (is_difference (relation_of compared)) false
 
 abbrev pub CompareEnds : Tree → MatchEnd → Tree → MatchEnd → Ending → Type 0
-CompareEnds s e t f ending = PassesLimit (matched_tree Str s e) (matched_tree Str t f) ending ⊎ TellsRegions s e t f ending
+CompareEnds s e t f ending = NamesPassed (matched_tree Str s e) (matched_tree Str t f) ending ⊎ WritesRegions s e t f ending
 
--- the first of the two patterns that is refused is told
+-- the first of the two patterns that is refused is reported
 abbrev pub IsCompareEnding : List ℕ → List ℕ → Mode → Ending → Type 0
 IsCompareEnding first second mode ending =
-    IsPatternEnding first mode (λ s e. IsPatternEnding second mode (λ t f. CompareEnds s e t f)) ending
+    ParsesThen first mode (λ s e. ParsesThen second mode (CompareEnds s e)) ending

@@ -1,17 +1,15 @@
--- How `cost` ends, by its pattern, its text and its mode.
-use Rattle.std.specs.Prelude.{◌≡◌, ℕ, false, List, codes, if◌then◌else◌, length, nat_lt}
+-- How `cost` ends, by the tree of its pattern and by its text.
+use Rattle.std.specs.Prelude.{ℕ, false, List, codes, if◌then◌else◌, length, nat_lt}
 use Rattle.rl_ranges.specs.Text.{code_count}
 use Rattle.rl_ranges.specs.declared.universe.Universe.TheVariants.{Str}
 use Rattle.rl_syntax.specs.Cost.{cost, matched}
 use Rattle.rl_syntax.specs.Tree.{Tree, size}
 use Rattle.rl_syntax.specs.declared.re.Ending.{Ending as MatchEnd}
-use Rattle.rl_syntax.specs.declared.re.Mode.{Mode}
 use Rattle.rl_prio.specs.Items.{longest}
 use Rattle.rl_prio.specs.Letters.{letters}
-use Rattle.rl_lint.specs.Uses.{Text}
-use Rattle.rl_lint.specs.Texts.{steps_line}
 use Rattle.rl_lint.specs.Endings.{Ending, refuses, writes}
-use Rattle.rl_lint.specs.Readings.{IsPatternEnding}
+use Rattle.rl_lint.specs.Messages.{steps_line}
+use Rattle.rl_lint.specs.Text.{Text}
 
 -- the first limit that is passed, or the steps of the text
 abbrev pub cost_line : Tree → MatchEnd → List ℕ → Text
@@ -21,11 +19,7 @@ cost_line t at text =
     else (if nat_lt 256 (longest t) then codes "undecided moves over 256\n"
     else steps_line (cost t at text) (matched t at text)))
 
--- a text that is too long is told before a limit that is passed
+-- a text that is too long is refused before a limit that is passed is reported
 abbrev pub cost_ending : List ℕ → Tree → MatchEnd → Ending
 cost_ending text t at =
     if nat_lt 65536 (length text) then refuses (codes "relint: text too long\n") else writes (cost_line t at text) false false
-
--- a refused pattern is told first
-abbrev pub IsCostEnding : List ℕ → List ℕ → Mode → Ending → Type 0
-IsCostEnding pattern text mode ending = IsPatternEnding pattern mode (λ t at end. end ≡ cost_ending text t at) ending

@@ -1,20 +1,21 @@
 -- Which settings are in force: the values of the options, over those of the settings file, over the defaults.
-use Rattle.std.specs.Prelude.{ℕ, Option, Some, None}
+use Rattle.std.specs.Prelude.{◌≡◌, ℕ, Option, Some, None, option_map}
 use Rattle.rl_syntax.specs.declared.re.Mode.{Mode}
 use Rattle.rl_syntax.specs.declared.re.Mode.TheVariants as mode
 use Rattle.rl_report.specs.declared.layouts.Format.TheVariants.{Text as in_text, Brief, Json}
 use Rattle.rl_judge.specs.declared.settings.Layout.{Layout}
 use Rattle.rl_judge.specs.declared.settings.Layout.TheVariants.{Report, Sarif}
 use Rattle.rl_judge.specs.declared.settings.Settings.{Settings}
+use Rattle.rl_settings.specs.Settings.{settings_told}
 use Rattle.rl_settings.specs.declared.settings.FileSettings.{FileSettings}
 use Rattle.rl_words.specs.Call.{Chosen}
 use Rattle.rl_words.specs.declared.words.FormatWord.{FormatWord}
 use Rattle.rl_words.specs.declared.words.FormatWord.TheVariants as layout
 use Rattle.rl_words.specs.declared.words.ModeWord.{ModeWord}
 use Rattle.rl_words.specs.declared.words.ModeWord.TheVariants as word
-use Rattle.rl_lint.specs.ClassEnding.{Limits}
+use Rattle.rl_lint.specs.Text.{Text}
 
--- the number that is said, or its default
+-- the number that is given, or its default
 abbrev pub number_given : Option ℕ → ℕ → ℕ
 number_given None default = default
 number_given (Some n) default = n
@@ -24,7 +25,7 @@ mode_of word.Fullmatch = mode.Fullmatch
 mode_of word.Match = mode.Match
 mode_of word.Search = mode.Search
 
--- the mode that is said, or its default
+-- the mode that is given, or its default
 abbrev pub mode_given : Option ModeWord → Mode → Mode
 mode_given None default = default
 mode_given (Some given) default = mode_of given
@@ -35,12 +36,12 @@ layout_of layout.Brief = Report Brief
 layout_of layout.Json = Report Json
 layout_of layout.Sarif = Sarif
 
--- the layout that is said, or its default
+-- the layout that is given, or its default
 abbrev pub layout_given : Option FormatWord → Layout → Layout
 layout_given None default = default
 layout_given (Some given) default = layout_of given
 
--- where nothing else is said, a call of `compile` counts as a search, a degree up to 2 is no finding, 600 live pairs are looked
+-- where nothing else is given, a call of `compile` counts as a search, a degree up to 2 is no finding, 600 live pairs are looked
 -- at, and the report is in text and of version 2
 abbrev pub default_settings : Settings
 default_settings = record { compile_as = mode.Search; max_degree = 2; max_pairs = 600; format = Report in_text; report = 2 }
@@ -55,6 +56,14 @@ with_values values s = record {
   report = number_given values.report s.report;
 }
 
+-- the settings with the values of a settings file in their place, or none exactly where its bytes are refused
+abbrev pub settings_of : Text → Settings → Option Settings
+settings_of bytes start = option_map (λ values. with_values values start) (settings_told bytes)
+
+-- what the bytes of a settings file give over the defaults
+abbrev pub GivesSettings : Text → Settings → Type 0
+GivesSettings bytes s = settings_of bytes default_settings ≡ Some s
+
 -- what the options give, in the terms of a settings file
 abbrev pub values_of : Chosen → FileSettings
 values_of options = record {
@@ -68,6 +77,3 @@ values_of options = record {
 -- the settings in force: a value given by an option wins
 abbrev pub in_force : Chosen → Settings → Settings
 in_force options start = with_values (values_of options) start
-
-abbrev pub limits_of : Settings → Limits
-limits_of s = record { max_degree = s.max_degree; max_pairs = s.max_pairs }

@@ -1,9 +1,7 @@
--- How `prove` ends, by its pattern, its mode and how many live pairs are looked at.
-use Rattle.std.specs.Prelude.{◌≡◌, ◌⊎◌, ℕ, false, List, ◌++◌, codes}
-use Rattle.rl_ranges.specs.declared.universe.Universe.TheVariants.{Str}
+-- How `prove` ends, by the tree of its pattern and by how many live pairs are looked at.
+use Rattle.std.specs.Prelude.{◌≡◌, ◌⊎◌, ℕ, false, ◌++◌, codes}
 use Rattle.rl_syntax.specs.Tree.{Tree}
 use Rattle.rl_syntax.specs.declared.re.Ending.{Ending as MatchEnd}
-use Rattle.rl_syntax.specs.declared.re.Mode.{Mode}
 use Rattle.rl_syntax.specs.declared.verdict.Limit.{Limit}
 use Rattle.rl_syntax.specs.declared.verdict.Verdict.TheVariants.{Undecided}
 use Rattle.rl_pairs.specs.RightVerdict.{IsNamed, Question}
@@ -13,11 +11,7 @@ use Rattle.rl_cert.specs.Holds.{Holds}
 use Rattle.rl_cert.specs.TooLarge.{IsTooLarge}
 use Rattle.rl_cert.specs.declared.certificate.Certificate.{Certificate}
 use Rattle.rl_lint.specs.Endings.{Ending, writes}
-use Rattle.rl_lint.specs.Readings.{IsPatternEnding}
-
--- what is asked of a tree over text
-abbrev pub text_question : ℕ → Tree → MatchEnd → Question
-text_question max_pairs t at = record { tree = t; ending = at; universe = Str; max_pairs = max_pairs }
+use Rattle.rl_lint.specs.Patterns.{text_question}
 
 -- a certificate that holds is written; its triples aren't too many
 pub record WritesCertificate (q : Question) (ending : Ending) : Type 0 where
@@ -34,15 +28,11 @@ pub record NamesLimit (q : Question) (ending : Ending) : Type 0 where
   pub ends : ending ≡ writes (verdict_text q.max_pairs (Undecided limit) ++ codes "\n") false false
 
 -- the triples are too many
-pub record TellsTriples (q : Question) (ending : Ending) : Type 0 where
+pub record NamesTriples (q : Question) (ending : Ending) : Type 0 where
   pub too_large : IsTooLarge q
   pub ends : ending ≡ writes (codes "triples over 1000000\n") false false
 
 abbrev pub ProveEnds : ℕ → Tree → MatchEnd → Ending → Type 0
 ProveEnds max_pairs t at ending =
     let q = text_question max_pairs t at in
-    WritesCertificate q ending ⊎ NamesLimit q ending ⊎ TellsTriples q ending
-
--- a refused pattern is told
-abbrev pub IsProveEnding : List ℕ → Mode → ℕ → Ending → Type 0
-IsProveEnding pattern mode max_pairs ending = IsPatternEnding pattern mode (ProveEnds max_pairs) ending
+    WritesCertificate q ending ⊎ NamesLimit q ending ⊎ NamesTriples q ending

@@ -6,11 +6,12 @@ ghost use Rattle.rl_syntax.specs.Pattern.{pattern_ending, pattern_tree, universe
 ghost use Rattle.rl_pairs.specs.RightVerdict.{RightVerdict};
 ghost use Rattle.rl_report.specs.Findings.{is_found};
 ghost use Rattle.rl_report.specs.Verdicts.{IsVerdictOf, IsFamilyOf, family_text_line};
-ghost use Rattle.rl_lint.specs.Endings.{ending_of};
-ghost use Rattle.rl_lint.specs.ClassEnding.{ClassEnds, IsClassEnding, class_text};
+ghost use Rattle.rl_lint.specs.internal.Plans.{ending_of};
+ghost use Rattle.rl_lint.specs.ClassEnding.{ClassEnds, class_text};
+ghost use Rattle.rl_lint.specs.Patterns.{ParsesThen, text_question};
 
+use crate::pattern_argument::{PatternArgument, parse_argument};
 use crate::plan::Plan;
-use crate::word::{PatternWord, pattern_word};
 use rl_growth::classify;
 use rl_lists::{Bytes, OutOfMemory};
 use rl_report::{family_line, verdict_line};
@@ -28,7 +29,7 @@ fn is_found(verdict: &Verdict, max_degree: u32) -> bool
     }
 }
 
-/// A line, and the line of a family behind it.
+/// A line, followed by the line of a family.
 fn with_family(alloc: Global, line: Bytes, family: &Family) -> Result<Bytes, OutOfMemory>
     requires { IsFamilyOf Str family.now }
     ensures { IfOk result (λ text. text ≡ line ++ family_text_line Str family.now) }
@@ -42,7 +43,7 @@ fn with_family(alloc: Global, line: Bytes, family: &Family) -> Result<Bytes, Out
 /// The lines on a verdict over text.
 ///
 /// # Errors
-/// [`OutOfMemory`] where memory was refused.
+/// [`OutOfMemory`].
 fn class_text(alloc: Global, verdict: &Verdict, max_pairs: u32) -> Result<Bytes, OutOfMemory>
     requires { IsVerdictOf Str verdict.now }
     ensures { IfOk result (λ text. text ≡ class_text max_pairs verdict.now) }
@@ -57,7 +58,7 @@ fn class_text(alloc: Global, verdict: &Verdict, max_pairs: u32) -> Result<Bytes,
 /// The verdict on a text pattern in a mode.
 ///
 /// # Errors
-/// [`OutOfMemory`] where memory was refused.
+/// [`OutOfMemory`].
 fn verdict_on(
     alloc: Global,
     pattern: &Pattern,
@@ -67,12 +68,7 @@ fn verdict_on(
     requires of_text { universe_of pattern.now ≡ Str }
     requires some { 1 ≤ max_pairs }
     requires few { max_pairs ≤ 1000 }
-    ensures { IfOk result (RightVerdict (record {
-      tree = pattern_tree pattern.now mode;
-      ending = pattern_ending pattern.now mode;
-      universe = Str;
-      max_pairs = max_pairs;
-    })) }
+    ensures { IfOk result (RightVerdict (text_question max_pairs (pattern_tree pattern.now mode) (pattern_ending pattern.now mode))) }
 {
     match lower(alloc, pattern, mode) {
         Ok(lowered) => classify(alloc, &lowered, Universe::Str, max_pairs),
@@ -84,7 +80,7 @@ fn verdict_on(
 /// What `class` is to do for a text pattern in a mode.
 ///
 /// # Errors
-/// [`OutOfMemory`] where memory was refused.
+/// [`OutOfMemory`].
 fn pattern_plan(
     alloc: Global,
     pattern: &Pattern,
@@ -95,7 +91,7 @@ fn pattern_plan(
     requires of_text { universe_of pattern.now ≡ Str }
     requires some { 1 ≤ max_pairs }
     requires few { max_pairs ≤ 1000 }
-    ensures { IfOk result (λ plan. ClassEnds (record { max_degree = max_degree; max_pairs = max_pairs })
+    ensures { IfOk result (λ plan. ClassEnds max_degree max_pairs
         (pattern_tree pattern.now mode) (pattern_ending pattern.now mode) (ending_of plan)) }
 {
     let verdict = verdict_on(alloc, pattern, mode, max_pairs)?;
@@ -107,11 +103,11 @@ fn pattern_plan(
     })
 }
 
-/// What `class` is to do for a pattern word in a mode, with the greatest degree that is no finding and how many live pairs are
+/// What `class` is to do for a pattern argument in a mode, with the greatest degree that is no finding and how many live pairs are
 /// looked at.
 ///
 /// # Errors
-/// [`OutOfMemory`] where memory was refused.
+/// [`OutOfMemory`].
 pub fn class_plan(
     alloc: Global,
     pattern: &str,
@@ -121,11 +117,12 @@ pub fn class_plan(
 ) -> Result<Plan, OutOfMemory>
     requires some { 1 ≤ max_pairs }
     requires few { max_pairs ≤ 1000 }
-    ensures { IfOk result (λ plan. IsClassEnding (chars pattern.now) mode
-        (record { max_degree = max_degree; max_pairs = max_pairs }) (ending_of plan)) }
+    ensures { IfOk result (λ plan. ParsesThen (chars pattern.now) mode (ClassEnds max_degree max_pairs) (ending_of plan)) }
 {
-    match pattern_word(alloc, pattern)? {
-        PatternWord::Refused(message) => Ok(Plan::Refuses(message)),
-        PatternWord::Spelled(pattern) => pattern_plan(alloc, &pattern, mode, max_degree, max_pairs),
+    match parse_argument(alloc, pattern)? {
+        PatternArgument::Refused(message) => Ok(Plan::Refuses(message)),
+        PatternArgument::Parsed(pattern) => pattern_plan(
+            alloc, &pattern, mode, max_degree, max_pairs,
+        ),
     }
 }

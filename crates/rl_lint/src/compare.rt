@@ -6,14 +6,15 @@ ghost use Rattle.rl_syntax.specs.Pattern.{pattern_ending, pattern_tree, universe
 ghost use Rattle.rl_syntax.specs.Tree.{IsOver, tree_of};
 ghost use Rattle.rl_compare.specs.Matched.{matched_tree};
 ghost use Rattle.rl_compare.specs.Passed.{IsComparePassed};
-ghost use Rattle.rl_lint.specs.Endings.{ending_of, writes};
-ghost use Rattle.rl_lint.specs.CompareEnding.{CompareEnds, IsCompareEnding, compared_text, relation_of, tells_apart};
+ghost use Rattle.rl_lint.specs.Endings.{writes};
+ghost use Rattle.rl_lint.specs.internal.Plans.{ending_of};
+ghost use Rattle.rl_lint.specs.CompareEnding.{CompareEnds, IsCompareEnding, compared_text, relation_of, is_difference};
 ghost use Rattle.rl_lint.specs.internal.Compared.{AreTexts, IsFound, PassesSize};
-ghost use Rattle.rl_lint.specs.Readings.{IsPatternEnding};
+ghost use Rattle.rl_lint.specs.Patterns.{ParsesThen};
 
+use crate::pattern_argument::{PatternArgument, parse_argument};
 use crate::plan::Plan;
 use crate::relation::{Relation, compared_text};
-use crate::word::{PatternWord, pattern_word};
 use rl_compare::{CompareError, Compared, compare};
 use rl_lists::{Bytes, OutOfMemory};
 use rl_syntax::{LowerError, Lowered, Mode, Pattern, Universe, lower};
@@ -64,7 +65,7 @@ fn compared(
 /// To write one line, which has no finding.
 ///
 /// # Errors
-/// [`OutOfMemory`] where memory was refused.
+/// [`OutOfMemory`].
 fn line_plan(alloc: Global, line: &str) -> Result<Plan, OutOfMemory>
     ensures { IfOk result (λ plan. ending_of plan ≡ writes line.now false false) }
 {
@@ -79,16 +80,16 @@ fn line_plan(alloc: Global, line: &str) -> Result<Plan, OutOfMemory>
 /// To write what was found of two patterns.
 ///
 /// # Errors
-/// [`OutOfMemory`] where memory was refused.
+/// [`OutOfMemory`].
 fn compared_plan(alloc: Global, compared: &Compared) -> Result<Plan, OutOfMemory>
     requires { AreTexts compared.now }
-    ensures { IfOk result (λ plan. ending_of plan ≡ writes (compared_text compared.now) (tells_apart (relation_of compared.now)) false) }
+    ensures { IfOk result (λ plan. ending_of plan ≡ writes (compared_text compared.now) (is_difference (relation_of compared.now)) false) }
 {
     let relation = Relation::of(compared);
     let text = compared_text(alloc, relation, compared)?;
     Ok(Plan::Writes {
         text,
-        finding: relation.tells_apart(),
+        finding: relation.is_difference(),
         failed: false,
     })
 }
@@ -96,7 +97,7 @@ fn compared_plan(alloc: Global, compared: &Compared) -> Result<Plan, OutOfMemory
 /// What `compare` is to do for two text patterns in a mode.
 ///
 /// # Errors
-/// [`OutOfMemory`] where memory was refused.
+/// [`OutOfMemory`].
 fn patterns_plan(
     alloc: Global,
     first: &Pattern,
@@ -117,10 +118,10 @@ fn patterns_plan(
     }
 }
 
-/// What `compare` is to do for a text pattern and the word of the second one in a mode.
+/// What `compare` is to do for a text pattern and the argument of the second one in a mode.
 ///
 /// # Errors
-/// [`OutOfMemory`] where memory was refused.
+/// [`OutOfMemory`].
 fn second_plan(
     alloc: Global,
     first: &Pattern,
@@ -128,19 +129,19 @@ fn second_plan(
     mode: Mode,
 ) -> Result<Plan, OutOfMemory>
     requires { universe_of first.now ≡ Str }
-    ensures { IfOk result (λ plan. IsPatternEnding (chars second.now) mode
+    ensures { IfOk result (λ plan. ParsesThen (chars second.now) mode
         (CompareEnds (pattern_tree first.now mode) (pattern_ending first.now mode)) (ending_of plan)) }
 {
-    match pattern_word(alloc, second)? {
-        PatternWord::Refused(message) => Ok(Plan::Refuses(message)),
-        PatternWord::Spelled(second) => patterns_plan(alloc, first, &second, mode),
+    match parse_argument(alloc, second)? {
+        PatternArgument::Refused(message) => Ok(Plan::Refuses(message)),
+        PatternArgument::Parsed(second) => patterns_plan(alloc, first, &second, mode),
     }
 }
 
-/// What `compare` is to do for the words of two patterns in a mode. Both are read before either is lowered.
+/// What `compare` is to do for two pattern arguments in a mode. Both are parsed before either is lowered.
 ///
 /// # Errors
-/// [`OutOfMemory`] where memory was refused.
+/// [`OutOfMemory`].
 pub fn compare_plan(
     alloc: Global,
     first: &str,
@@ -149,8 +150,8 @@ pub fn compare_plan(
 ) -> Result<Plan, OutOfMemory>
     ensures { IfOk result (λ plan. IsCompareEnding (chars first.now) (chars second.now) mode (ending_of plan)) }
 {
-    match pattern_word(alloc, first)? {
-        PatternWord::Refused(message) => Ok(Plan::Refuses(message)),
-        PatternWord::Spelled(first) => second_plan(alloc, &first, second, mode),
+    match parse_argument(alloc, first)? {
+        PatternArgument::Refused(message) => Ok(Plan::Refuses(message)),
+        PatternArgument::Parsed(first) => second_plan(alloc, &first, second, mode),
     }
 }

@@ -3,13 +3,14 @@ ghost use Rattle.std.specs.Prelude.{◌≡◌, IfOk};
 ghost use Rattle.std.specs.Str.{chars};
 ghost use Rattle.rl_ranges.specs.declared.universe.Universe.TheVariants.{Str};
 ghost use Rattle.rl_syntax.specs.Pattern.{pattern_ending, pattern_tree, universe_of};
-ghost use Rattle.rl_lint.specs.Endings.{ending_of};
-ghost use Rattle.rl_lint.specs.CostEnding.{IsCostEnding, cost_ending};
+ghost use Rattle.rl_lint.specs.internal.Plans.{ending_of};
+ghost use Rattle.rl_lint.specs.CostEnding.{cost_ending};
+ghost use Rattle.rl_lint.specs.Patterns.{ParsesThen};
 
 use crate::codes::codes_of;
-use crate::line::cost_line;
+use crate::cost_line::cost_line;
+use crate::pattern_argument::{PatternArgument, parse_argument};
 use crate::plan::{Message, Plan};
-use crate::word::{PatternWord, pattern_word};
 use rl_lists::{Bytes, OutOfMemory};
 use rl_syntax::{Mode, Pattern};
 use std::alloc::Global;
@@ -20,7 +21,7 @@ const MAX_TEXT: usize = 65_536;
 /// What `cost` is to do for a text pattern and a text in a mode.
 ///
 /// # Errors
-/// [`OutOfMemory`] where memory was refused.
+/// [`OutOfMemory`].
 fn pattern_plan(
     alloc: Global,
     pattern: &Pattern,
@@ -43,15 +44,16 @@ fn pattern_plan(
     })
 }
 
-/// What `cost` is to do for the words of a pattern and of a text in a mode.
+/// What `cost` is to do for a pattern argument and a text in a mode.
 ///
 /// # Errors
-/// [`OutOfMemory`] where memory was refused.
+/// [`OutOfMemory`].
 pub fn cost_plan(alloc: Global, pattern: &str, text: &str, mode: Mode) -> Result<Plan, OutOfMemory>
-    ensures { IfOk result (λ plan. IsCostEnding (chars pattern.now) (chars text.now) mode (ending_of plan)) }
+    ensures { IfOk result (λ plan. ParsesThen (chars pattern.now) mode
+        (λ t at end. end ≡ cost_ending (chars text.now) t at) (ending_of plan)) }
 {
-    match pattern_word(alloc, pattern)? {
-        PatternWord::Refused(message) => Ok(Plan::Refuses(message)),
-        PatternWord::Spelled(pattern) => pattern_plan(alloc, &pattern, text, mode),
+    match parse_argument(alloc, pattern)? {
+        PatternArgument::Refused(message) => Ok(Plan::Refuses(message)),
+        PatternArgument::Parsed(pattern) => pattern_plan(alloc, &pattern, text, mode),
     }
 }

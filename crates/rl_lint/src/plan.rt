@@ -1,32 +1,32 @@
 //! What a run is to do, worked out before anything is written.
-ghost use Rattle.std.specs.Prelude.{◌≡◌, ◌≤◌, false, map, option_map, true, IfOk, Some};
+ghost use Rattle.std.specs.Prelude.{◌≡◌, ◌≤◌, codes, false, map, true, IfOk, Some};
 ghost use Rattle.std.specs.String.{string_bytes};
 ghost use Rattle.rl_judge.specs.RightEntries.{IsValid};
 ghost use Rattle.rl_source.specs.Faults.{Rose};
+ghost use Rattle.rl_walk.specs.Visits.{moment_of};
 ghost use Rattle.rl_words.specs.Call.{HasActionRanges, HasRanges, asked, chosen};
 ghost use Rattle.rl_words.specs.Given.{given_by};
-ghost use Rattle.rl_lint.specs.Endings.{ending_of, has_fault, is_refusal, message_text};
-ghost use Rattle.rl_lint.specs.Planned.{Acts, IsActionPlanned, IsPlanned, asks_itself, asks_tree, baseline_of, call_of};
+ghost use Rattle.rl_lint.specs.internal.Plans.{call_of, ending_of, has_fault, is_refusal, message_text};
+ghost use Rattle.rl_lint.specs.Files.{ReadsThen, whole_bytes};
+ghost use Rattle.rl_lint.specs.Options.{GivesSettings, in_force};
 ghost use Rattle.rl_lint.specs.Refusals.{IsRefused};
-ghost use Rattle.rl_lint.specs.Uses.{asking_of};
+ghost use Rattle.rl_lint.specs.RunEnding.{IsActionEnding, IsRunEnding, asks_itself, asks_tree};
 
 use crate::check::check_plan;
 use crate::class::class_plan;
 use crate::compare::compare_plan;
+use crate::config::{DEFAULTS, read_config};
 use crate::cost::cost_plan;
-use crate::files::Came;
-use crate::known::known_by;
+use crate::files::FileRead;
 use crate::options::{in_force, mode_given};
 use crate::prove::prove_plan;
 use crate::sample::sample_plan;
-use crate::settled::settle;
 use crate::verify::verify_plan;
 use rl_judge::Settings;
 use rl_lists::{Bytes, OutOfMemory};
-use rl_sarif::KnownKeys;
 use rl_source::Tree;
 use rl_syntax::Mode;
-use rl_words::{Action, ModeWord, Options, WordsError, read_words, usage_text};
+use rl_words::{Action, Options, WordsError, read_words, usage_text};
 use std::alloc::Global;
 
 /// A message for the error output.
@@ -55,7 +55,7 @@ impl Message {
 pub enum Plan {
     /// To refuse what it was asked for, with this message.
     Refuses(Message),
-    /// To tell this message, since a file that it needs couldn't be read.
+    /// To report this message, since a file that it needs couldn't be read.
     Unreadable(Message),
     /// To write this text, and to say by its status whether that has a finding, and whether a call of the tree failed.
     Writes {
@@ -65,30 +65,30 @@ pub enum Plan {
     },
 }
 
-/// What a run is to do for this action, in the mode that is given and under these settings, with the keys of a baseline where
-/// there is one.
+/// What a run is to do for this action with these options, under the settings in force.
 ///
 /// # Errors
-/// [`OutOfMemory`] where memory was refused; in `check` and `verify` the tree may have been read.
+/// [`OutOfMemory`]; in `check` and `verify` the tree may have been read.
 fn action_plan<T: Tree>(
     alloc: Global,
     action: Action,
-    mode: Option<ModeWord>,
+    options: &Options,
     settings: Settings,
-    known: Option<KnownKeys>,
     tree: &mut T,
 ) -> Result<Plan, OutOfMemory>
     requires ranges { HasActionRanges (asked action) }
     requires valid { IsValid settings }
-    ensures acts { IfOk result (λ plan. Acts mode settings known (asked action.entry)
-        (asking_of T.told T.fault_count tree.old tree.new) (ending_of plan)) }
+    ensures ending { IfOk result (λ plan. IsActionEnding settings (chosen options.now) (asked action.entry)
+        (moment_of T.told T.fault_count tree.old) (moment_of T.told T.fault_count tree.new) (ending_of plan)) }
     ensures trail { asks_itself (asked action.entry) ≡ false → T.told tree.new ≡ T.told tree.old }
     ensures later { T.fault_count tree.old ≤ T.fault_count tree.new }
 {
-    let mode = mode_given(mode, Mode::Fullmatch);
+    let mode = mode_given(options.mode, Mode::Fullmatch);
     let max_pairs = settings.max_pairs;
     match action {
-        Action::Check { paths } => { check_plan(alloc, paths.as_slice(), settings, known, tree) },
+        Action::Check { paths } => {
+            check_plan(alloc, paths.as_slice(), settings, options.baseline, tree)
+        }
         Action::Class { pattern } => {
             class_plan(alloc, pattern, mode, settings.max_degree, max_pairs)
         }
@@ -102,46 +102,40 @@ fn action_plan<T: Tree>(
     }
 }
 
-/// The path of the baseline that the action reads: no action but `check` reads one.
-fn baseline_of<'a>(action: &Action, options: &Options<'a>) -> Option<&'a str>
-    ensures { option_map (λ p. p.now) result ≡ baseline_of (asked action.now) (chosen options.now) }
-{
-    match action {
-        Action::Check { .. } => options.baseline,
-        _ => None,
-    }
-}
-
-/// What a run is to do for this action with these options, under these settings. The baseline comes first.
+/// What a run is to do for this action with these options. The settings file at this path is read first, and the values of
+/// the options take the place of those there.
 ///
 /// # Errors
-/// [`OutOfMemory`] where memory was refused; the tree may have been read.
-fn baseline_plan<T: Tree>(
+/// [`OutOfMemory`]; the tree may have been read.
+fn config_plan<T: Tree>(
     alloc: Global,
     action: Action,
     options: &Options,
-    settings: Settings,
+    path: &str,
     tree: &mut T,
 ) -> Result<Plan, OutOfMemory>
-    requires ranges { HasActionRanges (asked action) }
-    requires valid { IsValid settings }
-    ensures planned { IfOk result (λ plan. IsActionPlanned (call_of action.entry options.now) settings
-        (asking_of T.told T.fault_count tree.old tree.new) (ending_of plan)) }
-    ensures trail { asks_itself (asked action.entry) ≡ false → T.told tree.new ≡ T.told tree.old }
+    requires { HasRanges (call_of action options.now) }
+    ensures ending { IfOk result (λ plan. ReadsThen (codes "settings") whole_bytes GivesSettings
+        (λ start. IsActionEnding (in_force (chosen options.now) start) (chosen options.now) (asked action.entry)) path.now
+        (moment_of T.told T.fault_count tree.old) (moment_of T.told T.fault_count tree.new) (ending_of plan)) }
     ensures later { T.fault_count tree.old ≤ T.fault_count tree.new }
 {
-    match known_by(alloc, baseline_of(&action, options), tree)? {
-        Came::Unread => Ok(Plan::Unreadable(Message::Fixed("relint: baseline unreadable\n"))),
-        Came::Refused => Ok(Plan::Refuses(Message::Fixed("relint: baseline refused\n"))),
-        Came::Taken(known) => action_plan(alloc, action, options.mode, settings, known, tree),
+    match read_config(alloc, path, tree)? {
+        FileRead::Unreadable => Ok(Plan::Unreadable(Message::Fixed(
+            "relint: settings unreadable\n",
+        ))),
+        FileRead::Refused => Ok(Plan::Refuses(Message::Fixed("relint: settings refused\n"))),
+        FileRead::Taken(start) => {
+            let settings = in_force(options, &start);
+            action_plan(alloc, action, options, settings, tree)
+        }
     }
 }
 
-/// What a run is to do for this action with these options. The settings come first, and the values of the
-/// options take their place.
+/// What a run is to do for this action with these options. The settings file is read first, where one is named.
 ///
 /// # Errors
-/// [`OutOfMemory`] where memory was refused; the tree may have been read.
+/// [`OutOfMemory`]; the tree may have been read.
 fn call_plan<T: Tree>(
     alloc: Global,
     action: Action,
@@ -149,18 +143,17 @@ fn call_plan<T: Tree>(
     tree: &mut T,
 ) -> Result<Plan, OutOfMemory>
     requires { HasRanges (call_of action options.now) }
-    ensures planned { IfOk result (λ plan. IsPlanned (Some (call_of action.entry options.now))
-        (asking_of T.told T.fault_count tree.old tree.new) (ending_of plan)) }
+    ensures ending { IfOk result (λ plan. IsRunEnding (Some (call_of action.entry options.now))
+        (moment_of T.told T.fault_count tree.old) (moment_of T.told T.fault_count tree.new) (ending_of plan)) }
     ensures trail { asks_tree (Some (call_of action.entry options.now)) ≡ false → T.told tree.new ≡ T.told tree.old }
     ensures later { T.fault_count tree.old ≤ T.fault_count tree.new }
 {
-    match settle(alloc, options.settings, tree)? {
-        Came::Unread => Ok(Plan::Unreadable(Message::Fixed("relint: settings unreadable\n"))),
-        Came::Refused => Ok(Plan::Refuses(Message::Fixed("relint: settings refused\n"))),
-        Came::Taken(start) => {
-            let settings = in_force(options, &start);
-            baseline_plan(alloc, action, options, settings, tree)
+    match options.settings {
+        None => {
+            let settings = in_force(options, &DEFAULTS);
+            action_plan(alloc, action, options, settings, tree)
         }
+        Some(path) => config_plan(alloc, action, options, path, tree),
     }
 }
 
@@ -168,14 +161,14 @@ fn call_plan<T: Tree>(
 /// where they name one and then walks over the tree, `verify` reads its certificate, and nothing else is asked of it.
 ///
 /// # Errors
-/// [`OutOfMemory`] where memory was refused; the tree may have been read.
+/// [`OutOfMemory`]; the tree may have been read.
 pub fn plan_of<T: Tree>(
     alloc: Global,
     words: &Vec<String>,
     tree: &mut T,
 ) -> Result<Plan, OutOfMemory>
-    ensures planned { IfOk result (λ plan. IsPlanned (given_by (map string_bytes words.now.items))
-        (asking_of T.told T.fault_count tree.old tree.new) (ending_of plan)) }
+    ensures ending { IfOk result (λ plan. IsRunEnding (given_by (map string_bytes words.now.items))
+        (moment_of T.told T.fault_count tree.old) (moment_of T.told T.fault_count tree.new) (ending_of plan)) }
     ensures cause { IfOk result (λ plan. has_fault (ending_of plan) ≡ true
         → Rose (T.fault_count tree.old) (T.fault_count tree.new)) }
     ensures refused { IfOk result (λ plan. is_refusal (ending_of plan) ≡ true

@@ -3,12 +3,14 @@ ghost use Rattle.std.specs.Prelude.{◌≡◌, ◌≤◌, false, IfErr, IfOk};
 ghost use Rattle.std.specs.Str.{chars};
 ghost use Rattle.rl_ranges.specs.declared.universe.Universe.TheVariants.{Str};
 ghost use Rattle.rl_syntax.specs.Pattern.{pattern_ending, pattern_tree, universe_of};
-ghost use Rattle.rl_lint.specs.Endings.{ending_of, writes};
+ghost use Rattle.rl_lint.specs.Endings.{writes};
+ghost use Rattle.rl_lint.specs.internal.Plans.{ending_of};
 ghost use Rattle.rl_lint.specs.internal.Made.{IsMade, IsNotMade};
-ghost use Rattle.rl_lint.specs.ProveEnding.{IsProveEnding, ProveEnds, text_question};
+ghost use Rattle.rl_lint.specs.Patterns.{ParsesThen, text_question};
+ghost use Rattle.rl_lint.specs.ProveEnding.{ProveEnds};
 
+use crate::pattern_argument::{PatternArgument, parse_argument};
 use crate::plan::Plan;
-use crate::word::{PatternWord, pattern_word};
 use rl_cert::{CertError, Certificate, make, write};
 use rl_lists::{Bytes, OutOfMemory};
 use rl_report::verdict_line;
@@ -52,7 +54,7 @@ fn text_plan(text: Bytes) -> Plan
 /// What `prove` is to do for a text pattern in a mode.
 ///
 /// # Errors
-/// [`OutOfMemory`] where memory was refused.
+/// [`OutOfMemory`].
 fn pattern_plan(
     alloc: Global,
     pattern: &Pattern,
@@ -78,10 +80,10 @@ fn pattern_plan(
     }
 }
 
-/// What `prove` is to do for a pattern word in a mode, with how many live pairs are looked at.
+/// What `prove` is to do for a pattern argument in a mode, with how many live pairs are looked at.
 ///
 /// # Errors
-/// [`OutOfMemory`] where memory was refused.
+/// [`OutOfMemory`].
 pub fn prove_plan(
     alloc: Global,
     pattern: &str,
@@ -90,10 +92,10 @@ pub fn prove_plan(
 ) -> Result<Plan, OutOfMemory>
     requires some { 1 ≤ max_pairs }
     requires few { max_pairs ≤ 1000 }
-    ensures { IfOk result (λ plan. IsProveEnding (chars pattern.now) mode max_pairs (ending_of plan)) }
+    ensures { IfOk result (λ plan. ParsesThen (chars pattern.now) mode (ProveEnds max_pairs) (ending_of plan)) }
 {
-    match pattern_word(alloc, pattern)? {
-        PatternWord::Refused(message) => Ok(Plan::Refuses(message)),
-        PatternWord::Spelled(pattern) => pattern_plan(alloc, &pattern, mode, max_pairs),
+    match parse_argument(alloc, pattern)? {
+        PatternArgument::Refused(message) => Ok(Plan::Refuses(message)),
+        PatternArgument::Parsed(pattern) => pattern_plan(alloc, &pattern, mode, max_pairs),
     }
 }

@@ -3,7 +3,7 @@ ghost use Rattle.std.specs.Prelude.{◌≡◌, ◌++◌, Some, IfOk, IfSome, OnO
 ghost use Rattle.rl_ranges.specs.Text.{IsText};
 ghost use Rattle.rl_ranges.specs.declared.universe.Universe.TheVariants.{Str};
 ghost use Rattle.rl_lint.specs.internal.Compared.{AreTexts};
-ghost use Rattle.rl_lint.specs.CompareEnding.{compared_text, region_line, relation_name, relation_of, tells_apart};
+ghost use Rattle.rl_lint.specs.CompareEnding.{compared_text, region_line, relation_name, relation_of, is_difference};
 
 use rl_compare::Compared;
 use rl_lists::{Bytes, Codes, OutOfMemory};
@@ -65,8 +65,8 @@ impl Relation {
     }
 
     /// Whether the relation is a finding.
-    pub fn tells_apart(self) -> bool
-        ensures { result ≡ tells_apart self }
+    pub fn is_difference(self) -> bool
+        ensures { result ≡ is_difference self }
     {
         match self {
             Relation::Equal | Relation::Passed => false,
@@ -75,7 +75,7 @@ impl Relation {
     }
 }
 
-/// Puts the line of a region behind the others.
+/// Appends the line of a region.
 fn push_text(alloc: Global, out: &mut Vec<u8>, name: &str, text: &Codes) -> Result<(), OutOfMemory>
     requires { IsText Str text.now }
     ensures { OnOk result (out.new.items ≡ out.old.items ++ region_line name.now (Some text.now)) }
@@ -89,7 +89,7 @@ fn push_text(alloc: Global, out: &mut Vec<u8>, name: &str, text: &Codes) -> Resu
     Ok(())
 }
 
-/// Puts the line of a region behind the others, where there is a text.
+/// Appends the line of a region, where there is a text.
 fn push_region(
     alloc: Global,
     out: &mut Vec<u8>,
@@ -108,7 +108,7 @@ fn push_region(
 /// The lines on what was found of two patterns.
 ///
 /// # Errors
-/// [`OutOfMemory`] where memory was refused.
+/// [`OutOfMemory`].
 pub fn compared_text(
     alloc: Global,
     relation: Relation,

@@ -2,15 +2,16 @@
 ghost use Rattle.std.specs.Prelude.{◌≡◌, ◌⊎◌, ◌≤◌, true, false, map, None};
 ghost use Rattle.std.specs.String.{string_bytes};
 ghost use Rattle.rl_source.specs.Faults.{Rose};
+ghost use Rattle.rl_walk.specs.Visits.{moment_of};
 ghost use Rattle.rl_words.specs.Given.{given_by};
 ghost use Rattle.rl_lint.specs.Endings.{status_of};
-ghost use Rattle.rl_lint.specs.Planned.{asks_tree};
 ghost use Rattle.rl_lint.specs.Refusals.{IsRefused};
+ghost use Rattle.rl_lint.specs.RunEnding.{asks_tree};
 ghost use Rattle.rl_lint.specs.Runs.{Runs};
-ghost use Rattle.rl_lint.specs.Uses.{asking_of, use_of};
+ghost use Rattle.rl_lint.specs.Sinks.{sink_change};
 
 use crate::plan::{Plan, plan_of};
-use crate::told::tell;
+use crate::stderr::write_message;
 use rl_source::{Sink, Tree, write_all};
 use std::alloc::Global;
 
@@ -36,7 +37,7 @@ fn status_of(finding: bool, failed: bool) -> u8
 /// | 2 | where the words aren't a valid call, or the settings, the baseline, the certificate or what they ask for is refused |
 /// | 3 | where all was written and a call of the tree failed, or the settings, the baseline or the certificate couldn't be read |
 /// | 4 | where a write to `out` failed |
-/// | 5 | where memory was refused; nothing was written to `out` then |
+/// | 5 | where it was out of memory; nothing was written to `out` then |
 ///
 /// A finding is an exponential verdict or a degree above `max-degree`, a certificate that doesn't hold, and two patterns that
 /// don't match the same texts, as far as they were compared.
@@ -64,9 +65,9 @@ pub fn relint_main<T: Tree, O: Sink, E: Sink>(
     err: &mut E,
 ) -> u8
     ensures run { Runs (map string_bytes words.now.items)
-        (asking_of T.told T.fault_count tree.old tree.new)
-        (use_of O.bytes O.fault_count out.old out.new)
-        (use_of E.bytes E.fault_count err.old err.new) result }
+        (moment_of T.told T.fault_count tree.old) (moment_of T.told T.fault_count tree.new)
+        (sink_change O.bytes O.fault_count out.old out.new)
+        (sink_change E.bytes E.fault_count err.old err.new) result }
     ensures invalid { given_by (map string_bytes words.now.items) ≡ None → (result ≡ 2) ⊎ (result ≡ 5) }
     ensures write_fault { result ≡ 4 → Rose (O.fault_count out.old) (O.fault_count out.new) }
     ensures read_fault { result ≡ 3 → Rose (T.fault_count tree.old) (T.fault_count tree.new) }
@@ -82,11 +83,11 @@ pub fn relint_main<T: Tree, O: Sink, E: Sink>(
 {
     match plan_of(alloc, words, tree) {
         Ok(Plan::Refuses(message)) => {
-            tell(err, message.as_str());
+            write_message(err, message.as_str());
             2
         }
         Ok(Plan::Unreadable(message)) => {
-            tell(err, message.as_str());
+            write_message(err, message.as_str());
             3
         }
         Ok(
@@ -97,16 +98,16 @@ pub fn relint_main<T: Tree, O: Sink, E: Sink>(
             },
         ) => match write_all(out, text.as_slice()) {
             Ok(()) => {
-                tell(err, "");
+                write_message(err, "");
                 status_of(finding, failed)
             }
             Err(_) => {
-                tell(err, "relint: write fault\n");
+                write_message(err, "relint: write fault\n");
                 4
             }
         },
         Err(_) => {
-            tell(err, "relint: want of memory\n");
+            write_message(err, "relint: want of memory\n");
             5
         }
     }

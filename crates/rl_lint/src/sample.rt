@@ -1,7 +1,7 @@
 //! The action `sample`.
 ghost use Rattle.std.specs.Prelude.{◌<◌, ◌≤◌, ◌^◌, IfOk};
 ghost use Rattle.rl_judge.specs.RightEntries.{IsValid};
-ghost use Rattle.rl_lint.specs.Endings.{ending_of};
+ghost use Rattle.rl_lint.specs.internal.Plans.{ending_of};
 ghost use Rattle.rl_lint.specs.SampleEnding.{IsSampleEnding};
 
 use crate::plan::Plan;
@@ -16,7 +16,7 @@ use std::alloc::Global;
 /// text.
 ///
 /// # Errors
-/// [`OutOfMemory`] where memory was refused.
+/// [`OutOfMemory`].
 pub fn sample_plan(
     alloc: Global,
     seed: u32,

@@ -2,8 +2,7 @@
 ghost use Rattle.std.specs.Prelude.{◌≡◌, IfOk, IsErrOf, None, Some, option_map};
 ghost use Rattle.rl_settings.specs.Settings.{settings_told};
 ghost use Rattle.rl_judge.specs.RightEntries.{IsValid};
-ghost use Rattle.rl_lint.specs.Options.{with_values};
-ghost use Rattle.rl_lint.specs.Settled.{settings_of};
+ghost use Rattle.rl_lint.specs.Options.{settings_of, with_values};
 
 use crate::options::with_values;
 use rl_judge::Settings;
@@ -14,8 +13,7 @@ use std::alloc::Global;
 ///
 /// # Errors
 /// [`SettingsError::Refused`] exactly where the bytes are no TOML document, a key isn't one of `compile-as`, `max-degree`,
-/// `max-pairs`, `format` and `report`, or a key doesn't take its value; [`SettingsError::OutOfMemory`] where memory was
-/// refused.
+/// `max-pairs`, `format` and `report`, or a key doesn't take its value; [`SettingsError::OutOfMemory`].
 pub fn settings_from(
     alloc: Global,
     bytes: &Vec<u8>,

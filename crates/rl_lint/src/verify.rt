@@ -5,17 +5,17 @@ ghost use Rattle.rl_ranges.specs.declared.universe.Universe.TheVariants.{Str};
 ghost use Rattle.rl_syntax.specs.Pattern.{pattern_ending, pattern_tree, universe_of};
 ghost use Rattle.rl_cert.specs.Form.{IsForm};
 ghost use Rattle.rl_cert.specs.Holds.{Holds};
-ghost use Rattle.rl_lint.specs.Endings.{ending_of};
-ghost use Rattle.rl_lint.specs.Files.{IsGiven};
+ghost use Rattle.rl_walk.specs.Visits.{moment_of};
+ghost use Rattle.rl_lint.specs.internal.Plans.{ending_of};
+ghost use Rattle.rl_lint.specs.Files.{first_bytes};
+ghost use Rattle.rl_lint.specs.Patterns.{text_question};
+ghost use Rattle.rl_lint.specs.VerifyEnding.{CertificateEnds, IsVerifyEnding, TreeVerifies};
 ghost use Rattle.rl_lint.specs.internal.Made.{held_text};
-ghost use Rattle.rl_lint.specs.ProveEnding.{text_question};
-ghost use Rattle.rl_lint.specs.Readings.{spelled};
-ghost use Rattle.rl_lint.specs.Uses.{asking_of};
-ghost use Rattle.rl_lint.specs.VerifyEnding.{CertificateEnds, IsCertified, ReadingVerifies, Verifies};
+ghost use Rattle.rl_lint.specs.internal.Reads.{IsFileRead, IsGiven};
 
-use crate::files::{Came, MOST_BYTES, read_file};
+use crate::files::{FileRead, MOST_BYTES, read_file};
+use crate::pattern_argument::{PatternArgument, parse_argument};
 use crate::plan::{Message, Plan};
-use crate::word::{PatternWord, pattern_word};
 use rl_cert::{Certificate, ReadError, check, read};
 use rl_lists::{Bytes, OutOfMemory};
 use rl_report::verdict_line;
@@ -26,40 +26,41 @@ use std::alloc::Global;
 /// What a certificate's file with these bytes gives.
 ///
 /// # Errors
-/// [`OutOfMemory`] where memory was refused.
-fn certified_by(alloc: Global, bytes: Vec<u8>) -> Result<Came<Certificate>, OutOfMemory>
+/// [`OutOfMemory`].
+fn certificate_in(alloc: Global, bytes: Vec<u8>) -> Result<FileRead<Certificate>, OutOfMemory>
     ensures { IfOk result (IsGiven IsForm (Some bytes.items)) }
 {
     let bytes = Bytes::from_vec(bytes);
     match read(alloc, &bytes) {
-        Ok(certificate) => Ok(Came::Taken(certificate)),
-        Err(ReadError::Refused) => Ok(Came::Refused),
+        Ok(certificate) => Ok(FileRead::Taken(certificate)),
+        Err(ReadError::Refused) => Ok(FileRead::Refused),
         Err(ReadError::OutOfMemory) => Err(OutOfMemory),
     }
 }
 
-/// How the certificate comes: from the file at this path. Its first bytes are read by one call of the tree.
+/// What the certificate's file at this path gives. Its first bytes are read by one call of the tree.
 ///
 /// # Errors
-/// [`OutOfMemory`] where memory was refused; the tree may have been read.
-fn certified<T: Tree>(
+/// [`OutOfMemory`]; the tree may have been read.
+fn read_certificate<T: Tree>(
     alloc: Global,
     path: &str,
     tree: &mut T,
-) -> Result<Came<Certificate>, OutOfMemory>
-    ensures certified { IfOk result (IsCertified path.now (asking_of T.told T.fault_count tree.old tree.new)) }
+) -> Result<FileRead<Certificate>, OutOfMemory>
+    ensures read { IfOk result (IsFileRead IsForm first_bytes path.now
+        (moment_of T.told T.fault_count tree.old) (moment_of T.told T.fault_count tree.new)) }
     ensures later { T.fault_count tree.old ≤ T.fault_count tree.new }
 {
     match read_file(path, MOST_BYTES, tree)? {
-        Some(bytes) => certified_by(alloc, bytes),
-        None => Ok(Came::Unread),
+        Some(bytes) => certificate_in(alloc, bytes),
+        None => Ok(FileRead::Unreadable),
     }
 }
 
 /// Whether a certificate holds for a text pattern in a mode. None does for a pattern of more than 4,000 nodes.
 ///
 /// # Errors
-/// [`OutOfMemory`] where memory was refused.
+/// [`OutOfMemory`].
 fn holds(
     alloc: Global,
     pattern: &Pattern,
@@ -83,7 +84,7 @@ fn holds(
 /// The line on whether a certificate with this verdict holds.
 ///
 /// # Errors
-/// [`OutOfMemory`] where memory was refused.
+/// [`OutOfMemory`].
 fn held_line(
     alloc: Global,
     held: bool,
@@ -106,7 +107,7 @@ fn held_line(
 /// What `verify` is to do for a text pattern in a mode and a certificate.
 ///
 /// # Errors
-/// [`OutOfMemory`] where memory was refused.
+/// [`OutOfMemory`].
 fn certificate_plan(
     alloc: Global,
     pattern: &Pattern,
@@ -132,7 +133,7 @@ fn certificate_plan(
 /// What `verify` is to do for a text pattern in a mode and the file at this path.
 ///
 /// # Errors
-/// [`OutOfMemory`] where memory was refused; the tree may have been read.
+/// [`OutOfMemory`]; the tree may have been read.
 fn file_plan<T: Tree>(
     alloc: Global,
     pattern: &Pattern,
@@ -144,25 +145,26 @@ fn file_plan<T: Tree>(
     requires of_text { universe_of pattern.now ≡ Str }
     requires some { 1 ≤ max_pairs }
     requires few { max_pairs ≤ 1000 }
-    ensures verifies { IfOk result (λ plan. ReadingVerifies max_pairs file.now
-        (spelled (pattern_tree pattern.now mode) (pattern_ending pattern.now mode))
-        (asking_of T.told T.fault_count tree.old tree.new) (ending_of plan)) }
+    ensures verifies { IfOk result (λ plan. TreeVerifies max_pairs file.now (pattern_tree pattern.now mode) (pattern_ending pattern.now mode)
+        (moment_of T.told T.fault_count tree.old) (moment_of T.told T.fault_count tree.new) (ending_of plan)) }
     ensures later { T.fault_count tree.old ≤ T.fault_count tree.new }
 {
-    match certified(alloc, file, tree)? {
-        Came::Unread => Ok(Plan::Unreadable(Message::Fixed("relint: certificate unreadable\n"))),
-        Came::Refused => Ok(Plan::Refuses(Message::Fixed("relint: certificate refused\n"))),
-        Came::Taken(certificate) => {
+    match read_certificate(alloc, file, tree)? {
+        FileRead::Unreadable => Ok(Plan::Unreadable(Message::Fixed(
+            "relint: certificate unreadable\n",
+        ))),
+        FileRead::Refused => Ok(Plan::Refuses(Message::Fixed("relint: certificate refused\n"))),
+        FileRead::Taken(certificate) => {
             certificate_plan(alloc, pattern, mode, max_pairs, &certificate)
         }
     }
 }
 
-/// What `verify` is to do for a pattern word in a mode and the file at this path, with how many live pairs are looked at. Where the
+/// What `verify` is to do for a pattern argument in a mode and the file at this path, with how many live pairs are looked at. Where the
 /// pattern is refused, the tree isn't asked.
 ///
 /// # Errors
-/// [`OutOfMemory`] where memory was refused; the tree may have been read.
+/// [`OutOfMemory`]; the tree may have been read.
 pub fn verify_plan<T: Tree>(
     alloc: Global,
     pattern: &str,
@@ -173,12 +175,14 @@ pub fn verify_plan<T: Tree>(
 ) -> Result<Plan, OutOfMemory>
     requires some { 1 ≤ max_pairs }
     requires few { max_pairs ≤ 1000 }
-    ensures verifies { IfOk result (λ plan. Verifies (chars pattern.now) file.now mode max_pairs
-        (asking_of T.told T.fault_count tree.old tree.new) (ending_of plan)) }
+    ensures verifies { IfOk result (λ plan. IsVerifyEnding max_pairs mode (chars pattern.now) file.now
+        (moment_of T.told T.fault_count tree.old) (moment_of T.told T.fault_count tree.new) (ending_of plan)) }
     ensures later { T.fault_count tree.old ≤ T.fault_count tree.new }
 {
-    match pattern_word(alloc, pattern)? {
-        PatternWord::Refused(message) => Ok(Plan::Refuses(message)),
-        PatternWord::Spelled(pattern) => { file_plan(alloc, &pattern, file, mode, max_pairs, tree) }
+    match parse_argument(alloc, pattern)? {
+        PatternArgument::Refused(message) => Ok(Plan::Refuses(message)),
+        PatternArgument::Parsed(pattern) => {
+            file_plan(alloc, &pattern, file, mode, max_pairs, tree)
+        }
     }
 }

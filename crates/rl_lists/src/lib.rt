@@ -6,7 +6,7 @@ pub mod items;
 pub use items::Items;
 use std::alloc::{AllocError, AllocFailed};
 
-/// Memory was refused. What the call was given is unchanged.
+/// Out of memory. What the call was given is unchanged.
 #[derive(Clone, Copy, Debug, PartialEq, Eq)]
 pub struct OutOfMemory;
 

@@ -8,3 +8,6 @@ pub mod texts;
 pub use columns::Columns;
 pub use steps::{Counted, Steps};
 pub use texts::cost;
+
+#[cfg(test)]
+mod tests;

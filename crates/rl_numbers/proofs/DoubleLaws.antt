@@ -1,6 +1,5 @@
 -- The steps of a double, letter by letter, and the properties that are looked at, as the numbers of the doubles.
-use Rattle.std.proofs.Common.{◌≡◌, ◌≢◌, ◌∙◌, ℕ, ◌+◌, ◌<◌, ◌≤◌, ◌⊎◌, inl, inr, ◌↔◌, Bool, true, false, cond, ◌&&◌, nat_eq, eqb-true, eq-eqb, IsTrue, List, [], ◌∷◌, ◌++◌, length, get_or, take, drop, Option, Some, None, is_some, slice_get, refl, sym, ap, subst, arith, true≢false}
-use Rattle.std.specs.Option.{option_map_or}
+use Rattle.std.proofs.Common.{◌≡◌, ◌≢◌, ◌∙◌, ℕ, ◌+◌, ◌<◌, ◌≤◌, ◌⊎◌, inl, inr, ◌↔◌, Bool, true, false, cond, ◌&&◌, nat_eq, eqb-true, eq-eqb, IsTrue, List, [], ◌∷◌, ◌++◌, length, get_or, take, drop, Option, Some, None, slice_get, refl, sym, ap, subst, arith, true≢false}
 use Rattle.std.specs.HashMap.{get}
 use Rattle.std.proofs.lemmas.Bool.{cases_lt, and_parts, and_from}
 use Rattle.std.proofs.lemmas.List.{take_more, drop_more, take-append-drop}
@@ -15,6 +14,7 @@ use Rattle.rl_numbers.specs.declared.doubling.Pair.{Pair}
 use Rattle.rl_numbers.specs.contracts.doubling.PairPartialEq.TheImpl as pair
 use Rattle.rl_numbers.specs.Doubled.{double_at, is_double, double_number, OnceEach, IsInside, AreDoubles, EqualsHeld, number_in, IsIndex}
 use Rattle.rl_numbers.specs.internal.DoubledFalls.{FirstsFall, StepsFall, ApartsFall, LeavesFall, HoldsIn}
+use Rattle.rl_numbers.proofs.StepLaws.{some-number, is-some, its-number}
 
 -- past the last letter there is no move
 no-row : (g : Graph) (q l count : ℕ) → IsWhole g → g.letters ≤ count → count ≤ l → edges_of g q l ≡ []
@@ -136,18 +136,6 @@ module _ {S : Type 0} (m n : IndexMap Pair ℕ S) (l : List Double) (i : ℕ) (l
       pairs-split (z ∷ xs) ys t x p (inr h) = pairs-split xs ys t x p.1 h
 
 -- ---- the numbers
-
-some-number : (o : Option ℕ) → IsTrue (is_some o) → (k : ℕ) × (o ≡ Some k) × (option_map_or (λ n. n) o 0 ≡ k)
-some-number None h = absurd (true≢false (sym h))
-some-number (Some k) h = (k, refl, refl)
-
-is-some : (o : Option ℕ) (k : ℕ) → o ≡ Some k → IsTrue (is_some o)
-is-some None k e = cc
-is-some (Some j) k e = refl
-
-its-number : (o : Option ℕ) (k : ℕ) → o ≡ Some k → option_map_or (λ n. n) o 0 ≡ k
-its-number None k e = cc
-its-number (Some j) k e = cc
 
 each-part : {A : Type 0} (P Q : A → Type 0) (l : List A) → ((x : A) → P x → Q x) → Each P l → Each Q l
 each-part P Q [] f h = tt

@@ -6,7 +6,7 @@ use Rattle.rl_graph.specs.Parts.{PartTable, IsParts}
 use Rattle.rl_graph.specs.Paths.{Has, Each, Pairs, OnCycle}
 use Rattle.rl_graph.proofs.Sums.{Each-has, Has-get_or, Has-map}
 use Rattle.rl_degree.specs.Leavers.{HasNoEqualSplit}
-use Rattle.rl_numbers.proofs.InnerLaws.{move-letter}
+use Rattle.rl_kernel.proofs.InnerLaws.{move-letter}
 use Rattle.rl_numbers.specs.Closed.{Three, IsTripleGraph}
 use Rattle.rl_numbers.specs.Least.{LeastTriple, AreMoreThan}
 use Rattle.rl_numbers.proofs.LeastTriples.{no_more}

@@ -15,7 +15,7 @@ use Rattle.rl_numbers.specs.Reached.{IsReached, IsReach, AreMore}
 use Rattle.rl_numbers.specs.Starts.{AreStartsUpTo}
 use Rattle.rl_numbers.specs.Triples.{triple_moves, among_moves}
 use Rattle.rl_numbers.proofs.FoundLaws.{found_holds, found_more, found_few}
-use Rattle.rl_numbers.proofs.InnerLaws.{move-letter}
+use Rattle.rl_kernel.proofs.InnerLaws.{move-letter}
 
 module _ (g h : Graph) (rank : ℕ → ℕ) (components : PartTable) (starts : List ℕ) (is-whole : IsWhole g) (level : IsLevelOf (edges_of g) g.states rank h) (letters : h.letters ≡ g.letters)
     (are-parts : IsParts (edges_of g) g.states components) (are : AreStartsUpTo g.states rank (cycle_of components) g.states 0 starts) where

@@ -1,49 +1,13 @@
 -- The graph of the inner moves of a graph, as it grows.
-use Rattle.std.proofs.Common.{◌≡◌, ◌≢◌, ℕ, ◌+◌, ◌<◌, ◌≤◌, ◌⊎◌, inl, inr, List, [], ◌∷◌, length, get_or, sym, ◌∙◌, ap, subst, arith}
+use Rattle.std.proofs.Common.{◌≡◌, ◌≢◌, ℕ, ◌+◌, ◌<◌, ◌≤◌, ◌⊎◌, inl, inr, List, length, get_or, sym, ◌∙◌, ap, subst, arith}
 use Rattle.std.proofs.lemmas.Bool.{cases_eq, cases_lt}
 use Rattle.std.proofs.lemmas.List.{length_push}
 use Rattle.rl_graph.specs.Paths.{Has}
 use Rattle.rl_graph.specs.Graph.{Graph, edges_of, IsBare, IsAdded}
 use Rattle.rl_graph.specs.Parts.{PartTable, number_of}
-use Rattle.rl_graph.proofs.Sums.{Has-push, Has-left, Has-last, at-has, at-short, at-get_or}
-use Rattle.rl_graph.proofs.GraphLaws.{edges-state, edges-letter}
+use Rattle.rl_graph.proofs.Sums.{Has-last, at-has, at-short, at-get_or}
+use Rattle.rl_kernel.proofs.InnerLaws.{move-state, move-letter, added-row, row-added}
 use Rattle.rl_numbers.specs.internal.Inner.{IsKept, IsInner, Before, IsInnerUpTo}
-
--- a state and a letter with a move are in range
-pub move-state : (g : Graph) (q l m : ℕ) → Has m (edges_of g q l) → q < g.states
-move-state g q l m h = by (cases_lt q g.states)
-  where
-    by : (q < g.states) ⊎ (g.states ≤ q) → q < g.states
-    by (inl a) = a
-    by (inr a) = absurd (subst (λ (r : List ℕ). Has m r) (edges-state g q l a) h)
-
-pub move-letter : (g : Graph) (q l m : ℕ) → Has m (edges_of g q l) → l < g.letters
-move-letter g q l m h = by (cases_lt l g.letters)
-  where
-    by : (l < g.letters) ⊎ (g.letters ≤ l) → l < g.letters
-    by (inl a) = a
-    by (inr a) = absurd (subst (λ (r : List ℕ). Has m r) (edges-letter g q l a) h)
-
--- the rows of a graph with one more move
-added-row : (h k : Graph) (s c t q l x : ℕ) → IsAdded h k s c t → Has x (edges_of k q l) → Has x (edges_of h q l) ⊎ ((q ≡ s) × (l ≡ c) × (x ≡ t))
-added-row h k s c t q l x a i = by (cases_eq q s) (cases_eq l c)
-  where
-    by : (q ≡ s) ⊎ (q ≢ s) → (l ≡ c) ⊎ (l ≢ c) → Has x (edges_of h q l) ⊎ ((q ≡ s) × (l ≡ c) × (x ≡ t))
-    by (inr n) b = inl (subst (λ (r : List ℕ). Has x r) (a.elsewhere q l (inl n)) i)
-    by (inl e) (inr n) = inl (subst (λ (r : List ℕ). Has x r) (a.elsewhere q l (inr n)) i)
-    by (inl e) (inl f) = last (Has-push x t (edges_of h s c) (subst (λ (r : List ℕ). Has x r) (rw (e, f) a.here) i))
-      where
-        last : Has x (edges_of h s c) ⊎ (x ≡ t) → Has x (edges_of h q l) ⊎ ((q ≡ s) × (l ≡ c) × (x ≡ t))
-        last (inl j) = inl (rw (e, f) j)
-        last (inr j) = inr (e, f, j)
-
-row-added : (h k : Graph) (s c t q l x : ℕ) → IsAdded h k s c t → Has x (edges_of h q l) → Has x (edges_of k q l)
-row-added h k s c t q l x a i = by (cases_eq q s) (cases_eq l c)
-  where
-    by : (q ≡ s) ⊎ (q ≢ s) → (l ≡ c) ⊎ (l ≢ c) → Has x (edges_of k q l)
-    by (inr n) b = subst (λ (r : List ℕ). Has x r) (sym (a.elsewhere q l (inl n))) i
-    by (inl e) (inr n) = subst (λ (r : List ℕ). Has x r) (sym (a.elsewhere q l (inr n))) i
-    by (inl e) (inl f) = rw (e, f) (subst (λ (r : List ℕ). Has x r) (sym a.here) (Has-left x (edges_of h s c) (t ∷ []) (rw (e, f) at i)))
 
 added-short : (h k : Graph) (s c t q l : ℕ) → IsAdded h k s c t → length (edges_of h s c) < 65535 → length (edges_of h q l) < 65536 → length (edges_of k q l) < 65536
 added-short h k s c t q l a room old = by (cases_eq q s) (cases_eq l c)

@@ -25,15 +25,15 @@ all-letters g at rank t count whole le below l = by (cases_lt l count)
         nothing : (r : List ℕ) → r ≡ [] → (x : ℕ) → Has x r → ⊥
         nothing r e x i = subst (Has x) e i
 
-some-number : (o : Option ℕ) → IsTrue (is_some o) → (k : ℕ) × (o ≡ Some k) × (option_map_or (λ n. n) o 0 ≡ k)
+pub some-number : (o : Option ℕ) → IsTrue (is_some o) → (k : ℕ) × (o ≡ Some k) × (option_map_or (λ n. n) o 0 ≡ k)
 some-number None h = absurd (true≢false (sym h))
 some-number (Some k) h = (k, refl, refl)
 
-is-some : (o : Option ℕ) (k : ℕ) → o ≡ Some k → IsTrue (is_some o)
+pub is-some : (o : Option ℕ) (k : ℕ) → o ≡ Some k → IsTrue (is_some o)
 is-some None k e = cc
 is-some (Some j) k e = refl
 
-its-number : (o : Option ℕ) (k : ℕ) → o ≡ Some k → option_map_or (λ n. n) o 0 ≡ k
+pub its-number : (o : Option ℕ) (k : ℕ) → o ≡ Some k → option_map_or (λ n. n) o 0 ≡ k
 its-number None k e = cc
 its-number (Some j) k e = cc
 

@@ -18,6 +18,3 @@ pub mod starts;
 pub mod triple;
 
 pub use numbering::{TriplesError, doubles_of, triples_of};
-
-#[cfg(test)]
-mod tests;

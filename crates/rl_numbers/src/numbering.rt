@@ -35,7 +35,7 @@ const MOST_TRIPLES: usize = 1_000_000;
 pub enum TriplesError {
     /// The least list has more than 1,000,000.
     TooMany,
-    /// Memory was refused.
+    /// Out of memory.
     OutOfMemory,
 }
 

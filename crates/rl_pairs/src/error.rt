@@ -13,7 +13,7 @@ pub enum PairsError {
     Sets,
     /// There are more live pairs than there may be.
     Pairs,
-    /// Memory was refused.
+    /// Out of memory.
     OutOfMemory,
 }
 

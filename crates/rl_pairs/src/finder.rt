@@ -77,7 +77,7 @@ impl Finder {
         Ok(lead)
     }
 
-    /// Puts a pair behind the others.
+    /// Appends a pair.
     fn add(&mut self, key: Key, lead: Word, rest: Word) -> Result<(), OutOfMemory>
         requires { (k : ℕ) → k < length (found_of self.old).keys → key_at (found_of self.old) k ≢ key }
         ensures { OnOk result (found_of self.new ≡ record { limit = (found_of self.old).limit; keys = (found_of self.old).keys ++ key ∷ []; leads = (found_of self.old).leads ++ lead ∷ []; rests = (found_of self.old).rests ++ rest ∷ []; rows = (found_of self.old).rows }) }
@@ -98,7 +98,7 @@ impl Finder {
         self.keys.len() as u32
     }
 
-    /// Puts a row behind the others.
+    /// Appends a row.
     fn end_row(&mut self, row: Word) -> Result<(), OutOfMemory>
         ensures { OnOk result (found_of self.new ≡ with_row (found_of self.old) row) }
     {

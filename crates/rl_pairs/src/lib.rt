@@ -11,6 +11,3 @@ mod pair_graph;
 pub use error::PairsError;
 pub use pair::Pair;
 pub use pair_graph::{PairGraph, pairs};
-
-#[cfg(test)]
-mod tests;

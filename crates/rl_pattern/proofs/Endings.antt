@@ -1,6 +1,13 @@
 -- Whatever the machine is in the middle of, a few codes more make a spelled pattern.
-use Rattle.std.proofs.Common.{◌≡◌, ℕ, zero, suc, sub-one, ◌-◌, ◌<◌, Bool, false, cond, nat_le, List, [], ◌∷◌, ◌++◌, length, replicate, Some, refl, sym, ap, ◌∙◌, subst, append_assoc, arith}
-use Rattle.std.proofs.lemmas.Bool.{ne_eqb, cond_both}
+use Rattle.std.proofs.Common.{◌≡◌, ℕ, zero, suc, sub-one, ◌-◌, ◌<◌, Bool, true, false, cond, nat_le, List, [], ◌∷◌, ◌++◌, length, replicate, Some, refl, sym, ap, ◌∙◌, subst, append_assoc, arith}
+use Rattle.std.specs.Prelude.{All}
+use Rattle.std.specs.List.{list_all}
+use Rattle.std.proofs.Math.Dec.{ltb}
+use Rattle.std.proofs.lemmas.Bool.{ne_eqb, cond_both, ltb-true}
+use Rattle.std.proofs.lemmas.List.Elements.{All-append, All-replicate, All-weaker}
+use Rattle.std.proofs.lemmas.List.Sums.{AllPass-from_list_all}
+use Rattle.rl_ranges.specs.Text.{code_count, IsText}
+use Rattle.rl_pattern.specs.Viable.{universe_if}
 use Rattle.rl_pattern.specs.Tree.{span, Escaped, code, too_large, by_name, reference, Member, range, glyph, members, Whole, greedy, Kind, named, scoped, lookaround, conditional}
 use Rattle.rl_pattern.specs.Codes.{with_digit, sign, numeral, is_digit, hex, slashed, begins_name, goes_in_name, on_letter, off_letter, headed, no_flags, with_letter, counts, octal_code, hex_code, code_of, is_kind}
 use Rattle.rl_pattern.specs.internal.Machine.{stops, goes, ends, InEscape, in_hex, name_brace, name_begins, name_goes, in_octal, after_low, after_high, after_two, escape_next, escape_rest, InSet, set_first, set_next, set_slash, set_escape, set_side, set_dash, dash_slash, dash_escape, in_set, escape_set_next, escape_dash_next, set_answer, InHead, paren, quest, after_p, after_less, group_name, group_name_goes, reference_name, reference_name_goes, asks, asks_digits, asks_name_goes, letters_on, letters_dash, letters_off, Frame, Base, Lex, between, line, remark, in_braces, counted, at_slash, in_escape, in_head, set_open, in_class, State, at, put_leaf, put_code, put_codes, no_count, put_repeat, open_group, close, escape_step, step_at, observe, finish_below, finish_escape, finish_at}
@@ -53,6 +60,69 @@ ending (in_escape a x) = escape_ending x
 ending (in_head a h) = head_ending h
 ending (set_open a) = 48 ∷ 93 ∷ []
 ending (in_class a v s) = set_ending s.part
+
+-- each of a few codes is one of ASCII
+ascii : (codes : List ℕ) → list_all (λ c. ltb c 128) codes ≡ true → All (λ c. c < 128) codes
+ascii codes h = All-weaker (λ c. ltb c 128 ≡ true) (λ c. c < 128) (λ c. ltb-true c 128) codes (AllPass-from_list_all (λ c. ltb c 128) codes h)
+
+escape_ascii : (x : InEscape) → All (λ c. c < 128) (escape_ending x)
+escape_ascii (in_hex still v) = All-replicate (λ c. c < 128) still 48 (omega arith)
+escape_ascii name_brace = ascii (123 ∷ 46 ∷ 125 ∷ []) refl
+escape_ascii name_begins = ascii (46 ∷ 125 ∷ []) refl
+escape_ascii name_goes = ascii (125 ∷ []) refl
+escape_ascii (in_octal n v) = ascii [] refl
+escape_ascii (after_low v) = ascii [] refl
+escape_ascii after_high = ascii [] refl
+escape_ascii (after_two v) = ascii [] refl
+
+set_ascii : (p : InSet) → All (λ c. c < 128) (set_ending p)
+set_ascii set_first = ascii (48 ∷ 93 ∷ []) refl
+set_ascii set_next = ascii (93 ∷ []) refl
+set_ascii (set_slash i) = ascii (46 ∷ 93 ∷ []) refl
+set_ascii (set_escape i x) = All-append (λ c. c < 128) (escape_ending x) (93 ∷ []) (escape_ascii x) (ascii (93 ∷ []) refl)
+set_ascii (set_side i e) = ascii (93 ∷ []) refl
+set_ascii (set_dash i j e) = ascii (93 ∷ []) refl
+set_ascii (dash_slash i e) = ascii (46 ∷ 93 ∷ []) refl
+set_ascii (dash_escape i e x) = All-append (λ c. c < 128) (escape_ending x) (93 ∷ []) (escape_ascii x) (ascii (93 ∷ []) refl)
+
+head_ascii : (h : InHead) → All (λ c. c < 128) (head_ending h)
+head_ascii paren = ascii (41 ∷ []) refl
+head_ascii quest = ascii (58 ∷ 41 ∷ []) refl
+head_ascii after_p = ascii (61 ∷ 97 ∷ 41 ∷ []) refl
+head_ascii after_less = ascii (61 ∷ 41 ∷ []) refl
+head_ascii group_name = ascii (97 ∷ 62 ∷ 41 ∷ []) refl
+head_ascii (group_name_goes n) = ascii (62 ∷ 41 ∷ []) refl
+head_ascii reference_name = ascii (97 ∷ 41 ∷ []) refl
+head_ascii reference_name_goes = ascii (41 ∷ []) refl
+head_ascii asks = ascii (48 ∷ 41 ∷ 41 ∷ []) refl
+head_ascii asks_digits = ascii (41 ∷ 41 ∷ []) refl
+head_ascii asks_name_goes = ascii (41 ∷ 41 ∷ []) refl
+head_ascii (letters_on f) = ascii (58 ∷ 41 ∷ []) refl
+head_ascii (letters_dash f) = ascii (105 ∷ 58 ∷ 41 ∷ []) refl
+head_ascii (letters_off f g) = ascii (58 ∷ 41 ∷ []) refl
+
+ending_ascii : (x : Lex) → All (λ c. c < 128) (ending x)
+ending_ascii between = ascii [] refl
+ending_ascii line = ascii (10 ∷ []) refl
+ending_ascii remark = ascii (41 ∷ []) refl
+ending_ascii (in_braces a t) = ascii [] refl
+ending_ascii (counted a p q n) = ascii [] refl
+ending_ascii (at_slash a) = ascii (46 ∷ []) refl
+ending_ascii (in_escape a x) = escape_ascii x
+ending_ascii (in_head a h) = head_ascii h
+ending_ascii (set_open a) = ascii (48 ∷ 93 ∷ []) refl
+ending_ascii (in_class a v s) = set_ascii s.part
+
+-- text and bytes have the codes of ASCII
+ascii_in : (text : Bool) (c : ℕ) → c < 128 → c < code_count (universe_if text)
+ascii_in true c l = omega (arith, l)
+ascii_in false c l = omega (arith, l)
+
+-- the codes that end what the machine is in the middle of, and so many groups, are a text of each universe
+pub ending_text : (text : Bool) (x : Lex) (n : ℕ) → IsText (universe_if text) (ending x ++ replicate n 41)
+ending_text text x n =
+    All-weaker (λ c. c < 128) (λ c. c < code_count (universe_if text)) (ascii_in text) (ending x ++ replicate n 41)
+    (All-append (λ c. c < 128) (ending x) (replicate n 41) (ending_ascii x) (All-replicate (λ c. c < 128) n 41 (omega arith)))
 
 -- an escape that may still end
 abbrev pub MayEnd : InEscape → Type 0

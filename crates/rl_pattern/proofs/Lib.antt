@@ -18,7 +18,6 @@ pub mod Anchors
 pub mod LeafLaws
 pub mod ShapeParts
 pub mod InnerBare
-mod TestLemmas
 pub mod Tokens
 pub mod Locality
 pub mod Holes

@@ -6,7 +6,7 @@ use mathlib.Core.Logic.{⊎_elim}
 use Rattle.rl_pattern.specs.declared.flags.Flags.{Flags}
 use Rattle.rl_pattern.specs.Tree.{Whole}
 use Rattle.rl_pattern.specs.Grammar.{Spells}
-use Rattle.rl_pattern.specs.Viable.{Viable, TooDeepAt}
+use Rattle.rl_pattern.specs.Viable.{Begins, Viable, TooDeepAt}
 use Rattle.rl_pattern.specs.declared.state.State.{State as ProgramState}
 use Rattle.rl_pattern.specs.declared.tree.Whole.{Whole as ProgramWhole}
 use Rattle.rl_pattern.specs.declared.read.ReadError.{ReadError}
@@ -137,7 +137,7 @@ module _ (call : Flags) (text : Bool) (w : List ℕ) where
       }
 
   -- a group opens too deep behind the last code
-  pub stand_deep : (i c : ℕ) (s r : State) → Standing call text w i s → slice_get w i ≡ Some c → step_at text i s c ≡ Some r → is_too_deep r w i ≡ true → TooDeepAt call text w i × ((q : ℕ) → q < i → ¬ TooDeepAt call text w q)
+  pub stand_deep : (i c : ℕ) (s r : State) → Standing call text w i s → slice_get w i ≡ Some c → step_at text i s c ≡ Some r → is_too_deep r w i ≡ true → TooDeepAt call text w i × Begins call text (take (suc i) w) × ((q : ℕ) → q < i → ¬ TooDeepAt call text w q)
   stand_deep i c s r h at_c st deep_here =
       let runs = one_more i c s (Some r) h at_c st in
       let p1 = and_parts (at_paren r.lex) _ deep_here in
@@ -150,7 +150,8 @@ module _ (call : Flags) (text : Bool) (w : List ℕ) where
       let opens : slice_get w i ≡ Some 40 = subst (λ m. slice_get w m ≡ Some 40) same (taken_at w (suc i) at.0 40 ok.1.0) in
       let heads = not_none w i opens p2.1 in
       let behind : Behind call text w i 100 = record { state = r; runs = runs; lex = at.1 ∙ ap (λ m. in_head m paren) same; deep = eqb-true (length r.base.below) 100 p2.0 } in
-      (seen_too_deep call text w i behind opens (λ z. heads.0 z.0 z.1) (λ z. heads.1 z.0 z.1 z.2), h.shallow)
+      let deep = seen_too_deep call text w i behind opens (λ z. heads.0 z.0 z.1) (λ z. heads.1 z.0 z.1 z.2) in
+      (deep, too_deep_begins call text w i deep, h.shallow)
 
   -- no group opens too deep where the codes before are all that begins a spelled pattern
   none_deeper : (n : ℕ) → Viable call text w n → ((q : ℕ) → q < n → ¬ TooDeepAt call text w q) → Shallow call text w

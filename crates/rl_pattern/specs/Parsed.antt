@@ -1,5 +1,5 @@
 -- What is answered of a list of codes: the refusals in their order, or the pattern.
-use Rattle.std.specs.Prelude.{◌≡◌, ◌⊎◌, ℕ, ◌<◌, ◌≤◌, List, length, Some, None, Result, Ok, Err}
+use Rattle.std.specs.Prelude.{◌≡◌, ◌⊎◌, ℕ, suc, ◌<◌, ◌≤◌, List, length, take, Some, None, Result, Ok, Err}
 use Rattle.rl_ranges.specs.declared.universe.Universe.{Universe}
 use Rattle.rl_syntax.specs.declared.feature.Feature.{Feature}
 use Rattle.rl_syntax.specs.declared.pattern.Pattern.{Pattern}
@@ -9,7 +9,7 @@ use Rattle.rl_pattern.specs.declared.parsing.PatError.{PatError}
 use Rattle.rl_pattern.specs.declared.parsing.PatError.TheVariants as error
 use Rattle.rl_pattern.specs.Tree as t
 use Rattle.rl_pattern.specs.Grammar.{Spells}
-use Rattle.rl_pattern.specs.Viable.{Viable, TooDeepAt}
+use Rattle.rl_pattern.specs.Viable.{Begins, Viable, TooDeepAt}
 use Rattle.rl_pattern.specs.Found.{Inner, inner, fault, refused, refused_flags}
 use Rattle.rl_pattern.specs.Answers.{Shallow}
 pub use Rattle.rl_pattern.specs.Shape.{is_text}
@@ -51,10 +51,11 @@ pub record IsMisspelled (flags : Flags) (u : Universe) (w : List ℕ) (n : ℕ) 
   pub none : (whole : t.Whole) → Spells flags (is_text u) w whole → ⊥
   pub shallow : Shallow flags (is_text u) w
 
--- the first group that opens while 100 are open stands at `p`
+-- the first group that opens while 100 are open stands at `p`, and the codes up to it begin a spelled pattern
 pub record IsTooDeep (flags : Flags) (u : Universe) (w : List ℕ) (p : ℕ) : Type 0 where
   pub asked : IsAsked flags u w
   pub deep : TooDeepAt flags (is_text u) w p
+  pub begins : Begins flags (is_text u) (take (suc p) w)
   pub first : (q : ℕ) → q < p → TooDeepAt flags (is_text u) w q → ⊥
 
 -- the flags of the call are refused

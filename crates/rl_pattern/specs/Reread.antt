@@ -15,6 +15,6 @@ pub record IsLeft (drop out : Span → Bool) (found new : Pattern) : Type 0 wher
   pub trailing : trail_of new ≡ trail_of found
   pub universe : universe_of new ≡ universe_of found
 
--- the answer of the reader: such a pattern, unless memory was refused
+-- the answer of the reader: such a pattern, unless it is out of memory
 abbrev pub IsReread : (Span → Bool) → (Span → Bool) → Pattern → Result Pattern PatError → Type 0
 IsReread drop out found r = (r ≡ Err error.OutOfMemory) ⊎ ((new : Pattern) × (r ≡ Ok new) × IsLeft drop out found new)

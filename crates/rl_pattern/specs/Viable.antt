@@ -1,13 +1,23 @@
 -- Which codes begin a spelled pattern, and where a group opens too deep.
-use Rattle.std.specs.Prelude.{◌≡◌, ℕ, suc, ◌<◌, ◌≤◌, Bool, true, List, ◌++◌, length, take}
+use Rattle.std.specs.Prelude.{◌≡◌, ℕ, suc, ◌<◌, ◌≤◌, Bool, true, List, ◌++◌, length, take, if◌then◌else◌}
+use Rattle.rl_ranges.specs.Text.{IsText}
+use Rattle.rl_ranges.specs.declared.universe.Universe.{Universe}
+use Rattle.rl_ranges.specs.declared.universe.Universe.TheVariants.{Str, Bytes}
 use Rattle.rl_pattern.specs.declared.flags.Flags.{Flags}
 use Rattle.rl_pattern.specs.Tree.{Kind, Node, Branch, Front, Whole}
 use Rattle.rl_pattern.specs.Codes.{inside, splits}
 use Rattle.rl_pattern.specs.Grammar.{At, Quest, Opening, Items, IsBranches, Fronts, outermost, Spells}
 
--- some codes more make a spelled pattern of these
-abbrev pub Begins : Flags → Bool → List ℕ → Type 0
-Begins call text u = (rest : List ℕ) × (p : Whole) × Spells call text (u ++ rest) p
+-- the universe of text, or that of bytes
+abbrev pub universe_if : Bool → Universe
+universe_if text = if text then Str else Bytes
+
+-- some codes more, of the universe, make a spelled pattern of these
+pub record Begins (call : Flags) (text : Bool) (u : List ℕ) : Type 0 where
+  pub rest : List ℕ
+  pub codes : IsText (universe_if text) rest
+  pub whole : Whole
+  pub spelled : Spells call text (u ++ rest) whole
 
 -- n is the length of the longest prefix of the codes that begins a spelled pattern
 pub record Viable (call : Flags) (text : Bool) (w : List ℕ) (n : ℕ) : Type 0 where

@@ -26,7 +26,7 @@ pub fn codes_spell_one_tree()
     ensures { (call : Flags) (text : Bool) (w : List ℕ) (p q : Whole) → Spells call text w p → Spells call text w q → p ≡ q }
 {}
 
-/// Codes have one answer, beside that memory was refused.
+/// Codes have one answer, beside out of memory.
 pub fn parsed_once()
     ensures { (flags : Flags) (u : Universe) (w : List ℕ) (r s : Result Pattern PatError) → IsParsed flags u w r → IsParsed flags u w s
         → (r ≡ Err error.OutOfMemory) ⊎ ((s ≡ Err error.OutOfMemory) ⊎ IsSameAnswer r s) }

@@ -32,7 +32,7 @@ pub enum PatError {
     TooLong,
     /// The flags of the call are refused, at 0, or the first feature at its place that no pattern here may hold.
     Outside(u32, Feature),
-    /// Memory was refused.
+    /// Out of memory.
     OutOfMemory,
 }
 
@@ -80,7 +80,7 @@ fn outcome(
 /// # Errors
 /// In this order: [`PatError::TooLong`] for more than 10,000 codes; [`PatError::Outside`] at 0 where the flags hold LOCALE or
 /// clash; [`PatError::TooDeep`]; [`PatError::Syntax`]; [`PatError::Outside`] where the tree that is spelled holds a feature that
-/// is refused. [`PatError::OutOfMemory`] where memory was refused.
+/// is refused. [`PatError::OutOfMemory`] when out of memory.
 pub fn parse(
     alloc: Global,
     codes: &Codes,

@@ -21,7 +21,7 @@ pub(crate) enum ReadError {
     Syntax(u32),
     /// The code at this place opens a group while 100 are open.
     TooDeep(u32),
-    /// Memory was refused.
+    /// Out of memory.
     OutOfMemory,
 }
 

@@ -14,10 +14,11 @@ mod guards;
 mod lists;
 mod plan;
 mod sets;
+mod shared;
 
 use crate::build::attempts::ListError;
-use crate::build::plan::Plan;
 use crate::build::sets::{add_guard_sets, add_sets};
+use crate::build::shared::shared;
 use crate::error::PrioError;
 use crate::prio::Prio;
 use rl_lists::OutOfMemory;
@@ -144,11 +145,8 @@ impl Prio {
         ensures moves { IfErr result (λ e. e ≡ PrioError.Moves
             → (length (classes (map has sets.now.items) (code_count universe)) ≤ 128) × (256 < longest (tree_of tree.now))) }
     {
-        let letters = Letters::of(alloc, sets, universe)?;
-        let kinds = kinds(alloc, tree, universe)?;
-        let plan = Plan::new(alloc, tree, &letters, &kinds, ending)?;
-        let rows = plan.rows(alloc)?;
-        let states = plan.states() as u32;
-        Ok(Prio::from_parts(letters, states, rows))
+        let table = Letters::of(alloc, sets, universe)?;
+        let letters = shared(alloc, table)?;
+        Prio::over_letters(alloc, tree, ending, universe, letters)
     }
 }

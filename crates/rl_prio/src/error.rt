@@ -11,7 +11,7 @@ pub enum PrioError {
     Letters,
     /// The letters are within their limit, and a list of items would have more than 256.
     Moves,
-    /// Memory was refused.
+    /// Out of memory.
     OutOfMemory,
 }
 

@@ -10,6 +10,3 @@ mod rows;
 pub use build::add_letter_sets;
 pub use error::PrioError;
 pub use prio::Prio;
-
-#[cfg(test)]
-mod tests;

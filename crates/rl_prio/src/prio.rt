@@ -1,17 +1,19 @@
 //! The ordered automaton.
 
-ghost use Rattle.std.specs.Prelude.{◌≡◌, ◌<◌, ◌≤◌, All};
+ghost use Rattle.std.specs.Prelude.{◌≡◌, ◌<◌, ◌≤◌, All, IfOk};
 ghost use Rattle.rl_prio.specs.Automaton.{Automaton, IsAutomaton, letters_count, moves_at};
 
 use crate::rows::RowTable;
+use rl_lists::OutOfMemory;
 use rl_ranges::Letters;
 use std::marker::Model;
+use std::rc::Rc;
 
 /// An ordered automaton: for each state and letter the states that are moved to, in the order in which they are tried.
 /// State 0 is the start, the last but one is the accepting state, and the last one is the dead state.
 #[derive(Drop)]
 pub struct Prio {
-    letters: Letters,
+    letters: Rc<Letters>,
     states: u32,
     rows: RowTable,
 }
@@ -21,16 +23,16 @@ impl Model for Prio {
 
     ghost Value = { Automaton };
 
-    ghost view = { λ p. record { table = p.letters; states = p.states; rows = p.rows.rows } };
+    ghost view = { λ p. record { table = p.letters.value; states = p.states; rows = p.rows.rows } };
 
-    ghost invariant = { λ p. IsAutomaton (record { table = p.letters; states = p.states; rows = p.rows.rows }) };
+    ghost invariant = { λ p. IsAutomaton (record { table = p.letters.value; states = p.states; rows = p.rows.rows }) };
 }
 
 impl Prio {
     /// The automaton of its letters, its states and its closed rows, one for each state and letter, the end letter last.
-    pub(crate) fn from_parts(letters: Letters, states: u32, rows: RowTable) -> Prio
-        requires { IsAutomaton (record { table = letters; states = states; rows = rows.rows }) }
-        ensures { result ≡ record { table = letters; states = states; rows = rows.rows } }
+    pub(crate) fn from_parts(letters: Rc<Letters>, states: u32, rows: RowTable) -> Prio
+        requires { IsAutomaton (record { table = letters.value; states = states; rows = rows.rows }) }
+        ensures { result ≡ record { table = letters.value; states = states; rows = rows.rows } }
     {
         Prio {
             letters,
@@ -52,6 +54,17 @@ impl Prio {
         ensures { result.now ≡ self.now.table }
     {
         &self.letters
+    }
+
+    /// The letters, for one more automaton over them.
+    ///
+    /// # Errors
+    /// [`OutOfMemory`] where there are too many automata over them.
+    pub(crate) fn shared_letters(&self) -> Result<Rc<Letters>, OutOfMemory>
+        ensures { IfOk result (λ letters. letters.value ≡ self.now.table) }
+    {
+        let letters = self.letters.clone()?;
+        Ok(letters)
     }
 
     /// The states that a state moves to on a letter, in the order in which they are tried. The letter after the last one is

@@ -17,7 +17,7 @@ pub enum LexError {
     FileTooLong,
     /// No token begins with the code at this place.
     StrayCode(u32),
-    /// Memory was refused.
+    /// Out of memory.
     OutOfMemory,
 }
 

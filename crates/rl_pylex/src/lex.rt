@@ -15,7 +15,7 @@ use std::alloc::Global;
 /// The greatest length of a source, in bytes.
 const MOST_BYTES: usize = 4_194_304;
 
-/// Puts the token of a piece behind the others, if the piece has one.
+/// Appends the token of a piece, if the piece has one.
 fn push_piece(
     tokens: &mut TokenList,
     kind: Option<TokenKind>,
@@ -83,7 +83,7 @@ fn read_pieces(alloc: Global, source: &[u8], first: usize) -> Result<TokenList, 
 ///   that name
 /// - [`LexError::Unterminated`], with the place where it begins, or [`LexError::StrayCode`], with its place, exactly
 ///   where a literal without an end or a stray code is the first fault by place
-/// - [`LexError::OutOfMemory`] where memory was refused
+/// - [`LexError::OutOfMemory`] when out of memory
 pub fn tokens(alloc: Global, source: &[u8]) -> Result<TokenList, LexError>
     ensures ok { IfOk result (IsTokenList source.now) }
     ensures err { IfErr result (IsFault source.now) }

@@ -97,7 +97,7 @@ pub step_skips : (raw bytes : Bool) (place skip : ℕ) (text : List ℕ) (old : 
     → before (Ok old) (value_from raw bytes place skip text) ≡ before (Ok old) (value_from raw bytes (place + len_utf8 (get_or text 0 0)) (skip - 1) (drop 1 text))
 step_skips raw bytes place skip text old h k = ap (before (Ok old)) (value-skip raw bytes place skip text h k)
 
--- a unit is read at the front, and what it gives is put behind the others
+-- a unit is read at the front, and what it gives is appended
 pub step_done : (raw bytes : Bool) (place skip next : ℕ) (text : List ℕ) (old new : Placed) (gives : Gives) → skip ≤ 0 → 0 < length text
     → gives ≡ unit raw bytes text → Ok new ≡ before (Ok old) (given gives place) → next ≡ size_of gives - 1
     → before (Ok old) (value_from raw bytes place skip text) ≡ before (Ok new) (value_from raw bytes (place + len_utf8 (get_or text 0 0)) next (drop 1 text))

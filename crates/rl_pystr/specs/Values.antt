@@ -49,7 +49,7 @@ value_from raw bytes place zero (c ∷ text) =
     before (given (unit raw bytes (c ∷ text)) place)
     (value_from raw bytes (place + len_utf8 c) (size_of (unit raw bytes (c ∷ text)) - 1) text)
 
--- The error is this value's refusal, or memory was refused.
+-- The error is this value's refusal, or it is out of memory.
 abbrev pub IsRefused : Result Placed StrError → StrError → Type 0
 IsRefused r error.FString = r ≡ Err error.FString
 IsRefused r error.Mixed = r ≡ Err error.Mixed

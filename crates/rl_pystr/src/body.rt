@@ -30,7 +30,7 @@ fn size_of(gives: Gives) -> usize
     }
 }
 
-/// Puts what is given at a place behind the others.
+/// Appends what is given at a place.
 #[tactic(auto, using(crate::proofs::Bodies::refusals))]
 fn push_given(out: &mut Placed, gives: Gives, place: u32) -> Result<(), StrError>
     requires { place + 256 < 2 ^ 32 }
@@ -48,7 +48,7 @@ fn push_given(out: &mut Placed, gives: Gives, place: u32) -> Result<(), StrError
     }
 }
 
-/// Passes the code at the front of a body, or begins a unit there and puts what it gives behind the others. It answers
+/// Passes the code at the front of a body, or begins a unit there and appends what it gives. It answers
 /// how many of the codes behind it are still to be passed.
 #[tactic(auto, using(crate::proofs::Bodies::steps))]
 fn step(
@@ -72,7 +72,7 @@ fn step(
     Ok(size_of(gives).saturating_sub(1))
 }
 
-/// Puts the value of a body that begins at a byte place behind the others.
+/// Appends the value of a body that begins at a byte place.
 #[tactic(auto, using(crate::proofs::Bodies::refusals))]
 pub fn push_body(
     out: &mut Placed,

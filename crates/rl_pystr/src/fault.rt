@@ -17,7 +17,7 @@ pub enum StrError {
     NamedEscape(u32),
     /// A code from 0x80 in a literal of bytes: its place.
     NotAscii(u32),
-    /// Memory was refused.
+    /// Out of memory.
     OutOfMemory,
 }
 

@@ -23,7 +23,7 @@ pub fn no_codes(alloc: Global) -> Placed
     }
 }
 
-/// Puts a code and its place behind the others.
+/// Appends a code and its place.
 pub fn push_code(out: &mut Placed, code: u32, place: u32) -> Result<(), StrError>
     ensures pushed { OnOk result (out.new ≡ joined out.old (one code place)) }
     ensures memory { IsOkUnless result StrError.OutOfMemory }

@@ -27,7 +27,7 @@ fn digit(value: u32) -> u8
     }
 }
 
-/// Puts the last `count` hexadecimal digits of a number behind the others.
+/// Appends the last `count` hexadecimal digits of a number.
 #[tactic(auto, using(crate::proofs::Quotes::digits))]
 fn push_hex(out: &mut Vec<u8>, count: u32, number: u32) -> Result<(), OutOfMemory>
     ensures { OnOk result (out.new.items ≡ out.old.items ++ hex count number) }
@@ -39,7 +39,7 @@ fn push_hex(out: &mut Vec<u8>, count: u32, number: u32) -> Result<(), OutOfMemor
     Ok(())
 }
 
-/// Puts an escape by a number behind the others.
+/// Appends an escape by a number.
 fn push_escape(out: &mut Vec<u8>, letter: u8, count: u32, number: u32) -> Result<(), OutOfMemory>
     ensures { OnOk result (out.new.items ≡ out.old.items ++ (92 ∷ letter ∷ hex count number)) }
 {
@@ -82,7 +82,7 @@ fn is_printed(code: u32) -> bool
     32 <= code && code < 127
 }
 
-/// Puts a code as it stands between quotes behind the others.
+/// Appends a code as it stands between quotes.
 #[tactic(auto, unfolding(crate::specs::Quoting::escaped))]
 fn push_escaped(out: &mut Vec<u8>, bytes: bool, code: u32) -> Result<(), OutOfMemory>
     ensures { OnOk result (out.new.items ≡ out.old.items ++ escaped bytes code) }
@@ -98,7 +98,7 @@ fn push_escaped(out: &mut Vec<u8>, bytes: bool, code: u32) -> Result<(), OutOfMe
     Ok(())
 }
 
-/// Puts the codes with escapes behind the others.
+/// Appends the codes with escapes.
 #[tactic(auto, using(crate::proofs::Quotes::pieces))]
 fn push_all_escaped(out: &mut Vec<u8>, bytes: bool, codes: &[u32]) -> Result<(), OutOfMemory>
     ensures { OnOk result (out.new.items ≡ out.old.items ++ flat_map (escaped bytes) codes.now) }
@@ -109,7 +109,7 @@ fn push_all_escaped(out: &mut Vec<u8>, bytes: bool, codes: &[u32]) -> Result<(),
     Ok(())
 }
 
-/// Puts the codes themselves behind the others.
+/// Appends the codes themselves.
 #[tactic(auto, using(crate::proofs::Quotes::pieces))]
 fn push_all_plain(out: &mut Vec<u8>, codes: &[u32]) -> Result<(), OutOfMemory>
     requires { IsTrue (list_all is_plain codes.now) }
@@ -161,7 +161,7 @@ fn push_prefix(out: &mut Vec<u8>, bytes: bool) -> Result<(), OutOfMemory>
     Ok(())
 }
 
-/// Puts the opening quote and what stands behind it, up to the closing one, behind the others.
+/// Appends the opening quote and what stands behind it, up to the closing one.
 fn push_quoted_body(out: &mut Vec<u8>, bytes: bool, codes: &[u32]) -> Result<(), OutOfMemory>
     ensures { OnOk result (out.new.items ≡ out.old.items ++ quoted_body (is_raw codes.now) bytes codes.now) }
 {
@@ -179,7 +179,7 @@ fn push_quoted_body(out: &mut Vec<u8>, bytes: bool, codes: &[u32]) -> Result<(),
 /// that its value is the text again.
 ///
 /// # Errors
-/// [`OutOfMemory`] where memory was refused.
+/// [`OutOfMemory`] when out of memory.
 #[tactic(auto, unfolding(crate::specs::Quoting::quoted))]
 pub fn quote(alloc: Global, codes: &Codes, universe: Universe) -> Result<Bytes, OutOfMemory>
     requires { IsText universe codes.now }

@@ -76,7 +76,7 @@ fn body_of(text: &[u8]) -> &[u8]
     &text[body_start(text)..end]
 }
 
-/// Puts the value of a literal whose text begins at a place behind the others.
+/// Appends the value of a literal whose text begins at a place.
 #[tactic(auto, unfolding(crate::specs::Runs::literal_value))]
 fn push_literal(
     alloc: Global,
@@ -98,7 +98,7 @@ fn push_literal(
     push_body(out, raw, bytes, first, body.as_slice())
 }
 
-/// Puts the value of a token behind the others.
+/// Appends the value of a token.
 #[tactic(auto, using(crate::proofs::Bodies::refusals, crate::proofs::Bounds::bounds))]
 fn push_token(
     alloc: Global,
@@ -119,7 +119,7 @@ fn push_token(
     push_literal(alloc, out, bytes, token.from, text_of(source, token))
 }
 
-/// Puts the value of the first of the tokens behind the others.
+/// Appends the value of the first of the tokens.
 #[tactic(auto, using(crate::proofs::Bodies::fronts))]
 fn push_front(
     alloc: Global,
@@ -140,7 +140,7 @@ fn push_front(
     Ok(())
 }
 
-/// Puts the values of the tokens behind the others.
+/// Appends the values of the tokens.
 #[tactic(auto, using(crate::proofs::Bodies::runs))]
 fn push_values(
     alloc: Global,
@@ -277,7 +277,7 @@ fn run_of(tokens: &TokenList, first: u32, count: u32) -> &[Token]
 /// - [`StrError::Mixed`] exactly where one has a `b` in its prefix and another has none
 /// - [`StrError::BadEscape`] or [`StrError::NamedEscape`], with the place of its backslash, or [`StrError::NotAscii`],
 ///   with its own place, exactly where such an escape, or a code from 0x80 in bytes, is the first of these by place
-/// - [`StrError::OutOfMemory`] where memory was refused
+/// - [`StrError::OutOfMemory`] when out of memory
 #[tactic(auto, using(crate::proofs::Ends::ends))]
 pub fn value(
     alloc: Global,

@@ -3,7 +3,6 @@ use Rattle.std.proofs.Common.{Bool, List, Some, [], ap, ap₂, arith, false, get
 use Rattle.std.proofs.Math.Bool.{beq}
 use Rattle.std.proofs.lemmas.Bool.{and_from, and_parts, both_ways, cases_Bool, cases_eq, eq-eqb, le-leb, ne_eqb}
 use Rattle.std.proofs.lemmas.Bool.Decides.{nat_tests}
-use Rattle.std.proofs.lemmas.Grind.{pieces}
 use Rattle.std.proofs.lemmas.List.Edits.{sets}
 use Rattle.std.proofs.lemmas.Option.{slice_get-get_or}
 use Rattle.std.specs.List.{list_any}
@@ -11,9 +10,10 @@ use Rattle.std.specs.Prelude.{if◌then◌else◌}
 use Rattle.rl_ranges.proofs.FirstsLemmas.{IsLikeness, firsts-below, firsts-congr, firsts-finer, firsts-rising, firsts-zero, number-hit, number-least, number-lt, number-of_first, number-only, number-same, piece-new, place-same}
 use Rattle.rl_ranges.proofs.SetLemmas.{and-true, and_assoc}
 use Rattle.rl_ranges.specs.Building.{range_at}
+use Rattle.rl_ranges.specs.Codes.{has}
 use Rattle.rl_ranges.specs.Letters.{IsLetters, IsPlain, LetterTable, alike, class_of, classes, letter_at, letter_from, place_where}
 use Rattle.rl_ranges.specs.Numbering.{IsNumbered, firsts, same_value}
-use Rattle.rl_ranges.specs.internal.Splitting.{IsPreferred, TellsApart}
+use Rattle.rl_ranges.specs.internal.Splitting.{IsPreferred, TellsApart, value_in}
 
 beq-same : (x : Bool) → beq x x ≡ true
 beq-same true = refl
@@ -159,42 +159,40 @@ TellsApart-none n some stretches least s_is l_is =
       same_number = λ c c_in. rw (s_is, all) (ap (λ b. if b then 0 else 0) (le-leb 0 c (omega arith)));
     }
 
--- the pieces of the letters and of one more set are told apart as the sets with that one tell
-pub pieces_tell : (sets : List (ℕ → Bool)) (s : ℕ → Bool) (n : ℕ) (stretches held pieces : List (ℕ × ℕ)) (least : List ℕ) → TellsApart stretches least sets n
-    → ((c : ℕ) → c < n → letter_from 0 held c ≡ (if s c then 1 else 0)) → ((c : ℕ) → letter_from 0 pieces c ≡ 2 * letter_from 0 stretches c + letter_from 0 held c)
-    → (c d : ℕ) → c < n → d < n → same_value pieces c d ≡ alike (sets ++ s ∷ []) c d
-pieces_tell sets s n stretches held pieces least t held_is pieces_is c d hc hd =
+-- the numbers and one more set are told apart as the sets with that one tell
+pub values_tell : (sets : List (ℕ → Bool)) (s : List (ℕ × ℕ)) (n : ℕ) (stretches : List (ℕ × ℕ)) (least : List ℕ) → TellsApart stretches least sets n
+    → (c d : ℕ) → c < n → d < n → same_value (value_in stretches s) c d ≡ alike (sets ++ has s ∷ []) c d
+values_tell sets s n stretches least t c d hc hd =
     ap₂ (λ x y. x == y)
-    (pieces_is c ∙ ap₂ (λ x y. 2 * x + y) (t.same_number c hc) (held_is c hc))
-    (pieces_is d ∙ ap₂ (λ x y. 2 * x + y) (t.same_number d hd) (held_is d hd))
-    ∙ pair_tells _ _ (s c) (s d)
-    ∙ ap (λ b. b && beq (s c) (s d)) (number-tells sets n c d hc hd)
-    ∙ sym (alike-push sets s c d)
+    (ap (λ x. 2 * x + (if has s c then 1 else 0)) (t.same_number c hc))
+    (ap (λ x. 2 * x + (if has s d then 1 else 0)) (t.same_number d hd))
+    ∙ pair_tells _ _ (has s c) (has s d)
+    ∙ ap (λ b. b && beq (has s c) (has s d)) (number-tells sets n c d hc hd)
+    ∙ sym (alike-push sets (has s) c d)
 
-pub TellsApart-more : (sets : List (ℕ → Bool)) (s : ℕ → Bool) (n : ℕ) (stretches held pieces stretches' : List (ℕ × ℕ)) (least least' : List ℕ) → TellsApart stretches least sets n
-    → ((c : ℕ) → c < n → letter_from 0 held c ≡ (if s c then 1 else 0)) → ((c : ℕ) → letter_from 0 pieces c ≡ 2 * letter_from 0 stretches c + letter_from 0 held c)
-    → IsNumbered pieces n stretches' least' → TellsApart stretches' least' (sets ++ s ∷ []) n
-TellsApart-more sets s n stretches held pieces stretches' least least' t held_is pieces_is h =
-    let tell = pieces_tell sets s n stretches held pieces least t held_is pieces_is in
-    let same = firsts-congr (same_value pieces) (alike (sets ++ s ∷ [])) n tell in
-    let all : least' ≡ firsts (alike (sets ++ s ∷ [])) n = h.same_firsts ∙ same in
+pub TellsApart-more : (sets : List (ℕ → Bool)) (s : List (ℕ × ℕ)) (n : ℕ) (stretches stretches' : List (ℕ × ℕ)) (least least' : List ℕ) → TellsApart stretches least sets n
+    → IsNumbered (value_in stretches s) n stretches' least' → TellsApart stretches' least' (sets ++ has s ∷ []) n
+TellsApart-more sets s n stretches stretches' least least' t h =
+    let more = sets ++ has s ∷ [] in
+    let tell = values_tell sets s n stretches least t in
+    let same = firsts-congr (same_value (value_in stretches s)) (alike more) n tell in
+    let all : least' ≡ firsts (alike more) n = h.same_firsts ∙ same in
     record {
       covers = h.covers;
       below = h.below;
       few = h.few;
       same_firsts = all;
-      same_number = λ c c_in. h.same_number c c_in ∙ ap (place_where (same_value pieces c)) all
-          ∙ place-same (same_value pieces c) (alike (sets ++ s ∷ []) c) (firsts (alike (sets ++ s ∷ [])) n)
-          (λ k k_in. tell c (get_or (firsts (alike (sets ++ s ∷ [])) n) k 0) c_in (firsts-below (alike (sets ++ s ∷ [])) n k k_in));
+      same_number = λ c c_in. h.same_number c c_in ∙ ap (place_where (same_value (value_in stretches s) c)) all
+          ∙ place-same (same_value (value_in stretches s) c) (alike more c) (firsts (alike more) n)
+          (λ k k_in. tell c (get_or (firsts (alike more) n) k 0) c_in (firsts-below (alike more) n k k_in));
     }
 
--- too many pieces are too many letters
-pub pieces_many : (sets : List (ℕ → Bool)) (s : ℕ → Bool) (n : ℕ) (stretches held pieces : List (ℕ × ℕ)) (least : List ℕ) → TellsApart stretches least sets n
-    → ((c : ℕ) → c < n → letter_from 0 held c ≡ (if s c then 1 else 0)) → ((c : ℕ) → letter_from 0 pieces c ≡ 2 * letter_from 0 stretches c + letter_from 0 held c)
-    → 128 < length (firsts (same_value pieces) n) → 128 < length (classes (sets ++ s ∷ []) n)
-pieces_many sets s n stretches held pieces least t held_is pieces_is many =
-    let same = firsts-congr (same_value pieces) (alike (sets ++ s ∷ [])) n (pieces_tell sets s n stretches held pieces least t held_is pieces_is) in
-    omega (arith, ap length same, ap length (classes-firsts (sets ++ s ∷ []) n))
+-- too many values are too many letters
+pub values_many : (sets : List (ℕ → Bool)) (s : List (ℕ × ℕ)) (n : ℕ) (stretches : List (ℕ × ℕ)) (least : List ℕ) → TellsApart stretches least sets n
+    → 128 < length (firsts (same_value (value_in stretches s)) n) → 128 < length (classes (sets ++ has s ∷ []) n)
+values_many sets s n stretches least t many =
+    let same = firsts-congr (same_value (value_in stretches s)) (alike (sets ++ has s ∷ [])) n (values_tell sets s n stretches least t) in
+    omega (arith, ap length same, ap length (classes-firsts (sets ++ has s ∷ []) n))
 
 -- the finished table
 pub IsLetters-from : (sets : List (ℕ → Bool)) (n : ℕ) (t : LetterTable) (least : List ℕ) → TellsApart t.stretches least sets n → t.codes ≡ n → 126 < n → length t.samples ≡ length least

@@ -1,10 +1,11 @@
 -- The order in which sets are taken doesn't count for their letters: those of few ranges may come first.
-use Rattle.std.proofs.Common.{Bool, List, [], ap, arith, drop, false, get_or, length, map, refl, subst, sym, take, true, ℕ, ◌&&◌, ◌++◌, ◌+◌, ◌<◌, ◌∙◌, ◌∷◌, ◌≡◌}
+use Rattle.std.proofs.Common.{Bool, List, [], ap, arith, drop, false, get_or, le_of_suc-le-suc, length, map, refl, subst, suc, sym, take, true, zero, ℕ, ◌&&◌, ◌++◌, ◌+◌, ◌<◌, ◌∙◌, ◌∷◌, ◌≡◌, ◌≤◌}
 use Rattle.std.specs.Prelude.{if◌then◌else◌}
 use Rattle.std.proofs.Math.Bool.{beq}
+use Rattle.std.proofs.lemmas.Bool.{and_parts}
 use Rattle.std.proofs.lemmas.List.{append_assoc, take-append-drop, take_more}
 use Rattle.rl_ranges.proofs.FirstsLemmas.{firsts-congr, place-same}
-use Rattle.rl_ranges.proofs.LetterLemmas.{alike-append, classes-append, classes-firsts}
+use Rattle.rl_ranges.proofs.LetterLemmas.{alike-append, alike-push, classes-append, classes-firsts}
 use Rattle.rl_ranges.specs.Codes.{has}
 use Rattle.rl_ranges.specs.Letters.{alike, classes, place_where}
 use Rattle.rl_ranges.specs.Numbering.{firsts}
@@ -77,6 +78,37 @@ picked-passed wide sets k s lt at isnt =
 
 pub picked-rest : (wide : Bool) (sets : List (List (ℕ × ℕ))) (k : ℕ) → picked wide (take k sets) ++ picked wide (drop k sets) ≡ picked wide sets
 picked-rest wide sets k = sym (picked-append wide (take k sets) (drop k sets)) ∙ ap (picked wide) (take-append-drop k sets)
+
+-- a set that stands among those that were picked splits nothing
+pub picked-splits : (wide : Bool) (sets : List (List (ℕ × ℕ))) (k n : ℕ) (s : List (ℕ × ℕ)) (c d : ℕ) → k < n → n ≤ length sets → get_or sets k [] ≡ s → beq (is_wide s) wide ≡ true
+    → alike (picked wide (take n sets)) c d ≡ true → beq (has s c) (has s d) ≡ true
+picked-splits wide [] k n s c d kn n_in at is h = absurd (omega arith)
+picked-splits wide (x ∷ sets) k zero s c d kn n_in at is h = absurd (omega arith)
+picked-splits wide (x ∷ sets) zero (suc n) s c d kn n_in at is h =
+    let known : alike (has x ∷ picked wide (take n sets)) c d ≡ true =
+    subst (λ b. alike (if b then (has x ∷ picked wide (take n sets)) else picked wide (take n sets)) c d ≡ true) (ap (λ y. beq (is_wide y) wide) at ∙ is) h in
+    subst (λ y. beq (has y c) (has y d) ≡ true) at (and_parts (beq (has x c) (has x d)) (alike (picked wide (take n sets)) c d) known).0
+picked-splits wide (x ∷ sets) (suc k) (suc n) s c d kn n_in at is h =
+    picked-splits wide sets k n s c d (le_of_suc-le-suc kn) (le_of_suc-le-suc n_in) at is (rest (beq (is_wide x) wide) h)
+  where
+    rest : (b : Bool) → alike (if b then (has x ∷ picked wide (take n sets)) else picked wide (take n sets)) c d ≡ true → alike (picked wide (take n sets)) c d ≡ true
+    rest true all = (and_parts (beq (has x c) (has x d)) (alike (picked wide (take n sets)) c d) all).1
+    rest false all = all
+
+-- one more set that splits nothing
+alike-known : (xs : List (ℕ → Bool)) (s : ℕ → Bool) (c d : ℕ) → (alike xs c d ≡ true → beq (s c) (s d) ≡ true) → alike (xs ++ s ∷ []) c d ≡ alike xs c d
+alike-known xs s c d h = alike-push xs s c d ∙ step (alike xs c d) (beq (s c) (s d)) h
+  where
+    step : (a b : Bool) → (a ≡ true → b ≡ true) → (a && b) ≡ a
+    step true b h = h refl
+    step false b h = refl
+
+pub tells-known : (more : List (ℕ → Bool)) (s : ℕ → Bool) (n : ℕ) (a b : List (ℕ × ℕ)) (j k : List ℕ) → ((c d : ℕ) → alike more c d ≡ true → beq (s c) (s d) ≡ true)
+    → TellsMore a j b k more n → TellsMore a j b k (more ++ s ∷ []) n
+tells-known more s n a b j k splits told sets t =
+    let known : (c d : ℕ) → alike (sets ++ more) c d ≡ alike ((sets ++ more) ++ s ∷ []) c d =
+    λ c d. sym (alike-known (sets ++ more) s c d (λ h. splits c d (and_parts (alike sets c d) (alike more c d) (sym (alike-append sets more c d) ∙ h)).1)) in
+    subst (λ x. TellsApart b k x n) (append_assoc sets more (s ∷ [])) (TellsApart-congr (sets ++ more) ((sets ++ more) ++ s ∷ []) n b k known (told sets t))
 
 -- no more sets
 pub tells-none : (n : ℕ) (a : List (ℕ × ℕ)) (j : List ℕ) → TellsMore a j a j [] n

@@ -1,5 +1,5 @@
 -- The value of a code in a list of stretches.
-use Rattle.std.proofs.Common.{Bool, List, [], ap, arith, false, inl, inr, le_of_suc-le-suc, length, nat_le, not-suc-le-zero, refl, suc, suc-le-suc, take, true, zero, zero-lt-suc, ℕ, ◌++◌, ◌+◌, ◌-◌, ◌<◌, ◌∙◌, ◌∷◌, ◌≡◌, ◌≤◌}
+use Rattle.std.proofs.Common.{List, [], ap, arith, inl, inr, le_of_suc-le-suc, length, nat_le, not-suc-le-zero, refl, suc, suc-le-suc, take, zero, zero-lt-suc, ℕ, ◌++◌, ◌+◌, ◌-◌, ◌<◌, ◌∙◌, ◌∷◌, ◌≡◌, ◌≤◌}
 use Rattle.std.proofs.lemmas.Bool.{cases_lt, le-leb, lt-leb}
 use Rattle.std.proofs.lemmas.List.{get_or_append_left, get_or_at, length_push, take_more}
 use Rattle.std.specs.Prelude.{if◌then◌else◌}
@@ -59,8 +59,3 @@ Covers-push xs count at value h last inside =
             omega (arith, ap (λ i. (range_at (xs ++ (at, value) ∷ []) i).0) is, ap (λ (r : ℕ × ℕ). r.0) new)
       ];
     }
-
--- a stretch that replaces one with the same first code
-pub replaced : (b : Bool) (new old rest : ℕ) → (if b then new else rest) ≡ (if b then new else (if b then old else rest))
-replaced true new old rest = refl
-replaced false new old rest = refl

@@ -9,9 +9,9 @@ unfoldable pub firsts : (ℕ → ℕ → Bool) → ℕ → List ℕ
 firsts like zero = []
 firsts like (suc n) = let l = firsts like n in if list_any (like n) l then l else l ++ n ∷ []
 
--- the two codes have one value in the stretches, which are pairs of a first code and a value
-abbrev pub same_value : List (ℕ × ℕ) → ℕ → ℕ → Bool
-same_value stretches c d = letter_from 0 stretches c == letter_from 0 stretches d
+-- the two codes have one value
+abbrev pub same_value : (ℕ → ℕ) → ℕ → ℕ → Bool
+same_value value c d = value c == value d
 
 -- the stretches begin at 0 and come one after the other, each below `count`
 pub record Covers (stretches : List (ℕ × ℕ)) (count : ℕ) : Type 0 where
@@ -24,14 +24,13 @@ pub record Covers (stretches : List (ℕ × ℕ)) (count : ℕ) : Type 0 where
 abbrev pub ValuesBelow : ℕ → List (ℕ × ℕ) → Type 0
 ValuesBelow m stretches = (k : ℕ) → k < length stretches → (range_at stretches k).1 < m
 
--- the numbers of the codes below `count` by the values of the pieces: each number's least code, and the stretches of the codes
--- of one number
-pub record IsNumbered (pieces : List (ℕ × ℕ)) (count : ℕ) (stretches : List (ℕ × ℕ)) (least : List ℕ) : Type 0 where
+-- the numbers of the codes below `count` by their values: each number's least code, and the stretches of the codes of one number
+pub record IsNumbered (value : ℕ → ℕ) (count : ℕ) (stretches : List (ℕ × ℕ)) (least : List ℕ) : Type 0 where
   pub covers : Covers stretches count
   pub below : ValuesBelow (length least) stretches
   pub few : length least ≤ 128
-  pub same_firsts : least ≡ firsts (same_value pieces) count
-  pub same_number : (c : ℕ) → c < count → letter_from 0 stretches c ≡ place_where (same_value pieces c) least
+  pub same_firsts : least ≡ firsts (same_value value) count
+  pub same_number : (c : ℕ) → c < count → letter_from 0 stretches c ≡ place_where (same_value value c) least
 
 -- what holds of every table of letters
 pub record IsTable (codes : ℕ) (stretches : List (ℕ × ℕ)) (samples : List ℕ) : Type 0 where

@@ -1,15 +1,15 @@
 //! The letters of a list of sets: codes that no set of the list tells apart are one letter.
 
-ghost use Rattle.std.specs.Prelude.{◌≡◌, ◌<◌, ◌≤◌, ℕ, All, IfOk, IfErr, [], ◌∷◌, length, map, slice_index_or};
+ghost use Rattle.std.specs.Prelude.{◌≡◌, ◌<◌, ◌≤◌, ℕ, All, IfOk, IfErr, [], ◌∷◌, length, map, slice_index_or, true};
 ghost use Rattle.rl_ranges.specs.Text.{code_count};
 ghost use Rattle.rl_ranges.specs.Codes.{has, IsInside};
 ghost use Rattle.rl_ranges.specs.Letters.{LetterTable, IsLetters, classes, letter_at};
 ghost use Rattle.rl_ranges.specs.Numbering.{Covers, ValuesBelow, IsTable};
 ghost use Rattle.rl_ranges.specs.internal.Splitting.{IsPreferred, TellsMore, HasTooMany};
-ghost use Rattle.rl_ranges.specs.internal.Order.{is_wide, picked};
+ghost use Rattle.rl_ranges.specs.internal.Order.{is_wide, picked, StandsBefore};
 
 use crate::code_set::CodeSet;
-use crate::stretches::{Numbering, edges, numbered, value_at, zipped};
+use crate::stretches::{Numbering, split, stretch_before, value_at};
 use crate::universe::Universe;
 use rl_lists::OutOfMemory;
 use std::alloc::{AllocError, AllocFailed, Global};
@@ -20,7 +20,7 @@ use std::marker::Model;
 pub enum LettersError {
     /// There are more than 128 letters.
     TooMany,
-    /// Memory was refused.
+    /// Out of memory.
     OutOfMemory,
 }
 
@@ -143,6 +143,27 @@ fn is_wide(set: &CodeSet) -> bool
     set.as_ranges().len() > 32
 }
 
+/// How many of the sets that were taken are remembered.
+const SLOTS: usize = 128;
+
+/// Where a set that was taken is remembered.
+fn slot_of(set: &CodeSet) -> usize
+    ensures { result < 128 }
+{
+    match set.first_code() {
+        Some(code) => (code as usize + set.as_ranges().len()) % SLOTS,
+        None => 0,
+    }
+}
+
+/// Whether the set stands in the list, as the last one of so many.
+fn stands_before(sets: &Vec<CodeSet>, count: usize, set: &CodeSet) -> bool
+    requires { count ≤ length sets.now.items }
+    ensures { result ≡ true → StandsBefore sets.now.items count set.now }
+{
+    count > 0 && sets[count - 1].as_ranges() == set.as_ranges()
+}
+
 /// The numbering that tells codes apart where the known one does, or where the set holds one of them alone.
 ///
 /// # Errors
@@ -161,10 +182,7 @@ fn refined(
     ensures too_many { IfErr result (λ e. e ≡ LettersError.TooMany
         → HasTooMany known.now.stretches.items known.now.least.items (has set.now ∷ []) (code_count universe)) }
 {
-    let count = universe.count();
-    let held = edges(alloc, set.as_ranges(), count)?;
-    let pieces = zipped(alloc, &known.stretches, &held, count)?;
-    numbered(alloc, &pieces, 2 * known.least.len(), count)
+    split(alloc, known, set.as_ranges(), universe.count())
 }
 
 /// The numbering refined by the sets of a list that are wide, or by those that aren't.
@@ -187,9 +205,13 @@ fn refined_by(
         → HasTooMany first.stretches.items first.least.items (picked wide sets.now.items) (code_count universe)) }
 {
     let mut known = first;
-    for set in sets {
-        if is_wide(set) == wide {
+    // a set that stands in the list again splits nothing: of the last one in each slot the place is kept, counted from 1
+    let mut taken = [0; SLOTS];
+    for place in 0..sets.len() {
+        let set = &sets[place];
+        if is_wide(set) == wide && !stands_before(sets, taken[slot_of(set)], set) {
             known = refined(alloc, &known, set, universe)?;
+            taken[slot_of(set)] = place + 1;
         }
     }
     Ok(known)
@@ -203,9 +225,10 @@ fn prefer_plain(samples: &mut Vec<u32>, stretches: &[(u32, u32)])
     ensures each { (k : ℕ) → k < length samples.old.items → IsPreferred stretches.now 32 k
         (slice_index_or samples.old.items k 0) (slice_index_or samples.new.items k 0) }
 {
+    let mut place = stretches.len() - 1;
     for back in 0..95 {
         let code = 126 - back;
-        let value = value_at(stretches, code);
-        samples[value as usize] = code;
+        place = stretch_before(stretches, place, code);
+        samples[stretches[place].1 as usize] = code;
     }
 }

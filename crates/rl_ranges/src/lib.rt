@@ -8,8 +8,6 @@ pub mod named;
 mod ranges;
 mod stretches;
 mod tables;
-#[cfg(test)]
-mod tests;
 pub mod universe;
 
 pub use code_set::CodeSet;

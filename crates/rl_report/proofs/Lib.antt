@@ -5,4 +5,3 @@ pub mod Ascii
 mod CountLemmas
 mod ValueLemmas
 mod NoFloats
-mod TestLemmas

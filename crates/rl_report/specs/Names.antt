@@ -63,7 +63,7 @@ limit_number max_pairs limit.Moves = 256
 limit_number max_pairs limit.Sets = 20000
 limit_number max_pairs limit.Pairs = max_pairs
 
--- why a source has no tokens. Want of memory is no outcome
+-- why a source has no tokens. Out of memory is no outcome
 abbrev pub lexing_cause : LexError → Text
 lexing_cause (lex_error.NotUtf8 n) = codes "not-utf8"
 lexing_cause (lex_error.Coding p) = codes "coding"

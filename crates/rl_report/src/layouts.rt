@@ -44,7 +44,7 @@ fn laid_out(
 /// the live pairs.
 ///
 /// # Errors
-/// [`OutOfMemory`] where memory was refused.
+/// [`OutOfMemory`] when out of memory.
 pub fn render(
     alloc: Global,
     entries: &Entries,
@@ -70,7 +70,7 @@ pub fn render(
 /// in the last line. JSON doesn't show that number.
 ///
 /// # Errors
-/// [`OutOfMemory`] where memory was refused.
+/// [`OutOfMemory`] when out of memory.
 pub fn render_shown(
     alloc: Global,
     entries: &Entries,

@@ -20,6 +20,3 @@ pub use names::{
 pub use places::{Cursor, Place, place_of};
 pub use report::{Entries, Entry, Mark, MarkList, Marks, Outcome};
 pub use verdicts::{family_line, verdict_line};
-
-#[cfg(test)]
-mod tests;

@@ -106,7 +106,7 @@ fn push_outcome(
     }
 }
 
-/// Puts the head line of an entry behind the others.
+/// Appends the head line of an entry.
 fn push_head(
     alloc: Global,
     out: &mut Vec<u8>,
@@ -261,7 +261,7 @@ fn push_family_of(
     }
 }
 
-/// Puts the detail lines of an entry behind the others.
+/// Appends the detail lines of an entry.
 fn push_details(
     alloc: Global,
     out: &mut Vec<u8>,
@@ -286,7 +286,7 @@ fn push_details(
     Ok(())
 }
 
-/// Puts the head line and the detail lines of an entry behind the others.
+/// Appends the head line and the detail lines of an entry.
 fn push_entry(
     alloc: Global,
     out: &mut Vec<u8>,
@@ -366,7 +366,7 @@ fn push_counts(
     push_text(out, text.as_str())
 }
 
-/// Puts the last line of a report behind the others.
+/// Appends the last line of a report.
 fn push_last(
     alloc: Global,
     out: &mut Vec<u8>,
@@ -419,7 +419,7 @@ pub fn text_report(
 /// are undecided. A degree above `max_degree` is a finding.
 ///
 /// # Errors
-/// [`OutOfMemory`] where memory was refused.
+/// [`OutOfMemory`] when out of memory.
 pub fn summary_line(alloc: Global, entries: &Entries, max_degree: u32) -> Result<Bytes, OutOfMemory>
     ensures { IfOk result (λ bytes. bytes ≡ last_line max_degree None entries.now) }
 {

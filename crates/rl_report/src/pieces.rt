@@ -11,7 +11,7 @@ use rl_pystr::quote;
 use rl_syntax::Universe;
 use std::alloc::Global;
 
-/// Puts a text behind the others.
+/// Appends a text.
 pub fn push_text(out: &mut Vec<u8>, text: &str) -> Result<(), OutOfMemory>
     ensures { OnOk result (out.new.items ≡ out.old.items ++ text.now) }
 {
@@ -19,7 +19,7 @@ pub fn push_text(out: &mut Vec<u8>, text: &str) -> Result<(), OutOfMemory>
     Ok(())
 }
 
-/// Puts a number behind the others.
+/// Appends a number.
 pub fn push_number(alloc: Global, out: &mut Vec<u8>, number: usize) -> Result<(), OutOfMemory>
     ensures { OnOk result (out.new.items ≡ out.old.items ++ decimal number) }
 {
@@ -27,7 +27,7 @@ pub fn push_number(alloc: Global, out: &mut Vec<u8>, number: usize) -> Result<()
     push_text(out, text.as_str())
 }
 
-/// Puts a line and a column behind the others.
+/// Appends a line and a column.
 pub fn push_place(alloc: Global, out: &mut Vec<u8>, place: Place) -> Result<(), OutOfMemory>
     ensures { OnOk result (out.new.items ≡ out.old.items ++ place_text place) }
 {
@@ -37,7 +37,7 @@ pub fn push_place(alloc: Global, out: &mut Vec<u8>, place: Place) -> Result<(), 
     push_text(out, text.as_str())
 }
 
-/// Puts a quoted text behind the others.
+/// Appends a quoted text.
 pub fn push_quoted(
     alloc: Global,
     out: &mut Vec<u8>,

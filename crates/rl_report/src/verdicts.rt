@@ -10,7 +10,7 @@ use rl_lists::{Bytes, Codes, OutOfMemory};
 use rl_syntax::{Family, Limit, Universe, Verdict};
 use std::alloc::Global;
 
-/// Puts the name and the number of a limit that was passed behind the others.
+/// Appends the name and the number of a limit that was passed.
 fn push_limit(
     alloc: Global,
     out: &mut Vec<u8>,
@@ -26,7 +26,7 @@ fn push_limit(
     Ok(())
 }
 
-/// Puts a verdict behind the others.
+/// Appends a verdict.
 pub fn push_verdict(
     alloc: Global,
     out: &mut Vec<u8>,
@@ -46,7 +46,7 @@ pub fn push_verdict(
     }
 }
 
-/// Puts a head or a pump with its letter and its number behind the others.
+/// Appends a head or a pump with its letter and its number.
 fn push_part(
     alloc: Global,
     out: &mut Vec<u8>,
@@ -66,7 +66,7 @@ fn push_part(
     Ok(())
 }
 
-/// Puts the pumps and the heads behind them behind the others, numbered from 1.
+/// Appends the pumps and the heads behind them, numbered from 1.
 #[tactic(auto, using(crate::proofs::FamilyLemmas::parts))]
 fn push_later_parts(
     alloc: Global,
@@ -86,7 +86,7 @@ fn push_later_parts(
     Ok(())
 }
 
-/// Puts the heads and pumps of a family behind the others.
+/// Appends the heads and pumps of a family.
 fn push_parts(
     alloc: Global,
     out: &mut Vec<u8>,
@@ -108,7 +108,7 @@ fn push_parts(
     }
 }
 
-/// Puts the line of a family behind the others.
+/// Appends the line of a family.
 pub fn push_family(
     alloc: Global,
     out: &mut Vec<u8>,
@@ -133,7 +133,7 @@ pub fn push_family(
 /// The line of a verdict: `degree D`, `exponential` or `undecided L over N`, and a line feed.
 ///
 /// # Errors
-/// [`OutOfMemory`] where memory was refused.
+/// [`OutOfMemory`] when out of memory.
 pub fn verdict_line(alloc: Global, verdict: &Verdict, max_pairs: u32) -> Result<Bytes, OutOfMemory>
     ensures { IfOk result (λ line. line ≡ verdict_text max_pairs verdict.now ++ codes "\n") }
 {
@@ -147,7 +147,7 @@ pub fn verdict_line(alloc: Global, verdict: &Verdict, max_pairs: u32) -> Result<
 /// ` x1` and so on with the quoted text, and a line feed.
 ///
 /// # Errors
-/// [`OutOfMemory`] where memory was refused.
+/// [`OutOfMemory`] when out of memory.
 pub fn family_line(alloc: Global, family: &Family, universe: Universe) -> Result<Bytes, OutOfMemory>
     requires { IsFamilyOf universe family.now }
     ensures { IfOk result (λ line. line ≡ family_text_line universe family.now) }

@@ -1,17 +1,15 @@
 -- A tree with fewer alternatives tells no more codes apart.
-use Rattle.std.proofs.Common.{◌≡◌, ◌⊎◌, ℕ, zero, suc, ◌≤◌, Bool, true, false, ◌&&◌, if◌then◌else◌, List, [], ◌∷◌, ◌++◌, length, refl, sym, ap, ◌∙◌, subst, true≢false}
+use Rattle.std.proofs.Common.{◌≡◌, ℕ, ◌≤◌, Bool, true, false, ◌&&◌, List, [], ◌∷◌, ◌++◌, length, refl, sym, ap, ◌∙◌}
 use Rattle.std.proofs.Math.Bool.{beq}
-use Rattle.std.specs.List.{list_any}
-use Rattle.std.proofs.lemmas.Bool.{cases_Bool}
-use mathlib.Core.Logic.{inl, inr, ⊎_elim}
 use Rattle.rl_ranges.specs.declared.universe.Universe.{Universe}
 use Rattle.rl_ranges.specs.Letters.{alike, classes}
 use Rattle.rl_ranges.specs.Text.{code_count}
 use Rattle.rl_ranges.proofs.FirstsLemmas.{firsts-finer}
 use Rattle.rl_ranges.proofs.LetterLemmas.{classes-firsts, IsLikeness-alike}
-use Rattle.rl_syntax.specs.Tree.{Tree, empty, one, guard, both, either, many, sets_in, guard_sets}
+use Rattle.rl_syntax.specs.Tree.{Tree, sets_in, guard_sets}
 use Rattle.rl_prio.specs.Letters.{all_sets}
-use Rattle.rl_equiv.specs.SetPairs.{joint_sets, joint_letters}
+use Rattle.rl_equiv.specs.SetPairs.{joint_letters}
+use Rattle.rl_equiv.proofs.BaseLaws.{joint-known}
 use Rattle.rl_rewrite.proofs.Fewer.{Fewer, same_tree, in_both, in_either, in_many, first_goes, second_goes, and_first, and_second}
 
 both_hold : (a b : Bool) → a ≡ true → b ≡ true → (a && b) ≡ true
@@ -50,25 +48,14 @@ guards_fewer (in_many h) c d x = guards_fewer h c d x
 guards_fewer (first_goes {e = e} {f = f} h) c d x = guards_fewer h c d (and_second (alike (guard_sets e) c d) (alike (guard_sets f) c d) (sym (join_alike (guard_sets e) (guard_sets f) c d) ∙ x))
 guards_fewer (second_goes {e = e} {f = f} h) c d x = guards_fewer h c d (and_first (alike (guard_sets e) c d) (alike (guard_sets f) c d) (sym (join_alike (guard_sets e) (guard_sets f) c d) ∙ x))
 
-all_fewer : {s t : Tree} → Fewer s t → (c d : ℕ) → alike (all_sets t) c d ≡ true → alike (all_sets s) c d ≡ true
+pub all_fewer : {s t : Tree} → Fewer s t → (c d : ℕ) → alike (all_sets t) c d ≡ true → alike (all_sets s) c d ≡ true
 all_fewer {s} {t} h c d x =
     let y = sym (join_alike (sets_in t) (guard_sets t) c d) ∙ x in
     join_alike (sets_in s) (guard_sets s) c d ∙ both_hold (alike (sets_in s) c d) (alike (guard_sets s) c d) (sets_fewer h c d (and_first (alike (sets_in t) c d) (alike (guard_sets t) c d) y)) (guards_fewer h c d (and_second (alike (sets_in t) c d) (alike (guard_sets t) c d) y))
 
-same_alike : {s t : Tree} → Fewer s t → (c d : ℕ) → alike (joint_sets t s) c d ≡ alike (all_sets t) c d
-same_alike {s} {t} h c d = join_alike (all_sets t) (all_sets s) c d ∙ ⊎_elim (λ (z : alike (all_sets t) c d ≡ true). ap (λ b. b && alike (all_sets s) c d) z ∙ all_fewer h c d z ∙ sym z) (λ (z : alike (all_sets t) c d ≡ false). ap (λ b. b && alike (all_sets s) c d) z ∙ sym z) (cases_Bool (alike (all_sets t) c d))
-
-same_classes : (xs ys : List (ℕ → Bool)) → ((c d : ℕ) → alike xs c d ≡ alike ys c d) → (n : ℕ) → classes xs n ≡ classes ys n
-unfolding classes
-same_classes xs ys f zero = refl
-same_classes xs ys f (suc n) =
-    let e : alike xs n ≡ alike ys n = λ i d. f n d i in
-    let r = same_classes xs ys f n in
-    ap (λ l. if list_any (alike xs n) l then l else l ++ n ∷ []) r ∙ ap (λ g. if list_any g (classes ys n) then classes ys n else classes ys n ++ n ∷ []) e
-
 -- the letters of both are those of the greater tree
 pub joint_fewer : (u : Universe) {s t : Tree} → Fewer s t → joint_letters u t s ≡ classes (all_sets t) (code_count u)
-joint_fewer u {s} {t} h = same_classes (joint_sets t s) (all_sets t) (same_alike h) (code_count u)
+joint_fewer u {s} {t} h = joint-known u t s (all_fewer h)
 
 -- and it has no more letters
 pub letters_fewer : (n : ℕ) {s t : Tree} → Fewer s t → length (classes (all_sets s) n) ≤ length (classes (all_sets t) n)

@@ -1,19 +1,18 @@
 -- A trial passes no limit that its body doesn't pass.
-use Rattle.std.proofs.Common.{◌≡◌, ◌⊎◌, ℕ, ◌≤◌, Bool, true, false, ◌||◌, List, [], ◌∷◌, length, refl, sym, ap, ◌∙◌, subst, true≢false, arith}
+use Rattle.std.proofs.Common.{◌≡◌, ◌≤◌, Bool, true, false, ◌||◌, List, [], ◌∷◌, length, refl, sym, subst, true≢false, arith}
 use Rattle.rl_ranges.specs.declared.universe.Universe.{Universe}
 use Rattle.rl_ranges.specs.Letters.{classes}
 use Rattle.rl_ranges.specs.Text.{code_count}
 use Rattle.rl_syntax.specs.declared.span.Span.{Span}
 use Rattle.rl_syntax.specs.Lowering.{lowered}
 use Rattle.rl_syntax.specs.PatTree.{PatTree}
-use Rattle.rl_syntax.specs.Tree.{Tree, size}
+use Rattle.rl_syntax.specs.Tree.{size}
 use Rattle.rl_prio.specs.Letters.{all_sets}
-use Rattle.rl_equiv.specs.Limits.{AreSmall, AreWithin}
-use Rattle.rl_equiv.specs.SetPairs.{joint_letters}
+use Rattle.rl_equiv.specs.Bases.{TellsNoMore}
+use Rattle.rl_equiv.specs.Limits.{AreWithin, IsWithin}
 use Rattle.rl_pattern.specs.Suggested.{same_span, among, no_span, may_go, without}
-use Rattle.rl_rewrite.specs.internal.Trials.{IsWithin}
 use Rattle.rl_rewrite.proofs.Fewer.{Fewer, fewer_nodes, fewer_moves, left_fewer}
-use Rattle.rl_rewrite.proofs.FewerLetters.{joint_fewer, letters_fewer}
+use Rattle.rl_rewrite.proofs.FewerLetters.{all_fewer, joint_fewer, letters_fewer}
 use Rattle.rl_rewrite.proofs.Stays.{none_left}
 
 none_among : (more : Span → Bool) (s : Span) → among [] s ≡ true → more s ≡ true
@@ -32,6 +31,20 @@ left_body dropped body may = subst (Fewer (without dropped body)) (none_left bod
 
 pub left_small : (u : Universe) (dropped : List Span) (body : PatTree) → IsWithin u (lowered body) → may_go (among dropped) body ≡ true → size (without dropped body) ≤ 4000
 left_small u dropped body w may = let a = fewer_nodes (left_body dropped body may) in let b = w.small in omega (arith, a, b)
+
+-- nor does what is left
+pub left_within : (u : Universe) (dropped : List Span) (body : PatTree) → IsWithin u (lowered body) → may_go (among dropped) body ≡ true → IsWithin u (without dropped body)
+left_within u dropped body w may =
+    let f = left_body dropped body may in
+    record {
+      small = left_small u dropped body w may;
+      few_letters = (let x = letters_fewer (code_count u) f in let y = w.few_letters in omega (arith, x, y));
+      few_moves = (let x = fewer_moves f in let y = w.few_moves in omega (arith, x, y));
+    }
+
+-- what is left with one more branch gone tells no more codes apart
+pub trial_letters : (b : Span) (dropped : List Span) (body : PatTree) → may_go (among (b ∷ dropped)) body ≡ true → TellsNoMore (without dropped body) (without (b ∷ dropped) body)
+trial_letters b dropped body more = all_fewer (left_fewer (among dropped) (among (b ∷ dropped)) no_span (one_more b dropped) body more)
 
 pub trial_within : (u : Universe) (b : Span) (dropped : List Span) (body : PatTree) → IsWithin u (lowered body) → may_go (among dropped) body ≡ true → may_go (among (b ∷ dropped)) body ≡ true → AreWithin u (without dropped body) (without (b ∷ dropped) body)
 trial_within u b dropped body w may more =

@@ -7,12 +7,12 @@ ghost use Rattle.rl_syntax.specs.Tree.{tree_of, size, IsOver};
 ghost use Rattle.rl_syntax.specs.declared.re.Mode.TheVariants.{Fullmatch};
 ghost use Rattle.rl_syntax.specs.declared.verdict.Limit.{Limit as AnyLimit};
 ghost use Rattle.rl_rewrite.specs.Verdicts.{PassesLimit};
-ghost use Rattle.rl_rewrite.specs.internal.Trials.{IsWithin};
+ghost use Rattle.rl_equiv.specs.Limits.{IsWithin};
 ghost use Rattle.rl_rewrite.specs.declared.suggesting.SuggestError.TheVariants as error;
 
 use crate::suggesting::SuggestError;
-use rl_prio::{Prio, PrioError};
-use rl_syntax::{Ending, Limit, LowerError, Mode, Pattern, Re, lower};
+use rl_equiv::{Baseline, SameError};
+use rl_syntax::{Limit, LowerError, Mode, Pattern, Re, lower};
 use std::alloc::Global;
 
 /// The tree of a body as fullmatch, which has no more nodes than the limit.
@@ -29,21 +29,22 @@ fn small_tree(alloc: Global, p: &Pattern) -> Result<Re, SuggestError>
     }
 }
 
-/// The tree of a body as fullmatch, which passes no limit.
+/// The tree of a body as fullmatch, which passes no limit, as the one that others are compared with.
 ///
 /// # Errors
 /// [`SuggestError::Limit`] with the first limit that it passes; [`SuggestError::OutOfMemory`].
-pub(crate) fn tree_within_limits(alloc: Global, p: &Pattern) -> Result<Re, SuggestError>
-    ensures tree { IfOk result (λ re. tree_of re ≡ lowered (body_of p.now)) }
-    ensures over { IfOk result (λ re. IsOver (universe_of p.now) (tree_of re)) }
+pub(crate) fn baseline_of(alloc: Global, p: &Pattern) -> Result<Baseline, SuggestError>
+    ensures tree { IfOk result (λ b. tree_of b.tree ≡ lowered (body_of p.now)) }
+    ensures universe { IfOk result (λ b. b.universe ≡ universe_of p.now) }
     ensures within { OnOk result (IsWithin (universe_of p.now) (lowered (body_of p.now))) }
     ensures passed { IfErr result (λ e. (l : AnyLimit) → e ≡ error.Limit l → PassesLimit (universe_of p.now) (pattern_tree p.now Fullmatch) l) }
 {
     let tree = small_tree(alloc, p)?;
-    match Prio::build(alloc, &tree, Ending::AtEnd, p.universe()) {
-        Ok(_) => Ok(tree),
-        Err(PrioError::Letters) => Err(SuggestError::Limit(Limit::Letters)),
-        Err(PrioError::Moves) => Err(SuggestError::Limit(Limit::Moves)),
-        Err(PrioError::OutOfMemory) => Err(SuggestError::OutOfMemory),
+    match Baseline::new(alloc, tree, p.universe()) {
+        Ok(base) => Ok(base),
+        Err(SameError::Size) => Err(SuggestError::Limit(Limit::Size)),
+        Err(SameError::Letters) => Err(SuggestError::Limit(Limit::Letters)),
+        Err(SameError::Moves) => Err(SuggestError::Limit(Limit::Moves)),
+        Err(SameError::OutOfMemory) => Err(SuggestError::OutOfMemory),
     }
 }

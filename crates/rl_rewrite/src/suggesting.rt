@@ -12,7 +12,7 @@ ghost use Rattle.rl_rewrite.specs.RightSuggestion.{IsRightSuggestion};
 ghost use Rattle.rl_rewrite.specs.declared.suggesting.SuggestError.TheVariants as error;
 
 use crate::leaving::left_part;
-use crate::limits::tree_within_limits;
+use crate::limits::baseline_of;
 use crate::merging::{Place, with_merged};
 use crate::spelling::text_of;
 use crate::trying::tries_of;
@@ -27,7 +27,7 @@ use std::alloc::Global;
 pub enum SuggestError {
     /// The body as fullmatch passes this limit: Size, Letters or Moves.
     Limit(Limit),
-    /// Memory was refused.
+    /// Out of memory.
     OutOfMemory,
 }
 
@@ -64,8 +64,8 @@ pub fn suggest(
     ensures passed_placed { IfOk result (λ s. ArePlaced (length codes.now) s.passed) }
     ensures texts { IfOk result (λ s. (text : List ℕ) → s.text ≡ Some text → IsText (universe_of p.now) codes.now → IsText (universe_of p.now) text) }
 {
-    let tree = tree_within_limits(alloc, p)?;
-    let tries = tries_of(alloc, p, tree, limit)?;
+    let base = baseline_of(alloc, p)?;
+    let tries = tries_of(alloc, p, base, limit)?;
     let left = left_part(alloc, p.body(), tries.dropped.as_slice())?;
     let merged = with_merged(alloc, &left, Place::Elsewhere, Spans::new(alloc))?;
     let text = text_of(

@@ -1,12 +1,13 @@
 //! Trials of branches, each by the languages of a body with it and without it.
 
-ghost use Rattle.std.specs.Prelude.{◌≤◌, IfOk};
+ghost use Rattle.std.specs.Prelude.{◌≡◌, ◌≤◌, IfOk};
 ghost use Rattle.rl_syntax.specs.Tree.{tree_of, IsOver};
-ghost use Rattle.rl_equiv.specs.Limits.{AreWithin};
+ghost use Rattle.rl_equiv.specs.Bases.{TellsNoMore};
+ghost use Rattle.rl_equiv.specs.Limits.{AreWithin, IsWithin};
 ghost use Rattle.rl_rewrite.specs.Verdicts.{IsVerdict};
 ghost use Rattle.rl_rewrite.specs.internal.Trials.{verdict_of, IsTold};
 
-use rl_equiv::{SameError, Sameness, same};
+use rl_equiv::{Baseline, SameError, Sameness};
 use rl_lists::OutOfMemory;
 use rl_ranges::Universe;
 use rl_syntax::Re;
@@ -26,23 +27,39 @@ pub(crate) enum Trial {
 /// The trial of a branch, by the trees of a body with it and without it, which pass no limit.
 pub(crate) fn run_trial(
     alloc: Global,
-    before: &Re,
+    before: &Baseline,
     after: &Re,
-    universe: Universe,
     limit: u32,
 ) -> Result<Trial, OutOfMemory>
-    requires first_inside { IsOver universe (tree_of before.now) }
-    requires second_inside { IsOver universe (tree_of after.now) }
-    requires within { AreWithin universe (tree_of before.now) (tree_of after.now) }
+    requires inside { IsOver before.now.universe (tree_of after.now) }
+    requires letters { TellsNoMore (tree_of before.now.tree) (tree_of after.now) }
+    requires within { AreWithin before.now.universe (tree_of before.now.tree) (tree_of after.now) }
     requires some { 1 ≤ limit }
     requires low { limit ≤ 20000 }
-    ensures verdict { IfOk result (λ t. IsVerdict universe limit (tree_of before.now) (tree_of after.now) (verdict_of t)) }
-    ensures told { IfOk result (IsTold universe (tree_of before.now) (tree_of after.now)) }
+    ensures verdict { IfOk result (λ t. IsVerdict before.now.universe limit (tree_of before.now.tree) (tree_of after.now) (verdict_of t)) }
+    ensures told { IfOk result (IsTold before.now.universe (tree_of before.now.tree) (tree_of after.now)) }
 {
-    match same(alloc, before, after, universe, limit) {
+    match before.compare(alloc, after, limit) {
         Ok(Sameness::Equal(_)) => Ok(Trial::Equal),
         Ok(Sameness::Apart(_)) => Ok(Trial::Apart),
         Ok(Sameness::Passed) => Ok(Trial::Passed),
+        Err(SameError::OutOfMemory) => Err(OutOfMemory),
+        Err(SameError::Size | SameError::Letters | SameError::Moves) => unreachable!(),
+    }
+}
+
+/// A tree that passes no limit, as the one that others are compared with.
+pub(crate) fn next_baseline(
+    alloc: Global,
+    tree: Re,
+    universe: Universe,
+) -> Result<Baseline, OutOfMemory>
+    requires inside { IsOver universe (tree_of tree) }
+    requires within { IsWithin universe (tree_of tree) }
+    ensures { IfOk result (λ b. b ≡ record { tree = tree; universe = universe }) }
+{
+    match Baseline::new(alloc, tree, universe) {
+        Ok(base) => Ok(base),
         Err(SameError::OutOfMemory) => Err(OutOfMemory),
         Err(SameError::Size | SameError::Letters | SameError::Moves) => unreachable!(),
     }

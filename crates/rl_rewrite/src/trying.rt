@@ -4,16 +4,18 @@ ghost use Rattle.std.specs.Prelude.{◌≡◌, ◌≤◌, [], ◌∷◌, List, f
 ghost use Rattle.rl_syntax.specs.declared.span.Span.{Span as AnySpan};
 ghost use Rattle.rl_syntax.specs.Pattern.{body_of, universe_of};
 ghost use Rattle.rl_syntax.specs.Lowering.{lowered};
-ghost use Rattle.rl_syntax.specs.Tree.{tree_of, IsOver};
+ghost use Rattle.rl_syntax.specs.Tree.{tree_of};
 ghost use Rattle.rl_pattern.specs.Suggested.{among, may_go as goes, holds_guard as guard_in, branches_in, without};
-ghost use Rattle.rl_rewrite.specs.internal.Trials.{IsWithin, AreTried};
+ghost use Rattle.rl_equiv.specs.Limits.{IsWithin};
+ghost use Rattle.rl_rewrite.specs.internal.Trials.{AreTried};
 
 use crate::going::{may_go, with_branches};
 use crate::leaving::tree_without;
 use crate::parts::holds_guard;
-use crate::trial::{Trial, run_trial};
+use crate::trial::{Trial, next_baseline, run_trial};
+use rl_equiv::Baseline;
 use rl_lists::OutOfMemory;
-use rl_syntax::{Pattern, Re, Span, Spans};
+use rl_syntax::{Pattern, Span, Spans};
 use std::alloc::Global;
 
 /// What trials give, by rising place.
@@ -23,8 +25,8 @@ pub(crate) struct Tries {
     pub(crate) dropped: Spans,
     /// The branches whose test passed its limit.
     pub(crate) passed: Spans,
-    /// The tree of the body without the branches that were dropped.
-    pub(crate) tree: Re,
+    /// The tree of the body without the branches that were dropped, with which the next ones are compared.
+    pub(crate) base: Baseline,
 }
 
 /// A span and those behind it.
@@ -48,44 +50,52 @@ fn try_branch(
     requires guardless { guard_in (body_of p.now) ≡ false }
     requires within { IsWithin (universe_of p.now) (lowered (body_of p.now)) }
     requires before { goes (among tries.dropped) (body_of p.now) ≡ true }
-    requires tree { tree_of tries.tree ≡ without tries.dropped (body_of p.now) }
-    requires over { IsOver (universe_of p.now) (tree_of tries.tree) }
+    requires tree { tree_of tries.base.tree ≡ without tries.dropped (body_of p.now) }
+    requires universe { tries.base.universe ≡ universe_of p.now }
     requires some { 1 ≤ limit }
     requires low { limit ≤ 20000 }
     ensures tried { IfOk result (λ all. (bs : List AnySpan) → AreTried (universe_of p.now) limit (body_of p.now) bs tries.dropped tries.passed
         → AreTried (universe_of p.now) limit (body_of p.now) (branch ∷ bs) all.dropped all.passed) }
-    ensures tree { IfOk result (λ all. tree_of all.tree ≡ without all.dropped (body_of p.now)) }
-    ensures over { IfOk result (λ all. IsOver (universe_of p.now) (tree_of all.tree)) }
+    ensures tree { IfOk result (λ all. tree_of all.base.tree ≡ without all.dropped (body_of p.now)) }
+    ensures universe { IfOk result (λ all. all.base.universe ≡ universe_of p.now) }
 {
     let more = with_first(alloc, branch, tries.dropped.as_slice())?;
     if !may_go(p.body(), more.as_slice()) {
         return Ok(tries);
     }
     let after = tree_without(alloc, p, more.as_slice())?;
-    match run_trial(alloc, &tries.tree, &after, p.universe(), limit)? {
-        Trial::Equal => Ok(Tries {
-            dropped: more,
-            passed: tries.passed,
-            tree: after,
-        }),
+    match run_trial(alloc, &tries.base, &after, limit)? {
+        Trial::Equal => {
+            let base = next_baseline(alloc, after, p.universe())?;
+            Ok(Tries {
+                dropped: more,
+                passed: tries.passed,
+                base,
+            })
+        }
         Trial::Apart => Ok(tries),
         Trial::Passed => {
             let passed = with_first(alloc, branch, tries.passed.as_slice())?;
             Ok(Tries {
                 dropped: tries.dropped,
                 passed,
-                tree: tries.tree,
+                base: tries.base,
             })
         }
     }
 }
 
-/// What trials of all branches of a body give, whose tree this is, the last one tried first.
-fn try_branches(alloc: Global, p: &Pattern, tree: Re, limit: u32) -> Result<Tries, OutOfMemory>
+/// What trials of all branches of a body give, the last one tried first, where its tree is the first one to compare with.
+fn try_branches(
+    alloc: Global,
+    p: &Pattern,
+    base: Baseline,
+    limit: u32,
+) -> Result<Tries, OutOfMemory>
     requires guardless { guard_in (body_of p.now) ≡ false }
     requires within { IsWithin (universe_of p.now) (lowered (body_of p.now)) }
-    requires tree { tree_of tree ≡ lowered (body_of p.now) }
-    requires over { IsOver (universe_of p.now) (tree_of tree) }
+    requires tree { tree_of base.tree ≡ lowered (body_of p.now) }
+    requires universe { base.universe ≡ universe_of p.now }
     requires before { goes (among []) (body_of p.now) ≡ true }
     requires some { 1 ≤ limit }
     requires low { limit ≤ 20000 }
@@ -95,7 +105,7 @@ fn try_branches(alloc: Global, p: &Pattern, tree: Re, limit: u32) -> Result<Trie
     let mut tries = Tries {
         dropped: Spans::new(alloc),
         passed: Spans::new(alloc),
-        tree,
+        base,
     };
     for branch in branches.as_slice().iter().rev() {
         tries = try_branch(alloc, p, *branch, tries, limit)?;
@@ -103,16 +113,17 @@ fn try_branches(alloc: Global, p: &Pattern, tree: Re, limit: u32) -> Result<Trie
     Ok(tries)
 }
 
-/// What trials of all branches of a body give, whose tree this is; none is tried where the body holds a guard.
+/// What trials of all branches of a body give, where its tree is the first one to compare with; none is tried where the body
+/// holds a guard.
 pub(crate) fn tries_of(
     alloc: Global,
     p: &Pattern,
-    tree: Re,
+    base: Baseline,
     limit: u32,
 ) -> Result<Tries, OutOfMemory>
     requires within { IsWithin (universe_of p.now) (lowered (body_of p.now)) }
-    requires tree { tree_of tree ≡ lowered (body_of p.now) }
-    requires over { IsOver (universe_of p.now) (tree_of tree) }
+    requires tree { tree_of base.tree ≡ lowered (body_of p.now) }
+    requires universe { base.universe ≡ universe_of p.now }
     requires before { goes (among []) (body_of p.now) ≡ true }
     requires some { 1 ≤ limit }
     requires low { limit ≤ 20000 }
@@ -123,8 +134,8 @@ pub(crate) fn tries_of(
         return Ok(Tries {
             dropped: Spans::new(alloc),
             passed: Spans::new(alloc),
-            tree,
+            base,
         });
     }
-    try_branches(alloc, p, tree, limit)
+    try_branches(alloc, p, base, limit)
 }

@@ -6,7 +6,7 @@ use crate::patterns::{next_value, pattern_of};
 use rl_lists::{Bytes, OutOfMemory};
 use std::alloc::Global;
 
-/// Puts the line of a number of the generator behind the others.
+/// Appends the line of a number of the generator.
 fn push_line(text: &mut Vec<u8>, value: u32) -> Result<(), OutOfMemory>
     ensures { OnOk result (text.new.items ≡ text.old.items ++ line_of value) }
 {
@@ -19,7 +19,7 @@ fn push_line(text: &mut Vec<u8>, value: u32) -> Result<(), OutOfMemory>
 /// The source that the generator makes from this seed: `count` calls of `re.fullmatch` below an import.
 ///
 /// # Errors
-/// [`OutOfMemory`] where memory was refused.
+/// [`OutOfMemory`] when out of memory.
 pub fn sample_source(alloc: Global, seed: u32, count: u32) -> Result<Bytes, OutOfMemory>
     requires seed { seed < 2 ^ 31 }
     requires some { 1 ≤ count }

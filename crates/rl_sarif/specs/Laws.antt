@@ -22,7 +22,7 @@ FitsVerdict (Degree d family) = d < 2 ^ 32
 FitsVerdict (Expo family) = ⊤
 FitsVerdict (Undecided limit) = ⊤
 
--- want of memory is no outcome
+-- out of memory is no outcome
 abbrev pub IsAnswer : Outcome → Type 0
 IsAnswer outcome.Unreadable = ⊤
 IsAnswer outcome.TooDeepFolder = ⊤

@@ -103,7 +103,7 @@ fn document_value(alloc: Global, results: Value) -> Result<Value, OutOfMemory>
 /// in order, without those whose verdict is a degree up to `max_degree`. `max_pairs` is the limit of the live pairs.
 ///
 /// # Errors
-/// [`OutOfMemory`] where memory was refused.
+/// [`OutOfMemory`] when out of memory.
 #[tactic(auto, using(crate::proofs::ResultLemmas::plain))]
 pub fn sarif(
     alloc: Global,

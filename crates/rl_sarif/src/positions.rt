@@ -31,7 +31,7 @@ fn unknown_to(alloc: Global, entries: &[Entry], keys: &[Key]) -> Result<Position
 /// before it have its key than the baseline holds with that key.
 ///
 /// # Errors
-/// [`OutOfMemory`] where memory was refused.
+/// [`OutOfMemory`] when out of memory.
 pub fn unknown(
     alloc: Global,
     entries: &Entries,

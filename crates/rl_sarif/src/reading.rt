@@ -20,7 +20,7 @@ const MAX_BYTES: usize = 67_108_864;
 pub enum BaselineError {
     /// They are too many, no JSON, or no report.
     Refused,
-    /// Memory was refused.
+    /// Out of memory.
     OutOfMemory,
 }
 

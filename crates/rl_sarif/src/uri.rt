@@ -24,7 +24,7 @@ fn hex_digit(digit: u8) -> char
     }
 }
 
-/// Puts a byte of a path behind the others.
+/// Appends a byte of a path.
 fn push_byte(uri: &mut String, byte: u8) -> Result<(), OutOfMemory>
     ensures { OnOk result (string_bytes uri.new ≡ string_bytes uri.old ++ uri_byte byte) }
 {

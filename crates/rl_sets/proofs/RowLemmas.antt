@@ -1,9 +1,11 @@
 -- Lemmas on rows of truth values as sets.
-use Rattle.std.proofs.Common.{◌≡◌, ◌≢◌, ℕ, ◌+◌, ◌<◌, ◌≤◌, ◌⊎◌, Bool, true, false, not, ◌&&◌, ◌||◌, eqb, filter, List, [], ◌∷◌, length, get_or, set, drop, replicate, refl, sym, ap, ◌∙◌, subst, inl, inr, arith}
-use Rattle.std.specs.List.{list_any}
+use Rattle.std.proofs.Common.{◌≡◌, ◌≢◌, ℕ, ◌+◌, ◌<◌, ◌≤◌, ◌⊎◌, Bool, true, false, not, ◌&&◌, ◌||◌, eqb, filter, List, [], ◌∷◌, ◌++◌, length, get_or, set, drop, replicate, refl, sym, ap, ◌∙◌, subst, inl, inr, arith}
+use Rattle.std.specs.List.{list_any, flat_map}
 use Rattle.std.proofs.lemmas.Bool.{cases_lt, cases_eq, eq-eqb, ne_eqb, cond-true, cond-false}
-use Rattle.std.proofs.lemmas.List.{set-set, at_drop_more, get_or-set_same, get_or-set_other, length-set, length-replicate, ext_get_or}
+use Rattle.std.proofs.lemmas.List.{flat_map_more, set-set, at_drop_more, get_or-set_same, get_or-set_other, length-set, length-replicate, ext_get_or}
 use Rattle.std.proofs.lemmas.List.Elements.{All-from_get_or}
+use Rattle.std.proofs.lemmas.List.Folds.{list_any-append}
+use Rattle.rl_lanes.specs.Rows.{NoneFrom, IsLeastFrom}
 use Rattle.rl_lanes.specs.Tables.{image as rows_image}
 use Rattle.rl_lanes.proofs.RowLemmas.{place_within, get_or-replicate_false}
 use Rattle.rl_lanes.proofs.ImageLemmas.{get_or-image, length-image}
@@ -11,7 +13,8 @@ use Rattle.rl_prio.specs.Automaton.{Automaton, dead_state, moves_at}
 use Rattle.rl_sets.specs.Live.{below, holds, set_where, image, joined}
 use Rattle.rl_sets.specs.Walk.{set_of}
 use Rattle.rl_sets.specs.Rows.{members_of, marked, IsTableOn}
-use Rattle.rl_sets.proofs.SetLemmas.{same_tests, filter_same, any-there, any-from, holds-there, holds-from}
+use Rattle.rl_sets.specs.internal.Moves.{targets_of, IsReached}
+use Rattle.rl_sets.proofs.SetLemmas.{same_tests, filter_same, filter_gap, filter_next, any-there, any-from, holds-there, holds-from}
 
 -- a state is a member where its place holds true
 pub holds-members : (row : List Bool) (q : ℕ) → holds (members_of row) q ≡ get_or row q false
@@ -104,15 +107,65 @@ image_says a letter into members t long lt same = by (cases_eq t (dead_state a))
         ∙ same
         ∙ ap (λ b. not b && reaches a letter members t) (sym (ne_eqb t (dead_state a) other))
 
--- the union of the rows of the members, without the dead state, is the row of the image
-pub members-image : (a : Automaton) (letter : ℕ) (table : List (List Bool)) (row : List Bool) → IsTableOn a letter table → length row ≡ a.states
-    → members_of (set (rows_image table row a.states) (dead_state a) false) ≡ image a (members_of row) letter
+-- the row of the states that the members move to, without the dead state, is that of the image
+pub members-reached : (a : Automaton) (letter : ℕ) (members : List ℕ) (row : List Bool) → IsReached a members letter row → members_of (set row (dead_state a) false) ≡ image a members letter
 unfolding image
-members-image a letter table row on long =
-    let into = rows_image table row a.states in
-    let wide : length into ≡ a.states = length-image table row a.states on.wide in
-    members-where a (set into (dead_state a) false) (λ t. not (eqb t (dead_state a)) && reaches a letter (members_of row) t) (length-set into (dead_state a) false ∙ wide) (λ t lt.
-    image_says a letter into (members_of row) t wide lt (image_reaches a letter table row t on long lt))
+members-reached a letter members row r =
+    members-where a (set row (dead_state a) false) (λ t. not (eqb t (dead_state a)) && reaches a letter members t) (length-set row (dead_state a) false ∙ r.wide) (λ t lt.
+    image_says a letter row members t r.wide lt (r.moves t lt))
+
+-- the union of the rows of the members is that row
+pub reached-by_table : (a : Automaton) (letter : ℕ) (table : List (List Bool)) (row : List Bool) → IsTableOn a letter table → length row ≡ a.states → IsReached a (members_of row) letter (rows_image table row a.states)
+reached-by_table a letter table row on long = record {
+  wide = length-image table row a.states on.wide;
+  moves = λ t lt. image_reaches a letter table row t on long lt;
+}
+
+-- a state is a target where a member moves to it
+holds-targets : (a : Automaton) (letter : ℕ) (members : List ℕ) (t : ℕ) → holds (targets_of a members letter) t ≡ reaches a letter members t
+holds-targets a letter [] t = refl
+holds-targets a letter (q ∷ qs) t =
+    list_any-append (λ x. eqb x t) (moves_at a q letter) (targets_of a qs letter) ∙ ap (λ b. holds (moves_at a q letter) t || b) (holds-targets a letter qs t)
+
+-- the marks of the members' moves are that row too
+pub reached-by_moves : (a : Automaton) (letter : ℕ) (members : List ℕ) (row : List Bool) → row ≡ marked (replicate a.states false) (targets_of a members letter) → IsReached a members letter row
+reached-by_moves a letter members row e =
+    let targets = targets_of a members letter in
+    record {
+      wide = ap length e ∙ length-marked_zeros a.states targets;
+      moves = λ t lt. ap (λ r. get_or r t false) e ∙ get_or-marked_zeros a.states targets t lt ∙ holds-targets a letter members t;
+    }
+
+marked-append : (row : List Bool) (ps qs : List ℕ) → marked row (ps ++ qs) ≡ marked (marked row ps) qs
+marked-append row [] qs = refl
+marked-append row (p ∷ ps) qs = marked-append (set row p true) ps qs
+
+-- where the marking of the moves of a set's members stands, before the state `from`
+pub record IsMarkingMoves (a : Automaton) (letter : ℕ) (chosen old now : List Bool) (from : ℕ) : Type 0 where
+  pub marks : now ≡ marked old (targets_of a (filter (λ q. get_or chosen q false) (below from)) letter)
+  pub long : length now ≡ length old
+  pub small : from ≤ length chosen
+
+pub IsMarkingMoves-more : (a : Automaton) (letter : ℕ) (chosen old now new : List Bool) (from q : ℕ) → IsMarkingMoves a letter chosen old now from → IsLeastFrom chosen from q → new ≡ marked now (moves_at a q letter) → IsMarkingMoves a letter chosen old new (q + 1)
+IsMarkingMoves-more a letter chosen old now new from q m least e =
+    let f = λ (x : ℕ). moves_at a x letter in
+    let p = λ (x : ℕ). get_or chosen x false in
+    let before = filter p (below from) in
+    record {
+      marks =
+          e
+          ∙ ap (λ r. marked r (f q)) m.marks
+          ∙ sym (marked-append old (flat_map f before) (f q))
+          ∙ ap (marked old) (flat_map_more f [] before q ∙ ap (flat_map f) (sym (filter_next p from q least.after least.before least.member)));
+      long = ap length e ∙ length-marked now (f q) ∙ m.long;
+      small = omega (arith, least.within);
+    }
+
+pub IsMarkingMoves-all : (a : Automaton) (letter : ℕ) (chosen old now : List Bool) (from : ℕ) → IsMarkingMoves a letter chosen old now from → NoneFrom chosen from → now ≡ marked old (targets_of a (members_of chosen) letter)
+unfolding members_of
+IsMarkingMoves-all a letter chosen old now from m none =
+    m.marks
+    ∙ ap (λ qs. marked old (targets_of a qs letter)) (sym (filter_gap (λ q. get_or chosen q false) from (length chosen) m.small (λ k after lt. none k after)))
 
 -- ---- tables
 -- where the marking of a row of a table stands, before the state with the number `i`

@@ -1,2 +1,3 @@
 -- Definitions for the contracts of private functions. No public contract reaches them.
+pub mod Moves
 pub mod Search

@@ -10,7 +10,7 @@ use std::alloc::{AllocError, AllocFailed};
 pub enum SetsError {
     /// There would be more sets than the limit of the walk.
     Sets,
-    /// Memory was refused.
+    /// Out of memory.
     OutOfMemory,
 }
 

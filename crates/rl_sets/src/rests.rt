@@ -45,7 +45,7 @@ impl Search {
         Ok(Search { numbers, ways })
     }
 
-    /// Puts a set behind the others unless it is found.
+    /// Appends a set unless it is found.
     fn add(&mut self, set: u32, parent: usize, letter: u32) -> Result<(), OutOfMemory>
         ensures { OnOk result (IsAdded set (record { parent = parent; letter = letter }) (found_of self.old) (found_of self.new)) }
     {

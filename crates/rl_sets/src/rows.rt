@@ -1,8 +1,9 @@
 //! Rows of states, and the table of the moves on one letter.
 
-ghost use Rattle.std.specs.Prelude.{◌≡◌, ◌<◌, ◌≤◌, ◌^◌, All, [], length, slice_index_or, slice_set, IfOk};
+ghost use Rattle.std.specs.Prelude.{◌≡◌, ◌<◌, ◌≤◌, ◌^◌, All, [], length, slice_index_or, slice_set, IsTrue, IfOk};
 ghost use Rattle.rl_prio.specs.Automaton.{letters_count};
 ghost use Rattle.rl_sets.specs.Rows.{members_of, marked, IsTableOn};
+ghost use Rattle.rl_sets.specs.internal.Moves.{targets_of};
 
 use rl_lanes::{BitRow, BitTable};
 use rl_lists::{Items, Members, OutOfMemory};
@@ -18,6 +19,29 @@ pub(crate) fn mark(row: &mut BitRow, states: &[u32])
     for q in states {
         row.set(*q as usize, true);
     }
+}
+
+/// Makes the places of the states hold true that the members of a set move to on a letter, and answers true. Where the members
+/// have more moves than there are states, it stops with some of them and answers false.
+pub(crate) fn mark_moves(row: &mut BitRow, a: &Prio, set: &BitRow, letter: u32) -> bool
+    requires letter_in { letter ≤ letters_count a.now }
+    requires set_in { length set.now ≡ a.now.states }
+    requires wide { length row.old ≡ a.now.states }
+    ensures marked { IsTrue result → row.new ≡ marked row.old (targets_of a.now (members_of set.now) letter) }
+    ensures len { length row.new ≡ length row.old }
+{
+    let mut left = a.states() as usize;
+    let mut from = 0;
+    while let Some(state) = set.next_from(from) {
+        let states = a.moves(state as u32, letter);
+        if left < states.len() {
+            return false;
+        }
+        mark(row, states);
+        left -= states.len();
+        from = state + 1;
+    }
+    true
 }
 
 /// Makes the places of states hold true in one row of a table.

@@ -1,18 +1,19 @@
 //! Walks over sets of states.
 
-ghost use Rattle.std.specs.Prelude.{◌≡◌, ◌≢◌, ℕ, ◌<◌, ◌≤◌, [], length, All, slice_get, Some, false, IfOk, IfErr, OnOk, OnErr, List, Bool};
+ghost use Rattle.std.specs.Prelude.{◌≡◌, ◌≢◌, ℕ, ◌<◌, ◌≤◌, [], length, All, slice_get, Some, IsTrue, IfOk, IfErr, OnOk, OnErr, List, Bool};
 ghost use Rattle.rl_prio.specs.Automaton.{Automaton, letters_count, dead_state};
 ghost use Rattle.rl_sets.specs.declared.error.SetsError.TheVariants.{Sets};
 ghost use Rattle.rl_sets.specs.Live.{holds, image, joined};
 ghost use Rattle.rl_sets.specs.Rows.{members_of};
 ghost use Rattle.rl_sets.specs.Walk.{set_at, set_of, IsMadeFor, IsListed, IsFull};
+ghost use Rattle.rl_sets.specs.internal.Moves.{IsReached};
 
 mod images;
 mod lives;
 
 use crate::error::SetsError;
 use crate::life::{Life, Route};
-use crate::rows::{mark, members, table_on};
+use crate::rows::{mark, mark_moves, members, table_on};
 use indexmap::IndexSet;
 use rl_lanes::{BitRow, BitTable};
 use rl_lists::{Members, OutOfMemory};
@@ -91,7 +92,7 @@ impl SetWalk {
         self.rows[set as usize].get(state as usize)
     }
 
-    /// The number of the set of the listed states, which goes behind the others unless it is there.
+    /// The number of the set of the listed states, which is appended unless it is there.
     ///
     /// # Errors
     /// [`SetsError::Sets`] where the set isn't there and the walk has as many sets as it may, and
@@ -112,7 +113,7 @@ impl SetWalk {
         self.add(row)
     }
 
-    /// The number of the image of a set on a letter, which goes behind the others unless it is there. The letter after the
+    /// The number of the image of a set on a letter, which is appended unless it is there. The letter after the
     /// last one is the end letter.
     ///
     /// # Errors
@@ -133,7 +134,6 @@ impl SetWalk {
         if let Some(number) = self.known_image(a, set, letter) {
             return Ok(number);
         }
-        self.prepare(a, letter)?;
         let row = self.image_row(a, set, letter)?;
         self.make_room(a, set)?;
         let number = self.add(row)?;
@@ -141,7 +141,7 @@ impl SetWalk {
         Ok(number)
     }
 
-    /// The number of the set with one more member, which goes behind the others unless it is there. The dead state is left
+    /// The number of the set with one more member, which is appended unless it is there. The dead state is left
     /// out, so with it the set is the one that it was.
     ///
     /// # Errors
@@ -200,22 +200,78 @@ impl SetWalk {
         Ok(())
     }
 
-    /// The row of the image of a set on a letter whose table is made.
-    fn image_row(&self, a: &Prio, set: u32, letter: u32) -> Result<BitRow, OutOfMemory>
+    /// Makes a row that of the states that the members of a set move to on a letter, move by move, and answers true. Where the
+    /// letter has a table, or the members have more moves than there are states, it answers false.
+    fn reach_by_moves(&self, a: &Prio, set: u32, letter: u32, row: &mut BitRow) -> bool
+        requires made { IsMadeFor self.now a.now }
+        requires set_in { set < length self.now.sets }
+        requires letter_in { letter ≤ letters_count a.now }
+        requires wide { length row.old ≡ a.now.states }
+        ensures reached { IsTrue result → IsReached a.now (set_at self.now set) letter row.new }
+        ensures len { length row.new ≡ length row.old }
+    {
+        if self.tables[letter as usize].is_some() {
+            return false;
+        }
+        row.clear();
+        mark_moves(row, a, &self.rows[set as usize], letter)
+    }
+
+    /// Makes a row that of the states that the members of a set move to on a letter whose table is made.
+    fn reach_by_table(&self, a: &Prio, set: u32, letter: u32, row: &mut BitRow)
         requires made { IsMadeFor self.now a.now }
         requires set_in { set < length self.now.sets }
         requires there { (table : List (List Bool)) × (slice_get self.now.kept.tables letter ≡ Some (Some table)) }
-        ensures image { IfOk result (λ row. members_of row ≡ image a.now (set_at self.now set) letter) }
-        ensures len { IfOk result (λ row. length row ≡ a.now.states) }
+        requires wide { length row.old ≡ a.now.states }
+        ensures { IsReached a.now (set_at self.now set) letter row.new }
     {
-        let states = a.states() as usize;
-        let mut into = BitRow::zeros(self.allocator(), states)?;
         let Some(table) = &self.tables[letter as usize] else {
             unreachable!()
         };
-        table.image(&self.rows[set as usize], &mut into);
-        into.set(states - 1, false);
-        Ok(into)
+        table.image(&self.rows[set as usize], row);
+    }
+
+    /// Makes a row that of the states that the members of a set move to on a letter.
+    fn reach(
+        &mut self,
+        a: &Prio,
+        set: u32,
+        letter: u32,
+        row: &mut BitRow,
+    ) -> Result<(), OutOfMemory>
+        requires made { IsMadeFor self.old a.now }
+        requires set_in { set < length self.old.sets }
+        requires letter_in { letter ≤ letters_count a.now }
+        requires wide { length row.old ≡ a.now.states }
+        ensures reached { OnOk result (IsReached a.now (set_at self.old set) letter row.new) }
+        ensures made { IsMadeFor self.new a.now }
+        ensures sets { self.new.sets ≡ self.old.sets }
+        ensures limit { self.new.limit ≡ self.old.limit }
+    {
+        if self.reach_by_moves(a, set, letter, row) {
+            return Ok(());
+        }
+        self.prepare(a, letter)?;
+        self.reach_by_table(a, set, letter, row);
+        Ok(())
+    }
+
+    /// The row of the image of a set on a letter.
+    fn image_row(&mut self, a: &Prio, set: u32, letter: u32) -> Result<BitRow, OutOfMemory>
+        requires made { IsMadeFor self.old a.now }
+        requires set_in { set < length self.old.sets }
+        requires letter_in { letter ≤ letters_count a.now }
+        ensures image { IfOk result (λ row. members_of row ≡ image a.now (set_at self.old set) letter) }
+        ensures len { IfOk result (λ row. length row ≡ a.now.states) }
+        ensures made { IsMadeFor self.new a.now }
+        ensures sets { self.new.sets ≡ self.old.sets }
+        ensures limit { self.new.limit ≡ self.old.limit }
+    {
+        let states = a.states() as usize;
+        let mut row = BitRow::zeros(self.allocator(), states)?;
+        self.reach(a, set, letter, &mut row)?;
+        row.set(states - 1, false);
+        Ok(row)
     }
 
     /// The number of the set of a row.

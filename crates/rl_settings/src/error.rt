@@ -6,6 +6,6 @@ pub enum SettingsError {
     /// The bytes are no TOML document, or one with another key or with a value that its key doesn't
     /// take.
     Refused,
-    /// Memory was refused.
+    /// Out of memory.
     OutOfMemory,
 }

@@ -24,7 +24,7 @@ fn document_of(alloc: Global, bytes: &[u8]) -> Result<Table, SettingsError>
 ///
 /// # Errors
 /// [`SettingsError::Refused`] exactly where the bytes are no TOML document, a key isn't one of the
-/// five, or a key doesn't take its value; [`SettingsError::OutOfMemory`] where memory was refused.
+/// five, or a key doesn't take its value; [`SettingsError::OutOfMemory`] when out of memory.
 #[tactic(auto, unfolding(crate::specs::Settings::settings_told))]
 pub fn read_settings(alloc: Global, bytes: &[u8]) -> Result<FileSettings, SettingsError>
     ensures ok { IfOk result (λ settings. settings_told bytes.now ≡ Some settings) }

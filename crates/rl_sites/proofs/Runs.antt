@@ -1,5 +1,5 @@
 -- The literals of a site stand among the tokens, with nothing but comments between them.
-use Rattle.std.proofs.Common.{◌≡◌, ℕ, zero, suc, ◌+◌, ◌-◌, ◌<◌, ◌≤◌, Bool, true, false, cond, ◌&&◌, ◌⊎◌, inl, inr, List, [], ◌∷◌, length, take, drop, refl, ap, sym, ◌∙◌, arith, subst, Some, None, Option, Ok, Err}
+use Rattle.std.proofs.Common.{◌≡◌, ℕ, zero, suc, ◌+◌, ◌-◌, ◌<◌, ◌≤◌, Bool, true, false, cond, ◌&&◌, ◌||◌, ◌⊎◌, inl, inr, List, [], ◌∷◌, length, take, drop, refl, ap, sym, ◌∙◌, arith, subst, Some, None, Option, Ok, Err}
 use Rattle.std.specs.Prelude.{All, slice_get, option_to_list, IfOk, Result}
 use Rattle.std.specs.List.{list_all, prefix_len}
 use Rattle.std.specs.Option.{option_map_or}
@@ -8,6 +8,7 @@ use Rattle.std.proofs.lemmas.List.{drop-drop, length-drop, length-take-le}
 use Rattle.std.proofs.lemmas.List.Elements.{All-nil, All-cons, All-append}
 use Rattle.std.proofs.lemmas.Option.{slice_get_within}
 use Rattle.rl_pylex.specs.declared.token_list.Token.{Token}
+use Rattle.rl_pystr.specs.Runs.{is_literal as is_literal_token, IsLiteralRun}
 use Rattle.rl_sites.specs.declared.call.Call.{Call}
 use Rattle.rl_sites.specs.declared.heads.Head.{Head}
 use Rattle.rl_sites.specs.declared.imports.Alias.{Alias}
@@ -16,7 +17,11 @@ use Rattle.rl_sites.specs.declared.site.Site.{Site}
 use Rattle.rl_sites.specs.declared.site.SiteFlags.{SiteFlags}
 use Rattle.rl_sites.specs.Marks.{marks_from, is_literal, is_comment_kind}
 use Rattle.rl_sites.specs.Sites.{pattern_size, site_of_run, ends_whole, flags_if, site_behind, site_by, site_here, head_of, hides, sites_from}
-use Rattle.rl_sites.specs.Runs.{is_literal_token, is_of_run, IsRun, HasRun}
+use Rattle.rl_sites.specs.Runs.{HasRun}
+
+-- a literal or a comment
+abbrev is_of_run : Token → Bool
+is_of_run token = is_literal_token token || is_comment_kind token.kind
 
 abbrev mark : ℕ → Token → Mark
 mark number token = record { number = number; token = token }
@@ -169,7 +174,7 @@ run_there : (all : List Token) (place gap count : ℕ) (first last : Token) → 
     → slice_get (drop place all) 0 ≡ Some first → is_literal_token first ≡ true
     → slice_get (drop place all) gap ≡ Some last → is_literal_token last ≡ true
     → list_all is_of_run (take (suc gap) (drop place all)) ≡ true
-    → (place + count ≤ length all) × IsRun (take count (drop place all))
+    → (place + count ≤ length all) × IsLiteralRun (take count (drop place all))
 run_there all place gap count first last e f fl l ll parts =
     let rest = drop place all in
     let inside : gap < length rest = slice_get_within rest gap last l in
@@ -179,7 +184,7 @@ run_there all place gap count first last e f fl l ll parts =
     ap (slice_get (take (suc gap) rest)) (omega (arith, size)) ∙ get_take gap (suc gap) rest (omega arith) ∙ l in
     let front : slice_get (take (suc gap) rest) 0 ≡ Some first = get_take 0 (suc gap) rest (omega arith) ∙ f in (
       omega (arith, length-drop place all),
-      subst (λ c. IsRun (take c rest)) (sym same) (record {
+      subst (λ c. IsLiteralRun (take c rest)) (sym same) (record {
         kinds = parts;
         begins = tested first (slice_get (take (suc gap) rest) 0) front fl;
         ends = tested last (slice_get (take (suc gap) rest) (length (take (suc gap) rest) - 1)) end ll;

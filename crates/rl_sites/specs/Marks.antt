@@ -5,11 +5,8 @@ use Rattle.rl_pylex.specs.declared.token_list.TokenKind.{TokenKind}
 use Rattle.rl_pylex.specs.declared.token_list.TokenKind.TheVariants as kind
 use Rattle.rl_pylex.specs.declared.token_list.Token.{Token}
 use Rattle.rl_pylex.specs.Source.{text_of}
+pub use Rattle.rl_pystr.specs.Runs.{is_literal_kind, is_comment_kind}
 use Rattle.rl_sites.specs.declared.mark.Mark.{Mark}
-
-abbrev pub is_comment_kind : TokenKind → Bool
-is_comment_kind kind.Comment = true
-is_comment_kind _ = false
 
 abbrev pub is_name_kind : TokenKind → Bool
 is_name_kind kind.Name = true
@@ -18,10 +15,6 @@ is_name_kind _ = false
 abbrev pub is_number_kind : TokenKind → Bool
 is_number_kind kind.Number = true
 is_number_kind _ = false
-
-abbrev pub is_literal_kind : TokenKind → Bool
-is_literal_kind kind.Literal = true
-is_literal_kind _ = false
 
 abbrev pub is_op_kind : TokenKind → Bool
 is_op_kind kind.Op = true

@@ -125,7 +125,7 @@ fn item_alias(source: &[u8], kind: Import, mark: Mark, rest: &[Mark]) -> Option<
     }
 }
 
-/// Puts the alias of an item behind the others, if it makes one.
+/// Appends the alias of an item, if it makes one.
 fn push_item(
     aliases: &mut Vec<Alias>,
     source: &[u8],
@@ -141,7 +141,7 @@ fn push_item(
     Ok(())
 }
 
-/// Puts the aliases of the items in front behind the others.
+/// Appends the aliases of the items in front.
 #[tactic(auto, using(crate::proofs::Items::items))]
 fn push_items(
     aliases: &mut Vec<Alias>,
@@ -189,7 +189,7 @@ fn behind_bracket<'a>(source: &[u8], rest: &'a [Mark]) -> &'a [Mark]
     }
 }
 
-/// Puts the aliases of the import with which a statement begins behind the others, if it is one.
+/// Appends the aliases of the import with which a statement begins, if it is one.
 #[tactic(auto, using(crate::proofs::Items::items), unfolding(crate::specs::Imports::import_here))]
 fn push_import(aliases: &mut Vec<Alias>, source: &[u8], rest: &[Mark]) -> Result<(), OutOfMemory>
     ensures { OnOk result (aliases.new.items ≡ aliases.old.items ++ import_here source.now rest.now) }
@@ -204,7 +204,7 @@ fn push_import(aliases: &mut Vec<Alias>, source: &[u8], rest: &[Mark]) -> Result
     Ok(())
 }
 
-/// Puts the aliases of an import behind the others, where a statement begins.
+/// Appends the aliases of an import, where a statement begins.
 fn push_statement(
     aliases: &mut Vec<Alias>,
     source: &[u8],

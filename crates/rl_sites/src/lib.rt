@@ -23,6 +23,3 @@ mod terms;
 pub use call::Call;
 pub use reading::sites;
 pub use site::{Site, SiteFlags, SiteList};
-
-#[cfg(test)]
-mod tests;

@@ -151,7 +151,7 @@ fn hides(source: &[u8], mark: Mark) -> bool
     is_op(source, b".", mark) || is_word(source, b"def", mark)
 }
 
-/// Puts the site that begins in front behind the others, if there is one and it isn't hidden.
+/// Appends the site that begins in front, if there is one and it isn't hidden.
 fn push_site(
     sites: &mut SiteList,
     source: &[u8],
@@ -225,7 +225,7 @@ fn sites_by(
 /// ends before the next site's begins.
 ///
 /// # Errors
-/// [`OutOfMemory`] where memory was refused.
+/// [`OutOfMemory`] when out of memory.
 #[tactic(auto, unfolding(crate::specs::Sites::sites_of))]
 pub fn sites(alloc: Global, source: &[u8], tokens: &TokenList) -> Result<SiteList, OutOfMemory>
     requires { IsTokenList source.now tokens.now }

@@ -9,7 +9,7 @@ use Rattle.rl_source.specs.declared.trees.TreeError.TheVariants as error
 abbrev pub call_of : CallName → List ℕ → Bool → Call
 call_of name path failed = record { name = name; path = path; failed = failed }
 
--- what a call that answered so adds to the trail: nothing where memory was refused
+-- what a call that answered so adds to the trail: nothing when out of memory
 abbrev pub noted : {A : Type 0} → CallName → List ℕ → Result A TreeError → List Call
 noted name path (Ok answer) = call_of name path false ∷ []
 noted name path (Err error.Failed) = call_of name path true ∷ []

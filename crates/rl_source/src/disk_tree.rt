@@ -15,7 +15,7 @@ pub type Runtime = HostRuntime;
 /// A tree over the file system. It tells no map and no trail.
 ///
 /// A symbolic link is of kind [`Kind::Other`], so it is neither read nor listed. A folder in which a name isn't UTF-8
-/// has no listing. Each error of the system but want of memory is a fault.
+/// has no listing. Each error of the system but out of memory is a fault.
 #[derive(Drop)]
 pub struct DiskTree<'r> {
     rt: &'r Runtime,

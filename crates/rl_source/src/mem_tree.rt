@@ -16,7 +16,7 @@ use std::marker::Model;
 pub enum MemTreeError {
     /// Two nodes have one path, or a folder has two children of one name.
     DoublePath,
-    /// Memory was refused.
+    /// Out of memory.
     OutOfMemory,
 }
 
@@ -63,7 +63,7 @@ impl MemTree {
     ///
     /// # Errors
     /// [`MemTreeError::DoublePath`] where two nodes have one path, or a folder has two children of one name;
-    /// [`MemTreeError::OutOfMemory`] where memory was refused.
+    /// [`MemTreeError::OutOfMemory`] when out of memory.
     pub fn new(alloc: Global, nodes: Nodes, failing: Vec<u64>) -> Result<MemTree, MemTreeError>
         ensures ok { IfOk result
             (λ tree. tree ≡ record { nodes = nodes; failing = failing.items; trail = [] }) }

@@ -11,7 +11,7 @@ use std::alloc::{AllocError, AllocFailed};
 pub enum TreeError {
     /// The tree couldn't answer: nothing of the kind that was asked for stands at the path, or the outside failed.
     Failed,
-    /// Memory was refused.
+    /// Out of memory.
     OutOfMemory,
 }
 
@@ -67,7 +67,7 @@ pub trait Tree {
     /// What stands at a path.
     ///
     /// # Errors
-    /// [`TreeError::Failed`] where the tree couldn't answer; [`TreeError::OutOfMemory`] where memory was refused.
+    /// [`TreeError::Failed`] where the tree couldn't answer; [`TreeError::OutOfMemory`] when out of memory.
     fn kind(&mut self, path: &str) -> Result<Kind, TreeError>
         ensures told { told self.new ≡ after (noted CallName.Kind path.now result) (told self.old) }
         ensures answer { IfOk result (λ found. IfSome (told self.old)
@@ -77,7 +77,7 @@ pub trait Tree {
     /// The children of a folder, in some order, each name once.
     ///
     /// # Errors
-    /// [`TreeError::Failed`] where the tree couldn't answer; [`TreeError::OutOfMemory`] where memory was refused.
+    /// [`TreeError::Failed`] where the tree couldn't answer; [`TreeError::OutOfMemory`] when out of memory.
     fn children(&mut self, path: &str) -> Result<Vec<Child>, TreeError>
         ensures told { told self.new ≡ after (noted CallName.Children path.now result) (told self.old) }
         ensures answer { IfOk result (λ found. IfSome (told self.old)
@@ -87,7 +87,7 @@ pub trait Tree {
     /// The first `at_most` bytes of a file, or all of them where there are fewer.
     ///
     /// # Errors
-    /// [`TreeError::Failed`] where the tree couldn't answer; [`TreeError::OutOfMemory`] where memory was refused.
+    /// [`TreeError::Failed`] where the tree couldn't answer; [`TreeError::OutOfMemory`] when out of memory.
     fn read(&mut self, path: &str, at_most: usize) -> Result<Vec<u8>, TreeError>
         ensures told { told self.new ≡ after (noted CallName.Read path.now result) (told self.old) }
         ensures answer { IfOk result (λ bytes. IfSome (told self.old)

@@ -110,7 +110,7 @@ pub struct Lowered {
 pub enum LowerError {
     /// The tree would have more than 4,000 nodes.
     TooLarge,
-    /// Memory was refused.
+    /// Out of memory.
     OutOfMemory,
 }
 

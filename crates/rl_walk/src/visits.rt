@@ -34,7 +34,7 @@ pub trait Visitor {
     /// Takes the next visit.
     ///
     /// # Errors
-    /// [`OutOfMemory`] where memory was refused; the walk ends then.
+    /// [`OutOfMemory`] when out of memory; the walk ends then.
     fn visit(&mut self, visit: Visit) -> Result<(), OutOfMemory>
         ensures told { OnOk result ((visits : List Visit) → was_told self.old visits → was_told self.new (visits ++ visit ∷ [])) }
         ensures terms { terms self.new ≡ terms self.old };

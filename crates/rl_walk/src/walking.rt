@@ -178,7 +178,7 @@ fn take_named<T: Tree, V: Visitor>(
 /// a file are read.
 ///
 /// # Errors
-/// [`OutOfMemory`] where memory was refused; the walk ends then, and the tree may have been read.
+/// [`OutOfMemory`] when out of memory; the walk ends then, and the tree may have been read.
 pub fn walk<T: Tree, V: Visitor>(
     alloc: Global,
     paths: &[&str],

@@ -22,7 +22,7 @@ relint_free = refl
 pub rows_fine : (faults : Kinds) (rows found : List Row) → faults ≡ [] → found ≡ rows → fine_rows faults rows ≡ Some found
 rows_fine faults rows found none same = ap (λ ks. fine_rows ks rows) none ∙ ap Some (sym same)
 
--- an error that isn't want of memory is a fault
+-- an error that isn't out of memory is a fault
 pub rows_none : (faults : Kinds) (rows : List Row) (e : Error) → HasKind faults e → (kind_of e ≡ kind.OutOfMemory → fine_rows faults rows ≡ None)
     → fine_rows faults rows ≡ None
 rows_none faults rows e (inl memory) lacks = lacks memory

@@ -7,7 +7,7 @@ use std::alloc::{AllocError, AllocFailed};
 pub enum WordsError {
     /// The words aren't a valid call.
     Invalid,
-    /// Memory was refused.
+    /// Out of memory.
     OutOfMemory,
 }
 

@@ -74,7 +74,7 @@ fn words_given<'a>(
 ///
 /// # Errors
 /// [`WordsError::Invalid`] exactly where the words aren't a valid call;
-/// [`WordsError::OutOfMemory`] where memory was refused.
+/// [`WordsError::OutOfMemory`] when out of memory.
 pub fn read_words<'a>(alloc: Global, words: &'a Vec<String>) -> Result<Words<'a>, WordsError>
     ensures ok { IfOk result (λ w. given_by (map string_bytes words.entry.now.items)
         ≡ Some (said w)) }

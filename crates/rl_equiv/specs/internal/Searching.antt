@@ -36,7 +36,7 @@ pub record IsSide (a : Automaton) (limit count : ℕ) (w : Walk) : Type 0 where
   pub has_none : Contains w.sets (set_of a [])
   pub has_end : Contains w.sets (set_of a (accepting_state a ∷ []))
 
--- a walk has got the number of a set, which it may have put behind the others
+-- a walk has got the number of a set, which it may have appended
 pub record Gets (a : Automaton) (old new : Walk) (set : List ℕ) (n : ℕ) : Type 0 where
   pub made : IsMadeFor new a
   pub limit_is : new.limit ≡ old.limit

@@ -74,11 +74,11 @@ start_steps n from least =
       least = least;
     }
 
--- a node put behind the others
+-- a node appended
 abbrev pub reached : Steps → Node → Steps
 reached s x = record { nodes = s.nodes ++ x ∷ []; seen = slice_set s.seen x.state true; least = s.least }
 
--- a node put behind the others unless its state is seen
+-- a node appended unless its state is seen
 abbrev pub IsReached : Node → Steps → Steps → Type 0
 IsReached x old new = ((seen_of old x.state ≡ true) × (new ≡ old)) ⊎ ((seen_of old x.state ≡ false) × (new ≡ reached old x))
 

@@ -1,5 +1,5 @@
 -- For private contracts: what the comparison of two patterns gives on the way to the ending of `compare`.
-use Rattle.std.specs.Prelude.{◌≡◌, ◌<◌, ⊤, ℕ, Option, Some, IfSome}
+use Rattle.std.specs.Prelude.{◌<◌, ⊤, IfSome}
 use Rattle.rl_ranges.specs.Text.{IsText}
 use Rattle.rl_ranges.specs.declared.universe.Universe.TheVariants.{Str}
 use Rattle.rl_syntax.specs.Cost.{matched}
@@ -13,7 +13,7 @@ use Rattle.rl_compare.specs.Told.{AreTold}
 use Rattle.rl_compare.specs.declared.error.CompareError.{CompareError}
 use Rattle.rl_compare.specs.declared.error.CompareError.TheVariants as error
 
--- the tree of one pattern passes the limit, which is that of the nodes; want of memory tells nothing
+-- the tree of one pattern passes the limit, which is that of the nodes; out of memory says nothing
 abbrev pub PassesSize : Tree → CompareError → Type 0
 PassesSize t error.Size = 4000 < size t
 PassesSize t error.Letters = ⊥

@@ -1,5 +1,5 @@
 -- For private contracts: what is made of a pattern on the way to the endings of `prove` and `verify`.
-use Rattle.std.specs.Prelude.{◌≡◌, ⊤, ℕ, Bool, true, false, List, ◌++◌, codes}
+use Rattle.std.specs.Prelude.{⊤, ℕ, Bool, true, false, ◌++◌, codes}
 use Rattle.rl_syntax.specs.declared.verdict.Verdict.{Verdict}
 use Rattle.rl_pairs.specs.RightVerdict.{IsNamed, Question}
 use Rattle.rl_report.specs.Verdicts.{verdict_text}
@@ -9,7 +9,7 @@ use Rattle.rl_cert.specs.TooLarge.{IsTooLarge}
 use Rattle.rl_cert.specs.declared.certificate.Certificate.{Certificate}
 use Rattle.rl_cert.specs.declared.making.CertError.{CertError}
 use Rattle.rl_cert.specs.declared.making.CertError.TheVariants as error
-use Rattle.rl_lint.specs.Uses.{Text}
+use Rattle.rl_lint.specs.Text.{Text}
 
 -- a certificate that is made
 pub record IsMade (q : Question) (c : Certificate) : Type 0 where
@@ -17,7 +17,7 @@ pub record IsMade (q : Question) (c : Certificate) : Type 0 where
   pub told : IsTold c.verdict
   pub fits : ¬ IsTooLarge q
 
--- why none is made; want of memory tells nothing
+-- why none is made; out of memory says nothing
 abbrev pub IsNotMade : Question → CertError → Type 0
 IsNotMade q (error.Undecided limit) = IsNamed q limit
 IsNotMade q error.TooLarge = IsTooLarge q

@@ -3,7 +3,7 @@ use Rattle.std.specs.Prelude.{[], ◌≡◌, ◌≢◌, ℕ, ◌<◌, ◌≤◌,
 use Rattle.rl_graph.specs.Paths.{Has, Each, Pairs}
 use Rattle.rl_numbers.specs.Reached.{IsReached, AreMore}
 
--- a state put behind the others, unless it is one of them
+-- a state appended, unless it is one of them
 abbrev pub IsPut : ℕ → List ℕ → List ℕ → Type 0
 IsPut q old new = (Has q old × (new ≡ old)) ⊎ ((Has q old → ⊥) × (new ≡ old ++ q ∷ []))
 

@@ -7,7 +7,7 @@ use Rattle.rl_pattern.specs.declared.read.ReadError.TheVariants.{Syntax, TooDeep
 use Rattle.rl_pattern.specs.declared.state.State.{State as ProgramState}
 use Rattle.rl_pattern.specs.Tree as t
 use Rattle.rl_pattern.specs.Grammar.{Spells}
-use Rattle.rl_pattern.specs.Viable.{Viable, TooDeepAt}
+use Rattle.rl_pattern.specs.Viable.{Begins, Viable, TooDeepAt}
 use Rattle.rl_pattern.specs.internal.Views.{state_of, whole_of}
 use Rattle.rl_pattern.specs.internal.Machine.{State, Lex, between, line, remark, in_braces, counted, at_slash, in_escape, in_head, set_open, in_class, behind_paren, run, start}
 use Rattle.rl_pattern.specs.Answers.{Shallow}
@@ -17,7 +17,7 @@ use Rattle.rl_pattern.specs.Answers.{Shallow}
 abbrev pub Answered : Flags → Bool → List ℕ → Result Whole ReadError → Type 0
 Answered call text w (Ok p) = Spells call text w (whole_of p) × Shallow call text w
 Answered call text w (Err (Syntax n)) = Viable call text w n × ((p : t.Whole) → ¬ Spells call text w p) × Shallow call text w
-Answered call text w (Err (TooDeep p)) = TooDeepAt call text w p × ((q : ℕ) → q < p → ¬ TooDeepAt call text w q)
+Answered call text w (Err (TooDeep p)) = TooDeepAt call text w p × Begins call text (take (suc p) w) × ((q : ℕ) → q < p → ¬ TooDeepAt call text w q)
 Answered call text w (Err OutOfMemory) = Unit {0}
 
 -- whether this code is there

@@ -15,7 +15,7 @@ const MAX_ITEMS: usize = 256;
 pub(crate) enum ListError {
     /// It would have more than 256 items.
     TooLong,
-    /// Memory was refused.
+    /// Out of memory.
     OutOfMemory,
 }
 

@@ -1,14 +1,10 @@
 -- For the loop that tries branches: what its verdicts mean, and what it knows of those that it has tried.
-use Rattle.std.specs.Prelude.{◌≡◌, ℕ, ◌≤◌, true, List, [], length}
+use Rattle.std.specs.Prelude.{◌≡◌, ℕ, true, List, []}
 use Rattle.rl_ranges.specs.declared.universe.Universe.{Universe}
-use Rattle.rl_ranges.specs.Letters.{classes}
-use Rattle.rl_ranges.specs.Text.{code_count}
 use Rattle.rl_syntax.specs.declared.span.Span.{Span}
 use Rattle.rl_syntax.specs.PatTree.{PatTree}
 use Rattle.rl_syntax.specs.SameSpans.{OneLanguage}
-use Rattle.rl_syntax.specs.Tree.{Tree, size, IsOver}
-use Rattle.rl_prio.specs.Items.{longest}
-use Rattle.rl_prio.specs.Letters.{all_sets}
+use Rattle.rl_syntax.specs.Tree.{Tree}
 use Rattle.rl_pattern.specs.Suggested.{Verdict, equal, apart, passed_by, Tried, among, may_go, without}
 use Rattle.rl_rewrite.specs.declared.trial.Trial.{Trial}
 use Rattle.rl_rewrite.specs.declared.trial.Trial.TheVariants.{Equal, Apart, Passed}
@@ -24,12 +20,6 @@ abbrev pub IsTold : Universe → Tree → Tree → Trial → Type 0
 IsTold u s t Equal = OneLanguage u s t
 IsTold u s t Apart = Unit {0}
 IsTold u s t Passed = Unit {0}
-
--- the tree of a body passes no limit
-pub record IsWithin (u : Universe) (t : Tree) : Type 0 where
-  pub small : size t ≤ 4000
-  pub few_letters : length (classes (all_sets t) (code_count u)) ≤ 128
-  pub few_moves : longest t ≤ 256
 
 -- the branches of a list were tried: these were dropped, and the tests of these passed their limit
 pub record AreTried (u : Universe) (limit : ℕ) (body : PatTree) (bs dropped passed : List Span) : Type 0 where

@@ -59,7 +59,7 @@ pub record IsLookedAt (a : Automaton) (w : Walk) (f : Found) (k c : ℕ) : Type 
   pub ended : (i : ℕ) → i < k → i < length f.numbers → holds (image a (found_set w f i) (letters_count a)) (accepting_state a) ≡ true
   pub covered : (i l : ℕ) → IsPast k c i l → i < length f.numbers → l < letters_count a → IsCovered a w f (image a (found_set w f i) l)
 
--- a number put behind the others unless it is there
+-- a number appended unless it is there
 abbrev pub IsAdded : ℕ → Way → Found → Found → Type 0
 IsAdded n way old new =
     ((list_any (nat_eq n) old.numbers ≡ true) × (new ≡ old)) ⊎ ((list_any (nat_eq n) old.numbers ≡ false) × (new ≡ record { numbers = old.numbers ++ n ∷ []; ways = old.ways ++ way ∷ [] }))

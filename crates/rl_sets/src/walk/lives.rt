@@ -37,7 +37,7 @@ impl SetWalk {
         Ok(())
     }
 
-    /// Puts a route behind the others, and answers its number.
+    /// Appends a route, and answers its number.
     pub(crate) fn put_route(&mut self, letter: u32, next: usize) -> Result<usize, OutOfMemory>
         ensures put { OnOk result (self.new.kept.routes ≡ self.old.kept.routes ++ On letter next ∷ []) }
         ensures number { IfOk result (λ r. r ≡ length self.old.kept.routes) }

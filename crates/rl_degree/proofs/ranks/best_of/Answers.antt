@@ -1,23 +1,12 @@
-use Rattle.std.proofs.Common.{◌≡◌, ◌+◌, ◌<◌, ◌≤◌, ◌⊎◌, inl, inr, ℕ, sym, ◌∙◌, ap, subst, arith}
-use Rattle.std.proofs.lemmas.Bool.{cases_lt}
+use Rattle.std.proofs.Common.{◌≡◌, ◌+◌, ◌<◌, ◌≤◌, ℕ, get_or, sym, ◌∙◌, subst, arith}
+use Rattle.std.proofs.lemmas.List.{get_or_read}
 use Rattle.rl_graph.specs.Graph.{edges_of}
-use Rattle.rl_graph.specs.Paths.{Has}
 use Rattle.rl_graph.specs.Parts.{number_of}
-use Rattle.rl_degree.specs.internal.Splits.{HasSplit}
-use Rattle.rl_degree.specs.internal.Ranks.{best_at}
+use Rattle.rl_degree.specs.internal.Groups.{IsFirstFrom}
+use Rattle.rl_degree.specs.internal.Ranks.{BeatsMoves, BeatsSplits}
 use Rattle.rl_degree.proofs.RankLaws.{good-same, moves-raised, splits-raised}
+use Rattle.rl_degree.proofs.GroupLaws.{each-below}
 use Rattle.rl_degree.proofs.ranks.best_of.Goals as goal
-use Rattle.rl_degree.proofs.ranks.best_of.Goals.{then-of-component+in_ok-best, else-of-component}
-
--- what holds of the states below `k` and of `k`
-each-below : (P : ℕ → Type 0) (number : ℕ → ℕ) (k c : ℕ) → ((q : ℕ) → q < k → number q ≡ c → P q) → (number k ≡ c → P k) → (q : ℕ) → q < k + 1 → number q ≡ c → P q
-each-below P number k c old here q h e = by (cases_lt q k)
-  where
-    by : (q < k) ⊎ (k ≤ q) → P q
-    by (inl a) = old q a e
-    by (inr a) =
-        let d : q ≡ k = omega arith in
-        subst P (sym d) (here (ap number (sym d) ∙ e))
 
 pub loop-state-preserved : goal.loop-state-preserved
 loop-state-preserved c =
@@ -28,28 +17,24 @@ loop-state-preserved c =
     let bests = c.args.bests.now in
     let k = c.loop-state.state in
     let i = c.loop-state.invariant in
-    let hk : k < n = omega (arith, c.states-state-end.ensures.number) in
-    elim c.if-of-component.branch [
-      | then-of-component+in_ok-best w ↦
-          let same : number_of p k ≡ c.args.component = sym c.of.ensures ∙ w.if-of-component.true in
-          let r = w.in_ok-best.best in
-          let m = w.best_by_moves-by_moves.result in
-          rw (w.best-is, w.marks-is) (record {
-            good = λ q hq e. good-same next n p bests q k r c.requires.table.components hq hk (e ∙ sym same) w.in_ok-best.ensures.good;
-            moves = each-below (λ q. (l x : ℕ) → Has x (next q l) → number_of p x < number_of p q → (best_at bests (number_of p x)).rank ≤ r.rank) (number_of p) k c.args.component
-                (λ q h e. moves-raised next p bests q c.loop-state.best.rank r.rank (i.moves q h e) (omega (arith, w.best_by_moves-by_moves.ensures.least, w.in_ok-best.ensures.least)))
-                (λ e. moves-raised next p bests k m.rank r.rank w.best_by_moves-by_moves.ensures.moves w.in_ok-best.ensures.least);
-            splits = each-below (λ q. (t : ℕ) → t < n → HasSplit next q t → (best_at bests (number_of p t)).rank + 1 ≤ r.rank) (number_of p) k c.args.component
-                (λ q h e. splits-raised next n p bests q c.loop-state.best.rank r.rank (i.splits q h e) (omega (arith, w.best_by_moves-by_moves.ensures.least, w.in_ok-best.ensures.least)))
-                (λ e. w.in_ok-best.ensures.splits);
-            marks = w.in_ok-best.ensures.marks;
-          })
-      | else-of-component w ↦
-          let other : number_of p k ≡ c.args.component → ⊥ = λ e. w.if-of-component.false (c.of.ensures ∙ e) in
-          rw (w.best-is, w.marks-is) (record {
-            good = i.good;
-            moves = each-below (λ q. (l x : ℕ) → Has x (next q l) → number_of p x < number_of p q → (best_at bests (number_of p x)).rank ≤ c.loop-state.best.rank) (number_of p) k c.args.component i.moves (λ e. absurd (other e));
-            splits = each-below (λ q. (t : ℕ) → t < n → HasSplit next q t → (best_at bests (number_of p t)).rank + 1 ≤ c.loop-state.best.rank) (number_of p) k c.args.component i.splits (λ e. absurd (other e));
-            marks = i.marks;
-          })
-    ]
+    let hk : k < n = omega (arith, c.states-count.ensures.number) in
+    let same = i.member hk in
+    let nexts = c.args.groups.now.nexts.items in
+    let e : c.index-next.result.now ≡ get_or nexts k 0 = get_or_read nexts k c.index-next.result.now (omega (arith, c.requires.groups.nexts_size)) c.index-next.ensures 0 in
+    let after : IsFirstFrom p n c.args.component (k + 1) c.index-next.result.now =
+    subst (λ (z : ℕ). IsFirstFrom p n z (k + 1) c.index-next.result.now) same (subst (IsFirstFrom p n (number_of p k) (k + 1)) (sym e) (c.requires.groups.next k (omega arith) hk)) in
+    let r = c.in_ok-best.best in
+    let m = c.best_by_moves-by_moves.result in
+    let rises : c.loop-state.best.rank ≤ r.rank = omega (arith, c.best_by_moves-by_moves.ensures.least, c.in_ok-best.ensures.least) in
+    record {
+      within = after.within;
+      member = after.member;
+      good = λ q hq f. good-same next n p bests q k r c.requires.table.components hq hk (f ∙ sym same) c.in_ok-best.ensures.good;
+      moves = each-below (λ q. BeatsMoves next p bests q r.rank) p n k c.args.component c.index-next.result.now after
+          (λ q h f. moves-raised next p bests q c.loop-state.best.rank r.rank (i.moves q h f) rises)
+          (moves-raised next p bests k m.rank r.rank c.best_by_moves-by_moves.ensures.moves c.in_ok-best.ensures.least);
+      splits = each-below (λ q. BeatsSplits next n p bests q r.rank) p n k c.args.component c.index-next.result.now after
+          (λ q h f. splits-raised next n p bests q c.loop-state.best.rank r.rank (i.splits q h f) rises)
+          c.in_ok-best.ensures.splits;
+      marks = c.in_ok-best.ensures.marks;
+    }

@@ -1,9 +1,8 @@
-use Rattle.rl_judge.proofs.Runs.{literal_run}
 use Rattle.rl_judge.proofs.Values.{value_text}
 use Rattle.rl_judge.proofs.told.told_of_run.Goals as goal
 
 pub value-requires-clause-run : goal.value-requires-clause-run
-value-requires-clause-run c = literal_run c.args.tokens.now c.args.site c.requires.run
+value-requires-clause-run c = c.requires.run.run
 
 pub told_of_value-requires-clause-text : goal.told_of_value-requires-clause-text
 told_of_value-requires-clause-text c =

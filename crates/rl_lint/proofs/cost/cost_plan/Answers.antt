@@ -1,16 +1,16 @@
 use Rattle.std.proofs.Common.{◌≡◌, subst}
 use Rattle.std.specs.Str.{chars}
 use Rattle.rl_lint.specs.CostEnding.{cost_ending}
-use Rattle.rl_lint.specs.Readings.{IsWordRead}
-use Rattle.rl_lint.proofs.PlanLemmas.{ends-refused, ends-spelled}
+use Rattle.rl_lint.specs.internal.Parsed.{IsArgument}
+use Rattle.rl_lint.proofs.PatternLemmas.{ends-refused, ends-parsed}
 use Rattle.rl_lint.proofs.cost.cost_plan.Goals as goal
 
 pub returns-in-Refused : goal.returns-in-Refused
 returns-in-Refused c =
-    let read = subst (λ w. IsWordRead (chars c.args.pattern.now) w) c.in-Refused.is c.in_ok-message.ensures in
+    let read = subst (λ w. IsArgument (chars c.args.pattern.now) w) c.in-Refused.is c.in_ok-message.ensures in
     ends-refused _ _ (λ t at end. end ≡ cost_ending (chars c.args.text.now) t at) c.in-Refused.message read
 
-pub returns-in-Spelled : goal.returns-in-Spelled
-returns-in-Spelled c =
-    let read = subst (λ w. IsWordRead (chars c.args.pattern.now) w) c.in-Spelled.is c.in_ok-message.ensures in
-    ends-spelled _ _ (λ t at end. end ≡ cost_ending (chars c.args.text.now) t at) _ c.in-Spelled.pattern read c.pattern_plan.ensures
+pub returns-in-Parsed : goal.returns-in-Parsed
+returns-in-Parsed c =
+    let read = subst (λ w. IsArgument (chars c.args.pattern.now) w) c.in-Parsed.is c.in_ok-message.ensures in
+    ends-parsed _ _ (λ t at end. end ≡ cost_ending (chars c.args.text.now) t at) _ c.in-Parsed.pattern read c.pattern_plan.ensures

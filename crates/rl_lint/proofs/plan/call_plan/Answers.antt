@@ -1,35 +1,22 @@
-use Rattle.std.proofs.Common.{◌≡◌, ◌∙◌, IfOk, codes, subst}
+use Rattle.std.proofs.Common.{IfOk, ap, subst}
+use Rattle.std.specs.Prelude.{option_map}
+use Rattle.rl_walk.specs.Visits.{moment_of}
 use Rattle.rl_words.specs.Call.{asked, chosen}
-use Rattle.rl_lint.specs.Endings.{ending_of}
-use Rattle.rl_lint.specs.Options.{in_force}
-use Rattle.rl_lint.specs.Planned.{IsActionPlanned, asks_itself, call_of}
-use Rattle.rl_lint.specs.Settled.{AreSettled}
-use Rattle.rl_lint.specs.Uses.{asking_of}
-use Rattle.rl_lint.proofs.PlannedLemmas.{asks-neither, comes-refused, comes-taken, comes-unread}
+use Rattle.rl_lint.specs.RunEnding.{IsActionEnding}
+use Rattle.rl_lint.specs.internal.Plans.{call_of, ending_of}
+use Rattle.rl_lint.proofs.RunLemmas.{call-plain, call-settings}
 use Rattle.rl_lint.proofs.plan.call_plan.Goals as goal
 
-pub returns-in-Unread-clause-planned : goal.returns-in-Unread-clause-planned
-returns-in-Unread-clause-planned g c =
-    let call = call_of c.args.action c.args.options.now in
-    comes-unread g.T.Tree.told g.T.Tree.fault_count (AreSettled call.options.settings) (codes "settings") (λ start. IsActionPlanned call (in_force call.options start))
-    c.args.tree.now c.settle.new.tree c.in_ok-settle.field-0 c.in_ok-settle.ensures.settled c.in-Unread.is
+pub returns-in-None-clause-ending : goal.returns-in-None-clause-ending
+returns-in-None-clause-ending g c =
+    let options = chosen c.args.options.now in
+    let old = moment_of g.T.Tree.told g.T.Tree.fault_count c.args.tree.now in
+    let new = moment_of g.T.Tree.told g.T.Tree.fault_count c.action_plan.new.tree in
+    call-plain c.action_plan.result (call_of c.args.action c.args.options.now) old new (ap (option_map (λ p. p.now)) c.in-None.is)
+    (subst (λ s. IfOk c.action_plan.result (λ plan. IsActionEnding s options (asked c.args.action) old new (ending_of plan))) c.in_force-settings.ensures.value
+    c.action_plan.ensures.ending)
 
-pub returns-in-Refused-clause-planned : goal.returns-in-Refused-clause-planned
-returns-in-Refused-clause-planned g c =
-    let call = call_of c.args.action c.args.options.now in
-    comes-refused g.T.Tree.told g.T.Tree.fault_count (AreSettled call.options.settings) (codes "settings") (λ start. IsActionPlanned call (in_force call.options start))
-    c.args.tree.now c.settle.new.tree c.in_ok-settle.field-0 c.in_ok-settle.ensures.settled c.in-Refused.is
-
-pub returns-in-Taken-clause-planned : goal.returns-in-Taken-clause-planned
-returns-in-Taken-clause-planned g c =
-    let call = call_of c.args.action c.args.options.now in
-    let asking = asking_of g.T.Tree.told g.T.Tree.fault_count c.settle.new.tree c.baseline_plan.new.tree in
-    comes-taken g.T.Tree.told g.T.Tree.fault_count (AreSettled call.options.settings) (codes "settings") (λ start. IsActionPlanned call (in_force call.options start))
-    c.args.tree.now c.settle.new.tree c.baseline_plan.new.tree c.baseline_plan.result c.in_ok-settle.field-0 c.in-Taken.start c.in-Taken.is
-    c.in_ok-settle.ensures.settled
-    (subst (λ s. IfOk c.baseline_plan.result (λ plan. IsActionPlanned call s asking (ending_of plan))) c.in_force-settings.ensures.value c.baseline_plan.ensures.planned)
-
-pub returns-in-Taken-clause-trail : goal.returns-in-Taken-clause-trail
-returns-in-Taken-clause-trail g c = λ unasked.
-    let neither = asks-neither (asks_itself (asked c.args.action)) c.args.options.now.settings unasked in
-    c.baseline_plan.ensures.trail neither.0 ∙ c.in_ok-settle.ensures.trail neither.1
+pub returns-in-Some-clause-ending : goal.returns-in-Some-clause-ending
+returns-in-Some-clause-ending g c =
+    call-settings c.config_plan.result (call_of c.args.action c.args.options.now) c.in-Some.path.now (moment_of g.T.Tree.told g.T.Tree.fault_count c.args.tree.now)
+    (moment_of g.T.Tree.told g.T.Tree.fault_count c.config_plan.new.tree) (ap (option_map (λ p. p.now)) c.in-Some.is) c.config_plan.ensures.ending

@@ -1,27 +1,33 @@
-use Rattle.std.proofs.Common.{codes, refl}
+use Rattle.std.proofs.Common.{◌≡◌, codes, refl}
 use Rattle.rl_syntax.specs.Pattern.{pattern_ending, pattern_tree}
-use Rattle.rl_lint.specs.ProveEnding.{text_question}
-use Rattle.rl_lint.specs.Uses.{SawNothing, asking_of}
-use Rattle.rl_lint.specs.VerifyEnding.{CertificateEnds, IsCertified}
-use Rattle.rl_lint.proofs.PlannedLemmas.{comes-refused, comes-taken, comes-unread}
-use Rattle.rl_lint.proofs.PlanLemmas.{asked-nothing}
+use Rattle.rl_cert.specs.Form.{IsForm}
+use Rattle.rl_walk.specs.Visits.{moment_of}
+use Rattle.rl_lint.specs.Files.{first_bytes}
+use Rattle.rl_lint.specs.Patterns.{text_question}
+use Rattle.rl_lint.specs.VerifyEnding.{CertificateEnds}
+use Rattle.rl_lint.proofs.FileLemmas.{reads-refused, reads-taken, reads-unreadable}
+use Rattle.rl_lint.proofs.PatternLemmas.{asked-nothing}
 use Rattle.rl_lint.proofs.verify.file_plan.Goals as goal
 
-pub returns-in-Unread-clause-verifies : goal.returns-in-Unread-clause-verifies
-returns-in-Unread-clause-verifies g c =
+pub returns-in-Unreadable-clause-verifies : goal.returns-in-Unreadable-clause-verifies
+returns-in-Unreadable-clause-verifies g c =
     let q = text_question c.args.max_pairs (pattern_tree c.args.pattern.now c.args.mode) (pattern_ending c.args.pattern.now c.args.mode) in
-    comes-unread g.T.Tree.told g.T.Tree.fault_count (IsCertified c.args.file.now) (codes "certificate") (λ x later end. SawNothing later × CertificateEnds q x end)
-    c.args.tree.now c.certified.new.tree c.in_ok-certified.field-0 c.in_ok-certified.ensures.certified c.in-Unread.is
+    reads-unreadable (codes "certificate") first_bytes IsForm (λ x mid last end. (last ≡ mid) × CertificateEnds q x end) c.args.file.now
+    (moment_of g.T.Tree.told g.T.Tree.fault_count c.args.tree.now) (moment_of g.T.Tree.told g.T.Tree.fault_count c.read_certificate.new.tree)
+    c.in_ok-read_certificate.field-0 c.in_ok-read_certificate.ensures.read c.in-Unreadable.is
 
 pub returns-in-Refused-clause-verifies : goal.returns-in-Refused-clause-verifies
 returns-in-Refused-clause-verifies g c =
     let q = text_question c.args.max_pairs (pattern_tree c.args.pattern.now c.args.mode) (pattern_ending c.args.pattern.now c.args.mode) in
-    comes-refused g.T.Tree.told g.T.Tree.fault_count (IsCertified c.args.file.now) (codes "certificate") (λ x later end. SawNothing later × CertificateEnds q x end)
-    c.args.tree.now c.certified.new.tree c.in_ok-certified.field-0 c.in_ok-certified.ensures.certified c.in-Refused.is
+    reads-refused (codes "certificate") first_bytes IsForm (λ x mid last end. (last ≡ mid) × CertificateEnds q x end) c.args.file.now
+    (moment_of g.T.Tree.told g.T.Tree.fault_count c.args.tree.now) (moment_of g.T.Tree.told g.T.Tree.fault_count c.read_certificate.new.tree)
+    c.in_ok-read_certificate.field-0 c.in_ok-read_certificate.ensures.read c.in-Refused.is
 
 pub returns-in-Taken-clause-verifies : goal.returns-in-Taken-clause-verifies
 returns-in-Taken-clause-verifies g c =
     let q = text_question c.args.max_pairs (pattern_tree c.args.pattern.now c.args.mode) (pattern_ending c.args.pattern.now c.args.mode) in
-    comes-taken g.T.Tree.told g.T.Tree.fault_count (IsCertified c.args.file.now) (codes "certificate") (λ x later end. SawNothing later × CertificateEnds q x end)
-    c.args.tree.now c.certified.new.tree c.certified.new.tree c.certificate_plan.result c.in_ok-certified.field-0 c.in-Taken.certificate c.in-Taken.is
-    c.in_ok-certified.ensures.certified (asked-nothing (CertificateEnds q c.in-Taken.certificate) _ c.certificate_plan.result (record { calls = refl; faults = refl }) c.certificate_plan.ensures)
+    let mid = moment_of g.T.Tree.told g.T.Tree.fault_count c.read_certificate.new.tree in
+    reads-taken (codes "certificate") first_bytes IsForm (λ x mid last end. (last ≡ mid) × CertificateEnds q x end) c.args.file.now
+    (moment_of g.T.Tree.told g.T.Tree.fault_count c.args.tree.now) c.certificate_plan.result mid mid c.in_ok-read_certificate.field-0 c.in-Taken.certificate
+    c.in_ok-read_certificate.ensures.read c.in-Taken.is
+    (asked-nothing (CertificateEnds q c.in-Taken.certificate) mid mid c.certificate_plan.result refl c.certificate_plan.ensures)

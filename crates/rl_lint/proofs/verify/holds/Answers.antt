@@ -1,8 +1,7 @@
-use Rattle.std.proofs.Common.{arith}
 use Rattle.rl_syntax.specs.Pattern.{pattern_ending, pattern_tree}
 use Rattle.rl_syntax.specs.declared.verdict.Limit.TheVariants.{Size}
 use Rattle.rl_cert.proofs.CheckLaws.{none-holds}
-use Rattle.rl_lint.specs.ProveEnding.{text_question}
+use Rattle.rl_lint.specs.Patterns.{text_question}
 use Rattle.rl_lint.proofs.verify.holds.Goals as goal
 
 pub returns-in-Err-TooLarge : goal.returns-in-Err-TooLarge

@@ -1,4 +1,4 @@
-use Rattle.std.proofs.Common.{◌≡◌, ◌∷◌, [], ◌++◌, refl, sym, ap, ◌∙◌, arith}
+use Rattle.std.proofs.Common.{◌∷◌, [], sym, ap, ◌∙◌, arith}
 use Rattle.std.proofs.lemmas.Grind.{common_steps}
 use Rattle.rl_syntax.specs.Pattern.{body_of, universe_of}
 use Rattle.rl_pattern.specs.Suggested.{branches_in, without}
@@ -13,7 +13,7 @@ loop-branch-preserved c =
       last_of c.loop-branch.branch-iterator.iter.rest.now c.next.new.self.iter.rest.now inv.0 (branches_in (body_of c.args.p.now)) c.in-Some.branch.now (grind (arith, common_steps)) inv.1,
       c.in_ok-tries.ensures.tried inv.0 inv.2,
       c.in_ok-tries.ensures.tree,
-      c.in_ok-tries.ensures.over,
+      c.in_ok-tries.ensures.universe,
     )
 
 pub loop-branch-init : goal.loop-branch-init
@@ -22,5 +22,5 @@ loop-branch-init c = (
   grind (arith, common_steps),
   rw (c.new-2.ensures, c.new-3.ensures) (none (universe_of c.args.p.now) c.args.limit (body_of c.args.p.now) c.requires.before),
   c.requires.tree ∙ sym (none_left (body_of c.args.p.now)) ∙ ap (λ d. without d (body_of c.args.p.now)) (sym c.new-2.ensures),
-  c.requires.over,
+  c.requires.universe,
 )

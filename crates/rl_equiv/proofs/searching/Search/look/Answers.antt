@@ -5,7 +5,7 @@ use Rattle.rl_equiv.proofs.searching.Search.look.Goals as goal
 
 pub loop-seen-init : goal.loop-seen-init
 loop-seen-init c = (
-  seen-start c.args.joint.now.first c.args.joint.now.second (state_of c.args.self.now) c.new-seen.result.items c.requires.search c.requires.one c.new-seen.ensures.items,
+  seen-start c.args.a.now c.args.b.now (state_of c.args.self.now) c.new-seen.result.items c.requires.search c.requires.one c.new-seen.ensures.items,
   λ e k lt. absurd (omega (arith, ap length c.new-seen.ensures.items)),
 )
 
@@ -14,7 +14,7 @@ ends-requires-clause-search c = c.loop-seen.invariant.0.search
 
 pub returns-then-stops-clause-seen : goal.returns-then-stops-clause-seen
 returns-then-stops-clause-seen c =
-    seen-more-at c.args.joint.now.first c.args.joint.now.second c.args.self.now.limit (state_of c.loop-seen.self) (state_of c.ends.new.self) (state_of c.expand.new.self) c.loop-seen.seen.items c.push.new.self.items c.in_ok-ends.ends c.len-place.result (omega (arith, c.len-place.ensures, c.loop-seen.seen.ok)) c.loop-seen.invariant.0
+    seen-more-at c.args.a.now c.args.b.now c.args.self.now.limit (state_of c.loop-seen.self) (state_of c.ends.new.self) (state_of c.expand.new.self) c.loop-seen.seen.items c.push.new.self.items c.in_ok-ends.ends c.len-place.result (omega (arith, c.len-place.ensures, c.loop-seen.seen.ok)) c.loop-seen.invariant.0
     (omega (arith, c.len.ensures, c.len-place.ensures, c.len-in-loop-seen.ensures.len, c.loop-seen-test.true)) (omega (arith, c.if-place-self.false, c.loop-seen.invariant.0.limit_is))
     c.in_ok-ends.ensures.limit c.in_ok-ends.ensures.pairs c.in_ok-ends.ensures.ways c.in_ok-ends.ensures.ends c.in_ok-expand.ensures.onward c.in_ok-expand.ensures.reached c.in_ok-push.ensures.items
 
@@ -25,7 +25,7 @@ returns-then-stops-clause-apart c = λ e.
 
 pub loop-seen-preserved : goal.loop-seen-preserved
 loop-seen-preserved c = (
-  seen-more-at c.args.joint.now.first c.args.joint.now.second c.args.self.now.limit (state_of c.loop-seen.self) (state_of c.ends.new.self) (state_of c.expand.new.self) c.loop-seen.seen.items c.push.new.self.items c.in_ok-ends.ends c.len-place.result (omega (arith, c.len-place.ensures, c.loop-seen.seen.ok)) c.loop-seen.invariant.0
+  seen-more-at c.args.a.now c.args.b.now c.args.self.now.limit (state_of c.loop-seen.self) (state_of c.ends.new.self) (state_of c.expand.new.self) c.loop-seen.seen.items c.push.new.self.items c.in_ok-ends.ends c.len-place.result (omega (arith, c.len-place.ensures, c.loop-seen.seen.ok)) c.loop-seen.invariant.0
       (omega (arith, c.len.ensures, c.len-place.ensures, c.len-in-loop-seen.ensures.len, c.loop-seen-test.true)) (omega (arith, c.if-place-self.false, c.loop-seen.invariant.0.limit_is))
       c.in_ok-ends.ensures.limit c.in_ok-ends.ensures.pairs c.in_ok-ends.ensures.ways c.in_ok-ends.ensures.ends c.in_ok-expand.ensures.onward c.in_ok-expand.ensures.reached c.in_ok-push.ensures.items,
   calm-more c.args.all c.loop-seen.seen.items c.push.new.self.items c.in_ok-ends.ends c.loop-seen.invariant.1 (calm-from c.args.all (is_apart c.in_ok-ends.ends) (sym c.stops.ensures ∙ c.if-stops.false)) c.in_ok-push.ensures.items,

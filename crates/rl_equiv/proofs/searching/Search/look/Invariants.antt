@@ -4,7 +4,7 @@ use Rattle.rl_equiv.proofs.searching.Search.look.Given as goal
 
 abbrev pub invariant-loop-seen : goal.invariant-loop-seen
 invariant-loop-seen l =
-    IsSeen l.joint.first l.joint.second (state_of l.fn.self).limit (state_of l.self) l.seen.items
+    IsSeen l.a l.b (state_of l.fn.self).limit (state_of l.self) l.seen.items
     × (l.all ≡ false → (k : ℕ) → k < length l.seen.items → is_apart (ends_in l.seen.items k) ≡ false)
 
 abbrev pub decreases-loop-seen : goal.decreases-loop-seen

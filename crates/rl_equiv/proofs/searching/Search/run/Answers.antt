@@ -11,12 +11,12 @@ returns-then-last-clause-answer c =
     let place = c.len-place.result - 1 in
     let lt : place < length seen = omega (arith, c.len-place.ensures, c.in_ok-seen.ensures.some, c.in_ok-seen.seen.ok) in
     let same = get_or_default seen place no_ends c.index-last.result.now lt ∙ sym c.index-last.ensures in
-    seen-apart c.args.joint.now.first c.args.joint.now.second c.args.self.now.limit (state_of c.look.new.self) seen c.in_ok-seen.ensures.seen place lt (ap is_apart same ∙ c.if-last.true)
+    seen-apart c.args.a.now c.args.b.now c.args.self.now.limit (state_of c.look.new.self) seen c.in_ok-seen.ensures.seen place lt (ap is_apart same ∙ c.if-last.true)
 
 pub returns-then-last-clause-apart : goal.returns-then-last-clause-apart
 returns-then-last-clause-apart c =
-    let a = c.args.joint.now.first in
-    let b = c.args.joint.now.second in
+    let a = c.args.a.now in
+    let b = c.args.b.now in
     let s = state_of c.look.new.self in
     let seen = c.in_ok-seen.seen.items in
     let r = c.in_ok-seen.ensures.seen in
@@ -34,7 +34,7 @@ returns-then-len-self-clause-answer c =
     let lt : place < length seen = omega (arith, c.len-place.ensures, c.in_ok-seen.ensures.some, c.in_ok-seen.seen.ok) in
     let count : length seen ≡ suc place = omega (arith, c.len-place.ensures, c.in_ok-seen.ensures.some, c.in_ok-seen.seen.ok) in
     let same = get_or_default seen place no_ends c.index-last.result.now lt ∙ sym c.index-last.ensures in
-    seen-passed c.args.joint.now.first c.args.joint.now.second c.args.self.now.limit s seen r (state_of c.args.self.now) refl (c.in_ok-seen.ensures.apart refl) place count (ap is_apart same ∙ c.if-last.false)
+    seen-passed c.args.a.now c.args.b.now c.args.self.now.limit s seen r (state_of c.args.self.now) refl (c.in_ok-seen.ensures.apart refl) place count (ap is_apart same ∙ c.if-last.false)
     (omega (arith, c.len.ensures.len, c.if-len-self.true, r.limit_is))
 
 pub returns-clause-answer : goal.returns-clause-answer
@@ -46,5 +46,5 @@ returns-clause-answer c =
     let lt : place < length seen = omega (arith, c.len-place.ensures, c.in_ok-seen.ensures.some, c.in_ok-seen.seen.ok) in
     let count : length seen ≡ suc place = omega (arith, c.len-place.ensures, c.in_ok-seen.ensures.some, c.in_ok-seen.seen.ok) in
     let same = get_or_default seen place no_ends c.index-last.result.now lt ∙ sym c.index-last.ensures in
-    seen-all c.args.joint.now.first c.args.joint.now.second c.args.self.now.limit s seen r (state_of c.args.self.now) refl (c.in_ok-seen.ensures.apart refl) place count (ap is_apart same ∙ c.if-last.false)
+    seen-all c.args.a.now c.args.b.now c.args.self.now.limit s seen r (state_of c.args.self.now) refl (c.in_ok-seen.ensures.apart refl) place count (ap is_apart same ∙ c.if-last.false)
     c.requires.readers (omega (arith, c.len.ensures.len, c.if-len-self.false, r.limit_is)) c.in_ok-relation.relation c.in_ok-relation.ensures

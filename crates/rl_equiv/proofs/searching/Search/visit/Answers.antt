@@ -10,8 +10,8 @@ use Rattle.rl_equiv.proofs.searching.Search.visit.Goals as goal
 
 pub returns-in_ok-push-clause-onward : goal.returns-in_ok-push-clause-onward
 returns-in_ok-push-clause-onward c =
-    let a = c.args.joint.now.first in
-    let b = c.args.joint.now.second in
+    let a = c.args.a.now in
+    let b = c.args.b.now in
     let s = state_of c.args.self.now in
     let v = c.step_to.new.walk in
     let w = c.step_to-2.new.walk in
@@ -20,8 +20,8 @@ returns-in_ok-push-clause-onward c =
 
 pub returns-in_ok-push-clause-reached : goal.returns-in_ok-push-clause-reached
 returns-in_ok-push-clause-reached c =
-    let a = c.args.joint.now.first in
-    let b = c.args.joint.now.second in
+    let a = c.args.a.now in
+    let b = c.args.b.now in
     let s = state_of c.args.self.now in
     let v = c.step_to.new.walk in
     let w = c.step_to-2.new.walk in
@@ -30,8 +30,8 @@ returns-in_ok-push-clause-reached c =
 
 pub returns-else-branch-clause-onward : goal.returns-else-branch-clause-onward
 returns-else-branch-clause-onward c =
-    let a = c.args.joint.now.first in
-    let b = c.args.joint.now.second in
+    let a = c.args.a.now in
+    let b = c.args.b.now in
     let s = state_of c.args.self.now in
     let v = c.step_to.new.walk in
     let w = c.step_to-2.new.walk in
@@ -40,8 +40,8 @@ returns-else-branch-clause-onward c =
 
 pub returns-else-branch-clause-reached : goal.returns-else-branch-clause-reached
 returns-else-branch-clause-reached c =
-    let a = c.args.joint.now.first in
-    let b = c.args.joint.now.second in
+    let a = c.args.a.now in
+    let b = c.args.b.now in
     let s = state_of c.args.self.now in
     let v = c.step_to.new.walk in
     let w = c.step_to-2.new.walk in
@@ -51,7 +51,7 @@ returns-else-branch-clause-reached c =
 pub returns-then-len-self-clause-reached : goal.returns-then-len-self-clause-reached
 returns-then-len-self-clause-reached c =
     let s = state_of c.args.self.now in
-    sym (cond-true (nat_lt s.limit (length (reached_in s))) (reached_in s) (with_reached (reached_in s) (reached_on c.args.joint.now.first c.args.joint.now.second (reached_at s c.args.place) c.args.letter))
+    sym (cond-true (nat_lt s.limit (length (reached_in s))) (reached_in s) (with_reached (reached_in s) (reached_on c.args.a.now c.args.b.now (reached_at s c.args.place) c.args.letter))
     (lt-ltb s.limit (length (reached_in s)) (omega (arith, c.len.ensures.len, c.if-len-self.true, reached-length s))))
 
 pub step_to-requires-clause-set_in : goal.step_to-requires-clause-set_in

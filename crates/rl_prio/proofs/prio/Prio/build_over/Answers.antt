@@ -1,49 +1,38 @@
-use Rattle.std.proofs.Common.{◌≡◌, ◌<◌, ◌≤◌, length, map, sym, ap, subst, ◌∙◌, arith}
-use Rattle.std.proofs.lemmas.Result.{err_from_is_err_and}
+use Rattle.std.proofs.Common.{◌≡◌, ℕ, ◌≤◌, Bool, List, length, map, sym, ap, subst, ◌∙◌, arith}
+use Rattle.std.proofs.lemmas.Result.{IfOk-weaker, IfErr-weaker, on_ok_weaker}
 use Rattle.rl_ranges.specs.Codes.{has}
+use Rattle.rl_ranges.specs.Letters.{LetterTable, IsLetters}
 use Rattle.rl_ranges.specs.Text.{code_count}
-use Rattle.rl_syntax.specs.Tree.{tree_of}
-use Rattle.rl_prio.specs.StandsFor.{StandsOver}
-use Rattle.rl_prio.specs.Automaton.{Automaton, IsAutomaton}
-use Rattle.rl_prio.proofs.WidthLemmas.{width-longest, longest-width}
-use Rattle.rl_prio.proofs.BuildLemmas.{sound-plan, automaton, stands, some_codes, too_many, not_moves, too_long, not_letters}
 use Rattle.rl_prio.proofs.prio.Prio.build_over.Goals as goal
 
-pub returns-in_err-plan-clause-letters : goal.returns-in_err-plan-clause-letters
-returns-in_err-plan-clause-letters c =
-    let p = err_from_is_err_and c.from_residual-in_err-plan.result c.from_residual-in_err-plan.ensures.1 in
-    rw p.1 (λ e. absurd (not_letters c.in_err-plan.field-0.0 (sym p.2 ∙ e)))
+are-letters : (shared table : LetterTable) (sets : List (ℕ → Bool)) (n : ℕ) → shared ≡ table → IsLetters table sets n → IsLetters shared sets n
+are-letters shared table sets n same are = subst (λ (l : LetterTable). IsLetters l sets n) (sym same) are
 
-pub returns-in_err-plan-clause-moves : goal.returns-in_err-plan-clause-moves
-returns-in_err-plan-clause-moves c =
-    let p = err_from_is_err_and c.from_residual-in_err-plan.result c.from_residual-in_err-plan.ensures.1 in
-    rw p.1 (λ e.
-    let wide = c.in_err-plan.ensures.too_long (too_long c.in_err-plan.field-0.0 (sym p.2 ∙ e)) in
-    (omega (arith, c.in_ok-letters.ensures.few, c.in_ok-letters.ensures.ok.same_count), omega (arith, wide, width-longest (tree_of c.args.tree.now))))
+few-letters : (shared table : LetterTable) → shared ≡ table → length table.samples ≤ 128 → length shared.samples ≤ 128
+few-letters shared table same few = omega (arith, ap (λ (l : LetterTable). length l.samples) same, few)
 
-pub rows-requires : goal.rows-requires
-rows-requires c =
-    sound-plan c.in_ok-plan.plan (tree_of c.args.tree.now) (map has c.args.sets.now.items) (code_count c.args.universe) c.in_ok-letters.letters c.in_ok-kinds.kinds c.args.ending
-    c.in_ok-plan.ensures.ok c.in_ok-letters.ensures.ok c.in_ok-kinds.ensures (some_codes c.args.universe) c.requires.small c.in_ok-letters.ensures.few
+pub over_letters-requires-clause-few : goal.over_letters-requires-clause-few
+over_letters-requires-clause-few c = few-letters c.in_ok-letters.letters.value c.in_ok-table.table c.in_ok-letters.ensures c.in_ok-table.ensures.few
 
-pub states-states-requires : goal.states-states-requires
-states-states-requires c =
-    sound-plan c.in_ok-plan.plan (tree_of c.args.tree.now) (map has c.args.sets.now.items) (code_count c.args.universe) c.in_ok-letters.letters c.in_ok-kinds.kinds c.args.ending
-    c.in_ok-plan.ensures.ok c.in_ok-letters.ensures.ok c.in_ok-kinds.ensures (some_codes c.args.universe) c.requires.small c.in_ok-letters.ensures.few
-
-pub from_parts-requires : goal.from_parts-requires
-from_parts-requires c =
-    subst (λ s. IsAutomaton (record { table = c.in_ok-letters.letters; states = s; rows = c.in_ok-rows.rows.rows })) (sym c.states-states.ensures.value)
-    (automaton c.in_ok-plan.plan (tree_of c.args.tree.now) (map has c.args.sets.now.items) (code_count c.args.universe) c.in_ok-letters.letters c.in_ok-kinds.kinds c.args.ending
-    c.in_ok-plan.ensures.ok c.in_ok-letters.ensures.ok c.in_ok-kinds.ensures (some_codes c.args.universe) c.requires.finer c.in_ok-rows.rows.rows c.in_ok-rows.ensures)
+pub over_letters-requires-clause-finer : goal.over_letters-requires-clause-finer
+over_letters-requires-clause-finer c = (map has c.args.sets.now.items, are-letters c.in_ok-letters.letters.value c.in_ok-table.table (map has c.args.sets.now.items) (code_count c.args.universe) c.in_ok-letters.ensures c.in_ok-table.ensures.ok, c.requires.finer)
 
 pub returns-clause-ok : goal.returns-clause-ok
 returns-clause-ok c =
-    subst (λ a. StandsOver a (tree_of c.args.tree.now) c.args.ending (map has c.args.sets.now.items)) (sym c.from_parts.ensures)
-    (subst (λ s. StandsOver (record { table = c.in_ok-letters.letters; states = s; rows = c.in_ok-rows.rows.rows }) (tree_of c.args.tree.now) c.args.ending (map has c.args.sets.now.items)) (sym c.states-states.ensures.value)
-    (stands c.in_ok-plan.plan (tree_of c.args.tree.now) (map has c.args.sets.now.items) (code_count c.args.universe) c.in_ok-letters.letters c.in_ok-kinds.kinds c.args.ending
-    c.in_ok-plan.ensures.ok c.in_ok-letters.ensures.ok c.in_ok-kinds.ensures (some_codes c.args.universe) c.requires.finer c.in_ok-rows.rows.rows c.in_ok-rows.ensures))
+    IfOk-weaker c.over_letters.result _ _ (λ a h. h (map has c.args.sets.now.items) (are-letters c.in_ok-letters.letters.value c.in_ok-table.table (map has c.args.sets.now.items) (code_count c.args.universe) c.in_ok-letters.ensures c.in_ok-table.ensures.ok) c.requires.finer) c.over_letters.ensures.ok
+
+pub returns-clause-codes : goal.returns-clause-codes
+returns-clause-codes c =
+    IfOk-weaker c.over_letters.result _ _ (λ a h. ap (λ (l : LetterTable). l.codes) h ∙ (are-letters c.in_ok-letters.letters.value c.in_ok-table.table (map has c.args.sets.now.items) (code_count c.args.universe) c.in_ok-letters.ensures c.in_ok-table.ensures.ok).same_codes) c.over_letters.ensures.table
 
 pub returns-clause-within : goal.returns-clause-within
 returns-clause-within c =
-    (omega (arith, c.in_ok-letters.ensures.few, c.in_ok-letters.ensures.ok.same_count), omega (arith, c.in_ok-plan.ensures.short, longest-width (tree_of c.args.tree.now)))
+    on_ok_weaker c.over_letters.result (λ h. (omega (arith, few-letters c.in_ok-letters.letters.value c.in_ok-table.table c.in_ok-letters.ensures c.in_ok-table.ensures.few, (are-letters c.in_ok-letters.letters.value c.in_ok-table.table (map has c.args.sets.now.items) (code_count c.args.universe) c.in_ok-letters.ensures c.in_ok-table.ensures.ok).same_count), h)) c.over_letters.ensures.short
+
+pub returns-clause-moves : goal.returns-clause-moves
+returns-clause-moves c =
+    IfErr-weaker c.over_letters.result _ _ (λ e h is. (omega (arith, few-letters c.in_ok-letters.letters.value c.in_ok-table.table c.in_ok-letters.ensures c.in_ok-table.ensures.few, (are-letters c.in_ok-letters.letters.value c.in_ok-table.table (map has c.args.sets.now.items) (code_count c.args.universe) c.in_ok-letters.ensures c.in_ok-table.ensures.ok).same_count), h is)) c.over_letters.ensures.moves
+
+pub returns-clause-letters : goal.returns-clause-letters
+returns-clause-letters c =
+    IfErr-weaker c.over_letters.result _ _ (λ e h is. absurd (h is)) c.over_letters.ensures.letters

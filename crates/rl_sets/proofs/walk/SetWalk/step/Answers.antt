@@ -16,12 +16,12 @@ pub keep_image-requires-clause-made : goal.keep_image-requires-clause-made
 keep_image-requires-clause-made c =
     let a = c.args.a.now in
     let row = c.in_ok-row.row in
-    let is = subst (IsSetOf a) (sym c.in_ok-row.ensures.image) (IsSetOf-image a (set_at c.prepare.new.self c.args.set) c.args.letter) in
+    let is = subst (IsSetOf a) (sym c.in_ok-row.ensures.image) (IsSetOf-image a (set_at c.args.self.now c.args.set) c.args.letter) in
     IsMadeFor-added c.make_room.new.self c.add.new.self a (members_of row) c.add.result c.make_room.ensures.made is c.add.ensures.listed c.add.ensures.unchanged c.add.ensures.few c.add.ensures.limit c.add.ensures.kept
 
 pub returns-in_err-number-clause-made : goal.returns-in_err-number-clause-made
 returns-in_err-number-clause-made c =
     let a = c.args.a.now in
     let row = c.in_ok-row.row in
-    let is = subst (IsSetOf a) (sym c.in_ok-row.ensures.image) (IsSetOf-image a (set_at c.prepare.new.self c.args.set) c.args.letter) in
+    let is = subst (IsSetOf a) (sym c.in_ok-row.ensures.image) (IsSetOf-image a (set_at c.args.self.now c.args.set) c.args.letter) in
     IsMadeFor-added c.make_room.new.self c.add.new.self a (members_of row) c.add.result c.make_room.ensures.made is c.add.ensures.listed c.add.ensures.unchanged c.add.ensures.few c.add.ensures.limit c.add.ensures.kept

@@ -1,0 +1,152 @@
+//! Certificates of small trees that are matched whole, over all codes.
+
+ghost use Rattle.std.specs.Prelude.{◌≡◌, ◌<◌, ◌≤◌, IfOk};
+ghost use Rattle.rl_syntax.specs.Tree.{tree_of, IsOver};
+
+use rl_cert::{Certificate, ReadError, check, make, read, write};
+use rl_lists::{Bytes, Items, OutOfMemory};
+use rl_ranges::CodeSet;
+use rl_syntax::{Ending, Lowered, Re, Universe};
+use std::alloc::Global;
+
+/// The certificate of a word.
+const WORD: &[u8] =
+    b"{\"anchors\":[],\"degree\":0,\"doubles\":[],\"heads\":[[]],\"kind\":\"degree\",\"pumps\":[],\"ranks\":[],\"triples\":[],\"version\":1}";
+
+/// A certificate whose last pump is empty.
+const EMPTY_PUMP: &[u8] =
+    b"{\"anchors\":[[0,0]],\"degree\":1,\"doubles\":[[0,0,0],[1,1,0],[2,2,0],[3,3,0],[4,4,0],[5,5,0]],\"heads\":[[],[]],\"kind\":\"degree\",\"pumps\":[[]],\"ranks\":[0,0,0,0,0,0],\"triples\":[],\"version\":1}";
+
+/// The certificate of `(a|a)*`.
+const DOUBLED_STAR: &[u8] =
+    b"{\"anchors\":[[6,6]],\"doubles\":[],\"heads\":[[97,97],[98]],\"kind\":\"exponential\",\"pumps\":[[97,97]],\"ranks\":[],\"triples\":[],\"version\":1}";
+
+/// The same at a state without a twin.
+const NO_TWIN: &[u8] =
+    b"{\"anchors\":[[2,2]],\"doubles\":[],\"heads\":[[97],[98]],\"kind\":\"exponential\",\"pumps\":[[97,97]],\"ranks\":[],\"triples\":[],\"version\":1}";
+
+/// The tree of a letter.
+fn letter(alloc: Global, code: u32) -> Result<Re, OutOfMemory>
+    requires { code < 1114112 }
+    ensures { IfOk result (λ tree. IsOver Universe.Str (tree_of tree)) }
+{
+    let set = CodeSet::range(alloc, code, code)?;
+    Ok(Re::One(set))
+}
+
+/// `abc`.
+fn word(alloc: Global) -> Result<Lowered, OutOfMemory>
+    ensures { IfOk result (λ l. IsOver Universe.Str (tree_of l.tree)) }
+{
+    let first = letter(alloc, 97)?;
+    let second = letter(alloc, 98)?;
+    let third = letter(alloc, 99)?;
+    let rest = Re::both(alloc, second, third)?;
+    let tree = Re::both(alloc, first, rest)?;
+    Ok(Lowered {
+        tree,
+        ending: Ending::AtEnd,
+    })
+}
+
+/// `(a|a)*`.
+fn doubled_star(alloc: Global) -> Result<Lowered, OutOfMemory>
+    ensures { IfOk result (λ l. IsOver Universe.Str (tree_of l.tree)) }
+{
+    let first = letter(alloc, 97)?;
+    let second = letter(alloc, 97)?;
+    let branches = Re::either(alloc, first, second)?;
+    let tree = Re::many(alloc, branches, true)?;
+    Ok(Lowered {
+        tree,
+        ending: Ending::AtEnd,
+    })
+}
+
+/// What is read of bytes, and nothing where they are refused.
+fn read_of(alloc: Global, bytes: &[u8]) -> Result<Option<Certificate>, OutOfMemory> {
+    let bytes: Bytes = Items::from_slice(alloc, bytes)?;
+    match read(alloc, &bytes) {
+        Ok(certificate) => Ok(Some(certificate)),
+        Err(ReadError::Refused) => Ok(None),
+        Err(ReadError::OutOfMemory) => Err(OutOfMemory),
+    }
+}
+
+/// Whether bytes are a certificate that holds.
+fn holds(alloc: Global, l: &Lowered, bytes: &[u8]) -> Result<bool, OutOfMemory>
+    requires { IsOver Universe.Str (tree_of l.now.tree) }
+{
+    match read_of(alloc, bytes)? {
+        Some(certificate) => check(alloc, l, Universe::Str, 600, &certificate),
+        None => Ok(false),
+    }
+}
+
+#[test]
+fn certificates_of_the_rows(rt: HostRuntime) -> Result<(), OutOfMemory> {
+    let alloc = rt.alloc();
+    let word = word(alloc)?;
+    assert!(rt; holds(alloc, &word, WORD)?);
+    assert!(rt; !holds(alloc, &word, EMPTY_PUMP)?);
+    let star = doubled_star(alloc)?;
+    assert!(rt; holds(alloc, &star, DOUBLED_STAR)?);
+    assert!(rt; !holds(alloc, &star, NO_TWIN)?);
+    assert!(rt; !holds(alloc, &star, WORD)?);
+    Ok(())
+}
+
+#[test]
+fn what_is_made_is_accepted(rt: HostRuntime) -> Result<(), OutOfMemory> {
+    let alloc = rt.alloc();
+    let star = doubled_star(alloc)?;
+    let Ok(certificate) = make(alloc, &star, Universe::Str, 600) else {
+        return Err(OutOfMemory);
+    };
+    let bytes = write(alloc, &certificate)?;
+    assert!(rt; holds(alloc, &star, bytes.as_slice())?);
+    Ok(())
+}
+
+#[test]
+fn forms_that_are_refused(rt: HostRuntime) -> Result<(), OutOfMemory> {
+    let alloc = rt.alloc();
+    assert!(rt; read_of(alloc, b"{}")?.is_none());
+    assert!(rt; read_of(alloc, b"\xff")?.is_none());
+    assert!(rt;
+        read_of(
+            alloc,
+            b"{\"anchors\":[],\"degree\":-0,\"doubles\":[],\"heads\":[[]],\"kind\":\"degree\",\"pumps\":[],\"ranks\":[],\"triples\":[],\"version\":1}"
+        )?
+        .is_none()
+    );
+    assert!(rt;
+        read_of(
+            alloc,
+            b"{\"anchors\":[],\"degree\":0,\"doubles\":[],\"heads\":[[]],\"kind\":\"degree\",\"pumps\":[],\"ranks\":[],\"triples\":[],\"version\":1.0}"
+        )?
+        .is_none()
+    );
+    assert!(rt;
+        read_of(
+            alloc,
+            b"{\"anchors\":[],\"degree\":4294967296,\"doubles\":[],\"heads\":[[]],\"kind\":\"degree\",\"pumps\":[],\"ranks\":[],\"triples\":[],\"version\":1}"
+        )?
+        .is_none()
+    );
+    assert!(rt;
+        read_of(
+            alloc,
+            b"{\"anchors\":[],\"degree\":0,\"doubles\":[],\"heads\":[[]],\"kind\":\"degree\",\"more\":1,\"pumps\":[],\"ranks\":[],\"triples\":[],\"version\":1}"
+        )?
+        .is_none()
+    );
+    assert!(rt;
+        read_of(
+            alloc,
+            b"{\"anchors\":[],\"degree\":0,\"doubles\":[],\"heads\":[[]],\"kind\":\"degree\",\"pumps\":[],\"ranks\":[],\"triples\":[],\"version\":2,\"version\":1}"
+        )?
+        .is_some()
+    );
+    Ok(())
+}

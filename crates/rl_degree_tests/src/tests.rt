@@ -1,0 +1,103 @@
+//! Small graphs worked out by hand.
+
+use rl_degree::{Chain, degree};
+use rl_expo::twin;
+use rl_graph::Multigraph;
+use rl_lists::OutOfMemory;
+use std::alloc::Global;
+use std::test::Fail;
+
+/// The longest chain of the graph of 4 states and 2 letters with these moves: from, letter, to. A graph with a twin has none.
+fn chain_in(alloc: Global, moves: &[(u32, u32, u32)]) -> Result<Option<Chain>, OutOfMemory> {
+    let mut graph = Multigraph::new(alloc, 4, 2)?;
+    for step in moves {
+        let from = step.0;
+        let letter = step.1;
+        let to = step.2;
+        if from < 4 && letter < 2 && to < 4 {
+            if graph.edges(from, letter).len() < 1000 {
+                graph.add(from, letter, to)?;
+            }
+        }
+    }
+    match twin(alloc, &graph)? {
+        Some(_) => Ok(None),
+        None => {
+            let chain = degree(alloc, &graph)?;
+            Ok(Some(chain))
+        }
+    }
+}
+
+#[test]
+fn no_cycle(rt: HostRuntime) -> Result<(), Fail> {
+    let none = chain_in(rt.alloc(), &[(0, 0, 1), (0, 0, 2), (1, 1, 3), (2, 1, 3)])?.ok_or(
+        "a twin",
+    )?;
+    assert!(rt; none.links.is_empty());
+    assert_eq!(rt; none.ranks.as_slice(), [0, 0, 0, 0].as_slice());
+    assert!(rt; none.cycle.is_none());
+    Ok(())
+}
+
+#[test]
+fn one_loop(rt: HostRuntime) -> Result<(), Fail> {
+    let one = chain_in(rt.alloc(), &[(0, 0, 1), (1, 1, 1), (1, 0, 2)])?.ok_or("a twin")?;
+    assert!(rt; one.links.is_empty());
+    assert_eq!(rt; one.ranks.as_slice(), [0, 0, 0, 0].as_slice());
+    let round = one.cycle.ok_or("no cycle")?;
+    assert_eq!(rt; round.state, 1);
+    assert_eq!(rt; round.word.as_slice(), [1].as_slice());
+    Ok(())
+}
+
+/// The loops of the states 0 and 1, with a move between them, and those of 2 and 3; a move on another letter leads from 1 to 2.
+#[test]
+fn two_splits(rt: HostRuntime) -> Result<(), Fail> {
+    let moves = [
+        (0, 0, 0),
+        (0, 0, 1),
+        (1, 0, 1),
+        (1, 1, 2),
+        (2, 0, 2),
+        (2, 0, 3),
+        (3, 0, 3),
+    ];
+    let two = chain_in(rt.alloc(), &moves)?.ok_or("a twin")?;
+    assert_eq!(rt; two.ranks.as_slice(), [2, 1, 1, 0].as_slice());
+    match two.links.as_slice() {
+        [first, second] => {
+            assert_eq!(rt; first.from, 0);
+            assert_eq!(rt; first.to, 1);
+            assert_eq!(rt; first.word.as_slice(), [0].as_slice());
+            assert_eq!(rt; second.from, 2);
+            assert_eq!(rt; second.to, 3);
+            assert_eq!(rt; second.word.as_slice(), [0].as_slice());
+        }
+        _ => return Err(Fail::from("not two links")),
+    }
+    assert!(rt; two.cycle.is_some());
+    Ok(())
+}
+
+/// Two rings of two states side by side, and a move between them that never meets both rings at the right time.
+#[test]
+fn rings_out_of_step(rt: HostRuntime) -> Result<(), Fail> {
+    let moves = [(0, 0, 1), (1, 1, 0), (0, 0, 2), (2, 0, 3), (3, 1, 2)];
+    let none = chain_in(rt.alloc(), &moves)?.ok_or("a twin")?;
+    assert!(rt; none.links.is_empty());
+    Ok(())
+}
+
+/// The same rings with their moves on one letter. A split takes two moves, one of them between the rings.
+#[test]
+fn rings_in_step(rt: HostRuntime) -> Result<(), Fail> {
+    let moves = [(0, 0, 1), (1, 0, 0), (0, 0, 2), (2, 0, 3), (3, 0, 2)];
+    let one = chain_in(rt.alloc(), &moves)?.ok_or("a twin")?;
+    assert_eq!(rt; one.ranks.as_slice(), [1, 1, 0, 0].as_slice());
+    match one.links.as_slice() {
+        [link] => assert_eq!(rt; link.word.as_slice(), [0, 0].as_slice()),
+        _ => return Err(Fail::from("not one link")),
+    }
+    Ok(())
+}

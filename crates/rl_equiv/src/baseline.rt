@@ -1,0 +1,115 @@
+//! Comparisons of one tree with others that tell no more codes apart.
+
+ghost use Rattle.std.specs.Prelude.{◌≡◌, ◌≤◌, IfOk, IfErr, OnOk};
+ghost use Rattle.rl_syntax.specs.Tree.{tree_of, IsOver, Tree};
+ghost use Rattle.rl_equiv.specs.SetPairs.{set_pairs};
+ghost use Rattle.rl_equiv.specs.Bases.{Base, IsBase, TellsNoMore};
+ghost use Rattle.rl_equiv.specs.Joined.{StandTogether};
+ghost use Rattle.rl_equiv.specs.Languages.{IsTold};
+ghost use Rattle.rl_equiv.specs.Limits.{AreWithin, IsPassed, IsWithin, IsPassedBy};
+ghost use Rattle.rl_equiv.specs.Numbering.{IsAnswer};
+
+use crate::error::SameError;
+use crate::joint::MOST_NODES;
+use crate::sameness::Sameness;
+use crate::searching::Search;
+use rl_prio::Prio;
+use rl_ranges::Universe;
+use rl_syntax::{Ending, Re};
+use std::alloc::Global;
+use std::marker::Model;
+
+/// A tree as fullmatch with which others are compared, one after another. Its letters and its automaton are made once.
+#[derive(Drop)]
+pub struct Baseline {
+    tree: Re,
+    universe: Universe,
+    automaton: Prio,
+}
+
+impl Model for Baseline {
+    ghost use Rattle.rl_syntax.specs.Tree.{tree_of};
+    ghost use Rattle.rl_syntax.specs.contracts.re.Re as e;
+    ghost use Rattle.rl_equiv.specs.Bases.{Base, IsBase};
+    ghost use Rattle.std.specs.Coded.{codes};
+
+    ghost Value = { Base };
+
+    ghost coded = { Prim.hlevel (codes, e.the_row.coded) };
+
+    ghost view = { λ b. record { tree = b.tree; universe = b.universe } };
+
+    ghost invariant = { λ b. IsBase b.universe (tree_of b.tree) b.automaton };
+}
+
+/// The automaton of another tree over the letters of the automaton of the first one.
+///
+/// # Errors
+/// [`SameError::Size`] or [`SameError::Moves`] for the first limit that the other tree passes, and [`SameError::OutOfMemory`]
+/// where there was no memory for the automaton.
+fn beside(alloc: Global, first: &Prio, other: &Re, u: Universe) -> Result<Prio, SameError>
+    requires base { (s : Tree) × IsBase u s first.now × TellsNoMore s (tree_of other.now) }
+    requires inside { IsOver u (tree_of other.now) }
+    ensures stand { IfOk result (λ b. (s : Tree) → IsBase u s first.now → TellsNoMore s (tree_of other.now)
+        → StandTogether u s (tree_of other.now) first.now b) }
+    ensures within { OnOk result ((s : Tree) → IsBase u s first.now → TellsNoMore s (tree_of other.now)
+        → AreWithin u s (tree_of other.now)) }
+    ensures passed { IfErr result (λ e. (s : Tree) → IsBase u s first.now → TellsNoMore s (tree_of other.now)
+        → IsPassed u s (tree_of other.now) e) }
+{
+    if other.nodes() > MOST_NODES {
+        return Err(SameError::Size);
+    }
+    let second = Prio::build_beside(alloc, first, other, Ending::AtEnd, u)?;
+    // Reading the number of states shows that it is a whole automaton.
+    let _states = second.states();
+    Ok(second)
+}
+
+impl Baseline {
+    /// The tree with which others are compared, if it passes no limit.
+    ///
+    /// # Errors
+    /// [`SameError::Size`] where the tree has more than 4,000 nodes, else [`SameError::Letters`] where it has more than 128
+    /// letters, else [`SameError::Moves`] where it has a list of more than 256 items. [`SameError::OutOfMemory`] where there
+    /// was no memory.
+    pub fn new(alloc: Global, tree: Re, u: Universe) -> Result<Baseline, SameError>
+        requires inside { IsOver u (tree_of tree) }
+        ensures base { IfOk result (λ b. b ≡ record { tree = tree; universe = u }) }
+        ensures within { OnOk result (IsWithin u (tree_of tree)) }
+        ensures passed { IfErr result (IsPassedBy u (tree_of tree)) }
+    {
+        if tree.nodes() > MOST_NODES {
+            return Err(SameError::Size);
+        }
+        let automaton = Prio::build(alloc, &tree, Ending::AtEnd, u)?;
+        // Reading the number of states shows that it is a whole automaton.
+        let _states = automaton.states();
+        Ok(Baseline {
+            tree,
+            universe: u,
+            automaton,
+        })
+    }
+
+    /// Whether the tree and another one, whose sets tell no more codes apart, span the same texts: what
+    /// [`same`](crate::same) answers of the two.
+    ///
+    /// # Errors
+    /// Those of [`same`](crate::same).
+    pub fn compare(&self, alloc: Global, other: &Re, limit: u32) -> Result<Sameness, SameError>
+        requires inside { IsOver self.now.universe (tree_of other.now) }
+        requires letters { TellsNoMore (tree_of self.now.tree) (tree_of other.now) }
+        requires some { 1 ≤ limit }
+        requires low { limit ≤ 20000 }
+        ensures within { OnOk result (AreWithin self.now.universe (tree_of self.now.tree) (tree_of other.now)) }
+        ensures passed { IfErr result (IsPassed self.now.universe (tree_of self.now.tree) (tree_of other.now)) }
+        ensures answer { IfOk result (IsAnswer (set_pairs self.now.universe (tree_of self.now.tree) (tree_of other.now)) limit) }
+        ensures told { IfOk result (IsTold self.now.universe (tree_of self.now.tree) (tree_of other.now)) }
+    {
+        let second = beside(alloc, &self.automaton, other, self.universe)?;
+        let mut search = Search::new(alloc, &self.automaton, &second, limit)?;
+        let found = search.run(alloc, &self.automaton, &second)?;
+        Ok(found)
+    }
+}

@@ -1,0 +1,22 @@
+-- Which entries a report is on: those that a baseline doesn't know.
+use Rattle.std.specs.Prelude.{ℕ, ◌-◌, List, length, filter_map, slice_get, Option, Some, None, option_map}
+use Rattle.rl_report.specs.declared.report.Entry.{Entry}
+use Rattle.rl_sarif.specs.Keys.{EntryKey}
+use Rattle.rl_sarif.specs.Known.{unknown_positions}
+
+-- the entries at these positions, in their order
+abbrev pub entries_at : List ℕ → List Entry → List Entry
+entries_at positions entries = filter_map (slice_get entries) positions
+
+-- the entries that a baseline with these keys doesn't know
+abbrev pub unknown_entries : List EntryKey → List Entry → List Entry
+unknown_entries keys entries = entries_at (unknown_positions keys entries) entries
+
+-- those that a baseline with these keys doesn't know, or all of them where there is no baseline
+abbrev pub visible_entries : Option (List EntryKey) → List Entry → List Entry
+visible_entries None entries = entries
+visible_entries (Some keys) entries = unknown_entries keys entries
+
+-- how many of them the baseline hides, where there is one
+abbrev pub hidden_count : Option (List EntryKey) → List Entry → Option ℕ
+hidden_count baseline entries = option_map (λ keys. length entries - length (unknown_entries keys entries)) baseline

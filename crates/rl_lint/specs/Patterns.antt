@@ -1,0 +1,39 @@
+-- How a run begins that reads a pattern first.
+use Rattle.std.specs.Prelude.{◌≡◌, ℕ, List, Option, Some, None, Ok, Err, codes}
+use Rattle.rl_ranges.specs.declared.universe.Universe.TheVariants.{Str}
+use Rattle.rl_syntax.specs.Tree.{Tree}
+use Rattle.rl_syntax.specs.declared.re.Ending.{Ending as MatchEnd}
+use Rattle.rl_syntax.specs.declared.re.Mode.{Mode}
+use Rattle.rl_syntax.specs.Pattern.{pattern_ending, pattern_tree}
+use Rattle.rl_syntax.specs.declared.pattern.Pattern.{Pattern}
+use Rattle.rl_pattern.specs.Codes.{no_flags}
+use Rattle.rl_pattern.specs.Parsed.{IsParsed}
+use Rattle.rl_pattern.specs.declared.parsing.PatError.{PatError}
+use Rattle.rl_pattern.specs.declared.parsing.PatError.TheVariants as error
+use Rattle.rl_pairs.specs.RightVerdict.{Question}
+use Rattle.rl_report.specs.Names.{feature_name}
+use Rattle.rl_lint.specs.Endings.{Ending, refuses}
+use Rattle.rl_lint.specs.Messages.{refused_at}
+use Rattle.rl_lint.specs.Text.{Text}
+
+-- the message on a pattern that the reader of patterns refuses. Out of memory is no refusal
+abbrev pub refusal : PatError → Option Text
+refusal (error.Syntax place) = Some (refused_at (codes "syntax") place)
+refusal (error.TooDeep place) = Some (refused_at (codes "too-deep") place)
+refusal (error.Outside place feature) = Some (refused_at (feature_name feature) place)
+refusal error.TooLong = Some (codes "relint: refused too-long\n")
+refusal error.OutOfMemory = None
+
+-- the reader of patterns refuses these codes of a text pattern without call flags, with this message
+abbrev pub IsRefusedPattern : List ℕ → Text → Type 0
+IsRefusedPattern pattern message = (e : PatError) × IsParsed no_flags Str pattern (Err e) × (refusal e ≡ Some message)
+
+-- A pattern that is refused is reported. Of another one the ending follows from its tree and from where a match may end, in the mode
+pub data ParsesThen (pattern : List ℕ) (mode : Mode) (Next : Tree → MatchEnd → Ending → Type 0) : Ending → Type 0 where
+  pattern_refused : {message : Text} → IsRefusedPattern pattern message → ParsesThen pattern mode Next (refuses message)
+  pattern_parsed : {p : Pattern} {ending : Ending} → IsParsed no_flags Str pattern (Ok p) → Next (pattern_tree p mode) (pattern_ending p mode) ending
+      → ParsesThen pattern mode Next ending
+
+-- what is asked of a tree over text
+abbrev pub text_question : ℕ → Tree → MatchEnd → Question
+text_question max_pairs t at = record { tree = t; ending = at; universe = Str; max_pairs = max_pairs }

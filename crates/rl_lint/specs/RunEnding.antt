@@ -1,0 +1,64 @@
+-- How a run is to end, by its words and by what the tree answered.
+use Rattle.std.specs.Prelude.{◌≡◌, ◌||◌, Bool, true, false, Option, Some, None, codes, is_some}
+use Rattle.std.specs.Str.{chars}
+use Rattle.rl_syntax.specs.declared.re.Mode.TheVariants.{Fullmatch}
+use Rattle.rl_walk.specs.Visits.{Moment}
+use Rattle.rl_judge.specs.declared.settings.Settings.{Settings}
+use Rattle.rl_words.specs.Call.{Asked, Call, Chosen, check, class, cost, sample, prove, verify, compare}
+use Rattle.rl_words.specs.Usage.{usage_text}
+use Rattle.rl_lint.specs.CheckEnding.{IsCheckEnding}
+use Rattle.rl_lint.specs.ClassEnding.{ClassEnds}
+use Rattle.rl_lint.specs.CompareEnding.{IsCompareEnding}
+use Rattle.rl_lint.specs.CostEnding.{cost_ending}
+use Rattle.rl_lint.specs.Endings.{Ending, refuses}
+use Rattle.rl_lint.specs.Files.{ReadsThen, whole_bytes}
+use Rattle.rl_lint.specs.Options.{GivesSettings, default_settings, in_force, mode_given}
+use Rattle.rl_lint.specs.Patterns.{ParsesThen}
+use Rattle.rl_lint.specs.ProveEnding.{ProveEnds}
+use Rattle.rl_lint.specs.SampleEnding.{IsSampleEnding}
+use Rattle.rl_lint.specs.Text.{Text}
+use Rattle.rl_lint.specs.VerifyEnding.{IsVerifyEnding}
+
+-- An action, under the settings in force and with the options of its call. `check` walks the tree, `verify` reads its file, and no other
+-- action asks the tree
+abbrev pub IsActionEnding : Settings → Chosen → Asked → Moment → Moment → Ending → Type 0
+IsActionEnding s options (check paths) old new ending = IsCheckEnding s paths options.baseline old new ending
+IsActionEnding s options (class pattern) old new ending =
+    (new ≡ old) × ParsesThen (chars pattern) (mode_given options.mode Fullmatch) (ClassEnds s.max_degree s.max_pairs) ending
+IsActionEnding s options (cost pattern text) old new ending =
+    (new ≡ old) × ParsesThen (chars pattern) (mode_given options.mode Fullmatch) (λ t at end. end ≡ cost_ending (chars text) t at) ending
+IsActionEnding s options (sample seed count) old new ending = (new ≡ old) × IsSampleEnding s seed count ending
+IsActionEnding s options (prove pattern) old new ending =
+    (new ≡ old) × ParsesThen (chars pattern) (mode_given options.mode Fullmatch) (ProveEnds s.max_pairs) ending
+IsActionEnding s options (verify pattern file) old new ending =
+    IsVerifyEnding s.max_pairs (mode_given options.mode Fullmatch) (chars pattern) file old new ending
+IsActionEnding s options (compare first second) old new ending =
+    (new ≡ old) × IsCompareEnding (chars first) (chars second) (mode_given options.mode Fullmatch) ending
+
+-- a call: its settings file is read first, where one is named, and the values of its options take the place of those there
+abbrev pub IsCallEnding : Call → Option Text → Moment → Moment → Ending → Type 0
+IsCallEnding call None old new ending = IsActionEnding (in_force call.options default_settings) call.options call.action old new ending
+IsCallEnding call (Some file) old new ending =
+    ReadsThen (codes "settings") whole_bytes GivesSettings (λ start. IsActionEnding (in_force call.options start) call.options call.action) file old new ending
+
+-- a run, by what its words ask for, if they are a valid call
+abbrev pub IsRunEnding : Option Call → Moment → Moment → Ending → Type 0
+IsRunEnding None old new ending = (new ≡ old) × (ending ≡ refuses usage_text)
+IsRunEnding (Some call) old new ending = IsCallEnding call call.options.settings old new ending
+
+-- ---- which words ask the tree
+
+-- the action asks the tree
+abbrev pub asks_itself : Asked → Bool
+asks_itself (check paths) = true
+asks_itself (class pattern) = false
+asks_itself (cost pattern text) = false
+asks_itself (sample seed count) = false
+asks_itself (prove pattern) = false
+asks_itself (verify pattern file) = true
+asks_itself (compare first second) = false
+
+-- the words are a valid call of `check` or `verify`, or of any action with a settings file
+abbrev pub asks_tree : Option Call → Bool
+asks_tree None = false
+asks_tree (Some call) = asks_itself call.action || is_some call.options.settings

@@ -1,0 +1,60 @@
+//! The settings to start with: the defaults, or those that a settings file gives.
+ghost use Rattle.std.specs.Prelude.{◌≤◌, IfOk, Some};
+ghost use Rattle.rl_walk.specs.Visits.{moment_of};
+ghost use Rattle.rl_lint.specs.Files.{whole_bytes};
+ghost use Rattle.rl_lint.specs.Options.{GivesSettings};
+ghost use Rattle.rl_lint.specs.internal.Reads.{AreFit, IsFileRead, IsGiven};
+
+use crate::files::{FileRead, read_file};
+use crate::settings::settings_from;
+use rl_judge::{Layout, Settings};
+use rl_lists::OutOfMemory;
+use rl_report::Format;
+use rl_settings::SettingsError;
+use rl_source::Tree;
+use rl_syntax::Mode;
+use std::alloc::Global;
+
+/// The settings where neither a file nor an option says otherwise.
+pub const DEFAULTS: Settings = Settings {
+    compile_as: Mode::Search,
+    max_degree: 2,
+    max_pairs: 600,
+    format: Layout::Report(Format::Text),
+    report: 2,
+};
+
+/// What a settings file with these bytes gives.
+///
+/// # Errors
+/// [`OutOfMemory`].
+fn settings_in(alloc: Global, bytes: &Vec<u8>) -> Result<FileRead<Settings>, OutOfMemory>
+    ensures given { IfOk result (IsGiven GivesSettings (Some bytes.now.items)) }
+    ensures fit { IfOk result AreFit }
+{
+    match settings_from(alloc, bytes, &DEFAULTS) {
+        Ok(settings) => Ok(FileRead::Taken(settings)),
+        Err(SettingsError::Refused) => Ok(FileRead::Refused),
+        Err(SettingsError::OutOfMemory) => Err(OutOfMemory),
+    }
+}
+
+/// What the settings file at this path gives. It is read whole, by one call of the tree.
+///
+/// # Errors
+/// [`OutOfMemory`]; the tree may have been read.
+pub fn read_config<T: Tree>(
+    alloc: Global,
+    path: &str,
+    tree: &mut T,
+) -> Result<FileRead<Settings>, OutOfMemory>
+    ensures read { IfOk result (IsFileRead GivesSettings whole_bytes path.now
+        (moment_of T.told T.fault_count tree.old) (moment_of T.told T.fault_count tree.new)) }
+    ensures fit { IfOk result AreFit }
+    ensures later { T.fault_count tree.old ≤ T.fault_count tree.new }
+{
+    match read_file(path, usize::MAX, tree)? {
+        Some(bytes) => settings_in(alloc, &bytes),
+        None => Ok(FileRead::Unreadable),
+    }
+}

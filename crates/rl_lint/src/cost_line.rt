@@ -1,0 +1,73 @@
+//! The line that `cost` writes.
+ghost use Rattle.std.specs.Prelude.{◌≡◌, ◌<◌, ◌≤◌, All, IfOk};
+ghost use Rattle.std.specs.String.{string_bytes};
+ghost use Rattle.rl_ranges.specs.Text.{IsText};
+ghost use Rattle.rl_ranges.specs.declared.universe.Universe.TheVariants.{Str};
+ghost use Rattle.rl_syntax.specs.Cost.{cost, matched};
+ghost use Rattle.rl_syntax.specs.Pattern.{pattern_ending, pattern_tree, universe_of};
+ghost use Rattle.rl_syntax.specs.Tree.{IsOver, Tree, size, tree_of};
+ghost use Rattle.rl_syntax.specs.declared.re.Ending.{Ending};
+ghost use Rattle.rl_prio.specs.StandsFor.{StandsFor};
+ghost use Rattle.rl_lint.specs.CostEnding.{cost_line};
+ghost use Rattle.rl_lint.specs.Messages.{steps_line};
+
+use crate::messages::steps_line;
+use rl_lists::{Codes, OutOfMemory};
+use rl_machine::cost;
+use rl_prio::{Prio, PrioError};
+use rl_syntax::{LowerError, Lowered, Mode, Pattern, Universe, lower};
+use std::alloc::Global;
+
+/// The line on the steps of a text by an automaton.
+///
+/// # Errors
+/// [`OutOfMemory`].
+fn counted_line(alloc: Global, automaton: &Prio, text: &Codes) -> Result<String, OutOfMemory>
+    requires { All (λ code. code < automaton.now.table.codes) text.now }
+    ensures { (t : Tree) (at : Ending) → StandsFor automaton.now t at
+        → IfOk result (λ line. string_bytes line ≡ steps_line (cost t at text.now) (matched t at text.now)) }
+{
+    let counted = cost(alloc, automaton, text)?;
+    steps_line(alloc, counted)
+}
+
+/// The line on a text by a lowered pattern.
+///
+/// # Errors
+/// [`OutOfMemory`].
+fn lowered_line(alloc: Global, lowered: &Lowered, text: &Codes) -> Result<String, OutOfMemory>
+    requires over { IsOver Str (tree_of lowered.now.tree) }
+    requires small { size (tree_of lowered.now.tree) ≤ 4000 }
+    requires in_universe { IsText Str text.now }
+    ensures { IfOk result (λ line. string_bytes line
+        ≡ cost_line (tree_of lowered.now.tree) lowered.now.ending text.now) }
+{
+    match Prio::build(alloc, &lowered.tree, lowered.ending, Universe::Str) {
+        Ok(automaton) => counted_line(alloc, &automaton, text),
+        Err(PrioError::Letters) => Ok(String::from_str(alloc, "undecided letters over 128\n")?),
+        Err(PrioError::Moves) => Ok(String::from_str(alloc, "undecided moves over 256\n")?),
+        Err(PrioError::OutOfMemory) => Err(OutOfMemory),
+    }
+}
+
+/// The line that `cost` writes for a text pattern in a mode and a text: the steps, or the first limit that is passed.
+///
+/// # Errors
+/// [`OutOfMemory`].
+pub fn cost_line(
+    alloc: Global,
+    pattern: &Pattern,
+    mode: Mode,
+    text: &Codes,
+) -> Result<String, OutOfMemory>
+    requires of_text { universe_of pattern.now ≡ Str }
+    requires in_universe { IsText Str text.now }
+    ensures { IfOk result (λ line. string_bytes line
+        ≡ cost_line (pattern_tree pattern.now mode) (pattern_ending pattern.now mode) text.now) }
+{
+    match lower(alloc, pattern, mode) {
+        Ok(lowered) => lowered_line(alloc, &lowered, text),
+        Err(LowerError::TooLarge) => Ok(String::from_str(alloc, "undecided size over 4000\n")?),
+        Err(LowerError::OutOfMemory) => Err(OutOfMemory),
+    }
+}

@@ -1,0 +1,45 @@
+//! The message on a pattern that is refused, and the line of `cost` on its steps.
+ghost use Rattle.std.specs.Prelude.{◌≡◌, ℕ, IfOk};
+ghost use Rattle.std.specs.String.{string_bytes};
+ghost use Rattle.rl_machine.specs.Counts.{Counts};
+ghost use Rattle.rl_lint.specs.Messages.{outcome, refused_at, steps_line};
+
+use rl_lists::OutOfMemory;
+use rl_machine::{Counted, Steps};
+use std::alloc::Global;
+
+/// The message on a pattern that is refused for this cause at this code.
+///
+/// # Errors
+/// [`OutOfMemory`].
+pub fn refused_at(alloc: Global, cause: &str, place: u32) -> Result<String, OutOfMemory>
+    ensures { IfOk result (λ text. string_bytes text ≡ refused_at cause.now place) }
+{
+    let text = format!(in alloc; "relint: refused {cause} at {place}\n")?;
+    Ok(text)
+}
+
+/// How a match ends.
+fn outcome(matched: bool) -> &'static str
+    ensures { result.now ≡ outcome matched }
+{
+    if matched { " matched\n" } else { " refused\n" }
+}
+
+/// The line on how many steps a match takes, and how it ends.
+///
+/// # Errors
+/// [`OutOfMemory`].
+pub fn steps_line(alloc: Global, counted: Counted) -> Result<String, OutOfMemory>
+    ensures { (n : ℕ) → Counts counted.steps n
+        → IfOk result (λ line. string_bytes line ≡ steps_line n counted.matched) }
+{
+    let outcome = outcome(counted.matched);
+    let line = match counted.steps {
+        Steps::Exact(count) => format!(in alloc; "steps {count}{outcome}")?,
+        Steps::Past => {
+            format!(in alloc; "steps over 340282366920938463463374607431768211455{outcome}")?
+        }
+    };
+    Ok(line)
+}

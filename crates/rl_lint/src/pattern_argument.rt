@@ -1,0 +1,68 @@
+//! Arguments that are patterns.
+ghost use Rattle.std.specs.Prelude.{◌≡◌, IfOk, Some};
+ghost use Rattle.std.specs.Str.{chars};
+ghost use Rattle.rl_lint.specs.internal.Plans.{message_text};
+ghost use Rattle.rl_lint.specs.Patterns.{refusal};
+ghost use Rattle.rl_lint.specs.internal.Parsed.{IsArgument};
+
+use crate::codes::codes_of;
+use crate::messages::refused_at;
+use crate::plan::Message;
+use rl_lists::OutOfMemory;
+use rl_pattern::{Flags, PatError, parse};
+use rl_report::feature_name;
+use rl_syntax::{Pattern, Universe};
+use std::alloc::Global;
+
+/// What a pattern argument is.
+#[derive(Drop)]
+pub enum PatternArgument {
+    /// It is refused, with this message.
+    Refused(Message),
+    /// A pattern over text.
+    Parsed(Pattern),
+}
+
+/// No flag: a pattern argument is no argument of a Python call.
+const NO_FLAGS: Flags = Flags {
+    ignore_case: false,
+    multiline: false,
+    dot_all: false,
+    verbose: false,
+    ascii: false,
+    unicode: false,
+    locale: false,
+};
+
+/// The message on a pattern that is refused.
+///
+/// # Errors
+/// [`OutOfMemory`], now or when the pattern was parsed.
+fn refusal(alloc: Global, error: PatError) -> Result<Message, OutOfMemory>
+    ensures { IfOk result (λ message. refusal error ≡ Some (message_text message)) }
+{
+    match error {
+        PatError::Syntax(place) => Ok(Message::Made(refused_at(alloc, "syntax", place)?)),
+        PatError::TooDeep(place) => Ok(Message::Made(refused_at(alloc, "too-deep", place)?)),
+        PatError::Outside(place, feature) => {
+            let cause = feature_name(feature);
+            Ok(Message::Made(refused_at(alloc, cause, place)?))
+        }
+        PatError::TooLong => Ok(Message::Fixed("relint: refused too-long\n")),
+        PatError::OutOfMemory => Err(OutOfMemory),
+    }
+}
+
+/// What a pattern argument is, without call flags.
+///
+/// # Errors
+/// [`OutOfMemory`].
+pub fn parse_argument(alloc: Global, word: &str) -> Result<PatternArgument, OutOfMemory>
+    ensures { IfOk result (IsArgument (chars word.now)) }
+{
+    let codes = codes_of(alloc, word)?;
+    match parse(alloc, &codes, NO_FLAGS, Universe::Str) {
+        Ok(pattern) => Ok(PatternArgument::Parsed(pattern)),
+        Err(error) => Ok(PatternArgument::Refused(refusal(alloc, error)?)),
+    }
+}

@@ -1,0 +1,149 @@
+//! Small graphs worked out by hand.
+
+ghost use Rattle.std.specs.Prelude.{◌≡◌, ◌<◌, IfOk};
+
+use rl_degree::degree;
+use rl_graph::Multigraph;
+use rl_lists::OutOfMemory;
+use rl_numbers::checking::triples_hold;
+use rl_numbers::columns::column;
+use rl_numbers::double::{Double, Doubles};
+use rl_numbers::doubling::doubles_hold;
+use rl_numbers::triple::{Triple, Triples};
+use rl_numbers::{TriplesError, doubles_of, triples_of};
+use std::alloc::Global;
+use std::test::Fail;
+
+/// The graph with these moves: from, letter, to.
+fn graph(
+    alloc: Global,
+    states: u32,
+    letters: u32,
+    moves: &[(u32, u32, u32)],
+) -> Result<Multigraph, OutOfMemory>
+    ensures states { IfOk result (λ g. g.states ≡ states) }
+    ensures letters { IfOk result (λ g. g.letters ≡ letters) }
+{
+    let mut graph = Multigraph::new(alloc, states, letters)?;
+    for step in moves {
+        let from = step.0;
+        let letter = step.1;
+        let to = step.2;
+        if from < states && letter < letters && to < states {
+            if graph.edges(from, letter).len() < 1000 {
+                graph.add(from, letter, to)?;
+            }
+        }
+    }
+    Ok(graph)
+}
+
+/// The doubles, and the triples for the ranks that the lengths of chains give, if the given doubles exclude a twin.
+fn lists(
+    alloc: Global,
+    g: &Multigraph,
+    doubles: &[Double],
+) -> Result<Option<(Doubles, Triples)>, TriplesError>
+    requires { g.now.states < 65536 }
+{
+    let _states = g.states();
+    let held = doubles_hold(alloc, g, doubles)?;
+    if held {
+        let chain = degree(alloc, g)?;
+        let listed = doubles_of(alloc, g)?;
+        let triples = triples_of(alloc, g, chain.ranks.as_slice())?;
+        Ok(Some((listed, triples)))
+    } else {
+        Ok(None)
+    }
+}
+
+/// A double with its number.
+fn double(p: u32, q: u32, number: u32) -> Double {
+    Double { p, q, number }
+}
+
+/// A triple with its number.
+fn triple(p: u32, q: u32, r: u32, number: u32) -> Triple {
+    Triple { p, q, r, number }
+}
+
+#[test]
+fn one_loop(rt: HostRuntime) -> Result<(), Fail> {
+    let g = graph(rt.alloc(), 1, 1, &[(0, 0, 0)])?;
+    let given = [double(0, 0, 0)];
+    let (doubles, triples) = lists(rt.alloc(), &g, &given)?.ok_or("refused")?;
+    assert_eq!(rt; doubles.as_slice(), given.as_slice());
+    assert!(rt; triples.is_empty());
+    Ok(())
+}
+
+/// Two loops on one letter with a move between them: a split of two ranks, so no triple is asked for. The state 0 is left by two
+/// moves, so its double has a greater number than the others.
+#[test]
+fn loops_in_a_row(rt: HostRuntime) -> Result<(), Fail> {
+    let g = graph(rt.alloc(), 2, 1, &[(0, 0, 0), (0, 0, 1), (1, 0, 1)])?;
+    let given = [
+        double(0, 0, 1),
+        double(0, 1, 0),
+        double(1, 0, 0),
+        double(1, 1, 0),
+    ];
+    let (doubles, triples) = lists(rt.alloc(), &g, &given)?.ok_or("refused")?;
+    assert_eq!(rt; doubles.as_slice().len(), 4);
+    assert!(rt; doubles_hold(rt.alloc(), &g, doubles.as_slice())?);
+    assert!(rt; triples.is_empty());
+    let level = [
+        double(0, 0, 0),
+        double(0, 1, 0),
+        double(1, 0, 0),
+        double(1, 1, 0),
+    ];
+    assert!(rt; !doubles_hold(rt.alloc(), &g, &level)?);
+    let paths = column(rt.alloc(), &g, 1, &[0, 0])?;
+    assert_eq!(rt; paths.as_slice(), [2, 1].as_slice());
+    Ok(())
+}
+
+/// The triples of three loops on one letter, where 2 leads to 0 and 1 on another one, and 0 to 1. They are of one rank.
+fn nine(number: u32) -> [Triple; 9] {
+    [
+        triple(0, 0, 1, 0),
+        triple(0, 0, 2, 0),
+        triple(1, 1, 0, 0),
+        triple(1, 1, 2, 0),
+        triple(2, 2, 0, 1),
+        triple(2, 2, 1, 0),
+        triple(1, 1, 1, 0),
+        triple(1, 0, 1, 0),
+        triple(0, 1, 1, number),
+    ]
+}
+
+/// The triple (0, 1, 1) has a greater number than (0, 0, 1), or it would let a split pass.
+#[test]
+fn loops_of_one_rank(rt: HostRuntime) -> Result<(), Fail> {
+    let moves = [
+        (0, 0, 0),
+        (1, 0, 1),
+        (2, 0, 2),
+        (2, 1, 0),
+        (2, 1, 1),
+        (0, 1, 1),
+    ];
+    let g = graph(rt.alloc(), 3, 2, &moves)?;
+    let given = [
+        double(0, 0, 0),
+        double(1, 1, 0),
+        double(2, 2, 1),
+        double(0, 1, 0),
+        double(1, 0, 0),
+    ];
+    let (_, triples) = lists(rt.alloc(), &g, &given)?.ok_or("refused")?;
+    let ranks = [0, 0, 0];
+    assert_eq!(rt; triples.as_slice().len(), 9);
+    assert!(rt; triples_hold(rt.alloc(), &g, &ranks, triples.as_slice())?);
+    assert!(rt; triples_hold(rt.alloc(), &g, &ranks, &nine(1))?);
+    assert!(rt; !triples_hold(rt.alloc(), &g, &ranks, &nine(0))?);
+    Ok(())
+}

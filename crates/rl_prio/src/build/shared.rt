@@ -1,0 +1,94 @@
+//! Automata over letters that are there already.
+
+ghost use Rattle.std.specs.Prelude.{◌≡◌, ℕ, ◌<◌, ◌≤◌, Bool, true, List, IfOk, IfErr, OnOk, length};
+ghost use Rattle.rl_ranges.specs.Letters.{IsLetters, alike};
+ghost use Rattle.rl_ranges.specs.Text.{code_count};
+ghost use Rattle.rl_syntax.specs.Tree.{tree_of, size, IsOver};
+ghost use Rattle.rl_prio.specs.Automaton.{letters_count};
+ghost use Rattle.rl_prio.specs.Items.{longest};
+ghost use Rattle.rl_prio.specs.Letters.{all_sets};
+
+use crate::build::kinds;
+use crate::build::plan::Plan;
+use crate::error::PrioError;
+use crate::prio::Prio;
+use rl_lists::OutOfMemory;
+use rl_ranges::{Letters, Universe};
+use rl_syntax::{Ending, Re};
+use std::alloc::Global;
+use std::rc::Rc;
+
+/// Letters that several automata may have.
+pub(crate) fn shared(alloc: Global, letters: Letters) -> Result<Rc<Letters>, OutOfMemory>
+    ensures { IfOk result (λ shared. shared.value ≡ letters) }
+{
+    let shared = Rc::new(alloc, letters)?;
+    Ok(shared)
+}
+
+impl Prio {
+    ghost use Rattle.rl_prio.specs.StandsFor.{StandsOver};
+
+    /// The automaton of a tree and an ending over letters, which tell apart at least what the sets of the tree and those that
+    /// its guards name do.
+    ///
+    /// # Errors
+    /// [`PrioError::Moves`] exactly where a list of items has more than 256, [`PrioError::OutOfMemory`] where there was no
+    /// memory for the automaton.
+    pub(crate) fn over_letters(
+        alloc: Global,
+        tree: &Re,
+        ending: Ending,
+        universe: Universe,
+        letters: Rc<Letters>,
+    ) -> Result<Prio, PrioError>
+        requires small { size (tree_of tree.now) ≤ 4000 }
+        requires inside { IsOver universe (tree_of tree.now) }
+        requires few { length letters.value.samples ≤ 128 }
+        requires finer { (sets : List (ℕ → Bool)) × IsLetters letters.value sets (code_count universe)
+            × ((c d : ℕ) → alike sets c d ≡ true → alike (all_sets (tree_of tree.now)) c d ≡ true) }
+        ensures ok { IfOk result (λ a. (sets : List (ℕ → Bool)) → IsLetters letters.value sets (code_count universe)
+            → ((c d : ℕ) → alike sets c d ≡ true → alike (all_sets (tree_of tree.now)) c d ≡ true)
+            → StandsOver a (tree_of tree.now) ending sets) }
+        ensures table { IfOk result (λ a. a.table ≡ letters.value) }
+        ensures short { OnOk result (longest (tree_of tree.now) ≤ 256) }
+        ensures moves { IfErr result (λ e. e ≡ PrioError.Moves → 256 < longest (tree_of tree.now)) }
+        ensures letters { IfErr result (λ e. e ≡ PrioError.Letters → ⊥) }
+    {
+        let kinds = kinds(alloc, tree, universe)?;
+        let plan = Plan::new(alloc, tree, &letters, &kinds, ending)?;
+        let rows = plan.rows(alloc)?;
+        let states = plan.states() as u32;
+        Ok(Prio::from_parts(letters, states, rows))
+    }
+
+    /// The automaton of a tree and an ending over the letters of another automaton, which tell apart at least what the sets of
+    /// the tree and those that its guards name do.
+    ///
+    /// # Errors
+    /// [`PrioError::Moves`] exactly where a list of items has more than 256, [`PrioError::OutOfMemory`] where there was no
+    /// memory for the automaton.
+    pub fn build_beside(
+        alloc: Global,
+        other: &Prio,
+        tree: &Re,
+        ending: Ending,
+        universe: Universe,
+    ) -> Result<Prio, PrioError>
+        requires small { size (tree_of tree.now) ≤ 4000 }
+        requires inside { IsOver universe (tree_of tree.now) }
+        requires few { letters_count other.now ≤ 128 }
+        requires finer { (sets : List (ℕ → Bool)) × IsLetters other.now.table sets (code_count universe)
+            × ((c d : ℕ) → alike sets c d ≡ true → alike (all_sets (tree_of tree.now)) c d ≡ true) }
+        ensures ok { IfOk result (λ a. (sets : List (ℕ → Bool)) → IsLetters other.now.table sets (code_count universe)
+            → ((c d : ℕ) → alike sets c d ≡ true → alike (all_sets (tree_of tree.now)) c d ≡ true)
+            → StandsOver a (tree_of tree.now) ending sets) }
+        ensures table { IfOk result (λ a. a.table ≡ other.now.table) }
+        ensures short { OnOk result (longest (tree_of tree.now) ≤ 256) }
+        ensures moves { IfErr result (λ e. e ≡ PrioError.Moves → 256 < longest (tree_of tree.now)) }
+        ensures letters { IfErr result (λ e. e ≡ PrioError.Letters → ⊥) }
+    {
+        let letters = other.shared_letters()?;
+        Prio::over_letters(alloc, tree, ending, universe, letters)
+    }
+}

@@ -1,0 +1,14 @@
+-- Where the moves of the members of a set lead to.
+use Rattle.std.specs.Prelude.{◌≡◌, ℕ, ◌<◌, Bool, false, List, length, slice_index_or}
+use Rattle.std.specs.List.{list_any, flat_map}
+use Rattle.rl_prio.specs.Automaton.{Automaton, moves_at}
+use Rattle.rl_sets.specs.Live.{holds}
+
+-- the states that the members of a set move to on a letter, member by member
+abbrev pub targets_of : Automaton → List ℕ → ℕ → List ℕ
+targets_of a set letter = flat_map (λ q. moves_at a q letter) set
+
+-- the row has a place for each state, which holds true where a member of the set moves to it on the letter
+pub record IsReached (a : Automaton) (set : List ℕ) (letter : ℕ) (row : List Bool) : Type 0 where
+  pub wide : length row ≡ a.states
+  pub moves : (t : ℕ) → t < a.states → slice_index_or row t false ≡ list_any (λ q. holds (moves_at a q letter) t) set
