@@ -41,8 +41,8 @@ row-place place states letters some lt =
       | inr more ↦ absurd (omega (arith, mul-le-mul_right {m = states} {n = place / letters} letters more))
     ]
 
-pub rows-start : (g : Graph) (states letters : ℕ) (rows : List (List ℕ)) → IsBare g states letters → HasRows g states letters rows 0
-rows-start g states letters rows bare = record { all_states = bare.all_states; all_letters = bare.all_letters; before = λ q l small lt. absurd (omega arith); behind = λ q l small le. bare.no_move q l }
+pub rows-start : (g : Graph) (states letters : ℕ) (lists : List (List ℕ)) → IsBare g states letters → HasRows g states letters lists 0
+rows-start g states letters lists bare = record { all_states = bare.all_states; all_letters = bare.all_letters; before = λ q l small lt. absurd (omega arith); behind = λ q l small le. bare.no_move q l }
 
 pub rows-more : (g h : Graph) (states letters place from letter : ℕ) (rows : List (List ℕ)) (row : List ℕ) → HasRows g states letters rows place → letter < letters → from * letters + letter ≡ place → HasRow g h from letter row → row ≡ get_or rows place [] → HasRows h states letters rows (place + 1)
 rows-more g h states letters place from letter rows row r small e put is = record {

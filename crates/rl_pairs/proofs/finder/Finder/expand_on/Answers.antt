@@ -31,7 +31,7 @@ loop-k-init c =
     let a = c.args.a.now in
     let e = key-read f c.args.from c.index-pair.result.now c.index-pair.ensures in
     let t = trying-start a v c.image_of.new.walk f (image a (pair_at v f c.args.from).set c.args.letter) c.moves-targets.result.now c.in_ok-set.set c.requires.found c.in_ok-set.ensures.onward (number-read a v c.image_of.new.walk f c.index-pair.result.now c.args.from c.args.letter c.in_ok-set.set e c.in_ok-set.ensures.image) in
-    subst (λ (row : List ℕ). IsTrying a v c.image_of.new.walk f f (image a (pair_at v f c.args.from).set c.args.letter) c.moves-targets.result.now row 0 c.in_ok-set.set) (sym c.new-row.ensures) t
+    subst (λ (found : List ℕ). IsTrying a v c.image_of.new.walk f f (image a (pair_at v f c.args.from).set c.args.letter) c.moves-targets.result.now found 0 c.in_ok-set.set) (sym c.new-row.ensures) t
 
 pub set_before-requires : goal.set_before-requires
 set_before-requires c =
