@@ -1,5 +1,5 @@
 -- From what was looked at to whether a certificate holds.
-use Rattle.std.proofs.Common.{◌≡◌, ◌∙◌, ℕ, suc, ◌<◌, ◌≤◌, ◌⊎◌, inl, inr, ◌↔◌, Bool, true, false, IsTrue, List, [], ◌∷◌, length, Result, Ok, Err, IfOk, refl, sym, ap, subst, arith, true≢false}
+use Rattle.std.proofs.Common.{◌≡◌, ◌∙◌, ℕ, ◌<◌, ◌≤◌, ◌⊎◌, inl, inr, ◌↔◌, Bool, true, false, IsTrue, List, ◌∷◌, length, Result, Ok, Err, IfOk, refl, sym, ap, arith, true≢false}
 use Rattle.std.proofs.lemmas.Bool.{cases_lt}
 use Rattle.rl_graph.specs.Graph.{Graph, edges_of, IsWhole}
 use Rattle.rl_graph.specs.Parts.{PartTable, IsParts, cycle_of}
@@ -8,7 +8,6 @@ use Rattle.rl_graph.proofs.GraphLaws.{edges-state}
 use Rattle.rl_degree.specs.Chains.{HasNoCycle}
 use Rattle.rl_ranges.specs.Text.{code_count}
 use Rattle.rl_syntax.specs.declared.verdict.Limit.{Limit}
-use Rattle.rl_syntax.specs.declared.verdict.Limit.TheVariants.{Size, Letters, Moves, Sets, Pairs}
 use Rattle.rl_syntax.specs.Tree.{size}
 use Rattle.rl_prio.specs.Automaton.{Automaton, IsAutomaton}
 use Rattle.rl_prio.specs.Items.{longest}
@@ -16,11 +15,9 @@ use Rattle.rl_prio.specs.StandsFor.{StandsFor}
 use Rattle.rl_prio.specs.Letters.{letters}
 use Rattle.rl_pairs.specs.declared.pair.Pair.{Pair}
 use Rattle.rl_pairs.specs.PairGraph.{IsPairGraph, IsNumbered}
-use Rattle.rl_pairs.specs.LivePairs.{LivePair}
 use Rattle.rl_pairs.specs.Counted.{CountedSet, MoreThan}
-use Rattle.rl_pairs.specs.RightVerdict.{Question, IsMachine, IsPassed, IsSmall, RightVerdict}
-use Rattle.rl_pairs.proofs.SameLaws.{sets-passed}
-use Rattle.rl_pairs.proofs.VerdictLaws.{pairs-within}
+use Rattle.rl_pairs.specs.RightVerdict.{Question, IsMachine, IsPassed, RightVerdict}
+use Rattle.rl_growth.proofs.VerdictLaws.{small, none_passed}
 use Rattle.rl_cert.specs.declared.certificate.Certificate.{Certificate}
 use Rattle.rl_cert.specs.Holds.{Holds, IsField, Shows}
 use Rattle.rl_cert.proofs.Soundness.{sound}
@@ -50,18 +47,6 @@ has-cycle g p q parts lt on =
   where
     never : (n : ℕ) → 1 ≤ n → n ≡ 0 → ⊥
     never n le e = omega (arith, le, e)
-
--- the limits
-
-pub small : (q : Question) → size q.tree ≤ 4000 → length (letters q.tree (code_count q.universe)) ≤ 128 → longest q.tree ≤ 256 → IsSmall q
-small q s l m = record { size = λ h. omega arith; letters = λ h. omega arith; moves = λ h. omega arith }
-
-pub none_passed : (q : Question) (a : Automaton) (next : ℕ → ℕ → List ℕ) (at : ℕ → Pair) (n : ℕ) → IsMachine q a → IsSmall q → IsPairGraph a next at n → n ≤ q.max_pairs → (MoreThan 20000 (CountedSet a) → ⊥) → (limit : Limit) → IsPassed q limit → ⊥
-none_passed q a next at n machine small g few sets Size h = small.size h
-none_passed q a next at n machine small g few sets Letters h = small.letters h
-none_passed q a next at n machine small g few sets Moves h = small.moves h
-none_passed q a next at n machine small g few sets Sets h = sets (sets-passed q a machine h)
-none_passed q a next at n machine small g few sets Pairs h = pairs-within q a next at n machine g few h
 
 -- where a limit is passed no certificate holds
 pub none-holds : (q : Question) (c : Certificate) (limit : Limit) → IsPassed q limit → IsTrue false ↔ Holds q c

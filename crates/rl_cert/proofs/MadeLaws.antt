@@ -29,7 +29,7 @@ use Rattle.rl_cert.specs.declared.making.CertError.{CertError}
 use Rattle.rl_cert.specs.declared.making.CertError.TheVariants.{Undecided, TooLarge, OutOfMemory}
 use Rattle.rl_cert.specs.Form.{IsTold}
 use Rattle.rl_cert.specs.internal.Made.{IsMade, IsLarge}
-use Rattle.rl_cert.proofs.CheckLaws.{small, none_passed}
+use Rattle.rl_growth.proofs.VerdictLaws.{small, none_passed}
 use Rattle.rl_syntax.specs.Tree.{size}
 use Rattle.rl_syntax.specs.Family.{IsFamily, IsExpoFamily}
 use Rattle.rl_prio.specs.Automaton.{Automaton}

@@ -1,24 +1,19 @@
 -- A certificate has no float.
-use Rattle.std.proofs.Common.{◌≡◌, ◌∙◌, ℕ, Bool, true, false, ◌||◌, List, [], ◌∷◌, map, codes, refl, ap}
-use Rattle.serde_json.specs.Data.{Data, object, array, number}
+use Rattle.std.proofs.Common.{◌≡◌, ℕ, false, List, map, refl}
+use Rattle.serde_json.specs.Data.{object}
 use Rattle.serde_json.specs.View.{items_of}
 use Rattle.serde_json.specs.Written.{has_float, items_have_float}
+use Rattle.rl_json.proofs.NoFloats.{items-plain}
 use Rattle.rl_syntax.specs.declared.verdict.Verdict.{Verdict}
 use Rattle.rl_syntax.specs.declared.verdict.Verdict.TheVariants.{Degree, Expo, Undecided}
 use Rattle.rl_cert.specs.declared.certificate.Certificate.{Certificate}
-use Rattle.rl_cert.specs.Form.{whole, row_data, rows_data, anchor_row, double_row, triple_row, form_members, IsTold}
+use Rattle.rl_cert.specs.Form.{whole, row_data, anchor_row, double_row, triple_row, form_members, IsTold}
 
 row-plain : (row : List ℕ) → items_have_float (items_of (map whole row)) ≡ false
-row-plain [] = refl
-row-plain (x ∷ row) = row-plain row
-
-neither : (b c : Bool) → b ≡ false → c ≡ false → (b || c) ≡ false
-neither false c e f = f
-neither true c e f = e
+row-plain row = items-plain whole row (λ x. refl)
 
 rows-plain : (rows : List (List ℕ)) → items_have_float (items_of (map row_data rows)) ≡ false
-rows-plain [] = refl
-rows-plain (row ∷ rows) = neither (items_have_float (items_of (map whole row))) (items_have_float (items_of (map row_data rows))) (row-plain row) (rows-plain rows)
+rows-plain rows = items-plain row_data rows row-plain
 
 pub form-plain : (c : Certificate) (v : Verdict) → IsTold v → has_float (object (form_members c v)) ≡ false
 form-plain c (Degree d f) told =

@@ -1,10 +1,9 @@
 -- Paths that stay where a test passes, and paths that leave: where they leave, time by time.
-use Rattle.std.proofs.Common.{◌≡◌, ◌≢◌, ◌∙◌, ℕ, suc, ◌+◌, ◌*◌, ◌<◌, ◌≤◌, inl, inr, List, [], ◌∷◌, length, take, drop, filter, cond, Bool, true, false, eqb, eq-eqb, refl, sym, ap, arith, mul-le-mul}
-use Rattle.std.proofs.Math.Nat.{one-mul}
-use Rattle.rl_graph.specs.Paths.{Has, total, one, paths, along, inside, IsWithin}
+use Rattle.std.proofs.Common.{◌≡◌, ◌≢◌, ◌∙◌, ℕ, suc, ◌+◌, ◌*◌, ◌<◌, ◌≤◌, inl, inr, List, [], ◌∷◌, length, drop, filter, cond, Bool, true, false, refl, sym, ap, arith, mul-le-mul}
+use Rattle.rl_graph.specs.Paths.{Has, total, paths, along, inside, IsWithin}
 use Rattle.rl_graph.specs.Twins.{HasNoTwin}
-use Rattle.rl_graph.proofs.Sums.{total-mono, total-add, total-times, Has-filter}
-use Rattle.rl_degree.proofs.FirstSums.{upto, upto-mono, upto-first, upto-has, total-upto, total-bound}
+use Rattle.rl_graph.proofs.Sums.{total-mono, total-add, Has-filter}
+use Rattle.rl_graph.proofs.FirstSums.{total-bound}
 
 -- how many paths lead from `a` to `t` by a first move to a state that does not pass
 abbrev pub leaving : (ℕ → ℕ → List ℕ) → (ℕ → Bool) → ℕ → ℕ → List ℕ → ℕ
@@ -70,33 +69,6 @@ stay_or_leave next p t s (l ∷ w) =
     let b = total-mono (λ m. paths next m t w) (λ m. paths (inside p next) m t w + along (inside p next) (leaving next p t) m w) (filter p (next s l)) (λ m i. stay_or_leave next p t m w) in
     let c = total-add (λ m. paths (inside p next) m t w) (λ m. along (inside p next) (leaving next p t) m w) (filter p (next s l)) in
     omega (arith, a, b, c)
-
--- the sum over the places of the paths, at one time, state by state
-abbrev pub shares : (ℕ → ℕ → List ℕ) → (ℕ → List ℕ → ℕ) → ℕ → ℕ → List ℕ → ℕ → ℕ
-shares next f n s w i = upto (λ a. paths next s a (take i w) * f a (drop i w)) n
-
-pub along-upto : (next : ℕ → ℕ → List ℕ) (f : ℕ → List ℕ → ℕ) (n : ℕ) → ((q l m : ℕ) → q < n → Has m (next q l) → m < n) → (w : List ℕ) (s : ℕ) → s < n → along next f s w ≤ upto (shares next f n s w) (suc (length w))
-along-upto next f n inside [] s lt =
-    let here = upto-has (λ a. one (eqb s a) * f a []) s n lt in
-    let itself : one (eqb s s) * f s [] ≡ f s [] = ap (λ b. one b * f s []) (eq-eqb s s refl) ∙ one-mul (f s []) in
-    omega (arith, here, itself)
-along-upto next f n inside (l ∷ w) s lt =
-    let here = upto-has (λ a. one (eqb s a) * f a (l ∷ w)) s n lt in
-    let itself : one (eqb s s) * f s (l ∷ w) ≡ f s (l ∷ w) = ap (λ b. one b * f s (l ∷ w)) (eq-eqb s s refl) ∙ one-mul (f s (l ∷ w)) in
-    let later = total-mono (λ m. along next f m w) (λ m. upto (shares next f n m w) (suc (length w))) (next s l) (λ m i. along-upto next f n inside w m (inside s l m lt i)) in
-    let turned = total-upto (λ m i. shares next f n m w i) (next s l) (suc (length w)) in
-    let each = upto-mono (λ i. total (λ m. shares next f n m w i) (next s l)) (λ i. shares next f n s (l ∷ w) (suc i)) (suc (length w)) (λ i small. swapped i) in
-    let first = upto-first (shares next f n s (l ∷ w)) (suc (length w)) in
-    omega (arith, here, itself, later, turned, each, first)
-  where
-    swapped : (i : ℕ) → total (λ m. shares next f n m w i) (next s l) ≤ shares next f n s (l ∷ w) (suc i)
-    swapped i =
-        let a = total-upto (λ m a. paths next m a (take i w) * f a (drop i w)) (next s l) n in
-        let b = upto-mono (λ a. total (λ m. paths next m a (take i w) * f a (drop i w)) (next s l)) (λ a. total (λ m. paths next m a (take i w)) (next s l) * f a (drop i w)) n (λ a j. same a) in
-        omega (arith, a, b)
-      where
-        same : (a : ℕ) → total (λ m. paths next m a (take i w) * f a (drop i w)) (next s l) ≤ total (λ m. paths next m a (take i w)) (next s l) * f a (drop i w)
-        same a = omega (arith, total-times (λ m. paths next m a (take i w)) (f a (drop i w)) (next s l))
 
 -- behind the word nothing leaves
 pub leaving-end : (next : ℕ → ℕ → List ℕ) (p : ℕ → Bool) (t a : ℕ) (w : List ℕ) → leaving next p t a (drop (length w) w) ≡ 0

@@ -5,8 +5,8 @@ use Rattle.std.proofs.lemmas.Bool.{cases_Bool, cases_lt, cases_eq}
 use Rattle.std.proofs.lemmas.Nat.{mul-add-lt, div-mul-add, mod-mul-add}
 use Rattle.rl_graph.specs.Paths.{Has, one, Reaches, IsWithin}
 use Rattle.rl_graph.proofs.PathLaws.{one-le, Reaches-self, Reaches-move, Reaches-trans}
+use Rattle.rl_graph.proofs.FirstSums.{upto, upto-mono, upto-has, upto-less, upto-bound}
 use Rattle.rl_degree.specs.Leavers.{NeverRises}
-use Rattle.rl_degree.proofs.FirstSums.{upto, upto-mono, upto-has, upto-less, upto-bound}
 
 -- an order of numbers that can't be refuted holds
 pub stable : (x y : ℕ) → ((x ≤ y → ⊥) → ⊥) → x ≤ y

@@ -1,4 +1,3 @@
-pub mod FirstSums
 pub mod Pigeons
 pub mod Leaving
 pub mod FiveTimes
@@ -8,6 +7,7 @@ pub mod SplitLaws
 pub mod RankPaths
 pub mod FallingLaws
 pub mod PairLaws
+pub mod FallingPairLaws
 pub mod KernelLaws
 pub mod GroupLaws
 pub mod TableLaws

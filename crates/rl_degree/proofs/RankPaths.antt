@@ -4,13 +4,13 @@ use Rattle.std.proofs.lemmas.Bool.{eqb-false}
 use Rattle.std.proofs.Common.{◌≡◌, ◌∙◌, ℕ, zero, suc, ◌+◌, ◌*◌, ◌^◌, ◌<◌, ◌≤◌, List, [], ◌∷◌, length, take, drop, Bool, true, eqb, eqb-true, sym, ap, subst, arith, mul-le-mul, zero-mul}
 use Rattle.std.proofs.Math.Nat.{pow-succ', pow-zero, one-le-pow, pow-le-pow_left}
 use Rattle.rl_graph.specs.Paths.{paths, inside, IsWithin}
-use Rattle.rl_graph.specs.Twins.{HasNoTwin, IsSplit, IsRank}
+use Rattle.rl_graph.specs.Twins.{HasNoTwin, IsRank}
 use Rattle.rl_graph.specs.Bounds.{bound_b, bound_h}
 use Rattle.rl_graph.proofs.Sums.{total-there}
-use Rattle.rl_graph.proofs.PathLaws.{nil-same, along_moves, positive}
+use Rattle.rl_graph.proofs.PathLaws.{along_moves, positive, split-word}
+use Rattle.rl_graph.proofs.FirstSums.{upto-bound, shares, along-upto}
 use Rattle.rl_degree.specs.Leavers.{NeverRises, HasNoSplit, HasNoEqualSplit}
-use Rattle.rl_degree.proofs.FirstSums.{upto-bound}
-use Rattle.rl_degree.proofs.Leaving.{leaving, shares, along-upto, stay_or_leave, inside-less, inside-within, inside-no_twin, Has-passes, leaving-bound, strictly}
+use Rattle.rl_degree.proofs.Leaving.{leaving, stay_or_leave, inside-less, inside-within, inside-no_twin, Has-passes, leaving-bound, strictly}
 use Rattle.rl_degree.proofs.FiveTimes.{falls-along}
 use Rattle.rl_degree.proofs.WithoutSplit.{without_split}
 use Rattle.rl_degree.proofs.SplitLaws.{ranks-fall, ranks-split}
@@ -21,10 +21,6 @@ ends-inside next p s t [] some h = absurd (omega arith)
 ends-inside next p s t (l ∷ w) some h =
     let m = total-there (λ m. paths (inside p next) m t w) (inside p next s l) h in
     along_moves (λ m. p m ≡ true) (inside p next) (λ a l m q i. Has-passes p m (next a l) i) m.0 t w (Has-passes p m.0 (next s l) m.1) m.2
-
-split-word : (next : ℕ → ℕ → List ℕ) (r q : ℕ) (y : List ℕ) → IsSplit next r q y → 1 ≤ length y
-split-word next r q [] h = absurd (h.apart (nil-same next r q h.over))
-split-word next r q (l ∷ y) h = omega arith
 
 module _ (next : ℕ → ℕ → List ℕ) (n k : ℕ) (rank : ℕ → ℕ) (within : IsWithin next n k) (no_twin : HasNoTwin next) (falls : NeverRises next n rank) (no_split : HasNoEqualSplit next n rank) where
   -- the states of one rank

@@ -12,6 +12,7 @@ use Rattle.rl_graph.proofs.PathLaws.{nil-same, positive, along_moves}
 use Rattle.rl_graph.proofs.ProductLaws.{pair_paths, bounded-pairs}
 use Rattle.rl_kernel.specs.Members.{is_member, IsPlace}
 use Rattle.rl_kernel.specs.Seats.{seats_of, state_at}
+use Rattle.rl_degree.specs.internal.FallingPairs.{falls, falling_moves}
 use Rattle.rl_degree.specs.internal.Pairs.{is_wanted, lists_of, row_of, IsTable}
 use Rattle.rl_degree.specs.internal.Rows.{Stand, field_of, start_stand, has_middle, word_at, behind, IsSearching, IsFurther, IsFollowedUpTo}
 use Rattle.rl_degree.specs.declared.rows.Found.{Found}
@@ -20,6 +21,7 @@ use Rattle.rl_degree.specs.declared.pairs.PairTable.{PairTable}
 use Rattle.rl_kernel.proofs.InnerPaths.{inner-path, path-inner, bounded-inner, pair-first, pair-second, pair-both, cycle-same}
 use Rattle.rl_degree.proofs.SplitLaws.{split_in_component, split_falls}
 use Rattle.rl_kernel.proofs.MemberLaws.{there-member, member-there}
+use Rattle.rl_degree.proofs.FallingPairLaws.{falls-along, pair-falling, falling-pair}
 use Rattle.rl_degree.proofs.RowLaws.{searching-start, settle, never-reached}
 
 -- pairs
@@ -59,6 +61,9 @@ module _ (g : Graph) (t : PairTable) (whole : IsWhole g) (table : IsTable g t) w
   abbrev pub product : ℕ → ℕ → List ℕ
   product = pair_moves (edges_of t.inner) t.inner.states
 
+  abbrev pub falling : ℕ → ℕ → List ℕ
+  falling = falling_moves (edges_of t.inner) t.kernel.levels.items t.inner.states
+
   abbrev pub first : ℕ → ℕ
   first x = state_at (seats_of t.kernel) (x / t.inner.states)
 
@@ -89,12 +94,31 @@ module _ (g : Graph) (t : PairTable) (whole : IsWhole g) (table : IsTable g t) w
       let less = ltb-true (get_or levels (x % n) 0) (get_or levels (x / n) 0) a.1 in
       (a.0, omega (arith, less, table.kernel.seats.level (x / n) (at-first x hx), table.kernel.seats.level (x % n) (at-second x hx)))
 
-  wanted-from : (x : ℕ) → x < t.inner.states * t.inner.states → IsTrue (cycle_of t.parts x) → number_of t.components (second x) < number_of t.components (first x) → is_wanted t.kernel.levels.items t.parts t.inner.states x ≡ true
-  wanted-from x hx c less =
+  falls-from : (x : ℕ) → x < t.inner.states * t.inner.states → number_of t.components (second x) < number_of t.components (first x) → falls t.kernel.levels.items t.inner.states x ≡ true
+  falls-from x hx less =
       let n = t.inner.states in
       let levels = t.kernel.levels.items in
-      and_from (cycle_of t.parts x) (ltb (get_or levels (x % n) 0) (get_or levels (x / n) 0)) c
-      (lt-ltb (get_or levels (x % n) 0) (get_or levels (x / n) 0) (omega (arith, less, table.kernel.seats.level (x / n) (at-first x hx), table.kernel.seats.level (x % n) (at-second x hx))))
+      lt-ltb (get_or levels (x % n) 0) (get_or levels (x / n) 0) (omega (arith, less, table.kernel.seats.level (x / n) (at-first x hx), table.kernel.seats.level (x % n) (at-second x hx)))
+
+  wanted-from : (x : ℕ) → x < t.inner.states * t.inner.states → IsTrue (cycle_of t.parts x) → number_of t.components (second x) < number_of t.components (first x) → is_wanted t.kernel.levels.items t.parts t.inner.states x ≡ true
+  wanted-from x hx c less =
+      and_from (cycle_of t.parts x) (falls t.kernel.levels.items t.inner.states x) c (falls-from x hx less)
+
+  -- a wanted pair falls
+  wanted-falls : (x : ℕ) → is_wanted t.kernel.levels.items t.parts t.inner.states x ≡ true → falls t.kernel.levels.items t.inner.states x ≡ true
+  wanted-falls x w = (and_parts (cycle_of t.parts x) (falls t.kernel.levels.items t.inner.states x) w).1
+
+  -- what a pair that falls reaches
+  to-falling : (x y : ℕ) → falls t.kernel.levels.items t.inner.states x ≡ true → Reaches product x y → Reaches falling x y
+  to-falling x y f r = (r.0, pair-falling g t.components (seats_of t.kernel) t.inner table.kernel.seats table.inner x y r.0 f r.1)
+
+  from-falling : (x y : ℕ) → Reaches falling x y → Reaches product x y
+  from-falling x y r = (r.0, falling-pair g t.components (seats_of t.kernel) t.inner table.kernel.seats table.inner x y r.0 r.1)
+
+  -- both ways, where it is reached and leads back
+  round-falling : (x y : ℕ) → falls t.kernel.levels.items t.inner.states x ≡ true → Reaches product x y → Reaches product y x → Reaches falling x y × Reaches falling y x
+  round-falling x y f r s =
+      (to-falling x y f r, to-falling y x (falls-along g t.components (seats_of t.kernel) t.inner table.kernel.seats table.inner x y r.0 f r.1) s)
 
   pub product-in : (x y : ℕ) → x < t.inner.states * t.inner.states → Reaches product x y → y < t.inner.states * t.inner.states
   product-in x y h r =
@@ -113,20 +137,21 @@ module _ (g : Graph) (t : PairTable) (whole : IsWhole g) (table : IsTable g t) w
       → HasSplit (edges_of g) (first x) (second x) → HasSplit (edges_of g) (first y) (second y)
   part-splits none x y hx hy e s =
       let r = (table.parts.same x y hx hy).0 e in
-      let to = pair-reaches y x hy hx r.1.0 r.1.1 in
-      let back = pair-reaches x y hx hy r.0.0 r.0.1 in
-      (r.1.0 ++ (s.0 ++ r.0.0), split_in_component (edges_of g) (first x) (second x) (first y) (second y) s.0 r.1.0 r.0.0 none s.1 to.0 to.1 back.0 back.1)
+      let go = from-falling y x r.1 in
+      let come = from-falling x y r.0 in
+      let to = pair-reaches y x hy hx go.0 go.1 in
+      let back = pair-reaches x y hx hy come.0 come.1 in
+      (go.0 ++ (s.0 ++ come.0), split_in_component (edges_of g) (first x) (second x) (first y) (second y) s.0 go.0 come.0 none s.1 to.0 to.1 back.0 back.1)
 
   -- with a wanted pair each pair of its part is wanted
   pub part-wanted : (x y : ℕ) → x < t.inner.states * t.inner.states → Reaches product x y → Reaches product y x → is_wanted t.kernel.levels.items t.parts t.inner.states x ≡ true → is_wanted t.kernel.levels.items t.parts t.inner.states y ≡ true
   part-wanted x y hx r s w =
       let hy = product-in x y hx r in
-      let a = wanted-parts x hx w in
-      let to = pair-reaches x y hx hy r.0 r.1 in
-      let back = pair-reaches y x hy hx s.0 s.1 in
-      let e = (table.components.same (second x) (second y) (second-in x hx) (second-in y hy)).1 ((r.0, to.1), (s.0, back.1)) in
-      let f = (table.components.same (first x) (first y) (first-in x hx) (first-in y hy)).1 ((r.0, to.0), (s.0, back.0)) in
-      wanted-from y hy ((table.parts.on_cycle y hy).1 (cycle-same product x y r s ((table.parts.on_cycle x hx).0 a.0))) (omega (arith, e, f, a.1))
+      let f = wanted-falls x w in
+      let both = round-falling x y f r s in
+      let cycle = (table.parts.on_cycle x hx).0 (wanted-parts x hx w).0 in
+      and_from (cycle_of t.parts y) (falls t.kernel.levels.items t.inner.states y) ((table.parts.on_cycle y hy).1 (cycle-same falling x y both.0 both.1 cycle))
+      (falls-along g t.components (seats_of t.kernel) t.inner table.kernel.seats table.inner x y r.0 f r.1)
 
   -- the states of a component are there, where one of them is one of a split
   split-there : HasNoTwin (edges_of g) → (r q : ℕ) (y : List ℕ) → r < g.states → q < g.states → IsSplit (edges_of g) r q y
@@ -159,12 +184,14 @@ module _ (g : Graph) (t : PairTable) (whole : IsWhole g) (table : IsTable g t) w
 
   -- a pair that is a split is wanted
   pub split-wanted : HasNoTwin (edges_of g) → (x : ℕ) → x < t.inner.states * t.inner.states → HasSplit (edges_of g) (first x) (second x) → is_wanted t.kernel.levels.items t.parts t.inner.states x ≡ true
-  split-wanted none x hx s =
-      wanted-from x hx ((table.parts.on_cycle x hx).1 (cycle s.0 s.1)) (split-below (edges_of g) g.states t.components table.components none (first x) (second x) s.0 (first-in x hx) (second-in x hx) s.1)
+  split-wanted none x hx s = wanted-from x hx ((table.parts.on_cycle x hx).1 (cycle s.0 s.1)) less
     where
-      cycle : (y : List ℕ) → IsSplit (edges_of g) (first x) (second x) y → OnCycle product x
+      less : number_of t.components (second x) < number_of t.components (first x)
+      less = split-below (edges_of g) g.states t.components table.components none (first x) (second x) s.0 (first-in x hx) (second-in x hx) s.1
+
+      cycle : (y : List ℕ) → IsSplit (edges_of g) (first x) (second x) y → OnCycle falling x
       cycle [] s = absurd (s.apart (nil-same (edges_of g) (first x) (second x) s.over))
-      cycle (l ∷ y) s = (l, y, split-pair none x (l ∷ y) hx s)
+      cycle (l ∷ y) s = (l, y, pair-falling g t.components (seats_of t.kernel) t.inner table.kernel.seats table.inner x x (l ∷ y) (falls-from x hx less) (split-pair none x (l ∷ y) hx s))
 
   -- the pair of two states
 
@@ -219,7 +246,8 @@ module _ (g : Graph) (t : PairTable) (whole : IsWhole g) (table : IsTable g t) w
       → (v : ℕ) → Reaches product x v → Reaches product v x → is_member members places v ≡ true
   start-members x members places hx w s v to back =
       let hv = product-in x v hx to in
-      let same = (table.parts.same v x hv hx).1 (back, to) in
+      let both = round-falling x v (wanted-falls x w) to back in
+      let same = (table.parts.same v x hv hx).1 (both.1, both.0) in
       let there = start-there v (number_of t.parts x) members places hv (part-wanted x v hx to back w) (sym same) s.members_are s.places_are in
       there-member members places v there.within there.here
 

@@ -7,10 +7,10 @@ use Rattle.rl_graph.specs.Twins.{HasNoTwin}
 use Rattle.rl_graph.specs.Bounds.{bound_b, bound_h}
 use Rattle.rl_graph.proofs.Sums.{total-there, Has-filter}
 use Rattle.rl_graph.proofs.PathLaws.{nil-same, through_one, along_moves, one-le}
+use Rattle.rl_graph.proofs.FirstSums.{upto, upto-there, upto-bound, shares, along-upto}
 use Rattle.rl_degree.specs.Leavers.{Runs, Leaver, Later, HasNoSplit}
-use Rattle.rl_degree.proofs.FirstSums.{upto, upto-there, upto-bound}
 use Rattle.rl_degree.proofs.Pigeons.{Each-map}
-use Rattle.rl_degree.proofs.Leaving.{leaving, shares, along-upto, stay_or_leave, inside-less, inside-within, Has-passes, leaving-bound, strictly}
+use Rattle.rl_degree.proofs.Leaving.{leaving, stay_or_leave, inside-less, inside-within, Has-passes, leaving-bound, strictly}
 use Rattle.rl_degree.proofs.FiveTimes.{first_then, runs-there, runs-part, falls-along, split_of_many}
 use Rattle.rl_degree.proofs.Levels.{stable, table, IsLevel, level-of, Reached, reach_count}
 

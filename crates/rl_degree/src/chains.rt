@@ -148,12 +148,13 @@ const MOST_STATES: u32 = 65_535;
 
 /// A longest chain of splits of a graph without a twin, all ranks and a cycle.
 ///
-/// A split leads from a state on a cycle to one in another component. Where two components have such states, it takes the parts
-/// of the product of two copies of the moves between these states that stay in a component, and for a part that holds pairs of
-/// different states on a cycle it makes at most one search for one of its pairs (the test for IDA of Weber and Seidl 1991), over
-/// triples of states whose outer ones lie in that part. For each of its pairs a row of bits holds the middle states, so that a search meets no triple
-/// twice, and a bit stands for each. Ranks and chains go by the components of the graph in their order, and only a split that
-/// lengthens a chain is looked for.
+/// A split leads from a state on a cycle to one in a lower component. Where two components have such states, it takes the parts
+/// of the product of two copies of the moves between these states that stay in a component: there a pair of states falls where
+/// the second one is in a lower component than the first, each move leads from a pair that falls to one that falls, and those of
+/// the other pairs and letters without a move are left out. For a part that holds a cycle it makes at most one search for one of
+/// its pairs (the test for IDA of Weber and Seidl 1991), over triples of states whose outer ones lie in that part. For each of its
+/// pairs a row of bits holds the middle states, so that a search meets no triple twice, and a bit stands for each. Ranks and
+/// chains go by the components of the graph in their order, and only a split that lengthens a chain is looked for.
 ///
 /// # Errors
 /// [`OutOfMemory`] where there was no memory for the search or the answer, as for a graph of 65,536 states or more, which has

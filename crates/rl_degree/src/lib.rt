@@ -2,6 +2,7 @@
 #![tactic(auto)]
 
 mod chains;
+mod falling;
 mod groups;
 mod kernel;
 pub mod laws;

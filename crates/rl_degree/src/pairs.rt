@@ -5,15 +5,16 @@ ghost use Rattle.rl_graph.specs.Parts.{number_of};
 ghost use Rattle.rl_kernel.specs.Members.{is_member, IsPlace};
 ghost use Rattle.rl_degree.specs.internal.Pairs.{is_wanted, lists_of, row_of, with_pair, IsBarePlaced, IsPlaced, IsTable};
 
+use crate::falling::falling_parts;
 use crate::kernel::kernel_of;
 use crate::moves::move_tables;
-use rl_graph::{Components, Multigraph, Parts, Twice, parts_of};
+use rl_graph::{Components, Multigraph, Parts};
 use rl_kernel::{Kernel, inner_graph};
 use rl_lanes::BitTable;
 use rl_lists::{Items, OutOfMemory};
 use std::alloc::Global;
 
-/// The pairs of different states on a common cycle, by parts: the members of each part of the product, and for each pair its
+/// The pairs that lie on a cycle and fall, by parts: the members of each part of the product, and for each pair its
 /// place among the members of its part.
 #[derive(Drop)]
 pub(crate) struct Placed {
@@ -21,8 +22,9 @@ pub(crate) struct Placed {
     pub(crate) places: Vec<u64>,
 }
 
-/// A graph's components, the states that a split may join, their inner moves, the parts of the product of two copies of these,
-/// the pairs of each part, and for each letter the table of the graph's moves; no table where no state is one of those states.
+/// A graph's components, the states that a split may join, their inner moves, the parts of the product of two copies of these
+/// with the moves of the pairs that fall alone, the pairs of each part, and for each letter the table of the graph's moves; no
+/// table where no state is one of those states.
 #[derive(Drop)]
 pub(crate) struct PairTable {
     pub(crate) components: Components,
@@ -76,8 +78,8 @@ impl PairTable {
     }
 }
 
-/// Whether a pair lies on a cycle of the product, and its second state in a component that may be reached from the first
-/// one's, but not the other way round.
+/// Whether a pair lies on a cycle of the product, and falls: its second state is in a lower component than the first, one that
+/// may be reached from the first one's, but not the other way round.
 pub(crate) fn wanted(levels: &[u32], parts: &Parts, count: u64, pair: u64) -> bool
     requires pair_in { pair < count * count }
     requires few { count < 2 ^ 32 }
@@ -85,9 +87,7 @@ pub(crate) fn wanted(levels: &[u32], parts: &Parts, count: u64, pair: u64) -> bo
     requires parts_size { length parts.now.numbers ≡ count * count }
     ensures { result ≡ is_wanted levels.now parts.now count pair }
 {
-    let first = levels[(pair / count) as usize];
-    let second = levels[(pair % count) as usize];
-    parts.on_cycle(pair) && second < first
+    parts.on_cycle(pair) && levels[(pair % count) as usize] < levels[(pair / count) as usize]
 }
 
 impl Placed {
@@ -151,7 +151,7 @@ pub(crate) fn table_of(alloc: Global, g: &Multigraph) -> Result<PairTable, OutOf
     let kernel = kernel_of(alloc, &components, g.states())?;
     let inner = inner_graph(alloc, g, &components, &kernel)?;
     let count = u64::from(inner.states());
-    let parts = parts_of(alloc, &Twice { graph: &inner })?;
+    let parts = falling_parts(alloc, &inner, &kernel.levels)?;
     let placed = placed_pairs(alloc, &kernel.levels, &parts, count)?;
     let moves = if count > 0 {
         move_tables(alloc, g)?

@@ -1,6 +1,5 @@
 -- A closed relation keeps two languages equal, by induction on the text: each letter is one step of the relation.
-use Rattle.std.proofs.Common.{◌≡◌, ◌∙◌, ℕ, ◌<◌, List, [], ◌∷◌, ◌++◌, map, All, Contains, Bool, true, false, not, ◌||◌, cond, eqb, IsTrue, refl, sym, ap, ap₂, subst, arith}
-use Rattle.std.specs.List.{list_any}
+use Rattle.std.proofs.Common.{◌≡◌, ◌∙◌, ℕ, ◌<◌, List, [], ◌∷◌, ◌++◌, map, All, Contains, Bool, true, false, not, ◌||◌, IsTrue, refl, sym, ap, ap₂, subst, arith}
 use Rattle.std.proofs.Math.Bool.{beq}
 use Rattle.std.proofs.lemmas.Bool.{and_parts, false≢true, ne_eqb, false_from_ne_true}
 use Rattle.std.proofs.lemmas.List.{length-map}
@@ -13,13 +12,14 @@ use Rattle.rl_syntax.specs.declared.re.Ending.TheVariants.{AtEnd}
 use Rattle.rl_syntax.specs.Tree.{Tree}
 use Rattle.rl_syntax.specs.Cost.{has_hit, matched}
 use Rattle.rl_prio.specs.Letters.{all_sets}
-use Rattle.rl_prio.specs.Automaton.{Automaton, IsAutomaton, letters_count, accepting_state, moves_at}
-use Rattle.rl_prio.specs.Walk.{stepped, walk, word_at, walk_matched}
+use Rattle.rl_prio.specs.Automaton.{Automaton, IsAutomaton, letters_count, accepting_state}
+use Rattle.rl_prio.specs.Walk.{walk, word_at, walk_matched}
 use Rattle.rl_prio.specs.StandsFor.{StandsOver}
 use Rattle.rl_prio.proofs.LikenessLemmas.{Finer, Finer-first, Finer-second}
 use Rattle.rl_prio.proofs.WalkLemmas.{walk-matched_over}
 use Rattle.rl_prio.proofs.MatchLemmas.{matched_to_end}
 use Rattle.rl_sets.specs.Live.{accepts, below, holds, image, refuses}
+use Rattle.rl_sets.proofs.AcceptLemmas.{walk-accepts}
 use Rattle.rl_sets.proofs.LiveLemmas.{refuses-image, refuses-nothing}
 use Rattle.rl_equiv.specs.declared.pair.SetPair.{SetPair}
 use Rattle.rl_equiv.specs.SetPairs.{joint_sets, first_pair, SetPairs, differs, set_pairs, IsKept, IsClosed}
@@ -27,32 +27,6 @@ use Rattle.rl_equiv.specs.Languages.{SameLanguage}
 use Rattle.rl_equiv.specs.Joined.{StandTogether}
 use Rattle.rl_equiv.specs.internal.Machines.{pair_on, ends, all_proper, pairs_of}
 use Rattle.rl_equiv.proofs.ImageLaws.{length-below, get_or-below, same_count, below-proper, pairs_of-trees}
-
--- a state accepts exactly what its walk has a hit on
-
-has_hit-append : (l m : List Bool) → has_hit (l ++ m) ≡ (has_hit l || has_hit m)
-has_hit-append [] m = refl
-has_hit-append (true ∷ l) m = refl
-has_hit-append (false ∷ l) m = has_hit-append l m
-
-hit-of-step : (e : Bool) (l : List Bool) → has_hit (cond e (true ∷ []) (false ∷ l)) ≡ (e || has_hit l)
-hit-of-step true l = refl
-hit-of-step false l = refl
-
-any-stepped : (a : Automaton) (w ts : List ℕ) → ((t : ℕ) → (eqb t (accepting_state a) || has_hit (walk a t w)) ≡ accepts a t w)
-    → has_hit (stepped (accepting_state a) (λ r. walk a r w) ts) ≡ list_any (λ t. accepts a t w) ts
-any-stepped a w [] h = refl
-any-stepped a w (t ∷ ts) h =
-    has_hit-append (cond (eqb t (accepting_state a)) (true ∷ []) (false ∷ walk a t w)) (stepped (accepting_state a) (λ r. walk a r w) ts)
-    ∙ ap₂ (λ x y. x || y) (hit-of-step (eqb t (accepting_state a)) (walk a t w) ∙ h t) (any-stepped a w ts h)
-
-or-false : (b : Bool) → (b || false) ≡ b
-or-false true = refl
-or-false false = refl
-
-walk-accepts : (a : Automaton) (w : List ℕ) (q : ℕ) → (eqb q (accepting_state a) || has_hit (walk a q w)) ≡ accepts a q w
-walk-accepts a [] q = or-false (eqb q (accepting_state a))
-walk-accepts a (l ∷ w) q = ap (λ b. eqb q (accepting_state a) || b) (any-stepped a w (moves_at a q l) (walk-accepts a w))
 
 pub start-accepts : (a : Automaton) → IsAutomaton a → (w : List ℕ) → walk_matched a w ≡ accepts a 0 w
 start-accepts a is w =
@@ -137,6 +111,10 @@ module _ (u : Universe) (s t : Tree) (a b : Automaton) (st : StandTogether u s t
       All-cons (λ l. l < letters_count a) (letter_at a.table c) (map (letter_at a.table) w)
       (omega (arith, stands.same_letter c (omega (arith, st.first_codes)), class_of-lt (joint_sets s t) a.table.codes c (omega (arith, st.first_codes)), stands.same_count))
       (letters-small w (All-tail (λ x. x < code_count u) c w text))
+
+or-false : (b : Bool) → (b || false) ≡ b
+or-false true = refl
+or-false false = refl
 
 -- a text is in the language of a tree exactly where the start doesn't refuse its letters
 pub refuses-start : (a : Automaton) (w : List ℕ) → refuses a (0 ∷ []) w ≡ not (accepts a 0 w)

@@ -14,9 +14,11 @@ use Rattle.rl_equiv.specs.declared.searching.Way.{Way}
 use Rattle.rl_equiv.specs.SetPairs.{first_pair}
 use Rattle.rl_equiv.specs.Numbering.{same_pair, with_one, with_more, Reached, reached_by, next_reached, pairs_reached, with_reached, with_all_reached}
 use Rattle.rl_equiv.specs.internal.Machines.{pair_on, ends, pairs_of}
-use Rattle.rl_equiv.specs.internal.Searching.{State, IsSide, no_key, no_way, key_at, pair_of, pairs_in, pair_at, word_at, reached_in, reached_at, reached_on, with_reached_within, IsSearch, IsOnward, AreCapped, ends_of}
+use Rattle.rl_equiv.specs.internal.Searching.{State, no_key, no_way, key_at, pair_of, pairs_in, pair_at, word_at, reached_in, reached_at, reached_on, with_reached_within, IsSearch, IsOnward, AreCapped, ends_of}
+use Rattle.rl_equiv.specs.Sides.{IsSide}
 use Rattle.rl_equiv.proofs.FoundLaws.{no_reached, reached-length, reached-get}
 use Rattle.rl_equiv.proofs.ImageLaws.{length-below}
+use Rattle.rl_equiv.proofs.SideLaws.{side-lower}
 use Rattle.rl_equiv.proofs.VisitLaws.{onward-refl}
 
 -- ---- lists that grow
@@ -165,15 +167,15 @@ ends-read a b s place key x y e f g =
     λ i. record { first = p i; second = q i }
 
 -- the search begins with the first set pair
-pub search-start : (a b : Automaton) (limit n m : ℕ) (v w : Walk) (keys : List Key) (ways : List Way) → 1 ≤ limit → limit ≤ 20000 → IsSide a limit 1 v → IsSide b limit 1 w
+pub search-start : (a b : Automaton) (limit n m : ℕ) (v w : Walk) (keys : List Key) (ways : List Way) → 1 ≤ limit → limit ≤ 20000 → IsSide a 20000 1 v → IsSide b 20000 1 w
     → n < length v.sets → m < length w.sets → set_at v n ≡ 0 ∷ [] → set_at w m ≡ 0 ∷ [] → keys ≡ record { first = n; second = m } ∷ [] → ways ≡ no_way ∷ []
     → IsSearch a b (record { limit = limit; first = v; second = w; keys = keys; ways = ways })
 search-start a b limit n m v w keys ways some low one two n_in m_in e f ks ws =
     subst (λ (t : State). IsSearch a b t) (λ i. record { limit = limit; first = v; second = w; keys = sym ks i; ways = sym ws i }) (record {
       some_limit = some;
       low_limit = low;
-      first_side = one;
-      second_side = two;
+      first_side = side-lower a limit 20000 1 v low one;
+      second_side = side-lower b limit 20000 1 w low two;
       first_in = λ k lt. by_first k lt;
       second_in = λ k lt. by_second k lt;
       some = omega arith;

@@ -8,7 +8,8 @@ use Rattle.rl_prio.specs.Automaton.{Automaton, accepting_state}
 use Rattle.rl_sets.specs.Live.{holds}
 use Rattle.rl_sets.specs.Walk.{Walk, set_at, set_of}
 use Rattle.rl_sets.proofs.SetLemmas.{filter_gap, filter_next}
-use Rattle.rl_equiv.specs.internal.Searching.{IsSide, Gets}
+use Rattle.rl_equiv.specs.internal.Searching.{Gets}
+use Rattle.rl_equiv.specs.Sides.{IsSide}
 
 -- the set of the start
 pub start-set : (a : Automaton) → 3 ≤ a.states → set_of a (0 ∷ []) ≡ 0 ∷ []
@@ -62,13 +63,62 @@ module _ (a : Automaton) (old new : Walk) (set : List ℕ) (n : ℕ) (g : Gets a
       by (inl e) = e
       by (inr m) = absurd (m.0 (subst (Contains old.sets) (sym (gets-same n lt) ∙ gets-set) (Contains-get_or old.sets n [] lt)))
 
--- the first three sets of a walk
-pub side-start : (a : Automaton) (limit : ℕ) (w x y z : Walk) (k l m : ℕ) → w.sets ≡ [] → w.limit ≡ limit + 3 → Gets a w x (set_of a []) k → Gets a x y (set_of a (accepting_state a ∷ [])) l → Gets a y z (set_of a (0 ∷ [])) m
-    → IsSide a limit 1 z
-side-start a limit w x y z k l m none is g h i = record {
-  made = i.made;
-  limit_is = i.limit_is ∙ h.limit_is ∙ g.limit_is ∙ is;
-  few = omega (arith, ap length none, gets-few a w x (set_of a []) k g, gets-few a x y (set_of a (accepting_state a ∷ [])) l h, gets-few a y z (set_of a (0 ∷ [])) m i);
-  has_none = gets-keeps a y z (set_of a (0 ∷ [])) m i (set_of a []) (gets-keeps a x y (set_of a (accepting_state a ∷ [])) l h (set_of a []) (gets-contains a w x (set_of a []) k g));
-  has_end = gets-keeps a y z (set_of a (0 ∷ [])) m i (set_of a (accepting_state a ∷ [])) (gets-contains a x y (set_of a (accepting_state a ∷ [])) l h);
+-- the first two sets of a walk
+pub side-begun : (a : Automaton) (w x y : Walk) (k l : ℕ) → w.sets ≡ [] → w.limit ≡ 60000 → Gets a w x (set_of a []) k → Gets a x y (set_of a (accepting_state a ∷ [])) l → IsSide a 20000 0 y
+side-begun a w x y k l none is g h = record {
+  made = h.made;
+  limit_is = h.limit_is ∙ g.limit_is ∙ is;
+  room = omega (arith, ap length none, gets-few a w x (set_of a []) k g, gets-few a x y (set_of a (accepting_state a ∷ [])) l h);
+  has_none = gets-keeps a x y (set_of a (accepting_state a ∷ [])) l h (set_of a []) (gets-contains a w x (set_of a []) k g);
+  has_end = gets-contains a x y (set_of a (accepting_state a ∷ [])) l h;
+}
+
+-- one more set pair is found, and the walk has got one set
+pub side-gets : (a : Automaton) (limit count more : ℕ) (old new : Walk) (set : List ℕ) (n : ℕ) → more ≡ count + 1 → IsSide a limit count old → Gets a old new set n → IsSide a limit more new
+side-gets a limit count more old new set n e side g = record {
+  made = g.made;
+  limit_is = g.limit_is ∙ side.limit_is;
+  room = omega (arith, gets-few a old new set n g, side.room, e);
+  has_none = gets-keeps a old new set n g (set_of a []) side.has_none;
+  has_end = gets-keeps a old new set n g (set_of a (accepting_state a ∷ [])) side.has_end;
+}
+
+-- no set pair is found, and the walk has the sets that it had
+pub side-stays : (a : Automaton) (limit count : ℕ) (old new : Walk) (set : List ℕ) (n : ℕ) → new.sets ≡ old.sets → IsSide a limit count old → Gets a old new set n → IsSide a limit count new
+side-stays a limit count old new set n e side g = record {
+  made = g.made;
+  limit_is = g.limit_is ∙ side.limit_is;
+  room = omega (arith, ap length e, side.room);
+  has_none = gets-keeps a old new set n g (set_of a []) side.has_none;
+  has_end = gets-keeps a old new set n g (set_of a (accepting_state a ∷ [])) side.has_end;
+}
+
+-- a side with room for more set pairs has room for fewer
+pub side-lower : (a : Automaton) (limit most count : ℕ) (w : Walk) → limit ≤ most → IsSide a most count w → IsSide a limit count w
+side-lower a limit most count w low side = record {
+  made = side.made;
+  limit_is = side.limit_is;
+  room = omega (arith, low, side.room);
+  has_none = side.has_none;
+  has_end = side.has_end;
+}
+
+-- a side is kept
+pub side-kept : (a : Automaton) (limit count : ℕ) (w : Walk) → IsSide a limit count w → IsSide a 0 1 w
+side-kept a limit count w side = record {
+  made = side.made;
+  limit_is = side.limit_is;
+  room = omega (arith, side.made.few, side.limit_is);
+  has_none = side.has_none;
+  has_end = side.has_end;
+}
+
+-- one that was kept, and hasn't grown too large, has room again
+pub side-again : (a : Automaton) (w : Walk) → length w.sets ≤ 30000 → IsSide a 0 1 w → IsSide a 20000 0 w
+side-again a w few side = record {
+  made = side.made;
+  limit_is = side.limit_is;
+  room = omega (arith, few);
+  has_none = side.has_none;
+  has_end = side.has_end;
 }

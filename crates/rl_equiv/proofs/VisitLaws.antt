@@ -1,14 +1,14 @@
 -- Laws of one more set pair of a search.
-use Rattle.std.proofs.Common.{◌≡◌, ◌∙◌, ℕ, suc, ◌+◌, ◌<◌, ◌≤◌, ◌⊎◌, inl, inr, List, [], ◌∷◌, ◌++◌, length, get_or, map, Contains, Bool, true, false, not, ◌||◌, ◌&&◌, cond, eqb, eqb-true, eq-eqb, nat_lt, refl, sym, ap, ap₂, subst, arith}
+use Rattle.std.proofs.Common.{◌≡◌, ◌∙◌, ℕ, suc, ◌+◌, ◌<◌, ◌≤◌, ◌⊎◌, inl, inr, List, [], ◌∷◌, ◌++◌, length, get_or, map, Bool, true, false, not, ◌||◌, ◌&&◌, cond, eqb, eqb-true, eq-eqb, nat_lt, refl, sym, ap, ap₂, subst, arith}
 use Rattle.std.specs.List.{list_any}
 use Rattle.std.specs.Str.{bytes_eq}
 use Rattle.std.proofs.lemmas.Bool.{false≢true, cases_lt, and_parts, and_from, cond-false, le-ltb}
 use Rattle.std.proofs.lemmas.List.{length_push, get_or_push, get_or_append_left, length-map, map-append, append-nil, get_or_default}
 use Rattle.std.proofs.lemmas.List.Folds.{Any-from_list_any}
 use Rattle.std.proofs.lemmas.Slice.Eq.{bytes_eq-Decides}
-use Rattle.rl_prio.specs.Automaton.{Automaton, letters_count, accepting_state}
+use Rattle.rl_prio.specs.Automaton.{Automaton, letters_count}
 use Rattle.rl_sets.specs.Live.{image}
-use Rattle.rl_sets.specs.Walk.{Walk, set_at, set_of, IsMadeFor}
+use Rattle.rl_sets.specs.Walk.{Walk, set_at, IsMadeFor}
 use Rattle.rl_sets.proofs.SetLemmas.{same_tests}
 use Rattle.rl_equiv.specs.declared.pair.SetPair.{SetPair}
 use Rattle.rl_equiv.specs.declared.searching.Key.{Key}
@@ -17,7 +17,7 @@ use Rattle.rl_equiv.specs.Numbering.{same_pair, Reached, with_reached}
 use Rattle.rl_equiv.specs.internal.Machines.{pair_on}
 use Rattle.rl_equiv.specs.internal.Searching.{Gets, State, no_key, no_way, key_at, way_at, pair_of, pairs_in, pair_at, words_of, word_at, reached_of, reached_in, reached_at, reached_on, with_reached_within, IsNext, IsSearch, IsOnward}
 use Rattle.rl_equiv.proofs.FoundLaws.{words-push, words-length, of-push, reached-pairs, reached-length}
-use Rattle.rl_equiv.proofs.SideLaws.{gets-within, gets-set, gets-longer, gets-few, gets-same, gets-keeps, gets-old}
+use Rattle.rl_equiv.proofs.SideLaws.{gets-within, gets-set, gets-longer, gets-same, gets-old, side-gets, side-stays}
 
 abbrev pub key_eq : Key → Key → Bool
 key_eq x y = eqb x.first y.first && eqb x.second y.second
@@ -163,27 +163,13 @@ module _ (a b : Automaton) (s : State) (v w : Walk) (place letter n m : ℕ) (i 
   visited-old there =
       let h = found-key there in
       let x = gets-old a s.first v (image a (pair_at s place).first letter) n i.first_gets (subst (λ (k : Key). k.first < length s.first.sets) h.2 (i.search.first_in h.0 h.1)) in
-      let y = gets-old b s.second w (image b (pair_at s place).second letter) m i.second_gets (subst (λ (k : Key). k.second < length s.second.sets) h.2 (i.search.second_in h.0 h.1)) in
-      let one = i.search.first_side in
-      let two = i.search.second_side in (
+      let y = gets-old b s.second w (image b (pair_at s place).second letter) m i.second_gets (subst (λ (k : Key). k.second < length s.second.sets) h.2 (i.search.second_in h.0 h.1)) in (
         record {
           search = record {
             some_limit = i.search.some_limit;
             low_limit = i.search.low_limit;
-            first_side = record {
-              made = i.first_gets.made;
-              limit_is = i.first_gets.limit_is ∙ one.limit_is;
-              few = omega (arith, ap length x, one.few);
-              has_none = subst (λ (l : List (List ℕ)). Contains l (set_of a [])) (sym x) one.has_none;
-              has_end = subst (λ (l : List (List ℕ)). Contains l (set_of a (accepting_state a ∷ []))) (sym x) one.has_end;
-            };
-            second_side = record {
-              made = i.second_gets.made;
-              limit_is = i.second_gets.limit_is ∙ two.limit_is;
-              few = omega (arith, ap length y, two.few);
-              has_none = subst (λ (l : List (List ℕ)). Contains l (set_of b [])) (sym y) two.has_none;
-              has_end = subst (λ (l : List (List ℕ)). Contains l (set_of b (accepting_state b ∷ []))) (sym y) two.has_end;
-            };
+            first_side = side-stays a s.limit (length s.keys) s.first v (image a (pair_at s place).first letter) n x i.search.first_side i.first_gets;
+            second_side = side-stays b s.limit (length s.keys) s.second w (image b (pair_at s place).second letter) m y i.search.second_side i.second_gets;
             first_in = λ k lt. omega (arith, i.search.first_in k lt, first-longer);
             second_in = λ k lt. omega (arith, i.search.second_in k lt, second-longer);
             some = i.search.some;
@@ -217,8 +203,6 @@ module _ (a b : Automaton) (s : State) (v w : Walk) (place letter n m : ℕ) (i 
 
   pub visited-new : list_any (key_eq key) s.keys ≡ false → IsOnward a b s new_state × (reached_in new_state ≡ with_reached_within s.limit (reached_in s) next_one)
   visited-new none =
-      let one = i.search.first_side in
-      let two = i.search.second_side in
       let x = image a (pair_at s place).first letter in
       let y = image b (pair_at s place).second letter in
       let long : length (s.keys ++ key ∷ []) ≡ length s.keys + 1 = length_push s.keys key in
@@ -231,20 +215,8 @@ module _ (a b : Automaton) (s : State) (v w : Walk) (place letter n m : ℕ) (i 
           search = record {
             some_limit = i.search.some_limit;
             low_limit = i.search.low_limit;
-            first_side = record {
-              made = i.first_gets.made;
-              limit_is = i.first_gets.limit_is ∙ one.limit_is;
-              few = omega (arith, gets-few a s.first v x n i.first_gets, one.few, long);
-              has_none = gets-keeps a s.first v x n i.first_gets (set_of a []) one.has_none;
-              has_end = gets-keeps a s.first v x n i.first_gets (set_of a (accepting_state a ∷ [])) one.has_end;
-            };
-            second_side = record {
-              made = i.second_gets.made;
-              limit_is = i.second_gets.limit_is ∙ two.limit_is;
-              few = omega (arith, gets-few b s.second w y m i.second_gets, two.few, long);
-              has_none = gets-keeps b s.second w y m i.second_gets (set_of b []) two.has_none;
-              has_end = gets-keeps b s.second w y m i.second_gets (set_of b (accepting_state b ∷ [])) two.has_end;
-            };
+            first_side = side-gets a s.limit (length s.keys) (length (s.keys ++ key ∷ [])) s.first v x n long i.search.first_side i.first_gets;
+            second_side = side-gets b s.limit (length s.keys) (length (s.keys ++ key ∷ [])) s.second w y m long i.search.second_side i.second_gets;
             first_in = λ k lt. elim (cases_lt k (length s.keys)) [
               | inl less ↦ subst (λ (q : Key). q.first < length v.sets) (sym (key-old k less)) (omega (arith, i.search.first_in k less, first-longer))
               | inr more ↦ subst (λ (q : Key). q.first < length v.sets) (sym (key-new k (omega arith))) first-there

@@ -4,6 +4,7 @@ pub mod Limits
 pub mod Numbering
 pub mod Joined
 pub mod Bases
+pub mod Sides
 pub mod Regions
 pub mod Told
 pub mod internal

@@ -13,24 +13,30 @@ use crate::error::SameError;
 use crate::joint::MOST_NODES;
 use crate::sameness::Sameness;
 use crate::searching::Search;
+use crate::sides::kept_side;
 use rl_prio::Prio;
 use rl_ranges::Universe;
+use rl_sets::SetWalk;
 use rl_syntax::{Ending, Re};
 use std::alloc::Global;
 use std::marker::Model;
 
-/// A tree as fullmatch with which others are compared, one after another. Its letters and its automaton are made once.
+/// A tree as fullmatch with which others are compared, one after another. Its letters and its automaton are made once,
+/// and so are the images of its sets of states.
 #[derive(Drop)]
 pub struct Baseline {
     tree: Re,
     universe: Universe,
     automaton: Prio,
+    /// The walk over the sets of the automaton, with the images that earlier comparisons made.
+    walk: Option<SetWalk>,
 }
 
 impl Model for Baseline {
     ghost use Rattle.rl_syntax.specs.Tree.{tree_of};
     ghost use Rattle.rl_syntax.specs.contracts.re.Re as e;
     ghost use Rattle.rl_equiv.specs.Bases.{Base, IsBase};
+    ghost use Rattle.rl_equiv.specs.Sides.{IsKeptSide};
     ghost use Rattle.std.specs.Coded.{codes};
 
     ghost Value = { Base };
@@ -39,7 +45,7 @@ impl Model for Baseline {
 
     ghost view = { λ b. record { tree = b.tree; universe = b.universe } };
 
-    ghost invariant = { λ b. IsBase b.universe (tree_of b.tree) b.automaton };
+    ghost invariant = { λ b. IsBase b.universe (tree_of b.tree) b.automaton × IsKeptSide b.automaton b.walk };
 }
 
 /// The automaton of another tree over the letters of the automaton of the first one.
@@ -89,6 +95,7 @@ impl Baseline {
             tree,
             universe: u,
             automaton,
+            walk: None,
         })
     }
 
@@ -97,19 +104,23 @@ impl Baseline {
     ///
     /// # Errors
     /// Those of [`same`](crate::same).
-    pub fn compare(&self, alloc: Global, other: &Re, limit: u32) -> Result<Sameness, SameError>
-        requires inside { IsOver self.now.universe (tree_of other.now) }
-        requires letters { TellsNoMore (tree_of self.now.tree) (tree_of other.now) }
+    pub fn compare(&mut self, alloc: Global, other: &Re, limit: u32) -> Result<Sameness, SameError>
+        requires inside { IsOver self.old.universe (tree_of other.now) }
+        requires letters { TellsNoMore (tree_of self.old.tree) (tree_of other.now) }
         requires some { 1 ≤ limit }
         requires low { limit ≤ 20000 }
-        ensures within { OnOk result (AreWithin self.now.universe (tree_of self.now.tree) (tree_of other.now)) }
-        ensures passed { IfErr result (IsPassed self.now.universe (tree_of self.now.tree) (tree_of other.now)) }
-        ensures answer { IfOk result (IsAnswer (set_pairs self.now.universe (tree_of self.now.tree) (tree_of other.now)) limit) }
-        ensures told { IfOk result (IsTold self.now.universe (tree_of self.now.tree) (tree_of other.now)) }
+        ensures within { OnOk result (AreWithin self.old.universe (tree_of self.old.tree) (tree_of other.now)) }
+        ensures passed { IfErr result (IsPassed self.old.universe (tree_of self.old.tree) (tree_of other.now)) }
+        ensures answer { IfOk result (IsAnswer (set_pairs self.old.universe (tree_of self.old.tree) (tree_of other.now)) limit) }
+        ensures told { IfOk result (IsTold self.old.universe (tree_of self.old.tree) (tree_of other.now)) }
+        ensures unchanged { self.new ≡ self.old }
     {
         let second = beside(alloc, &self.automaton, other, self.universe)?;
-        let mut search = Search::new(alloc, &self.automaton, &second, limit)?;
+        let kept = self.walk.take();
+        let walk = kept_side(alloc, &self.automaton, kept)?;
+        let mut search = Search::go_on(alloc, &self.automaton, &second, walk, limit)?;
         let found = search.run(alloc, &self.automaton, &second)?;
+        self.walk = Some(search.first);
         Ok(found)
     }
 }

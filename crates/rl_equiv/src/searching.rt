@@ -7,10 +7,11 @@ ghost use Rattle.rl_equiv.specs.SetPairs.{first_pair};
 ghost use Rattle.rl_equiv.specs.Numbering.{Reached, next_reached, with_all_reached, IsAnswer};
 ghost use Rattle.rl_equiv.specs.internal.Machines.{pair_on, pairs_of};
 ghost use Rattle.rl_equiv.specs.internal.Searching.{AreReaders, state_of, pairs_in, pair_at, key_at, way_at, reached_in, reached_at, reached_on, with_reached_within, IsSearch, IsOnward, AreCapped, ends_of, is_apart, IsSeen, IsThrough, IsSeenApart, Leads, sample_of, TellsApart};
+ghost use Rattle.rl_equiv.specs.Sides.{IsSide};
 
 use crate::pair::{Relation, SetPair};
 use crate::sameness::Sameness;
-use crate::sides::{ends_at, start_side, step_to};
+use crate::sides::{begin_side, ends_at, start_side, step_to};
 use indexmap::IndexSet;
 use rl_lists::{Codes, Items, OutOfMemory};
 use rl_prio::Prio;
@@ -77,8 +78,29 @@ impl Search {
         ensures limit { IfOk result (λ s. s.limit ≡ limit) }
         ensures one { IfOk result (λ s. pairs_in (state_of s) ≡ first_pair ∷ []) }
     {
-        let (first, start) = start_side(alloc, a, limit)?;
-        let (second, other_start) = start_side(alloc, b, limit)?;
+        let walk = begin_side(alloc, a)?;
+        Search::go_on(alloc, a, b, walk, limit)
+    }
+
+    /// The same, where the walk over the sets of the first automaton goes on with what it has made.
+    pub(crate) fn go_on(
+        alloc: Global,
+        a: &Prio,
+        b: &Prio,
+        walk: SetWalk,
+        limit: u32,
+    ) -> Result<Search, OutOfMemory>
+        requires readers { AreReaders a.now b.now }
+        requires side { IsSide a.now 20000 0 walk }
+        requires some { 1 ≤ limit }
+        requires low { limit ≤ 20000 }
+        ensures search { IfOk result (λ s. IsSearch a.now b.now (state_of s)) }
+        ensures limit { IfOk result (λ s. s.limit ≡ limit) }
+        ensures one { IfOk result (λ s. pairs_in (state_of s) ≡ first_pair ∷ []) }
+    {
+        let other = begin_side(alloc, b)?;
+        let (first, start) = start_side(alloc, a, walk)?;
+        let (second, other_start) = start_side(alloc, b, other)?;
         let mut keys = IndexSet::new(alloc);
         keys.insert(Key {
             first: start,
@@ -115,7 +137,7 @@ impl Search {
         Ok(Ends { first, second })
     }
 
-    /// Appends the next set pair of the one at a place, on a letter,, unless it is there.
+    /// Appends the next set pair of the one at a place, on a letter, unless it is there.
     fn visit(&mut self, a: &Prio, b: &Prio, place: usize, letter: u32) -> Result<(), OutOfMemory>
         requires readers { AreReaders a.now b.now }
         requires search { IsSearch a.now b.now (state_of self.old) }
@@ -234,6 +256,7 @@ impl Search {
         requires one { pairs_in (state_of self.old) ≡ first_pair ∷ [] }
         ensures answer { IfOk result (IsAnswer (pairs_of a.now b.now) (state_of self.old).limit) }
         ensures apart { IfOk result (TellsApart a.now b.now) }
+        ensures search { OnOk result (IsSearch a.now b.now (state_of self.new)) }
     {
         let seen = self.look(alloc, a, b, false)?;
         let place = seen.len() - 1;

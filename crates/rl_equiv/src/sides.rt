@@ -5,12 +5,19 @@ ghost use Rattle.rl_prio.specs.Automaton.{letters_count, accepting_state, dead_s
 ghost use Rattle.rl_sets.specs.Live.{image};
 ghost use Rattle.rl_sets.specs.Walk.{set_at, set_of, IsMadeFor};
 ghost use Rattle.rl_equiv.specs.internal.Machines.{ends};
-ghost use Rattle.rl_equiv.specs.internal.Searching.{IsReader, IsSide, Gets};
+ghost use Rattle.rl_equiv.specs.internal.Searching.{IsReader, Gets};
+ghost use Rattle.rl_equiv.specs.Sides.{IsSide, IsKeptSide};
 
 use rl_lists::OutOfMemory;
 use rl_prio::Prio;
 use rl_sets::{SetWalk, SetsError};
 use std::alloc::Global;
+
+/// The most sets that a walk may have. A search adds 20,001 at most.
+const MOST_SETS: u32 = 60_000;
+
+/// The most sets of a walk that goes on with another search.
+const MOST_KEPT: u32 = 30_000;
 
 /// The number of the set of the listed states.
 fn put(walk: &mut SetWalk, a: &Prio, members: &Vec<u32>) -> Result<u32, OutOfMemory>
@@ -26,21 +33,47 @@ fn put(walk: &mut SetWalk, a: &Prio, members: &Vec<u32>) -> Result<u32, OutOfMem
     }
 }
 
-/// A walk that may get three sets more than `limit`, with the sets that the end letter gives, and the number of the set of the
-/// start.
-pub(crate) fn start_side(alloc: Global, a: &Prio, limit: u32) -> Result<(SetWalk, u32), OutOfMemory>
-    requires reads { IsReader a.now }
-    requires some { 1 ≤ limit }
-    requires low { limit ≤ 20000 }
-    ensures side { IfOk result (λ r. IsSide a.now limit 1 r.0) }
-    ensures inside { IfOk result (λ r. r.1 < length r.0.sets) }
-    ensures start { IfOk result (λ r. set_at r.0 r.1 ≡ 0 ∷ []) }
+/// A new walk with the sets that the end letter gives.
+pub(crate) fn begin_side(alloc: Global, a: &Prio) -> Result<SetWalk, OutOfMemory>
+    requires { IsReader a.now }
+    ensures { IfOk result (IsSide a.now 20000 0) }
 {
-    let mut walk = SetWalk::new(alloc, a, limit + 3)?;
+    let mut walk = SetWalk::new(alloc, a, MOST_SETS)?;
     let none = Vec::new(alloc);
     put(&mut walk, a, &none)?;
     let accepting = vec![in alloc; a.states() - 2]?;
     put(&mut walk, a, &accepting)?;
+    Ok(walk)
+}
+
+/// The walk that was kept, with the images that it has made, or a new one where none was or it has grown too large.
+pub(crate) fn kept_side(
+    alloc: Global,
+    a: &Prio,
+    kept: Option<SetWalk>,
+) -> Result<SetWalk, OutOfMemory>
+    requires reads { IsReader a.now }
+    requires kept { IsKeptSide a.now kept }
+    ensures { IfOk result (IsSide a.now 20000 0) }
+{
+    match kept {
+        Some(walk) if walk.len() <= MOST_KEPT => Ok(walk),
+        _ => begin_side(alloc, a),
+    }
+}
+
+/// The walk of a search that begins, and the number of the set of the start.
+pub(crate) fn start_side(
+    alloc: Global,
+    a: &Prio,
+    mut walk: SetWalk,
+) -> Result<(SetWalk, u32), OutOfMemory>
+    requires reads { IsReader a.now }
+    requires side { IsSide a.now 20000 0 walk }
+    ensures side { IfOk result (λ r. IsSide a.now 20000 1 r.0) }
+    ensures inside { IfOk result (λ r. r.1 < length r.0.sets) }
+    ensures start { IfOk result (λ r. set_at r.0 r.1 ≡ 0 ∷ []) }
+{
     let first = vec![in alloc; 0]?;
     let start = put(&mut walk, a, &first)?;
     Ok((walk, start))

@@ -2,3 +2,4 @@ pub mod ForkLaws
 pub mod SearchLaws
 pub mod BlockLaws
 pub mod SplitLaws
+pub mod DenseLaws

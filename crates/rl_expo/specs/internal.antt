@@ -4,3 +4,4 @@ pub mod Blocks
 pub mod Sides
 pub mod Forks
 pub mod Search
+pub mod Dense

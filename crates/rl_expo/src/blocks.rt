@@ -8,6 +8,7 @@ ghost use Rattle.rl_expo.specs.internal.Forks.{AnyFork};
 ghost use Rattle.rl_expo.specs.internal.Search.{AreMoves, LeadsBack};
 ghost use Rattle.rl_expo.specs.internal.Blocks.{AreForking, HasNoForkIn, HasNoFork};
 
+use crate::dense::short_fork;
 use crate::forks::{Fork, fork_among};
 use rl_graph::{Components, Multigraph, Twice, parts_of};
 use rl_kernel::{Kernel, inner_graph};
@@ -33,7 +34,7 @@ fn states_of(
     Ok(kernel)
 }
 
-/// Two moves of a state of a component from whose targets one word leads back.
+/// Two moves of a state of a component from whose targets one word leads back. A short search comes before the product.
 fn fork_of(
     alloc: Global,
     g: &Multigraph,
@@ -45,6 +46,9 @@ fn fork_of(
     ensures back { IfOk result (λ o. IfSome o (LeadsBack g.now)) }
     ensures none { IfOk result (λ o. IfNone o (HasNoForkIn (edges_of g.now) components.now number)) }
 {
+    if let Some(fork) = short_fork(alloc, g, components, number)? {
+        return Ok(Some(fork));
+    }
     let states = states_of(alloc, components, g.states(), number)?;
     let inner = inner_graph(alloc, g, components, &states)?;
     let parts = parts_of(alloc, &Twice { graph: &inner })?;

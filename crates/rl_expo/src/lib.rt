@@ -2,6 +2,7 @@
 #![tactic(auto)]
 
 mod blocks;
+mod dense;
 mod forks;
 mod stays;
 mod twins;

@@ -6,18 +6,22 @@ use rl_lists::OutOfMemory;
 use std::alloc::Global;
 use std::test::Fail;
 
+/// Adds a move where the graph has its states and its letter and there is room.
+fn add_to(graph: &mut Multigraph, from: u32, letter: u32, to: u32) -> Result<(), OutOfMemory> {
+    let states = graph.states();
+    if from < states && letter < graph.letters() && to < states {
+        if graph.edges(from, letter).len() < 1000 {
+            graph.add(from, letter, to)?;
+        }
+    }
+    Ok(())
+}
+
 /// The twin of the graph of 5 states and 2 letters with these moves: from, letter, to.
 fn twin_in(alloc: Global, moves: &[(u32, u32, u32)]) -> Result<Option<TwinPaths>, OutOfMemory> {
     let mut graph = Multigraph::new(alloc, 5, 2)?;
     for step in moves {
-        let from = step.0;
-        let letter = step.1;
-        let to = step.2;
-        if from < 5 && letter < 2 && to < 5 {
-            if graph.edges(from, letter).len() < 1000 {
-                graph.add(from, letter, to)?;
-            }
-        }
+        add_to(&mut graph, step.0, step.1, step.2)?;
     }
     twin(alloc, &graph)
 }
@@ -50,5 +54,51 @@ fn table_of_graphs(rt: HostRuntime) -> Result<(), Fail> {
     assert_eq!(rt; diamond.second.as_slice(), [2, 0, 0].as_slice());
     // a diamond without one
     assert!(rt; twin_in(rt.alloc(), &[(0, 0, 1), (0, 0, 2), (1, 1, 3), (2, 1, 3)])?.is_none());
+    Ok(())
+}
+
+#[test]
+fn parallel_loops(rt: HostRuntime) -> Result<(), Fail> {
+    let mut graph = Multigraph::new(rt.alloc(), 1, 1)?;
+    for _i in 0..20 {
+        add_to(&mut graph, 0, 0, 0)?;
+    }
+    let found = twin(rt.alloc(), &graph)?.ok_or("no twin")?;
+    assert_eq!(rt; found.state, 0);
+    assert_eq!(rt; found.word.as_slice(), [0].as_slice());
+    assert_eq!(rt; found.first.as_slice(), [0].as_slice());
+    assert_eq!(rt; found.second.as_slice(), [1].as_slice());
+    Ok(())
+}
+
+#[test]
+fn moves_from_each_state_to_each(rt: HostRuntime) -> Result<(), Fail> {
+    let mut graph = Multigraph::new(rt.alloc(), 40, 1)?;
+    for from in 0..40 {
+        for to in 0..40 {
+            add_to(&mut graph, from, 0, to)?;
+        }
+    }
+    let found = twin(rt.alloc(), &graph)?.ok_or("no twin")?;
+    // the moves of a state have different targets, so two sides meet after two moves at the earliest
+    assert_eq!(rt; found.state, 0);
+    assert_eq!(rt; found.word.as_slice(), [0, 0].as_slice());
+    assert_eq!(rt; found.first.as_slice(), [0, 0].as_slice());
+    assert_eq!(rt; found.second.as_slice(), [1, 0].as_slice());
+    Ok(())
+}
+
+#[test]
+fn each_way_back_on_its_own_letter(rt: HostRuntime) -> Result<(), Fail> {
+    let mut graph = Multigraph::new(rt.alloc(), 21, 21)?;
+    for state in 1..21 {
+        add_to(&mut graph, 0, 0, state)?;
+        add_to(&mut graph, state, state, 0)?;
+    }
+    assert!(rt; twin(rt.alloc(), &graph)?.is_none());
+    // one more move, on a letter of another way back
+    add_to(&mut graph, 1, 2, 0)?;
+    let found = twin(rt.alloc(), &graph)?.ok_or("no twin")?;
+    assert_eq!(rt; found.word.as_slice(), [0, 2].as_slice());
     Ok(())
 }

@@ -144,8 +144,9 @@ fn twin_of(alloc: Global, g: &Multigraph, fork: Fork) -> Result<Option<TwinPaths
 ///
 /// A twin lies in one component. For each component with a state that has two moves on one letter that stay there, it takes the
 /// parts of the product of two copies of the component, and two moves of a state on one letter whose targets lie, as a pair, in
-/// the part of the state's pair with itself (the test for EDA of Weber and Seidl 1991). The time and the memory are linear in
-/// the graph and in these products; a twin that was found takes a search over pairs of states of the whole graph.
+/// the part of the state's pair with itself (the test for EDA of Weber and Seidl 1991). Components with many moves on one letter
+/// are first searched for a twin whose two sides meet after two moves. The time and the memory are linear in the graph and in
+/// these products; a twin that was found takes a search over pairs of states of the whole graph.
 ///
 /// # Errors
 /// [`OutOfMemory`] where there was no memory for the search or the twin.

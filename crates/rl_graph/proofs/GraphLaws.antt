@@ -1,11 +1,11 @@
 -- Laws of `edges_of`: rows in and out of range, and a graph with one row changed.
-use Rattle.std.proofs.Common.{◌≡◌, ◌≢◌, ap₂, ℕ, ◌+◌, ◌*◌, ◌^◌, ◌<◌, ◌≤◌, ◌⊎◌, inl, inr, List, [], ◌∷◌, ◌++◌, length, get_or, set, replicate, ltb, lt-ltb, le-ltb, ◌&&◌, refl, sym, ◌∙◌, ap, subst, arith, mul-le-mul_right, suc-mul, mul_comm, length-set, Result, Ok, Err, OnOk, OnErr, get_or-set_same, get_or-set_other}
+use Rattle.std.proofs.Common.{◌≡◌, ◌≢◌, ap₂, ℕ, ◌+◌, ◌*◌, ◌^◌, ◌<◌, ◌≤◌, ◌⊎◌, inl, inr, List, [], ◌∷◌, ◌++◌, All, length, get_or, set, replicate, ltb, lt-ltb, le-ltb, ◌&&◌, refl, sym, ◌∙◌, ap, subst, arith, mul-le-mul_right, suc-mul, mul_comm, length-set, Result, Ok, Err, OnOk, OnErr, get_or-set_same, get_or-set_other}
 use Rattle.std.proofs.lemmas.Bool.{cases_eq, cases_lt, cases_order, and_from, and_left, and_right, cond-true, cond-false}
 use Rattle.std.proofs.lemmas.List.{get_or-replicate, length_push, set-get_or, get_or_read}
 use Rattle.std.proofs.lemmas.Nat.{mul-add-lt}
 use Rattle.rl_graph.specs.Paths.{Has, IsBounded}
 use Rattle.rl_graph.specs.Graph.{Graph, edges_of, IsWhole, IsBare, IsAdded}
-use Rattle.rl_graph.proofs.Sums.{Has-push}
+use Rattle.rl_graph.proofs.Sums.{Has-push, at-has, at-short, at-get_or}
 
 pub edges-in : (g : Graph) (q l : ℕ) → q < g.states → l < g.letters → edges_of g q l ≡ get_or g.rows (q * g.letters + l) []
 edges-in g q l h k = cond-true (ltb q g.states && ltb l g.letters) (get_or g.rows (q * g.letters + l) []) [] (and_from (ltb q g.states) (ltb l g.letters) (lt-ltb q g.states h) (lt-ltb l g.letters k))
@@ -49,6 +49,32 @@ whole-bare g s k b hs hk e =
       targets = λ q l m h. absurd (subst (λ (r : List ℕ). Has m r) (b.no_move q l) h);
       short = λ q l. rw b.no_move (omega arith);
     }
+
+-- a graph of given rows
+
+all-has : {A : Type 0} (P : A → Type 0) (x : A) (l : List A) → All P l → Has x l → P x
+all-has P x l all h = let r = at-has x l h in subst P (at-get_or l r.0 x x r.1) (all r.0 x (at-short l r.0 x r.1))
+
+pub whole-rows : (g : Graph) → g.states < 2 ^ 32 → g.letters < 2 ^ 32 → length g.rows ≡ g.states * g.letters → All (All (λ m. m < g.states)) g.rows → All (λ r. length r < 2 ^ 32) g.rows → IsWhole g
+whole-rows g hs hk e targets short =
+    record {
+      few_states = hs;
+      few_letters = hk;
+      size = e;
+      targets = λ q l m h. in_range q l m h (in_or_out g q l);
+      short = λ q l. is_short q l (in_or_out g q l);
+    }
+  where
+    place : (q l : ℕ) → q < g.states → l < g.letters → q * g.letters + l < length g.rows
+    place q l h k = omega (arith, e, mul-add-lt q g.letters l g.states h k, mul_comm g.letters g.states)
+
+    in_range : (q l m : ℕ) → Has m (edges_of g q l) → InOrOut g q l → m < g.states
+    in_range q l m i (inr none) = absurd (subst (λ (r : List ℕ). Has m r) none i)
+    in_range q l m i (inl h) = all-has (λ x. x < g.states) m (get_or g.rows (q * g.letters + l) []) (targets (q * g.letters + l) [] (place q l h.0 h.1)) (subst (λ (r : List ℕ). Has m r) (edges-in g q l h.0 h.1) i)
+
+    is_short : (q l : ℕ) → InOrOut g q l → length (edges_of g q l) < 2 ^ 32
+    is_short q l (inr none) = rw none (omega arith)
+    is_short q l (inl h) = subst (λ (r : List ℕ). length r < 2 ^ 32) (sym (edges-in g q l h.0 h.1)) (short (q * g.letters + l) [] (place q l h.0 h.1))
 
 -- a row changed
 

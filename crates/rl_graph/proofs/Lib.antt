@@ -1,4 +1,5 @@
 pub mod Sums
+pub mod FirstSums
 pub mod PathLaws
 pub mod TwinPaths
 pub mod GraphLaws

@@ -1,15 +1,16 @@
 -- From a finished search to the parts: numbers, and moves inside a part.
-use Rattle.std.proofs.Common.{◌≡◌, ℕ, ◌+◌, ◌<◌, ◌≤◌, ◌⊎◌, ◌↔◌, inl, inr, Bool, false, IsTrue, List, [], ◌∷◌, ◌++◌, length, get_or, map, refl, sym, ◌∙◌, ap, subst, arith}
-use Rattle.std.proofs.lemmas.Bool.{cases_lt}
+use Rattle.std.proofs.Common.{◌≡◌, ◌≢◌, ℕ, ◌+◌, ◌<◌, ◌≤◌, ◌⊎◌, ◌↔◌, inl, inr, Bool, false, IsTrue, List, [], ◌∷◌, ◌++◌, All, length, get_or, map, refl, sym, ◌∙◌, ap, subst, arith}
+use Rattle.std.proofs.lemmas.Bool.{cases_lt, cases_eq}
 use Rattle.std.proofs.lemmas.List.{get_or-map, length-map, get_or_append_left, get_or_push}
+use Rattle.std.proofs.lemmas.List.Elements.{All-from_get_or}
 use Rattle.rl_graph.specs.declared.parts.Place.{Place}
 use Rattle.rl_graph.specs.declared.parts.Place.TheVariants.{Unseen, Open, Done}
-use Rattle.rl_graph.specs.Paths.{Has, OnCycle, IsBounded}
+use Rattle.rl_graph.specs.Paths.{Has, paths, Reaches, OnCycle, IsBounded}
 use Rattle.rl_graph.specs.Parts.{PartTable, IsParts}
-use Rattle.rl_graph.specs.internal.InnerMoves.{HasInner, HasInnerOn, IsNumbered, AreInner}
+use Rattle.rl_graph.specs.internal.InnerMoves.{HasInner, HasInnerOn, IsNumbered, AreInner, IsShared}
 use Rattle.rl_graph.specs.internal.Search.{Stand, place_of, part_in, IsSearch, IsAllDone}
-use Rattle.rl_graph.proofs.Sums.{at-has, at-short, at-get_or, Has-get_or}
-use Rattle.rl_graph.proofs.PathLaws.{Reaches-move, OnCycle-move, OnCycle-first}
+use Rattle.rl_graph.proofs.Sums.{total-there, at-has, at-short, at-get_or, Has-get_or}
+use Rattle.rl_graph.proofs.PathLaws.{nil-same, Reaches-move, Reaches-trans, OnCycle-move, OnCycle-first}
 use Rattle.rl_graph.proofs.SearchEnds.{none-open, done-order, done-same_part}
 
 -- moves to a state with the same number
@@ -38,6 +39,11 @@ marks-more P marks n b e old here q h = by (cases_lt q n)
     by (inr k) =
         let a : q ≡ n = omega arith in
         subst (λ (z : Bool). IsTrue z ↔ P q) (sym (get_or_push marks b false q (omega arith))) (subst (λ (z : ℕ). IsTrue b ↔ P z) (sym a) here)
+
+-- there is a mark for each number, and only those that one of the first `n` states has are marked
+pub record AreMet (numbers : List ℕ) (n : ℕ) (marks : List Bool) : Type 0 where
+  pub size : length marks ≡ length numbers
+  pub met : (part : ℕ) → IsTrue (get_or marks part false) → (q : ℕ) × (q < n) × (get_or numbers q 0 ≡ part)
 
 -- the search over all roots
 
@@ -74,6 +80,28 @@ inner-cycle next n w numbers b h q lt = (forth, back)
     back c =
         let f = OnCycle-first next q c in
         (f.0, (f.1, f.2, (h.same f.1 q (b.targets q f.0 f.1 f.2) lt).1 (f.3, Reaches-move next q f.1 f.0 f.2)))
+
+-- the first move of a path to another state
+first-move : (next : ℕ → ℕ → List ℕ) (q r : ℕ) → Reaches next q r → q ≢ r → (l : ℕ) × (m : ℕ) × Has m (next q l) × Reaches next m r
+first-move next q r ([], h) ne = absurd (ne (nil-same next q r h))
+first-move next q r (l ∷ w, h) ne = let t = total-there (λ m. paths next m r w) (next q l) h in (l, t.0, t.1, (w, t.2))
+
+-- a state whose number another one has too lies on a cycle with that one
+pub shared-inner : (next : ℕ → ℕ → List ℕ) (n w : ℕ) (numbers : List ℕ) (q : ℕ) → IsBounded next n w → IsNumbered next n numbers → q < n → IsShared numbers (get_or numbers q 0) → HasInner next numbers q
+shared-inner next n w numbers q b h lt s = by (cases_eq q s.first)
+  where
+    from : (r : ℕ) → r < n → q ≢ r → get_or numbers r 0 ≡ get_or numbers q 0 → HasInner next numbers q
+    from r i ne e =
+        let x = (h.same q r lt i).0 (sym e) in
+        let f = first-move next q r x.0 ne in
+        (inner-cycle next n w numbers b h q lt).1 (OnCycle-move next q f.0 f.1 f.2 (Reaches-trans next f.1 r q f.3 x.1))
+
+    by : (q ≡ s.first) ⊎ (q ≢ s.first) → HasInner next numbers q
+    by (inl e) = from s.second (omega (arith, s.within, h.size)) (λ i. omega (arith, s.before, e, i)) s.second_is
+    by (inr ne) = from s.first (omega (arith, s.before, s.within, h.size)) ne s.first_is
+
+pub numbers-within : (next : ℕ → ℕ → List ℕ) (n : ℕ) (numbers : List ℕ) → IsNumbered next n numbers → All (λ part. part < length numbers) numbers
+numbers-within next n numbers h = All-from_get_or (λ part. part < length numbers) numbers 0 (λ i lt. omega (arith, h.size, h.below i (omega (arith, h.size))))
 
 pub parts : (next : ℕ → ℕ → List ℕ) (n w : ℕ) (p : PartTable) → IsBounded next n w → IsNumbered next n p.numbers → AreInner next n p.numbers p.cycles → IsParts next n p
 parts next n w p b h i =

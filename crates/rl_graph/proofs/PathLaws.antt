@@ -1,7 +1,8 @@
 -- Laws of `paths`: words one after another, and what a closed set of states holds.
-use Rattle.std.proofs.Common.{◌≡◌, ◌≢◌, ℕ, zero, suc, ◌+◌, ◌*◌, ◌≤◌, ◌⊎◌, inl, inr, List, [], ◌∷◌, ◌++◌, refl, sym, ap, subst, arith, Bool, true, false, eqb, eqb-true, eq-eqb, mul-le-mul}
+use Rattle.std.proofs.Common.{◌≡◌, ◌≢◌, ℕ, zero, suc, ◌+◌, ◌*◌, ◌≤◌, ◌⊎◌, inl, inr, List, [], ◌∷◌, ◌++◌, length, refl, sym, ap, subst, arith, Bool, true, false, eqb, eqb-true, eq-eqb, mul-le-mul}
 use Rattle.std.proofs.lemmas.Bool.{cases_Bool}
 use Rattle.rl_graph.specs.Paths.{one, Has, paths, Reaches, OnCycle}
+use Rattle.rl_graph.specs.Twins.{IsSplit}
 use Rattle.rl_graph.proofs.Sums.{total-has, total-there, total-mono, total-times, total-add}
 
 pub paths-nil : (next : ℕ → ℕ → List ℕ) (s : ℕ) → paths next s s [] ≡ 1
@@ -18,7 +19,8 @@ nil-same next s t h = by (cases_Bool (eqb s t))
         none : 1 ≤ 0 → ⊥
         none h = omega arith
 
-through-nil : (k b n : ℕ) → k ≤ 1 → (k ≡ 1 → b ≡ n) → k * b ≤ n
+-- a product with a first factor of at most one
+pub through-nil : (k b n : ℕ) → k ≤ 1 → (k ≡ 1 → b ≡ n) → k * b ≤ n
 through-nil zero b n h e = omega arith
 through-nil (suc k) b n h e = let k0 : k ≡ 0 = omega arith in omega (arith, e (omega arith), ap (λ x. suc x * b) k0)
 
@@ -88,3 +90,8 @@ OnCycle-move next q l m h r = (l, r.0, move-path next q m q l r.0 h r.1)
 
 pub OnCycle-first : (next : ℕ → ℕ → List ℕ) (q : ℕ) → OnCycle next q → (l : ℕ) × (m : ℕ) × Has m (next q l) × Reaches next m q
 OnCycle-first next q c = let t = total-there (λ m. paths next m q c.1) (next q c.0) c.2 in (c.0, t.0, t.1, (c.1, t.2))
+
+-- the word of a split isn't empty
+pub split-word : (next : ℕ → ℕ → List ℕ) (r q : ℕ) (y : List ℕ) → IsSplit next r q y → 1 ≤ length y
+split-word next r q [] h = absurd (h.apart (nil-same next r q h.over))
+split-word next r q (l ∷ y) h = omega arith

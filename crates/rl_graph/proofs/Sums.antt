@@ -1,5 +1,5 @@
 -- Laws of `total`, `Has`, `Each` and `Pairs`.
-use Rattle.std.proofs.Common.{◌≡◌, ◌≢◌, ℕ, zero, suc, ◌+◌, ◌*◌, ◌<◌, ◌≤◌, ◌⊎◌, inl, inr, List, [], ◌∷◌, ◌++◌, length, map, flat_map, slice_get, get_or, Some, Bool, true, false, filter, cond, refl, sym, ap, subst, arith}
+use Rattle.std.proofs.Common.{◌≡◌, ◌≢◌, ◌∙◌, ℕ, zero, suc, ◌+◌, ◌*◌, ◌<◌, ◌≤◌, ◌⊎◌, inl, inr, List, [], ◌∷◌, ◌++◌, length, map, flat_map, slice_get, get_or, Some, Bool, true, false, filter, cond, refl, sym, ap, subst, arith}
 use Rattle.rl_graph.specs.Paths.{total, Has, Each, Pairs}
 
 -- sums
@@ -176,3 +176,24 @@ Pairs-pop {A = A} R (a ∷ l) y p = let r = Pairs-pop R l y p.1 in ((each-has (R
     before : ((x : A) → Has x l → R x y) → (x : A) → Has x (a ∷ l) → R x y
     before f x (inl e) = subst (λ (z : A). R z y) (sym e) (Each-has (R a) y (l ++ y ∷ []) p.0 (Has-last y l))
     before f x (inr i) = f x i
+
+-- a list without one of its members
+without : {A : Type 0} (x : A) (l : List A) → Has x l → (r : List A) × (length l ≡ suc (length r)) × ((y : A) → y ≢ x → Has y l → Has y r)
+without x [] h = absurd h
+without {A = A} x (z ∷ l) (inl e) = (l, refl, others)
+  where
+    others : (y : A) → y ≢ x → Has y (z ∷ l) → Has y l
+    others y ne (inl d) = absurd (ne (d ∙ sym e))
+    others y ne (inr i) = i
+without {A = A} x (z ∷ l) (inr h) = let r = without x l h in (z ∷ r.0, ap suc r.1, others r.0 r.2)
+  where
+    others : (r : List A) → ((y : A) → y ≢ x → Has y l → Has y r) → (y : A) → y ≢ x → Has y (z ∷ l) → Has y (z ∷ r)
+    others r f y ne (inl d) = inl d
+    others r f y ne (inr i) = inr (f y ne i)
+
+-- different things of a list are at most its length
+pub distinct-short : {A : Type 0} (l m : List A) → Pairs (λ x y. x ≢ y) l → ((x : A) → Has x l → Has x m) → length l ≤ length m
+distinct-short [] m p h = omega arith
+distinct-short (x ∷ l) m p h =
+    let r = without x m (h x (inl refl)) in
+    omega (arith, r.1, distinct-short l r.0 p.1 (λ y i. r.2 y (λ e. Each-has (λ z. x ≢ z) y l p.0 i (sym e)) (h y (inr i))))

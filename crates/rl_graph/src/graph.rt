@@ -1,6 +1,6 @@
 //! Multigraphs.
 
-ghost use Rattle.std.specs.Prelude.{◌≡◌, ◌<◌, ◌≤◌, ◌+◌, ◌*◌, ◌^◌, length, IfOk, OnOk, OnErr};
+ghost use Rattle.std.specs.Prelude.{◌≡◌, ◌<◌, ◌≤◌, ◌+◌, ◌*◌, ◌^◌, All, length, IfOk, OnOk, OnErr};
 ghost use Rattle.rl_graph.specs.Graph.{edges_of, IsWhole, IsBare, IsAdded};
 
 use rl_lists::{Items, OutOfMemory};
@@ -44,6 +44,21 @@ impl Multigraph {
             letters,
             rows,
         })
+    }
+
+    /// The graph of rows of targets, one row for each state and letter: those of a state stand together in the order of
+    /// the letters, and a row has the targets of the moves in order.
+    pub fn from_rows(states: u32, letters: u32, rows: Vec<Items<u32>>) -> Multigraph
+        requires size { length rows.items ≡ states * letters }
+        requires targets { All (All (λ target. target < states)) rows.items }
+        requires short { All (λ row. length row < 2 ^ 32) rows.items }
+        ensures { result ≡ record { states = states; letters = letters; rows = rows.items } }
+    {
+        Multigraph {
+            states,
+            letters,
+            rows,
+        }
     }
 
     /// Adds a move, the last one of its state and letter.

@@ -1,9 +1,9 @@
 //! The parts of a graph, by the path-based search of Gabow (2000).
 
-ghost use Rattle.std.specs.Prelude.{◌≡◌, ◌<◌, ◌≤◌, ◌+◌, ◌^◌, ◌↔◌, ℕ, [], length, IfOk, OnOk, IfSome, IfNone, IsTrue, map, false, slice_index_or};
+ghost use Rattle.std.specs.Prelude.{◌≡◌, ◌<◌, ◌≤◌, ◌+◌, ◌^◌, ◌↔◌, ℕ, [], length, IfOk, OnOk, IfSome, IfNone, IsTrue, All, map, false, slice_index_or};
 ghost use Rattle.rl_graph.specs.Paths.{Has, Reaches, OnCycle};
 ghost use Rattle.rl_graph.specs.Parts.{number_of, cycle_of, IsParts};
-ghost use Rattle.rl_graph.specs.internal.InnerMoves.{HasInner, HasInnerOn, IsNumbered, AreInner};
+ghost use Rattle.rl_graph.specs.internal.InnerMoves.{HasInner, HasInnerOn, IsNumbered, AreInner, AreShared};
 ghost use Rattle.rl_graph.specs.internal.Search.{stand_of, start_of, opened, place_of, part_in, unseen, with_top, IsSearch, IsCut, IsClosed, IsFinished, IsListed, IsAllDone, IsUnseenMove, IsMet, IsKept, StaysSeen, work_of};
 ghost use Rattle.rl_graph.specs.declared.parts.Place.TheVariants.{Unseen, Done};
 
@@ -269,18 +269,51 @@ fn has_inner<M: NextStates>(m: &M, numbers: &[u64], state: u64) -> bool
     false
 }
 
+/// A mark for each number of a part: only numbers that two states have are marked.
+fn shared_marks(alloc: Global, numbers: &[u64]) -> Result<Vec<bool>, OutOfMemory>
+    requires { All (λ part. part < length numbers.now) numbers.now }
+    ensures { IfOk result (λ v. AreShared numbers.now v.items) }
+{
+    let mut met = vec![in alloc; false; numbers.len()]?;
+    let mut shared = vec![in alloc; false; numbers.len()]?;
+    for number in numbers {
+        let part = *number as usize;
+        if met[part] {
+            shared[part] = true;
+        }
+        met[part] = true;
+    }
+    Ok(shared)
+}
+
+/// Whether a state has a move to a state with the same number. A state whose number is marked as shared has one, so only
+/// the moves of the others are looked at.
+fn is_inner<M: NextStates>(m: &M, numbers: &[u64], shared: &[bool], state: u64) -> bool
+    requires state_in { state < M.size m.now }
+    requires numbered { IsNumbered (M.next m.now) (M.size m.now) numbers.now }
+    requires marked { AreShared numbers.now shared.now }
+    ensures { IsTrue result ↔ HasInner (M.next m.now) numbers.now state }
+{
+    let _states = m.states();
+    if shared[numbers[state as usize] as usize] {
+        return true;
+    }
+    has_inner(m, numbers, state)
+}
+
 /// For each state whether it has a move to a state with the same number.
 fn inner_marks<M: NextStates>(
     alloc: Global,
     m: &M,
     numbers: &[u64],
 ) -> Result<Vec<bool>, OutOfMemory>
-    requires { length numbers.now ≡ M.size m.now }
+    requires { IsNumbered (M.next m.now) (M.size m.now) numbers.now }
     ensures { IfOk result (λ v. AreInner (M.next m.now) (M.size m.now) numbers.now v.items) }
 {
-    let mut marks = Vec::new(alloc);
+    let shared = shared_marks(alloc, numbers)?;
+    let mut marks = Vec::with_capacity(alloc, numbers.len())?;
     for state in 0..m.states() {
-        marks.push(has_inner(m, numbers, state))?;
+        marks.push(is_inner(m, numbers, &shared, state))?;
     }
     Ok(marks)
 }

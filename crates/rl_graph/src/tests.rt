@@ -3,7 +3,7 @@
 ghost use Rattle.std.specs.Prelude.{◌≡◌, IfOk};
 
 use super::*;
-use rl_lists::OutOfMemory;
+use rl_lists::{Items, OutOfMemory};
 use std::alloc::Global;
 use std::test::Fail;
 
@@ -44,6 +44,25 @@ fn moves_keep_their_order(rt: HostRuntime) -> Result<(), Fail> {
     assert_eq!(rt; g.edges(0, 1), [1, 0, 1].as_slice());
     assert!(rt; g.edges(0, 0).is_empty());
     assert_eq!(rt; g.edges(1, 0), [0].as_slice());
+    Ok(())
+}
+
+/// State 0 has two moves to state 1 on letter 1; state 1 has one to state 0 on letter 0, and one to itself on letter 1.
+#[test]
+fn rows_are_taken_as_they_are(rt: HostRuntime) -> Result<(), Fail> {
+    let alloc = rt.alloc();
+    let none = Items::new(alloc);
+    let twice = Items::from_slice(alloc, &[1, 1])?;
+    let back = Items::from_slice(alloc, &[0])?;
+    let round = Items::from_slice(alloc, &[1])?;
+    let rows = vec![in alloc; none, twice, back, round]?;
+    let g = Multigraph::from_rows(2, 2, rows);
+    assert_eq!(rt; g.states(), 2);
+    assert_eq!(rt; g.letters(), 2);
+    assert!(rt; g.edges(0, 0).is_empty());
+    assert_eq!(rt; g.edges(0, 1), [1, 1].as_slice());
+    assert_eq!(rt; g.edges(1, 0), [0].as_slice());
+    assert_eq!(rt; g.edges(1, 1), [1].as_slice());
     Ok(())
 }
 

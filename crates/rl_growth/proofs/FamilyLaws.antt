@@ -2,6 +2,7 @@
 use Rattle.std.proofs.Common.{◌≡◌, ◌∙◌, ℕ, zero, suc, ◌+◌, ◌-◌, ◌<◌, ◌≤◌, inl, inr, List, [], ◌∷◌, ◌++◌, length, map, take, get_or, All, true, refl, sym, ap, ap₂, subst, arith}
 use Rattle.rl_graph.specs.Paths.{paths}
 use Rattle.rl_graph.specs.Twins.{Link, IsTwin}
+use Rattle.rl_graph.proofs.PathLaws.{split-word}
 use Rattle.rl_graph.proofs.TwinPaths.{two-count}
 use Rattle.rl_prio.specs.Automaton.{Automaton, letters_count}
 use Rattle.rl_prio.specs.Letters.{all_sets}
@@ -18,7 +19,6 @@ use Rattle.rl_growth.specs.Questions.{StandsForSome, IsLedGraph}
 use Rattle.rl_degree.specs.Chains.{links_of}
 use Rattle.rl_growth.specs.Routes.{split_at, state_after, bare, IsRoute, IsWay}
 use Rattle.rl_growth.specs.FamilyWords.{AreLetters, IsTwinWords, IsChainWords}
-use Rattle.rl_pairs.proofs.WordLaws.{split-word}
 use Rattle.rl_growth.proofs.RouteLaws.{before-more, read-at, after-none, after-last, ends-all}
 
 -- a rest without its last letter

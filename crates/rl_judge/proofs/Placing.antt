@@ -1,13 +1,10 @@
 -- A byte place behind the end of a source has the line and the column of the end.
-use Rattle.std.proofs.Common.{◌≡◌, ℕ, suc, ◌-◌, ◌<◌, ◌≤◌, min, List, [], ◌∷◌, length, take, drop, refl, ap, sym, ◌∙◌, arith, ⊎_elim}
+use Rattle.std.proofs.Common.{◌≡◌, ℕ, ◌-◌, ◌<◌, ◌≤◌, min, List, length, take, drop, ap, sym, ◌∙◌, arith, ⊎_elim}
 use Rattle.std.proofs.lemmas.List.{take_all, length-drop}
 use Rattle.std.proofs.lemmas.Bool.{cases_lt}
 use Rattle.rl_pylex.specs.Bytes.{text_start}
 use Rattle.rl_report.specs.Places.{roles, place_behind, place_of}
-
-length-roles : (text : List ℕ) → length (roles text) ≡ length text
-length-roles [] = refl
-length-roles (c ∷ rest) = ap suc (length-roles rest)
+use Rattle.rl_report.proofs.PlaceLemmas.{length-roles}
 
 -- so many bytes of a text or more are all of it
 all_roles : (text : List ℕ) (a b : ℕ) → length text ≤ a → length text ≤ b → take a (roles text) ≡ take b (roles text)

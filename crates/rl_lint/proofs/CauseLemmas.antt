@@ -1,5 +1,5 @@
 -- A run refuses nothing but what is refused, and fails only where a call of the tree failed.
-use Rattle.std.proofs.Common.{◌≡◌, ◌<◌, ◌≤◌, ◌⊎◌, ℕ, inl, inr, codes, Result, Ok, Err, IfOk, Bool, true, false, List, [], ◌∷◌, ◌++◌, Option, Some, None, cond, length, nat_lt, ap, sym, ◌∙◌, subst, refl, arith}
+use Rattle.std.proofs.Common.{◌≡◌, ◌<◌, ◌⊎◌, ℕ, inl, inr, codes, Result, Ok, Err, IfOk, Bool, true, false, List, [], ◌∷◌, ◌++◌, Option, Some, None, cond, length, nat_lt, ap, sym, ◌∙◌, subst, refl, arith}
 use Rattle.std.proofs.lemmas.Grind.{common_steps}
 use Rattle.std.specs.Str.{chars}
 use Rattle.rl_source.specs.Asked.{call_of}
@@ -12,6 +12,7 @@ use Rattle.rl_syntax.specs.Tree.{Tree}
 use Rattle.rl_syntax.specs.declared.re.Ending.{Ending as MatchEnd}
 use Rattle.rl_syntax.specs.declared.re.Mode.{Mode}
 use Rattle.rl_walk.specs.Visits.{Moment, has_unreadable}
+use Rattle.rl_walk.proofs.Doing.{rose-earlier}
 use Rattle.rl_judge.specs.declared.settings.Settings.{Settings}
 use Rattle.rl_sarif.specs.Baseline.{IsBaseline}
 use Rattle.rl_sarif.specs.Keys.{EntryKey}
@@ -57,9 +58,6 @@ module _ (R : Type 0) (old new : Moment) where
 
   because : (S : Type 0) (ending : Ending) → (R → S) → HasCause R old new ending → HasCause S old new ending
   because S ending gives cause = record { refused = λ refusal. gives (cause.refused refusal); failed = cause.failed }
-
-rose-earlier : (a b c : ℕ) → a ≤ b → Rose b c → Rose a c
-rose-earlier a b c before rose = omega arith
 
 -- ---- files
 

@@ -4,7 +4,6 @@ ghost use Rattle.std.specs.Str.{chars};
 ghost use Rattle.rl_ranges.specs.declared.universe.Universe.TheVariants.{Str};
 ghost use Rattle.rl_syntax.specs.Pattern.{pattern_ending, pattern_tree, universe_of};
 ghost use Rattle.rl_pairs.specs.RightVerdict.{RightVerdict};
-ghost use Rattle.rl_report.specs.Findings.{is_found};
 ghost use Rattle.rl_report.specs.Verdicts.{IsVerdictOf, IsFamilyOf, family_text_line};
 ghost use Rattle.rl_lint.specs.internal.Plans.{ending_of};
 ghost use Rattle.rl_lint.specs.ClassEnding.{ClassEnds, class_text};
@@ -14,20 +13,9 @@ use crate::pattern_argument::{PatternArgument, parse_argument};
 use crate::plan::Plan;
 use rl_growth::classify;
 use rl_lists::{Bytes, OutOfMemory};
-use rl_report::{family_line, verdict_line};
+use rl_report::{family_line, is_finding, verdict_line};
 use rl_syntax::{Family, Limit, LowerError, Mode, Pattern, Universe, Verdict, lower};
 use std::alloc::Global;
-
-/// Whether a verdict is a finding: an exponential one, or a degree above the greatest that is allowed.
-fn is_found(verdict: &Verdict, max_degree: u32) -> bool
-    ensures { result ≡ is_found max_degree verdict.now }
-{
-    match verdict {
-        Verdict::Degree(degree, _) => *degree > max_degree,
-        Verdict::Expo(_) => true,
-        Verdict::Undecided(_) => false,
-    }
-}
 
 /// A line, followed by the line of a family.
 fn with_family(alloc: Global, line: Bytes, family: &Family) -> Result<Bytes, OutOfMemory>
@@ -98,7 +86,7 @@ fn pattern_plan(
     let text = class_text(alloc, &verdict, max_pairs)?;
     Ok(Plan::Writes {
         text,
-        finding: is_found(&verdict, max_degree),
+        finding: is_finding(&verdict, max_degree),
         failed: false,
     })
 }

@@ -73,7 +73,7 @@ fn put_letter(a: &Prio, letter: u32, cells: &[Counted], into: &mut Vec<Counted>)
     ensures in_front { (letters : List ℕ) → StandAt a.now cells.now letters
         → StandAt a.now into.new.items (letter ∷ letters) }
 {
-    let accepting = a.states() - 2;
+    let accepting = a.accepting();
     for state in 0..a.states() {
         into[state as usize] = all_steps(cells, accepting, a.moves(state, letter));
     }

@@ -1,31 +1,10 @@
 -- A list that holds the starts, only what it must, and is closed, is the least one; there are more than `m` triples exactly where
 -- it is longer.
-use Rattle.std.proofs.Common.{◌≡◌, ◌≢◌, ◌∙◌, ℕ, suc, ◌<◌, ◌≤◌, inl, inr, List, [], ◌∷◌, length, refl, sym, ap, arith}
+use Rattle.std.proofs.Common.{◌≡◌, ◌≢◌, ◌∙◌, ℕ, ◌<◌, ◌≤◌, List, length, sym, arith}
 use Rattle.rl_graph.specs.Paths.{Has, Each, Pairs, OnCycle}
-use Rattle.rl_graph.proofs.Sums.{Each-has}
+use Rattle.rl_graph.proofs.Sums.{Each-has, distinct-short}
 use Rattle.rl_numbers.specs.Closed.{Three, IsTripleStep}
 use Rattle.rl_numbers.specs.Least.{LeastTriple, start, step, IsLeastList, AreMoreThan}
-
--- a list without one of its members
-without : {A : Type 0} (x : A) (l : List A) → Has x l → (r : List A) × (length l ≡ suc (length r)) × ((y : A) → y ≢ x → Has y l → Has y r)
-without x [] h = absurd h
-without {A = A} x (z ∷ l) (inl e) = (l, refl, others)
-  where
-    others : (y : A) → y ≢ x → Has y (z ∷ l) → Has y l
-    others y ne (inl d) = absurd (ne (d ∙ sym e))
-    others y ne (inr i) = i
-without {A = A} x (z ∷ l) (inr h) = let r = without x l h in (z ∷ r.0, ap suc r.1, others r.0 r.2)
-  where
-    others : (r : List A) → ((y : A) → y ≢ x → Has y l → Has y r) → (y : A) → y ≢ x → Has y (z ∷ l) → Has y (z ∷ r)
-    others r f y ne (inl d) = inl d
-    others r f y ne (inr i) = inr (f y ne i)
-
--- different things of a list are at most its length
-distinct-short : {A : Type 0} (l m : List A) → Pairs (λ x y. x ≢ y) l → ((x : A) → Has x l → Has x m) → length l ≤ length m
-distinct-short [] m p h = omega arith
-distinct-short (x ∷ l) m p h =
-    let r = without x m (h x (inl refl)) in
-    omega (arith, r.1, distinct-short l r.0 p.1 (λ y i. r.2 y (λ e. Each-has (λ z. x ≢ z) y l p.0 i (sym e)) (h y (inr i))))
 
 module _ (next : ℕ → ℕ → List ℕ) (n : ℕ) (rank : ℕ → ℕ) where
   pub least_list : (keys : List Three) → Pairs (λ s t. s ≢ t) keys → Each (LeastTriple next n rank) keys

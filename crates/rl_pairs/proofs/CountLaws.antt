@@ -1,4 +1,4 @@
--- How many things there are: different members of a list, sets of states, pairs.
+-- How many sets of states and how many pairs there are.
 use Rattle.std.proofs.Common.{◌≡◌, ◌≢◌, ◌∙◌, ℕ, zero, suc, ◌+◌, ◌*◌, ◌^◌, ◌<◌, ◌≤◌, inl, inr, List, [], ◌∷◌, ◌++◌, length, map, filter, cond, Bool, true, false, refl, sym, ap, subst, arith, length-append, mul-le-mul, suc-mul, mul_comm, append-nil, eqb, ◌||◌}
 use Rattle.std.proofs.lemmas.List.{length-map}
 use Rattle.std.proofs.lemmas.List.Elements.{filter-append}
@@ -6,7 +6,7 @@ use Rattle.std.proofs.Math.Nat.{two-pow-succ}
 use Rattle.std.proofs.Math.Pow.{pow_mono}
 use Rattle.rl_graph.specs.Paths.{Has, Each, Pairs}
 use Rattle.rl_graph.specs.Bounds.{bound_n}
-use Rattle.rl_graph.proofs.Sums.{Each-has, Has-left, Has-right, Has-map}
+use Rattle.rl_graph.proofs.Sums.{Each-has, Has-left, Has-right, Has-map, distinct-short}
 use Rattle.rl_prio.specs.Automaton.{Automaton, moves_at, dead_state}
 use Rattle.rl_sets.specs.Live.{below, set_where, holds, image, joined, IsLive}
 use Rattle.rl_pairs.specs.declared.pair.Pair.{Pair}
@@ -16,27 +16,6 @@ use Rattle.rl_pairs.specs.Counted.{MoreThan}
 use Rattle.rl_pairs.proofs.SetLaws.{below-has}
 use Rattle.rl_pairs.proofs.ExactLaws.{IsStill}
 use Rattle.rl_pairs.proofs.WordLaws.{pairs-state}
-
--- a list without one of its members
-without : {A : Type 0} (x : A) (l : List A) → Has x l → (r : List A) × (length l ≡ suc (length r)) × ((y : A) → y ≢ x → Has y l → Has y r)
-without x [] h = absurd h
-without {A = A} x (z ∷ l) (inl e) = (l, refl, others)
-  where
-    others : (y : A) → y ≢ x → Has y (z ∷ l) → Has y l
-    others y ne (inl d) = absurd (ne (d ∙ sym e))
-    others y ne (inr i) = i
-without {A = A} x (z ∷ l) (inr h) = let r = without x l h in (z ∷ r.0, ap suc r.1, others r.0 r.2)
-  where
-    others : (r : List A) → ((y : A) → y ≢ x → Has y l → Has y r) → (y : A) → y ≢ x → Has y (z ∷ l) → Has y (z ∷ r)
-    others r f y ne (inl d) = inl d
-    others r f y ne (inr i) = inr (f y ne i)
-
--- different things of a list are at most its length
-pub distinct-short : {A : Type 0} (l m : List A) → Pairs (λ x y. x ≢ y) l → ((x : A) → Has x l → Has x m) → length l ≤ length m
-distinct-short [] m p h = omega arith
-distinct-short (x ∷ l) m p h =
-    let r = without x m (h x (inl refl)) in
-    omega (arith, r.1, distinct-short l r.0 p.1 (λ y i. r.2 y (λ e. Each-has (λ z. x ≢ z) y l p.0 i (sym e)) (h y (inr i))))
 
 pub length-below : (n : ℕ) → length (below n) ≡ n
 length-below zero = refl

@@ -1,6 +1,6 @@
 -- The exact cost by live pairs: the walk of an automaton has one step for each path of live pairs whose last set refuses what
 -- is left.
-use Rattle.std.proofs.Common.{◌≡◌, ◌≢◌, ◌∙◌, ℕ, suc, ◌+◌, ◌<◌, ◌≤◌, ◌⊎◌, inl, inr, List, [], ◌∷◌, ◌++◌, Bool, true, false, ◌||◌, eqb, eqb-true, eq-eqb, cond, refl, sym, ap, ap₂, subst, arith}
+use Rattle.std.proofs.Common.{◌≡◌, ◌≢◌, ◌∙◌, ℕ, suc, ◌+◌, ◌<◌, ◌≤◌, ◌⊎◌, inl, inr, List, [], ◌∷◌, ◌++◌, Bool, true, false, ◌||◌, eqb, eqb-true, eq-eqb, cond, refl, sym, ap, subst, arith}
 use Rattle.std.proofs.lemmas.Bool.{cases_Bool, false≢true, or_cases, cases_lt}
 use Rattle.std.specs.List.{list_any}
 use Rattle.rl_graph.specs.Paths.{Has, total, one, paths, walked}
@@ -10,10 +10,12 @@ use Rattle.rl_syntax.specs.Cost.{up_to_hit, has_hit}
 use Rattle.rl_prio.specs.Automaton.{Automaton, letters_count, accepting_state, dead_state, moves_at}
 use Rattle.rl_prio.specs.Walk.{stepped, walk, walk_cost}
 use Rattle.rl_sets.specs.Live.{accepts, image, joined, refuses, IsRest, IsLive}
+use Rattle.rl_sets.proofs.AcceptLemmas.{walk-accepts}
+use Rattle.rl_sets.proofs.RowLemmas.{joined-dead}
 use Rattle.rl_pairs.specs.declared.pair.Pair.{Pair}
 use Rattle.rl_pairs.specs.LivePairs.{pairs_from, next_pairs, refused}
 use Rattle.rl_pairs.specs.PairGraph.{KeptLive, IsPairGraph}
-use Rattle.rl_pairs.proofs.SetLaws.{any-there, any-has, image-has, Has-image, image-alive, Within, image-within, joined-dead, joined-old, joined-new, Has-joined, joined-within, refuses-member, refuses-none, accepts-member, refuses-not}
+use Rattle.rl_pairs.proofs.SetLaws.{any-there, any-has, image-has, Has-image, image-alive, Within, image-within, joined-old, joined-new, Has-joined, joined-within, refuses-member, refuses-none, accepts-member, refuses-not}
 use Rattle.rl_pairs.proofs.GraphWords.{Stays}
 
 -- what is needed of an automaton: its moves lead to states, none leads on from the accepting and the dead state, and those on
@@ -27,11 +29,6 @@ pub record IsStill (a : Automaton) : Type 0 where
 
 -- steps of walks
 
-has_hit-append : (l m : List Bool) → has_hit (l ++ m) ≡ (has_hit l || has_hit m)
-has_hit-append [] m = refl
-has_hit-append (true ∷ l) m = refl
-has_hit-append (false ∷ l) m = has_hit-append l m
-
 up_to_hit-hit : (l m : List Bool) → has_hit l ≡ true → up_to_hit (l ++ m) ≡ up_to_hit l
 up_to_hit-hit [] m h = absurd (false≢true h)
 up_to_hit-hit (true ∷ l) m h = refl
@@ -41,26 +38,6 @@ up_to_hit-miss : (l m : List Bool) → has_hit l ≡ false → up_to_hit (l ++ m
 up_to_hit-miss [] m h = omega arith
 up_to_hit-miss (true ∷ l) m h = absurd (false≢true (sym h))
 up_to_hit-miss (false ∷ l) m h = omega (arith, up_to_hit-miss l m h)
-
-hit-of-step : (e : Bool) (l : List Bool) → has_hit (cond e (true ∷ []) (false ∷ l)) ≡ (e || has_hit l)
-hit-of-step true l = refl
-hit-of-step false l = refl
-
-any-stepped : (a : Automaton) (w ts : List ℕ) → ((t : ℕ) → (eqb t (accepting_state a) || has_hit (walk a t w)) ≡ accepts a t w)
-    → has_hit (stepped (accepting_state a) (λ r. walk a r w) ts) ≡ list_any (λ t. accepts a t w) ts
-any-stepped a w [] h = refl
-any-stepped a w (t ∷ ts) h =
-    has_hit-append (cond (eqb t (accepting_state a)) (true ∷ []) (false ∷ walk a t w)) (stepped (accepting_state a) (λ r. walk a r w) ts)
-    ∙ ap₂ (λ x y. x || y) (hit-of-step (eqb t (accepting_state a)) (walk a t w) ∙ h t) (any-stepped a w ts h)
-
-pub or-false : (b : Bool) → (b || false) ≡ b
-or-false true = refl
-or-false false = refl
-
--- a state accepts exactly what its walk has a hit on
-pub walk-accepts : (a : Automaton) (w : List ℕ) (q : ℕ) → (eqb q (accepting_state a) || has_hit (walk a q w)) ≡ accepts a q w
-walk-accepts a [] q = or-false (eqb q (accepting_state a))
-walk-accepts a (l ∷ w) q = ap (λ b. eqb q (accepting_state a) || b) (any-stepped a w (moves_at a q l) (walk-accepts a w))
 
 step-hit : (e : Bool) (l m : List Bool) → (e || has_hit l) ≡ true → (e ≡ true → l ≡ []) → up_to_hit (cond e (true ∷ []) (false ∷ l) ++ m) ≡ 1 + up_to_hit l
 step-hit true l m h k = rw (k refl) refl

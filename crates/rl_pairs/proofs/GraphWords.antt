@@ -6,15 +6,11 @@ use Rattle.rl_syntax.specs.Family.{copies, pumped}
 use Rattle.rl_graph.specs.Paths.{one, paths, walked}
 use Rattle.rl_graph.specs.Twins.{IsSplit, Link}
 use Rattle.rl_graph.proofs.Sums.{total-mono, total-times}
-use Rattle.rl_graph.proofs.PathLaws.{paths-nil, through_one, through_two, one-le, one-true, positive}
+use Rattle.rl_graph.proofs.PathLaws.{paths-nil, through-nil, through_one, through_two, one-le, one-true, positive}
 use Rattle.rl_pairs.specs.Families.{Chained, chain_heads, chain_pumps}
 
 pub pow-one : (k : ℕ) → k ^ 1 ≡ k
 pow-one k = pow-suc k 0 ∙ (ap (λ n. n * k) (pow-zero k) ∙ one-mul k)
-
-through-nil : (k b n : ℕ) → k ≤ 1 → (k ≡ 1 → b ≡ n) → k * b ≤ n
-through-nil zero b n h e = omega arith
-through-nil (suc k) b n h e = let k0 : k ≡ 0 = omega arith in omega (arith, e (omega arith), ap (λ x. suc x * b) k0)
 
 share-last : (e ok : Bool) (n m : ℕ) → (e ≡ true → (ok ≡ true) × (m ≡ n)) → one e * suc n ≤ one ok + m
 share-last true ok n m h = rw ((h refl).0) (omega (arith, (h refl).1))

@@ -1,69 +1,17 @@
 -- The sum over the prefixes: from a bound on the paths along each word to a bound on all the paths that are counted.
-use Rattle.std.proofs.Common.{◌≡◌, ◌≢◌, ◌∙◌, ℕ, zero, suc, ◌+◌, ◌*◌, ◌^◌, ◌<◌, ◌≤◌, ◌⊎◌, inl, inr, List, [], ◌∷◌, length, take, drop, Bool, eqb, eq-eqb, refl, sym, ap, subst, arith, mul-le-mul, suc-mul, zero-mul}
+use Rattle.std.proofs.Common.{◌≡◌, ◌≢◌, ◌∙◌, ℕ, zero, suc, ◌+◌, ◌*◌, ◌^◌, ◌<◌, ◌≤◌, ◌⊎◌, inl, inr, List, [], ◌∷◌, length, take, drop, Bool, refl, sym, ap, subst, arith, mul-le-mul, suc-mul, zero-mul}
 use Rattle.std.proofs.lemmas.Bool.{cases_lt}
-use Rattle.std.proofs.Math.Nat.{pow-le-pow_left, pow-succ', pow-zero, one-le-pow, one-mul, mul-zero}
+use Rattle.std.proofs.Math.Nat.{pow-le-pow_left, pow-succ', pow-zero, one-le-pow, mul-zero}
 use Rattle.std.proofs.lemmas.List.{length-take-le}
 use Rattle.rl_graph.specs.Paths.{Has, Pairs, total, one, paths, walked, along, IsWithin}
-use Rattle.rl_graph.proofs.Sums.{total-has, total-mono, total-add, total-times, total-same, total-zero, total-there, each-has}
+use Rattle.rl_graph.proofs.Sums.{total-add, total-same, total-there, each-has, distinct-short}
+use Rattle.rl_graph.proofs.FirstSums.{upto, upto-first, upto-bound, shares, along-upto}
 use Rattle.rl_graph.specs.Bounds.{bound_n, bound_k, bound_b, bound_h, bound_c}
 use Rattle.rl_graph.proofs.PathLaws.{one-le, paths-nil, move-path, along_moves, positive}
 use Rattle.rl_sets.specs.Live.{below}
-use Rattle.rl_pairs.proofs.SetLaws.{below-has, Has-below}
-use Rattle.rl_pairs.proofs.CountLaws.{distinct-short, length-below}
+use Rattle.rl_pairs.proofs.SetLaws.{below-has}
+use Rattle.rl_pairs.proofs.CountLaws.{length-below}
 use Rattle.rl_pairs.proofs.GraphWords.{pow-one}
-
--- the sum of the first so many values of `f`
-abbrev pub upto : (ℕ → ℕ) → ℕ → ℕ
-upto f zero = 0
-upto f (suc n) = f 0 + upto (λ i. f (suc i)) n
-
-upto-mono : (f g : ℕ → ℕ) (n : ℕ) → ((i : ℕ) → i < n → f i ≤ g i) → upto f n ≤ upto g n
-upto-mono f g zero h = omega arith
-upto-mono f g (suc n) h = omega (arith, h 0 (omega arith), upto-mono (λ i. f (suc i)) (λ i. g (suc i)) n (λ i lt. h (suc i) (omega arith)))
-
-upto-add : (f g : ℕ → ℕ) (n : ℕ) → upto (λ i. f i + g i) n ≡ upto f n + upto g n
-upto-add f g zero = omega arith
-upto-add f g (suc n) = omega (arith, upto-add (λ i. f (suc i)) (λ i. g (suc i)) n)
-
-upto-zero : (n : ℕ) → upto (λ i. 0) n ≡ 0
-upto-zero zero = refl
-upto-zero (suc n) = omega (arith, upto-zero n)
-
--- two sums change places
-total-upto : (f : ℕ → ℕ → ℕ) (l : List ℕ) (n : ℕ) → total (λ m. upto (f m) n) l ≡ upto (λ i. total (λ m. f m i) l) n
-total-upto f [] n = sym (upto-zero n)
-total-upto f (m ∷ l) n = omega (arith, total-upto f l n, upto-add (f m) (λ i. total (λ m. f m i) l) n)
-
-total-nought : (l : List ℕ) → total (λ (a : ℕ). 0) l ≡ 0
-total-nought l = total-zero (λ (a : ℕ). 0) l (λ x i. refl)
-
-total-swap : (f : ℕ → ℕ → ℕ) (l k : List ℕ) → total (λ m. total (f m) k) l ≡ total (λ a. total (λ m. f m a) l) k
-total-swap f [] k = sym (total-nought k)
-total-swap f (m ∷ l) k = omega (arith, total-swap f l k, total-add (f m) (λ a. total (λ m. f m a) l) k)
-
--- the sum over the places of the paths, prefix by prefix and state by state
-shares : (ℕ → ℕ → List ℕ) → (ℕ → List ℕ → ℕ) → ℕ → ℕ → List ℕ → ℕ → ℕ
-shares next f n s w i = total (λ a. paths next s a (take i w) * f a (drop i w)) (below n)
-
-along-upto : (next : ℕ → ℕ → List ℕ) (f : ℕ → List ℕ → ℕ) (n : ℕ) → ((q l m : ℕ) → q < n → Has m (next q l) → m < n) → (w : List ℕ) (s : ℕ) → s < n → along next f s w ≤ upto (shares next f n s w) (suc (length w))
-unfolding shares
-along-upto next f n inside [] s lt =
-    let here = total-has (λ a. one (eqb s a) * f a []) s (below n) (below-has n s lt) in
-    let itself : one (eqb s s) * f s [] ≡ f s [] = ap (λ b. one b * f s []) (eq-eqb s s refl) ∙ one-mul (f s []) in
-    omega (arith, here, itself)
-along-upto next f n inside (l ∷ w) s lt =
-    let here = total-has (λ a. one (eqb s a) * f a (l ∷ w)) s (below n) (below-has n s lt) in
-    let itself : one (eqb s s) * f s (l ∷ w) ≡ f s (l ∷ w) = ap (λ b. one b * f s (l ∷ w)) (eq-eqb s s refl) ∙ one-mul (f s (l ∷ w)) in
-    let later = total-mono (λ m. along next f m w) (λ m. upto (shares next f n m w) (suc (length w))) (next s l) (λ m i. along-upto next f n inside w m (inside s l m lt i)) in
-    let turned = total-upto (λ m i. shares next f n m w i) (next s l) (suc (length w)) in
-    let each = upto-mono (λ i. total (λ m. shares next f n m w i) (next s l)) (λ i. shares next f n s (l ∷ w) (suc i)) (suc (length w)) (λ i small. swapped i) in
-    omega (arith, here, itself, later, turned, each)
-  where
-    swapped : (i : ℕ) → total (λ m. shares next f n m w i) (next s l) ≤ shares next f n s (l ∷ w) (suc i)
-    swapped i =
-        let a = total-swap (λ m a. paths next m a (take i w) * f a (drop i w)) (next s l) (below n) in
-        let b = total-same (λ a. total (λ m. paths next m a (take i w) * f a (drop i w)) (next s l)) (λ a. total (λ m. paths next m a (take i w)) (next s l) * f a (drop i w)) (below n) (λ a j. total-times (λ m. paths next m a (take i w)) (f a (drop i w)) (next s l)) in
-        omega (arith, a, b)
 
 -- a walked path is a path with one more move, to a state that passes
 steps_on : (ℕ → ℕ → List ℕ) → (ℕ → List ℕ → Bool) → ℕ → List ℕ → ℕ
@@ -87,40 +35,33 @@ unfolding steps_on
 steps-few next ok n k within a [] lt = omega arith
 steps-few next ok n k within a (l ∷ w) lt = omega (arith, ones (λ m. ok m w) (next a l), within.moves a l lt)
 
-total-bound : (f : ℕ → ℕ) (c : ℕ) (l : List ℕ) → ((x : ℕ) → Has x l → f x ≤ c) → total f l ≤ length l * c
-total-bound f c [] h = omega arith
-total-bound f c (x ∷ l) h = omega (arith, h x (inl refl), total-bound f c l (λ y i. h y (inr i)), suc-mul (length l) c)
-
-upto-bound : (f : ℕ → ℕ) (c n : ℕ) → ((i : ℕ) → i < n → f i ≤ c) → upto f n ≤ n * c
-upto-bound f c zero h = omega arith
-upto-bound f c (suc n) h = omega (arith, h 0 (omega arith), upto-bound (λ i. f (suc i)) c n (λ i lt. h (suc i) (omega arith)), suc-mul n c)
-
-upto-last : (f : ℕ → ℕ) (n : ℕ) → upto f (suc n) ≡ upto f n + f n
-upto-last f zero = omega arith
-upto-last f (suc n) = omega (arith, upto-last (λ i. f (suc i)) n)
-
 module _ (next : ℕ → ℕ → List ℕ) (ok : ℕ → List ℕ → Bool) (n k : ℕ) (within : IsWithin next n k) (s : ℕ) (start : s < n) where
   share : List ℕ → ℕ → ℕ
   share w i = shares next (steps_on next ok) n s w i
 
   share-bound : (w : List ℕ) (i c : ℕ) → ((q : ℕ) → paths next s q (take i w) ≤ c) → share w i ≤ n * (c * k)
-  unfolding share shares
+  unfolding share
   share-bound w i c h =
-      let each = total-bound (λ a. paths next s a (take i w) * steps_on next ok a (drop i w)) (c * k) (below n) (λ a j. mul-le-mul (h a) (steps-few next ok n k within a (drop i w) (Has-below n a j))) in
-      subst (λ m. share w i ≤ m * (c * k)) (length-below n) each
+      upto-bound (λ a. paths next s a (take i w) * steps_on next ok a (drop i w)) (c * k) n (λ a lt. mul-le-mul (h a) (steps-few next ok n k within a (drop i w) lt))
 
   share-last : (w : List ℕ) → share w (length w) ≡ 0
-  unfolding share shares steps_on
-  share-last w = total-zero (λ a. paths next s a (take (length w) w) * steps_on next ok a (drop (length w) w)) (below n) (λ a i. ap (λ (v : List ℕ). paths next s a (take (length w) w) * steps_on next ok a v) (drop-all w) ∙ mul-zero (paths next s a (take (length w) w)))
+  unfolding share steps_on
+  share-last w =
+      let most = upto-bound (λ a. paths next s a (take (length w) w) * steps_on next ok a (drop (length w) w)) 0 n (λ a lt. omega (arith, none a)) in
+      omega (arith, most, mul-zero n)
     where
       drop-all : (w : List ℕ) → drop (length w) w ≡ []
       drop-all [] = refl
       drop-all (l ∷ w) = drop-all w
 
+      none : (a : ℕ) → paths next s a (take (length w) w) * steps_on next ok a (drop (length w) w) ≡ 0
+      none a = ap (λ (v : List ℕ). paths next s a (take (length w) w) * steps_on next ok a v) (drop-all w) ∙ mul-zero (paths next s a (take (length w) w))
+
   walked-shares : (w : List ℕ) → walked next ok s w ≤ upto (share w) (length w)
   unfolding share
   walked-shares w =
-      omega (arith, walked-along next ok w s, along-upto next (steps_on next ok) n within.targets w s start, upto-last (share w) (length w), share-last w)
+      let all : along next (steps_on next ok) s w ≤ upto (share w) (length w) + share w (length w) = along-upto next (steps_on next ok) n within.targets w s start in
+      omega (arith, walked-along next ok w s, all, share-last w)
 
   -- where the paths along a word are at most `b` times a power of its length and one
   pub sum_of_prefixes : (b d : ℕ) → ((q : ℕ) (u : List ℕ) → paths next s q u ≤ b * suc (length u) ^ d) → (w : List ℕ) → walked next ok s w ≤ length w * (n * (b * length w ^ d * k))
@@ -176,9 +117,9 @@ short-path next n inside none u s t lt h =
 upto-short : (f : ℕ → ℕ) (c n len : ℕ) → ((i : ℕ) → i < len → i < n → f i ≤ c) → ((i : ℕ) → i < len → n ≤ i → f i ≡ 0) → upto f len ≤ n * c
 upto-short f c n zero h none = omega arith
 upto-short f c zero (suc len) h none =
-    omega (arith, none 0 (omega arith) (omega arith), upto-short (λ i. f (suc i)) c zero len (λ i lt small. absurd (omega arith)) (λ i lt le. none (suc i) (omega arith) (omega arith)))
+    omega (arith, none 0 (omega arith) (omega arith), upto-first f len, upto-short (λ i. f (suc i)) c zero len (λ i lt small. absurd (omega arith)) (λ i lt le. none (suc i) (omega arith) (omega arith)))
 upto-short f c (suc n) (suc len) h none =
-    omega (arith, h 0 (omega arith) (omega arith), upto-short (λ i. f (suc i)) c n len (λ i lt small. h (suc i) (omega arith) (omega arith)) (λ i lt le. none (suc i) (omega arith) (omega arith)), suc-mul n c)
+    omega (arith, h 0 (omega arith) (omega arith), upto-first f len, upto-short (λ i. f (suc i)) c n len (λ i lt small. h (suc i) (omega arith) (omega arith)) (λ i lt le. none (suc i) (omega arith) (omega arith)), suc-mul n c)
 
 taken-length : (i : ℕ) (w : List ℕ) → i < length w → length (take i w) ≡ i
 taken-length i w lt = length-take-le i w (omega arith)

@@ -7,6 +7,7 @@ use Rattle.rl_graph.specs.Paths.{Has}
 use Rattle.rl_graph.proofs.Sums.{Has-filter, Has-left, Has-last, Has-append}
 use Rattle.rl_prio.specs.Automaton.{Automaton, dead_state, moves_at}
 use Rattle.rl_sets.specs.Live.{accepts, below, set_where, holds, image, joined, refuses}
+use Rattle.rl_sets.proofs.RowLemmas.{joined-dead}
 
 -- tests of the members of a list
 
@@ -111,10 +112,6 @@ Within a set = (x : ℕ) → Has x set → x < a.states
 pub image-within : (a : Automaton) (set : List ℕ) (letter : ℕ) → Within a (image a set letter)
 unfolding image
 image-within a set letter x h = Has-below a.states x (Has-filter (λ t. not (eqb t (dead_state a)) && list_any (λ q. holds (moves_at a q letter) t) set) x (below a.states) h)
-
-pub joined-dead : (a : Automaton) (t : ℕ) (set : List ℕ) → t ≡ dead_state a → joined a t set ≡ set
-unfolding joined
-joined-dead a t set e = rw (eq-eqb t (dead_state a) e) refl
 
 pub joined-live : (a : Automaton) (t : ℕ) (set : List ℕ) → t ≢ dead_state a → joined a t set ≡ set_where a (λ x. eqb x t || holds set x)
 unfolding joined

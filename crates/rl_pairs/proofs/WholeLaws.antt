@@ -5,9 +5,10 @@ use Rattle.std.proofs.Math.Nat.{suc-mul, mul-le-mul_right}
 use Rattle.std.proofs.lemmas.Bool.{cases_lt, cases_eq}
 use Rattle.std.proofs.lemmas.List.{take_more, take_all, get_or_past, get_or_default, length-map, take-append-drop}
 use Rattle.rl_graph.specs.Paths.{Has, Each, paths}
-use Rattle.rl_graph.proofs.GraphLaws.{edges-letter}
+use Rattle.rl_graph.specs.Graph.{Graph, edges_of}
+use Rattle.rl_graph.proofs.GraphLaws.{edges-in, edges-state, edges-letter}
 use Rattle.rl_graph.proofs.PathLaws.{paths-nil, through_one, move-path, positive}
-use Rattle.rl_graph.proofs.Sums.{Each-has, Has-get_or, Has-left, Has-right}
+use Rattle.rl_graph.proofs.Sums.{Each-has, Has-get_or, Has-left, Has-right, distinct-short}
 use Rattle.rl_prio.specs.Automaton.{Automaton, IsAutomaton, letters_count, accepting_state}
 use Rattle.rl_sets.specs.Live.{below, image, refuses, IsRest}
 use Rattle.rl_sets.specs.Rests.{IsRefusedRest}
@@ -23,8 +24,8 @@ use Rattle.rl_pairs.specs.Counted.{CountedSet, moved, imaged, MoreThan}
 use Rattle.rl_pairs.specs.internal.Counting.{IsCounting, Keeps, IsOnward, Stands, IsClosed}
 use Rattle.rl_pairs.specs.internal.Finding.{Found, first_key, key_at, pair_of, pair_at, lead_at, rest_at, width, next_of, flat, IsFound, IsRowOf, IsMoved, IsFurther}
 use Rattle.rl_pairs.specs.PairTable.{PairTable, moves_in, pair_in, lead_in, rest_in, IsFull}
-use Rattle.rl_pairs.specs.internal.Rows.{IsBuilt}
-use Rattle.rl_pairs.proofs.CountLaws.{distinct-short, number-there}
+use Rattle.rl_pairs.specs.internal.Rows.{graph_of_rows, IsBuilt}
+use Rattle.rl_pairs.proofs.CountLaws.{number-there}
 use Rattle.rl_pairs.proofs.CountingLaws.{one-only}
 use Rattle.rl_pairs.proofs.RowLaws.{flat-append, flat-push, next-at, next-out, seen_after-append, AreFirstSeen-split}
 use Rattle.rl_pairs.proofs.FindingLaws.{found-keeps, pair-same, pair-keeps, Stays-refl}
@@ -161,24 +162,22 @@ module _ (a : Automaton) (w : Walk) (f : Found) (c : IsCounting a w) (i : IsFoun
 
   module _ (g : PairTable) (letters : ℕ) (wide : letters ≡ width a) (b : IsBuilt w f letters g) where
     pub states-are : g.graph.states ≡ length f.keys
-    states-are = b.rows.all_states
+    states-are = ap (λ (h : Graph). h.states) b.graph
 
-    row-of : (q l : ℕ) → moves_in g q l ≡ next_of a f q l
+    row-of : (q l : ℕ) → edges_of (graph_of_rows f letters) q l ≡ next_of a f q l
     row-of q l = elim (cases_lt l (width a)) [
       | inl small ↦ inside q l small
-      | inr large ↦ edges-letter g.graph q l (omega (arith, b.rows.all_letters, wide)) ∙ sym (next-out (width a) f.rows q l large)
+      | inr large ↦ edges-letter (graph_of_rows f letters) q l (omega (arith, wide)) ∙ sym (next-out (width a) f.rows q l large)
     ]
       where
-        inside : (q l : ℕ) → l < width a → moves_in g q l ≡ next_of a f q l
-        inside q l small =
-            let e : q * letters + l ≡ q * width a + l = ap (λ (n : ℕ). q * n + l) wide in
-            elim (cases_lt (q * width a + l) (length f.rows)) [
-              | inl less ↦ b.rows.before q l (omega arith) (omega arith) ∙ ap (λ (n : ℕ). get_or f.rows n []) e ∙ sym (next-at (width a) f.rows q l small)
-              | inr more ↦ b.rows.behind q l (omega arith) (omega arith) ∙ sym (next-at (width a) f.rows q l small ∙ get_or_past f.rows (q * width a + l) [] more)
-            ]
+        inside : (q l : ℕ) → l < width a → edges_of (graph_of_rows f letters) q l ≡ next_of a f q l
+        inside q l small = elim (cases_lt q (length f.keys)) [
+          | inl less ↦ edges-in (graph_of_rows f letters) q l less (omega (arith, wide)) ∙ ap (λ (n : ℕ). get_or f.rows (q * n + l) []) wide ∙ sym (next-at (width a) f.rows q l small)
+          | inr more ↦ edges-state (graph_of_rows f letters) q l more ∙ sym (out q l more)
+        ]
 
     moves-are : moves_in g ≡ next_of a f
-    moves-are = λ j q l. row-of q l j
+    moves-are = ap edges_of b.graph ∙ (λ j q l. row-of q l j)
 
     pairs-are : pair_in g ≡ pair_at w f
     pairs-are = λ j k. (ap (λ (l : List Pair). get_or l k first_pair) b.pairs ∙ map-read f.keys k) j
@@ -234,7 +233,7 @@ answer a u w x e f g letters max_pairs wide y o closed b limit =
       numbered = built-numbered a x f c i m g letters wide b;
       few_pairs = omega (arith, states-are a x f c i m g letters wide b, i.few, limit);
       few_sets = few-sets a x f c i m closed;
-      letters = b.rows.all_letters ∙ wide ∙ omega arith;
+      letters = ap (λ (h : Graph). h.letters) b.graph ∙ wide ∙ omega arith;
       leads = built-leads a x f c i m g letters wide b;
       rests = built-rests a x f c i m g letters wide b;
       refused = built-refused a x f c i m g letters wide b;

@@ -3,9 +3,9 @@
 use Rattle.std.proofs.Common.{◌≡◌, ◌≢◌, ◌∙◌, ℕ, ◌<◌, ◌≤◌, ◌⊎◌, inl, inr, List, [], ◌∷◌, length, sym, ap, subst, arith}
 use Rattle.std.proofs.lemmas.Bool.{cases_eq, cases_lt}
 use Rattle.rl_graph.specs.Paths.{Has, paths}
-use Rattle.rl_graph.specs.Twins.{IsSplit, Link}
+use Rattle.rl_graph.specs.Twins.{Link}
 use Rattle.rl_graph.proofs.Sums.{total-there}
-use Rattle.rl_graph.proofs.PathLaws.{nil-same}
+use Rattle.rl_graph.proofs.PathLaws.{nil-same, split-word}
 use Rattle.rl_prio.specs.Automaton.{Automaton, letters_count, accepting_state, dead_state, moves_at}
 use Rattle.rl_sets.specs.Live.{image, joined}
 use Rattle.rl_pairs.specs.declared.pair.Pair.{Pair}
@@ -27,10 +27,6 @@ HasMove next q = (l : ℕ) × (m : ℕ) × Has m (next q l)
 pub word-move : (next : ℕ → ℕ → List ℕ) (q t : ℕ) (w : List ℕ) → 1 ≤ length w → 1 ≤ paths next q t w → HasMove next q
 word-move next q t [] some h = absurd (omega arith)
 word-move next q t (l ∷ w) some h = let m = total-there (λ m. paths next m t w) (next q l) h in (l, m.0, m.1)
-
-pub split-word : (next : ℕ → ℕ → List ℕ) (r q : ℕ) (y : List ℕ) → IsSplit next r q y → 1 ≤ length y
-split-word next r q [] h = absurd (h.apart (nil-same next r q h.over))
-split-word next r q (l ∷ y) h = omega arith
 
 module _ (a : Automaton) (still : IsStill a) (next : ℕ → ℕ → List ℕ) (at : ℕ → Pair) (n : ℕ) (g : IsPairGraph a next at n) where
   no-moves : (k l : ℕ) → ((letter : ℕ) → moves_at a (at k).state letter ≡ []) → next k l ≡ []

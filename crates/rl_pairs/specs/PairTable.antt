@@ -1,5 +1,5 @@
 -- What a graph of live pairs is seen as.
-use Rattle.std.specs.Prelude.{[], ◌≡◌, ◌≢◌, ℕ, ◌⊎◌, List, length, slice_index_or}
+use Rattle.std.specs.Prelude.{[], ◌≡◌, ℕ, List, length, slice_index_or}
 use Rattle.rl_graph.specs.Graph.{Graph, edges_of}
 use Rattle.rl_pairs.specs.declared.pair.Pair.{Pair}
 use Rattle.rl_pairs.specs.LivePairs.{first_pair}
@@ -30,10 +30,3 @@ pub record IsFull (g : PairTable) : Type 0 where
   pub pairs : length g.pairs ≡ g.graph.states
   pub leads : length g.leads ≡ g.graph.states
   pub rests : length g.rests ≡ g.graph.states
-
--- the row has become the moves of a state on a letter that had none
-pub record HasRow (old new : Graph) (from letter : ℕ) (row : List ℕ) : Type 0 where
-  pub states : new.states ≡ old.states
-  pub letters : new.letters ≡ old.letters
-  pub here : edges_of new from letter ≡ row
-  pub elsewhere : (q l : ℕ) → (q ≢ from) ⊎ (l ≢ letter) → edges_of new q l ≡ edges_of old q l

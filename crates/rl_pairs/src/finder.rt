@@ -69,12 +69,11 @@ impl Finder {
         requires { from < length (found_of self.now).leads }
         ensures { IfOk result (λ w. w ≡ lead_at (found_of self.now) from ++ letter ∷ []) }
     {
-        let mut lead = Items::from_slice(
-            *self.leads.allocator(),
-            self.leads[from as usize].as_slice(),
-        )?;
-        lead.push(letter)?;
-        Ok(lead)
+        let lead = self.leads[from as usize].as_slice();
+        let mut letters = Vec::with_capacity(*self.leads.allocator(), lead.len() + 1)?;
+        letters.extend_from_slice(lead)?;
+        letters.push(letter)?;
+        Ok(Items::from_vec(letters))
     }
 
     /// Appends a pair.

@@ -1,15 +1,14 @@
 //! Graphs of live pairs.
 
-ghost use Rattle.std.specs.Prelude.{◌≡◌, ◌≢◌, ℕ, suc, ◌+◌, ◌*◌, ◌<◌, ◌≤◌, ◌⊎◌, [], ◌++◌, true, List, All, length, map, slice_index_or, IfOk, IfErr, OnOk};
+ghost use Rattle.std.specs.Prelude.{◌≡◌, ℕ, ◌+◌, ◌*◌, ◌^◌, ◌<◌, ◌≤◌, true, All, length, map, IfOk, IfErr, IsTrue};
 ghost use Rattle.rl_prio.specs.Automaton.{letters_count};
-ghost use Rattle.rl_graph.specs.Graph.{edges_of};
-ghost use Rattle.rl_graph.specs.Paths.{Has, paths};
+ghost use Rattle.rl_graph.specs.Paths.{paths};
 ghost use Rattle.rl_sets.specs.Live.{IsRest};
 ghost use Rattle.rl_pairs.specs.LivePairs.{LivePair, refused};
 ghost use Rattle.rl_pairs.specs.PairGraph.{IsPairGraph, IsNumbered};
 ghost use Rattle.rl_pairs.specs.Counted.{CountedSet, MoreThan};
-ghost use Rattle.rl_pairs.specs.PairTable.{moves_in, pair_in, lead_in, rest_in, IsFull, HasRow};
-ghost use Rattle.rl_pairs.specs.internal.Rows.{HasRows, IsBuilt};
+ghost use Rattle.rl_pairs.specs.PairTable.{moves_in, pair_in, lead_in, rest_in, IsFull};
+ghost use Rattle.rl_pairs.specs.internal.Rows.{IsBuilt};
 ghost use Rattle.rl_pairs.specs.declared.error.PairsError.TheVariants as error;
 ghost use Rattle.rl_pairs.specs.internal.Finding.{found_of, pair_of};
 
@@ -84,7 +83,7 @@ fn listed(alloc: Global, walk: &SetWalk, keys: &IndexSet<Key>) -> Result<Vec<Pai
     requires { All (λ key. key.set < length walk.now.sets) keys.now.keys }
     ensures { IfOk result (λ pairs. pairs.items ≡ map (pair_of walk.now) keys.now.keys) }
 {
-    let mut pairs = Vec::new(alloc);
+    let mut pairs = Vec::with_capacity(alloc, keys.len())?;
     for k in 0..keys.len() {
         let key = keys[k];
         let set = walk.members(key.set)?;
@@ -96,48 +95,24 @@ fn listed(alloc: Global, walk: &SetWalk, keys: &IndexSet<Key>) -> Result<Vec<Pai
     Ok(pairs)
 }
 
-/// Adds the moves of a state on a letter that has none.
-fn put_row(graph: &mut Multigraph, from: u32, letter: u32, row: &[u32]) -> Result<(), OutOfMemory>
-    requires from_in { from < graph.old.states }
-    requires letter_in { letter < graph.old.letters }
-    requires targets { All (λ k. k < graph.old.states) row.now }
-    requires bare { edges_of graph.old from letter ≡ [] }
-    ensures { OnOk result (HasRow graph.old graph.new from letter row.now) }
+/// Whether each row is so short that its moves have numbers.
+fn are_short(rows: &[Word]) -> bool
+    ensures { IsTrue result → All (λ row. length row < 2 ^ 32) rows.now }
 {
-    // So many moves have no numbers; no memory holds them.
-    if row.len() >= u32::MAX as usize {
-        return Err(OutOfMemory);
-    }
-    for target in row {
-        graph.add(from, letter, *target)?;
-    }
-    Ok(())
+    rows.iter().all(|row| row.len() < u32::MAX as usize)
 }
 
 /// The graph of rows of targets, one for each state and letter.
-fn graph_of(
-    alloc: Global,
-    states: u32,
-    letters: u32,
-    rows: &Vec<Word>,
-) -> Result<Multigraph, OutOfMemory>
-    requires some { 0 < letters }
-    requires rows { length rows.now.items ≡ states * letters }
-    requires targets { All (All (λ k. k < states)) rows.now.items }
-    ensures { IfOk result (λ g. HasRows g states letters rows.now.items (length rows.now.items)) }
+fn graph_of(states: u32, letters: u32, rows: Vec<Word>) -> Result<Multigraph, OutOfMemory>
+    requires rows { length rows.items ≡ states * letters }
+    requires targets { All (All (λ k. k < states)) rows.items }
+    ensures { IfOk result (λ g. g ≡ record { states = states; letters = letters; rows = rows.items }) }
 {
-    let mut graph = Multigraph::new(alloc, states, letters)?;
-    for place in 0..rows.len() {
-        let from = place / letters as usize;
-        let letter = place % letters as usize;
-        put_row(
-            &mut graph,
-            from as u32,
-            letter as u32,
-            rows[place].as_slice(),
-        )?;
+    // The moves of a longer row have no numbers; no memory holds so many.
+    if !are_short(&rows) {
+        return Err(OutOfMemory);
     }
-    Ok(graph)
+    Ok(Multigraph::from_rows(states, letters, rows))
 }
 
 /// The graph of the pairs that were found.
@@ -147,7 +122,6 @@ fn built(
     walk: &SetWalk,
     finder: Finder,
 ) -> Result<PairGraph, OutOfMemory>
-    requires some { 0 < letters }
     requires few { length (found_of finder).keys ≤ (found_of finder).limit }
     requires sets { All (λ key. key.set < length walk.now.sets) (found_of finder).keys }
     requires led { length (found_of finder).leads ≡ length (found_of finder).keys }
@@ -157,14 +131,15 @@ fn built(
     ensures { IfOk result (IsBuilt walk.now (found_of finder) letters) }
 {
     let pairs = listed(alloc, walk, &finder.keys)?;
-    let graph = graph_of(alloc, finder.count(), letters, &finder.rows)?;
+    let states = finder.count();
     let Finder {
         limit: _,
         keys: _,
         leads,
         rests,
-        rows: _,
+        rows,
     } = finder;
+    let graph = graph_of(states, letters, rows)?;
     Ok(PairGraph {
         graph,
         pairs,

@@ -1,18 +1,11 @@
 -- Lemmas on lists of attempts whose ends are replaced.
-use Rattle.std.proofs.Common.{◌≡◌, ℕ, suc, ◌+◌, ◌<◌, ◌≤◌, ◌⊎◌, inl, inr, List, [], ◌∷◌, ◌++◌, length, map, take, drop, get_or, set, refl, sym, ap, ap₂, subst, ◌∙◌, append_assoc, arith, length-append}
-use Rattle.std.proofs.Math.Seq.{take-suc}
-use Rattle.std.proofs.Math.ListN.{length-map}
-use Rattle.std.proofs.lemmas.List.{append-nil, map-append, take_more, get_or_default}
+use Rattle.std.proofs.Common.{◌≡◌, ℕ, ◌+◌, ◌<◌, ◌≤◌, List, [], ◌∷◌, ◌++◌, length, take, get_or, sym, ap, subst, ◌∙◌, arith}
+use Rattle.std.proofs.lemmas.List.{append-nil, take_more}
 use Rattle.std.proofs.lemmas.List.Folds.{length-flat_map-take}
 use Rattle.std.proofs.lemmas.Grind.{flat_map-append}
 use Rattle.std.specs.List.{flat_map}
-use Rattle.rl_syntax.specs.declared.anchors.Guard.{Guard}
-use Rattle.rl_prio.specs.Items.{Item, test_at, pass, guarded, all_guarded, replaced}
-use Rattle.rl_prio.specs.internal.GuardSets.{joined, guard_set}
-use Rattle.rl_prio.specs.internal.Attempts.{attempt, attempts, behind, onward, ends_replaced}
-use Rattle.rl_prio.specs.declared.build.guards.Guards.{Guards}
+use Rattle.rl_prio.specs.internal.Attempts.{onward, ends_replaced}
 use Rattle.rl_prio.specs.declared.build.attempts.Attempt.{Attempt}
-use Rattle.rl_prio.specs.declared.build.attempts.Attempt.TheVariants.{Test, End}
 
 -- one attempt more
 pub onward_more : (l further : List Attempt) (i : ℕ) (a : Attempt) → i < length l → a ≡ get_or l i a

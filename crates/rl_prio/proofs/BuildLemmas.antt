@@ -1,9 +1,9 @@
 -- Lemmas on the automaton that is built: its rows are the moves of its tree.
-use Rattle.std.proofs.Common.{◌≡◌, ℕ, zero, suc, ◌+◌, ◌*◌, ◌-◌, ◌/◌, ◌%◌, ◌<◌, ◌≤◌, ◌==◌, ◌⊎◌, inl, inr, Bool, true, false, ◌&&◌, nat_lt, List, [], ◌∷◌, ◌++◌, length, map, get_or, slice_get, Option, None, Some, All, refl, sym, ap, ap₂, subst, ◌∙◌, arith}
+use Rattle.std.proofs.Common.{◌≡◌, ℕ, zero, suc, ◌+◌, ◌*◌, ◌-◌, ◌/◌, ◌%◌, ◌<◌, ◌≤◌, inl, inr, Bool, true, false, ◌&&◌, nat_lt, List, [], ◌∷◌, ◌++◌, length, map, get_or, slice_get, Option, None, Some, All, refl, sym, ap, ap₂, subst, ◌∙◌, arith}
 use Rattle.std.specs.Prelude.{if◌then◌else◌}
 use Rattle.std.proofs.Math.Nat.{div-lt_iff_lt-mul}
 use Rattle.std.proofs.lemmas.Bool.{cases_lt, cond-true, cond-false, cond_both, lt-ltb, le-ltb, eq-eqb, ne_eqb}
-use Rattle.std.proofs.lemmas.List.{length-append, length-map, get_or-map, get_or_append_left, get_or-append_right, get_or-append-add}
+use Rattle.std.proofs.lemmas.List.{length-append, length-map, get_or-map, get_or_append_left, get_or-append_right}
 use Rattle.std.proofs.lemmas.List.Elements.{All-nil, All-cons, All-append}
 use Rattle.std.proofs.lemmas.Option.{slice_get-get_or, slice_get_past}
 use Rattle.rl_ranges.specs.Text.{code_count}
@@ -14,27 +14,25 @@ use Rattle.rl_ranges.proofs.LetterLemmas.{class_of-same, class_of-only, class_of
 use Rattle.rl_syntax.specs.declared.re.Ending.{Ending}
 use Rattle.rl_syntax.specs.declared.re.Ending.TheVariants.{AtEnd, Anywhere}
 use Rattle.rl_syntax.specs.Tree.{Tree, empty, one, guard, both, either, many, size, places, sets_in, guard_sets}
-use Rattle.rl_prio.specs.Items.{Item, test_at, pass, first, after, set_of, all_hold}
+use Rattle.rl_prio.specs.Items.{Item, test_at, pass, after, set_of, all_hold}
 use Rattle.rl_prio.specs.Letters.{all_sets, kinds, kind_of}
 use Rattle.rl_prio.specs.States.{place_states, state_of, accepting, dead, state_count, test_target, ends_here, pass_target, moves_on, items_of, kind_before, moves_over}
-use Rattle.rl_prio.specs.Automaton.{Automaton, IsAutomaton, letters_count, accepting_state, dead_state, moves_at}
+use Rattle.rl_prio.specs.Automaton.{Automaton, IsAutomaton}
 use Rattle.rl_prio.specs.StandsFor.{StandsOver}
-use Rattle.rl_prio.specs.internal.GuardSets.{guard_set, met, shown, holding}
-use Rattle.rl_prio.specs.internal.Attempts.{attempt, attempts, lists_of}
-use Rattle.rl_prio.specs.internal.Plans.{plan_letters, plan_kinds, plan_places, plan_states, holds_at, test_goes, may_end, end_goes, move_of, moves_of, attempts_at, before_at, row_at, IsPlaced, IsSound, AreRows, IsPlan}
+use Rattle.rl_prio.specs.internal.GuardSets.{guard_set, shown, holding}
+use Rattle.rl_prio.specs.internal.Attempts.{attempts, lists_of}
+use Rattle.rl_prio.specs.internal.Plans.{plan_letters, plan_kinds, plan_places, plan_states, holds_at, test_goes, may_end, end_goes, moves_of, attempts_at, before_at, row_at, IsPlaced, IsSound, AreRows, IsPlan}
 use Rattle.rl_prio.specs.declared.build.guards.Shown.{Shown}
-use Rattle.rl_prio.specs.declared.build.attempts.Attempt.{Attempt}
 use Rattle.rl_prio.specs.declared.build.attempts.Attempt.TheVariants.{Test, End}
 use Rattle.rl_prio.specs.declared.build.plan.Plan.{Plan}
 use Rattle.rl_ranges.specs.declared.letters.LettersError.{LettersError}
 use Rattle.rl_ranges.specs.declared.letters.LettersError.TheVariants.{TooMany, OutOfMemory}
 use Rattle.rl_prio.specs.declared.build.attempts.ListError.{ListError}
 use Rattle.rl_prio.specs.declared.build.attempts.ListError.TheVariants.{TooLong, OutOfMemory as NoRoom}
-use Rattle.rl_prio.specs.declared.error.PrioError.{PrioError}
 use Rattle.rl_prio.specs.declared.error.PrioError.TheVariants.{Letters, Moves}
 use Rattle.rl_prio.specs.internal.Errors.{letters_error, list_error}
 use Rattle.rl_prio.proofs.AutomatonLemmas.{automaton_of, moves_at-inside}
-use Rattle.rl_prio.proofs.LikenessLemmas.{Finer, Finer-itself, Finer-left, Finer-right, Like, Like-finer, all_hold-like, GuardsKnown, ItemsKnown, first-known, after-known, set_of-alike}
+use Rattle.rl_prio.proofs.LikenessLemmas.{Finer, Finer-itself, Finer-left, Finer-right, Like, Like-finer, all_hold-like, ItemsKnown, first-known, after-known, set_of-alike}
 use Rattle.rl_prio.proofs.KindLemmas.{few_kinds}
 use Rattle.rl_prio.proofs.GuardLemmas.{met-all_hold}
 use Rattle.rl_prio.proofs.WidthLemmas.{length-lists_of, lists-at}

@@ -1,13 +1,13 @@
 -- Lemmas on the lists of a tree as the program makes them: part by part, with the guards of an item as a set.
-use Rattle.std.proofs.Common.{◌≡◌, ℕ, suc, ◌+◌, ◌-◌, ◌<◌, ◌≤◌, ◌⊎◌, inl, inr, Bool, true, false, List, [], ◌∷◌, ◌++◌, length, map, get_or, refl, sym, ap, ap₂, subst, ◌∙◌, append_assoc, arith, length-append}
+use Rattle.std.proofs.Common.{◌≡◌, ℕ, ◌+◌, ◌-◌, ◌<◌, ◌≤◌, ◌⊎◌, inl, inr, Bool, true, false, List, [], ◌∷◌, ◌++◌, length, map, get_or, refl, sym, ap, ap₂, subst, ◌∙◌, append_assoc, arith, length-append}
 use Rattle.std.proofs.lemmas.Bool.{cases_lt}
 use Rattle.std.proofs.lemmas.List.{append-nil, length-map, map-append, ext_get_or, get_or-append_right, get_or_append_left, get_or-map}
 use Rattle.rl_syntax.specs.declared.anchors.Guard.{Guard}
-use Rattle.rl_syntax.specs.Tree.{Tree, empty, one, guard, both, either, many, places}
+use Rattle.rl_syntax.specs.Tree.{Tree, guard, both, either, many, places}
 use Rattle.rl_syntax.specs.Run.{one_more}
 use Rattle.rl_prio.specs.Items.{Item, test_at, pass, guarded, all_guarded, replaced, first}
-use Rattle.rl_prio.specs.internal.GuardSets.{no_guards, only, joined, guard_set}
-use Rattle.rl_prio.specs.internal.Attempts.{attempt, attempts, behind, onward, ends_replaced, followed, lists_of, widest, width_of, AreReplaced, AreEntered, AreShort, IsTooWide}
+use Rattle.rl_prio.specs.internal.GuardSets.{no_guards, only, guard_set}
+use Rattle.rl_prio.specs.internal.Attempts.{attempt, attempts, behind, ends_replaced, followed, lists_of, widest, width_of, AreReplaced, AreEntered, AreShort, IsTooWide}
 use Rattle.rl_prio.specs.declared.build.attempts.Attempt.{Attempt}
 use Rattle.rl_prio.specs.declared.build.attempts.Attempt.TheVariants.{Test, End}
 use Rattle.rl_prio.proofs.GuardLemmas.{guard_set-append, joined-none, only-joined}

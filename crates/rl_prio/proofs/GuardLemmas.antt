@@ -1,5 +1,6 @@
 -- Lemmas on sets of guards: a set is met where each guard of its list holds.
 use Rattle.std.proofs.Common.{◌≡◌, ℕ, Bool, true, false, not, ◌&&◌, ◌||◌, List, [], ◌∷◌, ◌++◌, Option, None, Some, refl, sym, ap, ap₂, ◌∙◌}
+use Rattle.std.proofs.lemmas.Bool.{false≢true, and_parts, and_from}
 use Rattle.rl_ranges.proofs.SetLemmas.{or_assoc, and-true}
 use Rattle.rl_syntax.specs.declared.anchors.Guard.{Guard}
 use Rattle.rl_syntax.specs.declared.anchors.Guard.TheVariants.{Start, LineStart, LineEnd, TextEnd, Word, NotWord}
@@ -79,6 +80,33 @@ met-joined a b h =
     (split a.ascii_word b.ascii_word h.ascii_word))
     (split a.not_word b.not_word h.not_word))
     (split a.not_ascii_word b.not_ascii_word h.not_ascii_word)).same
+
+-- a test that holds says that another one holds
+record Gives (m k : Bool) : Type 0 where
+  true_too : m ≡ true → k ≡ true
+
+flag-unguarded : (x z : Bool) → Gives (not x || false) (not x || z)
+flag-unguarded true z = record { true_too = λ e. absurd (false≢true e) }
+flag-unguarded false z = record { true_too = λ e. refl }
+
+both_unguarded : {m k u v : Bool} → Gives m u → Gives k v → Gives (m && k) (u && v)
+both_unguarded {m = m} {k = k} {u = u} {v = v} p q = record {
+  true_too = λ e. let parts = and_parts m k e in and_from u v (p.true_too parts.0) (q.true_too parts.1);
+}
+
+-- no guard is always met
+pub unguarded-met : (a h : Guards) → met a no_guards ≡ true → met a h ≡ true
+unfolding met no_guards
+unguarded-met a h =
+    (both_unguarded (both_unguarded (both_unguarded (both_unguarded (both_unguarded (both_unguarded (both_unguarded
+    (flag-unguarded a.start h.start)
+    (flag-unguarded a.line_start h.line_start))
+    (flag-unguarded a.line_end h.line_end))
+    (flag-unguarded a.text_end h.text_end))
+    (flag-unguarded a.word h.word))
+    (flag-unguarded a.ascii_word h.ascii_word))
+    (flag-unguarded a.not_word h.not_word))
+    (flag-unguarded a.not_ascii_word h.not_ascii_word)).true_too
 
 abbrev flag : Guard → Guards → Bool
 flag Start h = h.start

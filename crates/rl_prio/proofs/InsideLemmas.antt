@@ -1,9 +1,9 @@
 -- The sets of a tree, and those that its guards name, lie in the universe.
-use Rattle.std.proofs.Common.{◌≡◌, ℕ, ◌<◌, Bool, List, [], ◌∷◌, ◌++◌, map, All, sym, subst, ◌∙◌}
+use Rattle.std.proofs.Common.{◌≡◌, ℕ, Bool, List, [], ◌∷◌, ◌++◌, map, All, sym, subst}
 use Rattle.std.proofs.lemmas.List.Elements.{All-nil, All-cons, All-head, All-tail}
 use Rattle.rl_ranges.specs.Codes.{has, IsInside}
 use Rattle.rl_ranges.specs.declared.universe.Universe.{Universe}
-use Rattle.rl_syntax.specs.Tree.{Tree, empty, one, guard, both, either, many, sets_in, guard_sets, LiesIn, AllLieIn, IsOver}
+use Rattle.rl_syntax.specs.Tree.{Tree, empty, one, guard, both, either, many, sets_in, guard_sets, AllLieIn, IsOver}
 use Rattle.rl_prio.specs.Letters.{all_sets}
 
 lie-append : (u : Universe) (xs ys : List (ℕ → Bool)) → AllLieIn u xs → AllLieIn u ys → AllLieIn u (xs ++ ys)

@@ -1,18 +1,21 @@
 -- Lemmas on plans: the attempts of a state, what is shown before it, and where attempts go.
-use Rattle.std.proofs.Common.{◌≡◌, ℕ, zero, suc, ◌+◌, ◌*◌, ◌^◌, ◌-◌, ◌/◌, ◌%◌, ◌<◌, ◌≤◌, Bool, true, false, ◌&&◌, nat_lt, List, [], ◌∷◌, ◌++◌, length, take, get_or, All, refl, sym, ap, ap₂, subst, ◌∙◌, append_assoc, arith, None}
-use Rattle.std.specs.List.{flat_map}
-use Rattle.std.proofs.lemmas.Bool.{cond-true, cond-false, lt-ltb, le-ltb, and_from}
-use Rattle.std.proofs.lemmas.Grind.{flat_map-append}
-use Rattle.std.proofs.lemmas.List.{append-nil, take_more, get_or_default}
-use Rattle.std.proofs.lemmas.Nat.{mul-add-lt, mul-le, div-mul-add, mod-mul-add}
+use Rattle.std.proofs.Common.{◌≡◌, ℕ, zero, suc, ◌+◌, ◌*◌, ◌^◌, ◌-◌, ◌/◌, ◌%◌, ◌<◌, ◌≤◌, Bool, true, false, ◌&&◌, nat_lt, List, [], ◌∷◌, ◌++◌, length, map, get_or, All, refl, sym, ap, subst, ◌∙◌, append_assoc, length-append, inl, inr, arith, None}
+use Rattle.std.specs.List.{list_all, range_with_len}
+use Rattle.std.proofs.lemmas.Bool.{cond-true, cond-false, lt-ltb, le-ltb, cases_lt}
+use Rattle.std.proofs.lemmas.List.{get_or_default, get_or_append_left, get_or-append-add}
+use Rattle.std.proofs.lemmas.List.FromFn.{length-map-range_with_len, get_or-map-range_with_len, map-range_with_len_more}
+use Rattle.std.proofs.lemmas.Nat.{mul-add-lt, mul-le}
 use Rattle.std.proofs.Math.Nat.{div-lt_iff_lt-mul}
 use Rattle.std.proofs.lemmas.Bool.{and_parts, ltb-true}
-use Rattle.rl_prio.specs.internal.GuardSets.{shown}
-use Rattle.rl_prio.specs.internal.Plans.{plan_letters, plan_kinds, plan_places, plan_states, holds_at, test_goes, may_end, end_goes, move_of, moves_of, attempts_at, before_at, row_at, IsPlaced, IsSound, AreRows}
+use Rattle.rl_prio.specs.internal.GuardSets.{met, shown, holding}
+use Rattle.rl_prio.specs.internal.Attempts.{guards_of, is_unguarded}
+use Rattle.rl_prio.specs.internal.Rows.{Rows}
+use Rattle.rl_prio.specs.internal.Plans.{plan_letters, plan_kinds, plan_places, plan_states, holds_at, test_goes, may_end, end_goes, target_of, move_of, moves_of, attempts_at, before_at, row_of, row_at, each_letter, rows_of_state, rows_before, IsPlaced, IsSound, AreRows}
 use Rattle.rl_prio.specs.declared.build.guards.Guards.{Guards}
 use Rattle.rl_prio.specs.declared.build.guards.Shown.{Shown}
 use Rattle.rl_prio.specs.declared.build.attempts.Attempt.{Attempt}
 use Rattle.rl_prio.specs.declared.build.plan.Plan.{Plan}
+use Rattle.rl_prio.proofs.GuardLemmas.{unguarded-met}
 
 pub attempts_at-start : (p : Plan) (q : ℕ) → q ≡ 0 → p.first ≡ attempts_at p q
 unfolding attempts_at
@@ -115,14 +118,30 @@ state_small p place kind sound p_in k_in =
 
 -- ---- the finished rows
 
-pub rows-each : (p : Plan) (rows : List (List ℕ)) (width n q l : ℕ) → width ≡ suc (plan_letters p) → ((k : ℕ) → k < n → get_or rows k [] ≡ row_at p (k / width) (k % width))
-    → n ≡ plan_states p * width → q < plan_states p → l ≤ plan_letters p → get_or rows (q * suc (plan_letters p) + l) [] ≡ row_at p q l
-rows-each p rows width n q l w_is each all q_in l_in =
-    let l_lt : l < width = omega arith in
-    let place : q * width + l < plan_states p * width = omega (arith, mul-add-lt q width l (plan_states p) q_in l_lt) in
-    ap (λ w. get_or rows (q * w + l) []) (sym w_is)
-    ∙ each (q * width + l) (omega arith)
-    ∙ ap₂ (row_at p) (div-mul-add q width l l_lt) (mod-mul-add q width l l_lt)
+length-rows_of_state : (p : Plan) (q : ℕ) → length (rows_of_state p q) ≡ suc (plan_letters p)
+length-rows_of_state p q = length-map-range_with_len (row_at p q) 0 (suc (plan_letters p))
+
+length-rows_before : (p : Plan) (n : ℕ) → length (rows_before p n) ≡ n * suc (plan_letters p)
+length-rows_before p zero = omega arith
+length-rows_before p (suc n) =
+    omega (arith, length-append (rows_before p n) (rows_of_state p n), length-rows_before p n, length-rows_of_state p n)
+
+rows_before-each : (p : Plan) (n q l : ℕ) → q < n → l ≤ plan_letters p → get_or (rows_before p n) (q * suc (plan_letters p) + l) [] ≡ row_at p q l
+rows_before-each p zero q l q_in l_in = absurd (omega arith)
+rows_before-each p (suc n) q l q_in l_in =
+    let l_lt : l < suc (plan_letters p) = omega arith in
+    elim (cases_lt q n) [
+      | inl lt ↦
+          let below : q * suc (plan_letters p) + l < length (rows_before p n) = omega (arith, length-rows_before p n, mul-add-lt q (suc (plan_letters p)) l n lt l_lt) in
+          get_or_append_left (rows_before p n) (rows_of_state p n) [] (q * suc (plan_letters p) + l) below ∙ rows_before-each p n q l lt l_in
+      | inr le ↦
+          let same : q ≡ n = omega arith in
+          ap (λ k. get_or (rows_before p (suc n)) (k * suc (plan_letters p) + l) []) same
+          ∙ ap (λ k. get_or (rows_before p (suc n)) (k + l) []) (sym (length-rows_before p n))
+          ∙ get_or-append-add (rows_before p n) (rows_of_state p n) l []
+          ∙ get_or-map-range_with_len (row_at p n) 0 (suc (plan_letters p)) l l [] l_lt (omega arith)
+          ∙ ap (λ k. row_at p k l) (sym same)
+    ]
 
 kind-read : (p : Plan) (place letter kind d : ℕ) → holds_at p place letter ≡ true → kind ≡ get_or p.kinds_of.items letter d → kind ≡ get_or p.kinds_of.items letter 0
 kind-read p place letter kind d hit read = read ∙ get_or_default p.kinds_of.items letter d 0 (holds_at-in p place letter hit)
@@ -140,11 +159,63 @@ test_goes-read p place letter kinds kind d hit k_is read =
     omega (arith, ap (λ k. place * k) k_is, kind-read p place letter kind d hit read) in
     same ∙ test_goes-hit p place letter hit
 
-pub rows-all : (p : Plan) (rows : List (List ℕ)) (width states n : ℕ) → width ≡ suc (plan_letters p) → states ≡ plan_states p → length rows ≡ n → n ≡ states * width
-    → ((k : ℕ) → k < n → get_or rows k [] ≡ row_at p (k / width) (k % width)) → AreRows p rows
-rows-all p rows width states n w_is s_is len all each =
-    let whole : n ≡ plan_states p * width = all ∙ ap (λ s. s * width) s_is in
-    record {
-      count = len ∙ whole ∙ ap (λ w. plan_states p * w) w_is;
-      each = λ q l q_in l_in. rows-each p rows width n q l w_is each whole q_in l_in;
-    }
+pub rows-all : (p : Plan) (rows : List (List ℕ)) (n : ℕ) → n ≡ plan_states p → rows ≡ rows_before p n → AreRows p rows
+rows-all p rows n is same = record {
+  count = ap length same ∙ length-rows_before p n ∙ ap (λ s. s * suc (plan_letters p)) is;
+  each = λ q l q_in l_in.
+      ap (λ r. get_or r (q * suc (plan_letters p) + l) []) same ∙ rows_before-each p n q l (omega arith) l_in;
+}
+
+-- ---- rows that are appended
+
+abbrev put : List ℕ → Rows → Rows
+put row r = record r { open_row = r.open_row ++ row }
+
+abbrev closed : Rows → Rows
+closed r = record { rows = r.rows ++ r.open_row ∷ []; open_row = [] }
+
+abbrev only : List (List ℕ) → Rows
+only rows = record { rows = rows; open_row = [] }
+
+-- the row of one letter more
+pub letter_more : (f : ℕ → List ℕ) (old now moved new : Rows) (n : ℕ) → now ≡ only (old.rows ++ map f (range_with_len 0 n)) → moved ≡ put (f n) now → new ≡ closed moved
+    → new ≡ only (old.rows ++ map f (range_with_len 0 (n + 1)))
+letter_more f old now moved new n before goes ends =
+    ends ∙ ap closed (goes ∙ ap (put (f n)) before)
+    ∙ ap only (append_assoc old.rows (map f (range_with_len 0 n)) (f n ∷ []) ∙ ap (λ rows. old.rows ++ rows) (sym (map-range_with_len_more f 0 n n (omega arith))))
+
+-- the same where the moves are those of attempts whose guards hold
+pub guarded_more : (p : Plan) (before next d : Shown) (l : List Attempt) (held : Guards) (old now moved new : Rows) (n : ℕ) → n < length p.next.items → next ≡ get_or p.next.items n d → held ≡ holding before next
+    → now ≡ only (old.rows ++ map (row_of p before l) (range_with_len 0 n)) → moved ≡ put (moves_of p held n l) now → new ≡ closed moved
+    → new ≡ only (old.rows ++ map (row_of p before l) (range_with_len 0 (n + 1)))
+guarded_more p before next d l held old now moved new n n_in read holds so_far goes ends =
+    let same : held ≡ holding before (get_or p.next.items n (shown None)) =
+    holds ∙ ap (holding before) (read ∙ get_or_default p.next.items n d (shown None) n_in) in
+    letter_more (row_of p before l) old now moved new n so_far (goes ∙ ap (λ h. put (moves_of p h n l) now) same) ends
+
+-- the rows of all letters
+pub letters_all : (p : Plan) (f : ℕ → List ℕ) (old now : Rows) (n : ℕ) → n ≡ suc (plan_letters p) → now ≡ only (old.rows ++ map f (range_with_len 0 n))
+    → now ≡ only (old.rows ++ each_letter p f)
+letters_all p f old now n all so_far = so_far ∙ ap (λ m. only (old.rows ++ map f (range_with_len 0 m))) all
+
+-- ---- attempts without guards
+
+unguarded_moves : (p : Plan) (held : Guards) (letter : ℕ) (l : List Attempt) → list_all is_unguarded l ≡ true → map (target_of p letter) l ≡ moves_of p held letter l
+unguarded_moves p held letter [] bare = refl
+unguarded_moves p held letter (a ∷ l) bare =
+    let parts = and_parts (is_unguarded a) (list_all is_unguarded l) bare in
+    let one : move_of p held letter a ≡ target_of p letter a ∷ [] =
+    cond-true (met (guards_of a) held) (target_of p letter a ∷ []) [] (unguarded-met (guards_of a) held parts.0) in
+    ap (λ r. target_of p letter a ∷ r) (unguarded_moves p held letter l parts.1) ∙ sym (ap (λ m. m ++ moves_of p held letter l) one)
+
+unguarded_rows : (p : Plan) (before : Shown) (l : List Attempt) (letters : List ℕ) → list_all is_unguarded l ≡ true
+    → map (λ letter. map (target_of p letter) l) letters ≡ map (row_of p before l) letters
+unguarded_rows p before l letters bare =
+    ap (λ (f : ℕ → List ℕ). map f letters) (λ i letter. unguarded_moves p (holding before (get_or p.next.items letter (shown None))) letter l bare i)
+
+-- where they go makes the rows of their state
+pub unguarded_state : (p : Plan) (q : ℕ) (l : List Attempt) (old new : Rows) → l ≡ attempts_at p q → list_all is_unguarded l ≡ true
+    → new ≡ only (old.rows ++ each_letter p (λ letter. map (target_of p letter) l)) → new ≡ only (old.rows ++ rows_of_state p q)
+unguarded_state p q l old new is bare goes =
+    let letters : List ℕ = range_with_len 0 (suc (plan_letters p)) in
+    goes ∙ ap (λ rows. only (old.rows ++ rows)) (unguarded_rows p (before_at p q) l letters bare ∙ ap (λ m. map (row_of p (before_at p q) m) letters) is)

@@ -1,5 +1,5 @@
 -- The lengths of the item lists of a tree: those of a part are no longer than the longest of the whole.
-use Rattle.std.proofs.Common.{◌≡◌, ℕ, zero, suc, ◌+◌, ◌-◌, ◌<◌, ◌≤◌, ◌⊎◌, inl, inr, ⊎_elim, Bool, true, false, List, [], ◌∷◌, ◌++◌, length, get_or, max, nat_lt, refl, sym, ap, ap₂, subst, ◌∙◌, arith, length-append}
+use Rattle.std.proofs.Common.{◌≡◌, ℕ, zero, suc, ◌+◌, ◌-◌, ◌<◌, ◌≤◌, ◌⊎◌, inl, inr, Bool, true, false, List, [], ◌∷◌, ◌++◌, length, get_or, nat_lt, refl, sym, ap, ◌∙◌, arith, length-append}
 use Rattle.std.proofs.lemmas.Bool.{cases_lt, cond-true, cond-false, lt-ltb, le-ltb}
 use Rattle.std.proofs.lemmas.List.{get_or-append-add, get_or_append_left}
 use Rattle.rl_syntax.specs.declared.anchors.Guard.{Guard}
@@ -254,11 +254,12 @@ lists_of-after (many e greedy) b k lt =
 pub lists-at : (t : Tree) (p : ℕ) → p < places t → get_or (lists_of t 0) p [] ≡ after t 0 p
 lists-at t p lt = let at : 0 + p ≡ p = omega arith in lists_of-after t 0 p lt ∙ ap (after t 0) at
 
-longest-start : (t : Tree) (n : ℕ) → length (first t 0) ≤ longest_of t n
+-- neither the first list nor that after a place is longer
+pub longest-start : (t : Tree) (n : ℕ) → length (first t 0) ≤ longest_of t n
 longest-start t zero = omega arith
 longest-start t (suc n) = omega (arith, longest-start t n)
 
-longest-at : (t : Tree) (n p : ℕ) → p < n → length (after t 0 p) ≤ longest_of t n
+pub longest-at : (t : Tree) (n p : ℕ) → p < n → length (after t 0 p) ≤ longest_of t n
 longest-at t zero p lt = absurd (omega arith)
 longest-at t (suc n) p lt = elim (cases_lt p n) [
   | inl h ↦ omega (arith, longest-at t n p h)

@@ -1,7 +1,7 @@
 //! The ordered automaton.
 
 ghost use Rattle.std.specs.Prelude.{◌≡◌, ◌<◌, ◌≤◌, All, IfOk};
-ghost use Rattle.rl_prio.specs.Automaton.{Automaton, IsAutomaton, letters_count, moves_at};
+ghost use Rattle.rl_prio.specs.Automaton.{Automaton, IsAutomaton, letters_count, accepting_state, dead_state, moves_at};
 
 use crate::rows::RowTable;
 use rl_lists::OutOfMemory;
@@ -47,6 +47,24 @@ impl Prio {
         ensures automaton { IsAutomaton self.now }
     {
         self.states
+    }
+
+    /// The accepting state, where a match has ended. It is the last but one, and moves to none.
+    pub fn accepting(&self) -> u32
+        ensures state { result ≡ accepting_state self.now }
+        ensures within { result < self.now.states }
+        ensures automaton { IsAutomaton self.now }
+    {
+        self.states - 2
+    }
+
+    /// The dead state, where a try has failed. It is the last one, and moves to none.
+    pub fn dead(&self) -> u32
+        ensures state { result ≡ dead_state self.now }
+        ensures within { result < self.now.states }
+        ensures automaton { IsAutomaton self.now }
+    {
+        self.states - 1
     }
 
     /// The letters. The end letter has the number after theirs.

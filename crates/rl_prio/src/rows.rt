@@ -1,6 +1,6 @@
 //! Rows of numbers in one vector.
 
-ghost use Rattle.std.specs.Prelude.{◌≡◌, ◌<◌, ◌≤◌, [], ◌∷◌, ◌++◌, length, slice_index, slice_index_or, OnOk, OnErr};
+ghost use Rattle.std.specs.Prelude.{◌≡◌, ◌<◌, ◌≤◌, [], ◌∷◌, ◌++◌, length, slice_index, slice_index_or, IfOk, OnOk, OnErr};
 ghost use Rattle.rl_prio.specs.internal.Rows.{rows_from, start_at, RiseTo};
 
 use rl_lists::OutOfMemory;
@@ -26,17 +26,21 @@ impl Model for RowTable {
 }
 
 impl RowTable {
-    /// No row, and an open one without a number. It takes memory only once it grows.
-    pub(crate) fn new(alloc: Global) -> RowTable
-        ensures { result ≡ record { rows = []; open_row = [] } }
+    /// No row, and an open one without a number, with room for so many rows.
+    ///
+    /// # Errors
+    /// [`OutOfMemory`] where there was no memory for it.
+    pub(crate) fn with_room(alloc: Global, count: usize) -> Result<RowTable, OutOfMemory>
+        ensures { IfOk result (λ r. r ≡ record { rows = []; open_row = [] }) }
     {
-        RowTable {
+        let ends = Vec::with_capacity(alloc, count)?;
+        Ok(RowTable {
             targets: Vec::new(alloc),
-            ends: Vec::new(alloc),
-        }
+            ends,
+        })
     }
 
-    /// Puts a number at the end of the open row.
+    /// Appends a number to the open row.
     ///
     /// # Errors
     /// [`OutOfMemory`] where there was no memory for it; nothing is changed then.

@@ -1,4 +1,4 @@
-//! Tests of `rl_prio`: the moves of small automata in their order, and the limit of 256 items.
+//! Tests of `rl_prio`: the moves and the named states of small automata, and the limit of 256 items.
 #![tactic(auto)]
 
 #[cfg(test)]

@@ -58,6 +58,17 @@ fn doubled_star_moves_in_order(rt: HostRuntime) -> Result<(), PrioError> {
 }
 
 #[test]
+fn one_place_has_four_states(rt: HostRuntime) -> Result<(), PrioError> {
+    let alloc = rt.alloc();
+    let tree = one(alloc, 97)?;
+    let automaton = Prio::build(alloc, &tree, Ending::AtEnd, Universe::Bytes)?;
+    assert_eq!(rt; automaton.states(), 4);
+    assert_eq!(rt; automaton.accepting(), 2);
+    assert_eq!(rt; automaton.dead(), 3);
+    Ok(())
+}
+
+#[test]
 fn more_than_256_items_are_refused(rt: HostRuntime) -> Result<(), PrioError> {
     let alloc = rt.alloc();
     let eight = empty_branches(alloc, 8)?;

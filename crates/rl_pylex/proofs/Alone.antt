@@ -24,16 +24,16 @@ starts-literal x xs m e = by-test (starts_literal x) refl
     by-test true h = refl
     by-test false h = absurd (apart (literal (x ∷ xs)) (literal-not x xs h) e)
 
-is_no_blank : (x : ℕ) → starts_literal x ≡ true → is_blank x ≡ false
+pub is_no_blank : (x : ℕ) → starts_literal x ≡ true → is_blank x ≡ false
 is_no_blank x e = grind (arith, nat_tests)
 
-is_no_backslash : (x : ℕ) → starts_literal x ≡ true → is_backslash x ≡ false
+pub is_no_backslash : (x : ℕ) → starts_literal x ≡ true → is_backslash x ≡ false
 is_no_backslash x e = grind (arith, nat_tests)
 
-is_no_line_end : (x : ℕ) → starts_literal x ≡ true → ends_line x ≡ false
+pub is_no_line_end : (x : ℕ) → starts_literal x ≡ true → ends_line x ≡ false
 is_no_line_end x e = grind (arith, nat_tests)
 
-is_no_hash : (x : ℕ) → starts_literal x ≡ true → nat_eq 35 x ≡ false
+pub is_no_hash : (x : ℕ) → starts_literal x ≡ true → nat_eq 35 x ≡ false
 is_no_hash x e = grind (arith, nat_tests)
 
 is_no_mark : (x : ℕ) → starts_literal x ≡ true → nat_eq 239 x ≡ false

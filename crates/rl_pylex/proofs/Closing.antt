@@ -6,6 +6,7 @@ use Rattle.std.proofs.lemmas.Bool.Decides.{nat_tests}
 use Rattle.std.proofs.lemmas.List.{drop-drop}
 use Rattle.rl_pylex.specs.Bytes.{has_at, is_quote, ends_line}
 use Rattle.rl_pylex.specs.Literals.{close_from, unit_size, quotes_at, Skips, is_plain}
+use Rattle.rl_pylex.specs.internal.Long.{is_long_plain}
 
 option_map-map : (f g : ℕ → ℕ) (o : Option ℕ) → option_map f (option_map g o) ≡ option_map (λ x. f (g x)) o
 option_map-map f g None = refl
@@ -93,4 +94,34 @@ Skips-plain count quote [] some q = refl
 Skips-plain count quote (x ∷ xs) some q =
     plain_first count quote x (prefix_len is_plain xs) xs (is_plain x) refl some q (Skips-plain count quote xs some q)
 
-pub ruleset skips = (Skips-unit, Skips-plain, Skips-then)
+long_is_other : (quote c : ℕ) → is_long_plain quote c ≡ true → nat_eq quote c ≡ false
+long_is_other quote c p = grind (arith, nat_tests)
+
+long_unit : (quote c : ℕ) (xs : List ℕ) → is_long_plain quote c ≡ true → unit_size (c ∷ xs) ≡ 1
+unfolding unit_size
+long_unit quote c xs p = grind (arith, nat_tests)
+
+long_first : (quote x k : ℕ) (xs : List ℕ) (b : Bool) → is_long_plain quote x ≡ b → Skips 3 quote k xs → Skips 3 quote (cond b (1 + k) 0) (x ∷ xs)
+long_first quote x k xs false e rest = Skips-zero 3 quote (x ∷ xs)
+long_first quote x k xs true e rest =
+    Skips-then 3 quote 1 k (x ∷ xs)
+    (subst (λ (n : ℕ). Skips 3 quote n (x ∷ xs)) (long_unit quote x xs e)
+    (Skips-unit 3 quote (x ∷ xs) (omega arith) (quotes_at-other 3 quote x xs (omega arith) (long_is_other quote x e)) refl))
+    rest
+
+-- between triple quotes a run of bytes that are neither the quote nor a backslash is passed
+Skips-long : (quote : ℕ) (xs : List ℕ) → Skips 3 quote (prefix_len (is_long_plain quote) xs) xs
+Skips-long quote [] = refl
+Skips-long quote (x ∷ xs) =
+    long_first quote x (prefix_len (is_long_plain quote) xs) xs (is_long_plain quote x) refl (Skips-long quote xs)
+
+pub long_skip : (count quote n : ℕ) (xs : List ℕ) → count ≡ 3 → n ≡ prefix_len (is_long_plain quote) xs → Skips count quote n xs
+long_skip count quote n xs triple e =
+    subst (λ (k : ℕ). Skips k quote n xs) (sym triple) (subst (λ (m : ℕ). Skips 3 quote m xs) (sym e) (Skips-long quote xs))
+
+pub plain_skip : (count quote n : ℕ) (xs : List ℕ) → 0 < count → is_quote quote ≡ true → n ≡ prefix_len is_plain xs → Skips count quote n xs
+plain_skip count quote n xs some q e = subst (λ (m : ℕ). Skips count quote m xs) (sym e) (Skips-plain count quote xs some q)
+
+pub ruleset runs = (long_skip, plain_skip)
+
+pub ruleset skips = (Skips-unit, Skips-then)

@@ -1,6 +1,8 @@
-mod Runs
+pub mod Runs
+mod Searches
+mod ClassTables
 mod Closing
-mod Fronts
+pub mod Fronts
 mod Sizes
 mod FirstNamed
 mod Cuts
@@ -9,4 +11,5 @@ pub mod TokenFacts
 pub mod Alone
 pub mod LiteralFacts
 mod Firsts
+mod FirstBytes
 mod Examples

@@ -97,7 +97,7 @@ none_is_no o m none some = cc
 one_value : (k m : ℕ) → Some k ≡ Some m → k ≡ m
 one_value k m e = cc
 
-suc_of : (o : Option ℕ) (m : ℕ) → option_map suc o ≡ Some m → (k : ℕ) × (o ≡ Some k) × (m ≡ suc k)
+pub suc_of : (o : Option ℕ) (m : ℕ) → option_map suc o ≡ Some m → (k : ℕ) × (o ≡ Some k) × (m ≡ suc k)
 suc_of None m e = absurd (none_is_no None m refl e)
 suc_of (Some k) m e = (k, refl, sym (one_value (suc k) m e))
 

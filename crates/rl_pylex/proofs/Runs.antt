@@ -6,6 +6,7 @@ use Rattle.std.proofs.lemmas.Bool.Decides.{nat_tests}
 use Rattle.rl_pylex.specs.Bytes.{in_line, in_name, in_number, is_blank}
 use Rattle.rl_pylex.specs.Literals.{is_plain}
 use Rattle.rl_pylex.specs.Coding.{is_gap, in_coding}
+use Rattle.rl_pylex.specs.internal.Long.{is_long_plain}
 
 not-not : (b : Bool) → not (not b) ≡ b
 not-not true = refl
@@ -20,7 +21,8 @@ prefix_len-within p [] = omega arith
 prefix_len-within p (x ∷ xs) =
     elim (p x) as (λ b. cond b (1 + prefix_len p xs) 0 ≤ length (x ∷ xs)) [ true ↦ omega (arith, prefix_len-within p xs) | false ↦ omega arith ]
 
-place-or-end : (n m : ℕ) → n ≤ m → unwrap_or (cond (ltb n m) (Some n) None) m ≡ n
+-- a place, or the end where there is none
+pub place-or-end : (n m : ℕ) → n ≤ m → unwrap_or (cond (ltb n m) (Some n) None) m ≡ n
 place-or-end n m h = grind (arith, nat_tests)
 
 run : (p : ℕ → Bool) (xs : List ℕ) → unwrap_or (position (λ c. not (p c)) xs) (length xs) ≡ prefix_len p xs
@@ -47,5 +49,8 @@ coding_run xs = run in_coding xs
 
 pub plain_run : (xs : List ℕ) → unwrap_or (position (λ c. not (is_plain c)) xs) (length xs) ≡ prefix_len is_plain xs
 plain_run xs = run is_plain xs
+
+pub long_run : (quote : ℕ) (xs : List ℕ) → unwrap_or (position (λ c. not (is_long_plain quote c)) xs) (length xs) ≡ prefix_len (is_long_plain quote) xs
+long_run quote xs = run (is_long_plain quote) xs
 
 pub ruleset runs = (prefix_len-within)

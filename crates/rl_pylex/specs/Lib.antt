@@ -4,3 +4,4 @@ pub mod Coding
 pub mod Rules
 pub mod Source
 pub mod Laws
+pub mod internal

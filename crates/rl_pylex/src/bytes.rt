@@ -3,10 +3,13 @@ ghost use Rattle.std.specs.Prelude.{◌≡◌, ℕ, ◌+◌, ◌≤◌, not, ◌
 ghost use Rattle.std.specs.List.{prefix_len};
 ghost use Rattle.rl_pylex.specs.Bytes.{has_at, is_blank, is_backslash, is_quote, ends_line, in_line, starts_name, in_name, in_number, is_operator, is_plain_operator, opens_bracket, closes_bracket, line_end, text_start};
 
+use crate::tables::{BLANKS, CLOSING_BRACKETS, NAME_BYTES, OPENING_BRACKETS, PLAIN_OPERATORS};
+use memchr::memchr2;
+
 pub fn is_blank(byte: u8) -> bool
     ensures { result ≡ is_blank byte }
 {
-    matches!(byte, b' ' | b'\t' | b'\x0C')
+    BLANKS[byte as usize]
 }
 
 pub fn is_quote(byte: u8) -> bool
@@ -30,7 +33,7 @@ pub fn starts_name(byte: u8) -> bool
 pub fn in_name(byte: u8) -> bool
     ensures { result ≡ in_name byte }
 {
-    starts_name(byte) || byte.is_ascii_digit()
+    NAME_BYTES[byte as usize]
 }
 
 pub fn in_number(byte: u8) -> bool
@@ -49,43 +52,19 @@ pub fn is_operator(byte: u8) -> bool
 pub fn is_plain_operator(byte: u8) -> bool
     ensures { result ≡ is_plain_operator byte }
 {
-    matches!(
-        byte,
-        b'(' | b')'
-            | b'['
-            | b']'
-            | b'{'
-            | b'}'
-            | b','
-            | b':'
-            | b';'
-            | b'='
-            | b'+'
-            | b'-'
-            | b'*'
-            | b'/'
-            | b'%'
-            | b'&'
-            | b'|'
-            | b'^'
-            | b'~'
-            | b'<'
-            | b'>'
-            | b'@'
-            | b'!'
-    )
+    PLAIN_OPERATORS[byte as usize]
 }
 
 pub fn opens_bracket(byte: u8) -> bool
     ensures { result ≡ opens_bracket byte }
 {
-    matches!(byte, b'(' | b'[' | b'{')
+    OPENING_BRACKETS[byte as usize]
 }
 
 pub fn closes_bracket(byte: u8) -> bool
     ensures { result ≡ closes_bracket byte }
 {
-    matches!(byte, b')' | b']' | b'}')
+    CLOSING_BRACKETS[byte as usize]
 }
 
 /// The text from a place on.
@@ -125,7 +104,7 @@ pub fn text_start(source: &[u8]) -> usize
 fn after_line(text: &[u8]) -> Option<usize>
     ensures { result ≡ position (λ c. not (in_line c)) text.now }
 {
-    text.iter().position(|byte| ends_line(*byte))
+    memchr2(b'\n', b'\r', text)
 }
 
 /// How many bytes there are up to the next line end or the end of the text.

@@ -91,7 +91,7 @@ pub fn tokens(alloc: Global, source: &[u8]) -> Result<TokenList, LexError>
     if source.len() > MOST_BYTES {
         return Err(LexError::FileTooLong);
     }
-    if let Err(error) = str::from_utf8(source) {
+    if let Err(error) = simdutf8::compat::from_utf8(source) {
         return Err(LexError::NotUtf8(error.valid_up_to() as u32));
     }
     let first = text_start(source);

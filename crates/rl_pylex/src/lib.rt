@@ -25,6 +25,7 @@ mod laws;
 mod lex;
 mod literals;
 mod rules;
+mod tables;
 mod token_list;
 
 pub use bytes::line_end;

@@ -4,14 +4,17 @@ ghost use Rattle.std.specs.List.{prefix_len};
 ghost use Rattle.std.specs.Str.{str_to_ascii_lowercase};
 ghost use Rattle.rl_pylex.specs.Bytes.{has_at, is_quote, ends_line};
 ghost use Rattle.rl_pylex.specs.Literals.{is_prefix, opens_after, prefix_size, starts_literal, Skips, is_plain, quotes_at, quote_count, unit_size, close_from, size_after};
+ghost use Rattle.rl_pylex.specs.internal.Long.{is_long_plain};
 
 use crate::bytes::{ends_line, is_quote, rest_from};
+use crate::tables::LITERAL_STARTS;
+use memchr::memchr2;
 
 /// Whether the byte is a quote or a letter of a prefix.
 pub fn starts_literal(byte: u8) -> bool
     ensures { result ≡ starts_literal byte }
 {
-    is_quote(byte) || matches!(byte.to_ascii_lowercase(), b'r' | b'u' | b'b' | b'f')
+    LITERAL_STARTS[byte as usize]
 }
 
 fn is_prefix_letter(letter: u8) -> bool
@@ -91,6 +94,36 @@ fn plain_size(text: &[u8]) -> usize
     after_plain(text).unwrap_or(text.len())
 }
 
+fn after_long_plain(text: &[u8], quote: u8) -> Option<usize>
+    ensures { result ≡ position (λ c. not (is_long_plain quote c)) text.now }
+{
+    memchr2(quote, b'\\', text)
+}
+
+/// How many bytes at the front of a body between triple quotes are passed one by one.
+#[tactic(auto, using(crate::proofs::Runs::long_run, crate::proofs::Runs::runs))]
+fn long_plain_size(text: &[u8], quote: u8) -> usize
+    ensures value { result ≡ prefix_len (is_long_plain quote) text.now }
+    ensures within { result ≤ length text.now }
+{
+    after_long_plain(text, quote).unwrap_or(text.len())
+}
+
+/// How many bytes at the front of a body, each of them a unit, to pass.
+#[tactic(auto, using(crate::proofs::Closing::runs))]
+fn run_size(body: &[u8], count: usize, quote: u8) -> usize
+    requires counts { 0 < count }
+    requires quotes { is_quote quote ≡ true }
+    ensures skips { Skips count quote result body.now }
+    ensures within { result ≤ length body.now }
+{
+    if count == 3 {
+        long_plain_size(body, quote)
+    } else {
+        plain_size(body)
+    }
+}
+
 /// How many bytes at the front of a literal's body pass together.
 #[tactic(auto, unfolding(crate::specs::Literals::unit_size))]
 fn unit_size(text: &[u8]) -> usize
@@ -121,7 +154,7 @@ fn skip(body: &[u8], count: usize, quote: u8) -> usize
     if unit >= body.len() {
         return unit;
     }
-    unit + plain_size(rest_from(body, unit))
+    unit + run_size(rest_from(body, unit), count, quote)
 }
 
 fn breaks_line(body: &[u8], count: usize) -> bool

@@ -3,7 +3,8 @@ ghost use Rattle.std.specs.Prelude.{◌≡◌, ℕ, ◌+◌, ◌^◌, ◌<◌, �
 ghost use Rattle.std.specs.List.{prefix_len};
 ghost use Rattle.rl_pylex.specs.Bytes.{has_at, is_backslash, starts_name, in_name, in_number};
 ghost use Rattle.rl_pylex.specs.Literals.{starts_literal};
-ghost use Rattle.rl_pylex.specs.Rules.{takes_if, blank, joined_line, new_line, comment, literal, name, number, operator, line_end_kind, reading_by, reading, IsBoundedReading, depth_after};
+ghost use Rattle.rl_pylex.specs.Rules.{takes_if, blank, joined_line, new_line, comment, literal, name, number, operator, line_end_kind, reading_by, first_of_rows, reading, IsBoundedReading, depth_after};
+ghost use Rattle.rl_pylex.specs.internal.Rows.{starts_number, number_rows, literal_rows};
 
 use crate::TokenKind;
 use crate::bytes::{
@@ -11,6 +12,7 @@ use crate::bytes::{
     line_end, line_size, opens_bracket, rest_from, starts_name,
 };
 use crate::literals::{prefix_size, size_after, starts_literal};
+use crate::tables::PLAIN_NAME_STARTS;
 
 /// What a rule takes at the front of a text.
 #[derive(Clone, Copy, Debug, PartialEq, Eq)]
@@ -120,7 +122,7 @@ fn name(text: &[u8]) -> Fit
 fn starts_plain_name(byte: u8) -> bool
     ensures { result ≡ (starts_name byte && not (starts_literal byte)) }
 {
-    starts_name(byte) && !starts_literal(byte)
+    PLAIN_NAME_STARTS[byte as usize]
 }
 
 fn after_number(text: &[u8]) -> Option<usize>
@@ -157,6 +159,13 @@ fn operator(text: &[u8]) -> Fit
     }
 }
 
+/// Whether the byte is a digit or `.`.
+fn starts_number(byte: u8) -> bool
+    ensures { result ≡ starts_number byte }
+{
+    byte.is_ascii_digit() || byte == b'.'
+}
+
 fn reading_by(fit: Fit, kind: Option<TokenKind>) -> Option<Reading>
     ensures { result ≡ reading_by fit kind }
 {
@@ -177,6 +186,29 @@ fn line_end_kind(depth: u32) -> Option<TokenKind>
     }
 }
 
+/// What the rules from that of numbers on give.
+fn try_number_on(text: &[u8]) -> Reading
+    ensures { result ≡ first_of_rows number_rows text.now }
+{
+    if let Some(found) = reading_by(number(text), Some(TokenKind::Number)) {
+        return found;
+    }
+    reading_by(operator(text), Some(TokenKind::Op)).unwrap_or(Reading::Stray)
+}
+
+/// What the rules from that of literals on give.
+fn try_literal_on(text: &[u8]) -> Reading
+    ensures { result ≡ first_of_rows literal_rows text.now }
+{
+    if let Some(found) = reading_by(literal(text), Some(TokenKind::Literal)) {
+        return found;
+    }
+    if let Some(found) = reading_by(name(text), Some(TokenKind::Name)) {
+        return found;
+    }
+    try_number_on(text)
+}
+
 /// What the first rule that fits takes at the front of the text, at a bracket depth: each rule is tried in turn.
 #[tactic(auto, unfolding(crate::specs::Rules::reading))]
 fn try_rules(text: &[u8], depth: u32) -> Reading
@@ -194,27 +226,22 @@ fn try_rules(text: &[u8], depth: u32) -> Reading
     if let Some(found) = reading_by(comment(text), Some(TokenKind::Comment)) {
         return found;
     }
-    if let Some(found) = reading_by(literal(text), Some(TokenKind::Literal)) {
-        return found;
-    }
-    if let Some(found) = reading_by(name(text), Some(TokenKind::Name)) {
-        return found;
-    }
-    if let Some(found) = reading_by(number(text), Some(TokenKind::Number)) {
-        return found;
-    }
-    reading_by(operator(text), Some(TokenKind::Op)).unwrap_or(Reading::Stray)
+    try_literal_on(text)
 }
 
-/// The same. The first byte tells most operators and names at once.
+/// The same. The first byte tells most pieces at once, or which rules are left.
 fn first_fit(text: &[u8], depth: u32) -> Reading
     ensures { result ≡ reading depth text.now }
 {
     match text {
-        [byte, ..] if is_plain_operator(*byte) => Reading::Piece(Some(TokenKind::Op), 1),
         [byte, ..] if starts_plain_name(*byte) => {
             Reading::Piece(Some(TokenKind::Name), name_size(text))
         }
+        [byte, ..] if is_plain_operator(*byte) => Reading::Piece(Some(TokenKind::Op), 1),
+        [byte, ..] if starts_literal(*byte) => try_literal_on(text),
+        [byte, ..] if starts_number(*byte) => try_number_on(text),
+        [byte, ..] if ends_line(*byte) => Reading::Piece(line_end_kind(depth), line_end(text)),
+        [byte, ..] if *byte == b'#' => Reading::Piece(Some(TokenKind::Comment), line_size(text)),
         _ => try_rules(text, depth),
     }
 }

@@ -12,7 +12,8 @@ use Rattle.rl_pylex.specs.declared.token_list.Token.{Token}
 use Rattle.rl_pylex.specs.Bytes.{has_at, is_quote, ends_line}
 use Rattle.rl_pylex.specs.Literals.{opens_after, prefix_size, quotes_at, quote_count, unit_size, close_from, IsLiteral}
 use Rattle.rl_pylex.specs.Source.{text_of, IsReadAt}
-use Rattle.rl_pylex.proofs.LiteralFacts.{Sized-from, IsLiteral-room, IsLiteral-token}
+use Rattle.rl_pylex.proofs.Fronts.{quote_at}
+use Rattle.rl_pylex.proofs.LiteralFacts.{Sized-from, IsLiteral-room, IsLiteral-token, suc_of}
 use Rattle.rl_pystr.specs.Runs.{letter_count, quotes_of, body_start, body_of, is_literal, is_literal_kind}
 
 pub prefix-is : (text : List ℕ) (l : IsLiteral text) → letter_count text ≡ l.prefix
@@ -55,14 +56,9 @@ left-of : (b c : Bool) → (b && c) ≡ true → b ≡ true
 left-of true c h = refl
 left-of false c h = absurd (false≢true h)
 
-has_at-read : (p : ℕ → Bool) (n : ℕ) (xs : List ℕ) → has_at p n xs ≡ true → p (get_or xs n 0) ≡ true
-has_at-read p n [] h = absurd (false≢true h)
-has_at-read p zero (x ∷ xs) h = h
-has_at-read p (suc n) (x ∷ xs) h = has_at-read p n xs h
-
 quote_after : (text : List ℕ) (n : ℕ) → prefix_size text ≡ Some n → is_quote (get_or text n 0) ≡ true
 unfolding prefix_size opens_after
-quote_after text n e = has_at-read is_quote n text (right-of _ (has_at is_quote n text) (found (opens_after text) n e))
+quote_after text n e = quote_at n text (right-of _ (has_at is_quote n text) (found (opens_after text) n e))
 
 quote_is_ascii : (c : ℕ) → is_quote c ≡ true → c < 128
 quote_is_ascii c h = grind (arith, nat_tests)
@@ -86,10 +82,6 @@ last_quote d = by-test (quotes_at 3 (get_or d 0 0) d) refl
 front_quote : (k quote x : ℕ) (xs : List ℕ) → quotes_at (suc k) quote (x ∷ xs) ≡ true → x ≡ quote
 front_quote k quote x xs h =
     let e : nat_eq quote x ≡ true = left-of (nat_eq quote x) _ h in grind (arith, nat_tests)
-
-suc_of : (o : Option ℕ) (m : ℕ) → option_map suc o ≡ Some m → (k : ℕ) × (o ≡ Some k) × (m ≡ suc k)
-suc_of None m e = absurd (none_is_no m e)
-suc_of (Some k) m e = (k, refl, sym (one_value (suc k) m e))
 
 IsClosed : ℕ → ℕ → ℕ → List ℕ → Type 0
 IsClosed count quote m xs = (count ≤ m) × (get_or xs (m - count) 0 ≡ quote)

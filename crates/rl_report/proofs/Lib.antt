@@ -1,4 +1,4 @@
-mod PlaceLemmas
+pub mod PlaceLemmas
 mod FamilyLemmas
 mod LineLemmas
 pub mod Ascii

@@ -1,13 +1,13 @@
 -- A report in JSON has no float: each part, put to members without one, gives members without one.
-use Rattle.std.proofs.Common.{◌≡◌, ℕ, Bool, true, false, cond, ◌||◌, List, [], ◌∷◌, map, refl, ap, sym, ◌∙◌, Ordering, Less, Equal, Greater, nat_cmp, codes, Option, Some, None}
+use Rattle.std.proofs.Common.{◌≡◌, ℕ, Bool, true, false, cond, ◌||◌, List, refl, ap, sym, ◌∙◌, Ordering, Less, Equal, Greater, nat_cmp, codes, Option, Some, None}
 use Rattle.std.specs.Prelude.{◌==◌}
 use Rattle.std.specs.Cmp.Lexicographic.{slice_cmp}
 use Rattle.std.specs.List.{count_by}
 use Rattle.std.specs.Ordering.{match_ordering}
-use Rattle.std.proofs.lemmas.Bool.{false≢true}
+use Rattle.std.proofs.lemmas.Bool.{false≢true, or_from}
 use Rattle.serde_json.specs.Data.{Data, Members, member, no_members, object, string, put}
-use Rattle.serde_json.specs.View.{items_of}
-use Rattle.serde_json.specs.Written.{has_float, items_have_float, members_have_float}
+use Rattle.serde_json.specs.Written.{has_float, members_have_float}
+use Rattle.rl_json.proofs.NoFloats.{items-plain}
 use Rattle.rl_ranges.specs.declared.universe.Universe.{Universe}
 use Rattle.rl_sites.specs.declared.call.Call.{Call}
 use Rattle.rl_syntax.specs.declared.verdict.Family.{Family}
@@ -22,10 +22,6 @@ use Rattle.rl_report.specs.Names.{Text, call_name, cause_name, kind_name, limit_
 use Rattle.rl_report.specs.Findings.{verdict_of, suggestion_of, becomes_of, is_finding, is_refused, is_undecided}
 use Rattle.rl_report.specs.Document.{whole, place_members, place_data, at_members, call_members, fault_members, kind_members, verdict_members, refusal_members, outcome_members, text_data, texts_data, family_data, family_members, marks_data, marks_members, becomes_members, suggest_members, suggestion_members, front_members, entry_data, entries_data, report_data}
 
-neither : (b c : Bool) → b ≡ false → c ≡ false → (b || c) ≡ false
-neither false c e f = f
-neither true c e f = e
-
 not-left : (b c : Bool) → (b || c) ≡ false → b ≡ false
 not-left false c h = refl
 not-left true c h = h
@@ -36,20 +32,16 @@ not-right true c h = absurd (false≢true (sym h))
 
 by_order : (o : Ordering) (k l : List ℕ) (d e : Data) (ms more : Members) → has_float d ≡ false → has_float e ≡ false → members_have_float ms ≡ false → members_have_float more ≡ false
     → members_have_float (match_ordering o (member k d (member l e ms)) (member l d ms) (member l e more)) ≡ false
-by_order Less k l d e ms more hd he hm hn = neither _ _ hd (neither _ _ he hm)
-by_order Equal k l d e ms more hd he hm hn = neither _ _ hd hm
-by_order Greater k l d e ms more hd he hm hn = neither _ _ he hn
+by_order Less k l d e ms more hd he hm hn = or_from _ _ hd (or_from _ _ he hm)
+by_order Equal k l d e ms more hd he hm hn = or_from _ _ hd hm
+by_order Greater k l d e ms more hd he hm hn = or_from _ _ he hn
 
 put-plain : (k : List ℕ) (d : Data) (ms : Members) → has_float d ≡ false → members_have_float ms ≡ false → members_have_float (put k d ms) ≡ false
-put-plain k d no_members hd hm = neither _ _ hd refl
+put-plain k d no_members hd hm = or_from _ _ hd refl
 put-plain k d (member l e ms) hd hm =
     let he : has_float e ≡ false = not-left (has_float e) (members_have_float ms) hm in
     let hr : members_have_float ms ≡ false = not-right (has_float e) (members_have_float ms) hm in
     by_order (slice_cmp nat_cmp k l) k l d e ms (put k d ms) hd he hr (put-plain k d ms hd hr)
-
-items-plain : {X : Type 0} (f : X → Data) (xs : List X) → ((x : X) → has_float (f x) ≡ false) → items_have_float (items_of (map f xs)) ≡ false
-items-plain f [] h = refl
-items-plain f (x ∷ xs) h = neither (has_float (f x)) (items_have_float (items_of (map f xs))) (h x) (items-plain f xs h)
 
 place-plain : (p : Place) (ms : Members) → members_have_float ms ≡ false → members_have_float (place_members p ms) ≡ false
 place-plain p ms h =

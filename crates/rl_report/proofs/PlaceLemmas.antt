@@ -38,7 +38,8 @@ behind_more before BeginsCode =
 behind_more before GoesOn =
     ap₂ at_place (omega (arith, line_more before GoesOn)) (omega (arith, column_more before GoesOn))
 
-length-roles : (text : List ℕ) → length (roles text) ≡ length text
+-- each byte of a text has a role
+pub length-roles : (text : List ℕ) → length (roles text) ≡ length text
 length-roles [] = refl
 length-roles (c ∷ rest) = ap suc (length-roles rest)
 

@@ -7,7 +7,7 @@ use Rattle.rl_pylex.specs.declared.fault.LexError.TheVariants as lex_error
 use Rattle.rl_pystr.specs.declared.fault.StrError.{StrError}
 use Rattle.rl_pystr.specs.declared.fault.StrError.TheVariants as str_error
 use Rattle.rl_sites.specs.declared.call.Call.{Call}
-use Rattle.rl_sites.specs.declared.call.Call.TheVariants as call
+use Rattle.rl_sites.specs.Names.{call_word}
 use Rattle.rl_syntax.specs.declared.feature.Feature.{Feature}
 use Rattle.rl_syntax.specs.declared.feature.Feature.TheVariants as feature
 use Rattle.rl_syntax.specs.declared.verdict.Limit.{Limit}
@@ -37,16 +37,9 @@ feature_name feature.Atomic = codes "atomic"
 feature_name feature.NamedEscape = codes "named-escape"
 feature_name feature.InnerAnchor = codes "inner-anchor"
 
+-- the word that names a call in a source
 abbrev pub call_name : Call → Text
-call_name call.Compile = codes "compile"
-call_name call.Match = codes "match"
-call_name call.Search = codes "search"
-call_name call.Fullmatch = codes "fullmatch"
-call_name call.Findall = codes "findall"
-call_name call.Finditer = codes "finditer"
-call_name call.Split = codes "split"
-call_name call.Sub = codes "sub"
-call_name call.Subn = codes "subn"
+call_name c = call_word c
 
 abbrev pub limit_name : Limit → Text
 limit_name limit.Size = codes "size"

@@ -18,7 +18,7 @@ use rl_lists::{Bytes, Codes, OutOfMemory};
 use rl_pystr::quote;
 use rl_sites::Call;
 use rl_syntax::{Family, Limit, Suggestion, Universe, Verdict};
-use serde_json::{Map, Value, put};
+use serde_json::{Map, Value, json, put};
 use std::alloc::Global;
 
 /// The members of an object.
@@ -58,9 +58,7 @@ fn put_place(alloc: Global, members: &mut Members, place: Place) -> Result<(), O
 fn place_value(alloc: Global, place: Place) -> Result<Value, OutOfMemory>
     ensures { IfOk result (λ v. view v ≡ place_data place) }
 {
-    let mut members = Map::new(alloc);
-    put_place(alloc, &mut members, place)?;
-    Ok(Value::Object(members))
+    Ok(json!(in alloc; {"line": place.line, "column": place.column})?)
 }
 
 fn put_at(alloc: Global, members: &mut Members, at: Option<Place>) -> Result<(), OutOfMemory>
@@ -201,10 +199,7 @@ fn family_value(alloc: Global, family: &Family, universe: Universe) -> Result<Va
 {
     let heads = texts_value(alloc, family.heads.as_slice(), universe)?;
     let pumps = texts_value(alloc, family.pumps.as_slice(), universe)?;
-    let mut members = Map::new(alloc);
-    put(&mut members, alloc, "heads", heads)?;
-    put(&mut members, alloc, "pumps", pumps)?;
-    Ok(Value::Object(members))
+    Ok(json!(in alloc; {"heads": heads, "pumps": pumps})?)
 }
 
 fn put_family(
@@ -420,18 +415,13 @@ fn report_value(alloc: Global, terms: Terms, entries: &[Entry]) -> Result<Value,
         ≡ report_data terms.max_degree terms.max_pairs terms.report entries.now) }
 {
     let value = entries_value(alloc, terms, entries)?;
-    let mut members = Map::new(alloc);
-    put(&mut members, alloc, "entries", value)?;
-    put_number(
-        alloc,
-        &mut members,
-        "findings",
-        findings(entries, terms.max_degree),
-    )?;
-    put_number(alloc, &mut members, "refused", refusals(entries))?;
-    put_number(alloc, &mut members, "undecided", undecided(entries))?;
-    put_number(alloc, &mut members, "version", terms.report as usize)?;
-    Ok(Value::Object(members))
+    Ok(json!(in alloc; {
+        "entries": value,
+        "findings": findings(entries, terms.max_degree),
+        "refused": refusals(entries),
+        "undecided": undecided(entries),
+        "version": terms.report
+    })?)
 }
 
 /// The report in JSON: one line.

@@ -6,6 +6,7 @@ mod document;
 mod layouts;
 mod lines;
 mod names;
+mod outcomes;
 mod pieces;
 mod places;
 mod report;
@@ -17,6 +18,7 @@ pub use names::{
     call_name, feature_name, lexing_cause, limit_name, limit_number, literal_cause, pattern_cause,
     verdict_kind,
 };
+pub use outcomes::outcome_text;
 pub use places::{Cursor, Place, place_of};
-pub use report::{Entries, Entry, Mark, MarkList, Marks, Outcome};
+pub use report::{Entries, Entry, Mark, MarkList, Marks, Outcome, is_finding};
 pub use verdicts::{family_line, verdict_line};

@@ -3,14 +3,15 @@ ghost use Rattle.std.specs.Prelude.{◌≡◌, ◌∷◌, ◌++◌, All, IfOk, I
 ghost use Rattle.std.specs.List.{flat_map};
 ghost use Rattle.rl_ranges.specs.Text.{IsText};
 ghost use Rattle.rl_report.specs.Findings.{becomes_of, suggestion_of, verdict_of};
-ghost use Rattle.rl_report.specs.Layouts.{IsOfItsUniverse, at_text, becomes_line, brief_report, call_text, counts_text, detail_lines, entry_lines, family_lines, fault_text, head_line, hidden_text, last_line, mark_line, mark_lines, mark_text, outcome_text, refusal_text, suggest_lines, suggestion_lines, text_report};
+ghost use Rattle.rl_report.specs.Layouts.{IsOfItsUniverse, at_text, becomes_line, brief_report, call_text, counts_text, detail_lines, entry_lines, family_lines, head_line, hidden_text, last_line, mark_line, mark_lines, mark_text, suggest_lines, suggestion_lines, text_report};
 ghost use Rattle.rl_report.specs.Verdicts.{IsVerdictOf, quoted_text};
 
 use crate::counts::{findings, refusals, undecided};
 use crate::names::call_name;
+use crate::outcomes::outcome_text;
 use crate::pieces::{push_number, push_place, push_quoted, push_text};
 use crate::places::Place;
-use crate::report::{Entries, Entry, Mark, Marks, Outcome};
+use crate::report::{Entries, Entry, Mark, Marks};
 use crate::verdicts::{push_family, push_verdict};
 use rl_lists::{Bytes, Codes, OutOfMemory};
 use rl_sites::Call;
@@ -54,58 +55,6 @@ fn push_call(out: &mut Vec<u8>, call: Option<Call>) -> Result<(), OutOfMemory>
     }
 }
 
-fn push_fault(alloc: Global, out: &mut Vec<u8>, fault: Option<Place>) -> Result<(), OutOfMemory>
-    ensures { OnOk result (out.new.items ≡ out.old.items ++ fault_text fault) }
-{
-    match fault {
-        None => Ok(()),
-        Some(place) => {
-            push_text(out, " at ")?;
-            push_place(alloc, out, place)?;
-            Ok(())
-        }
-    }
-}
-
-fn push_refusal(
-    alloc: Global,
-    out: &mut Vec<u8>,
-    outcome: &Outcome,
-    cause: Option<&'static str>,
-    fault: Option<Place>,
-) -> Result<(), OutOfMemory>
-    ensures { OnOk result (out.new.items
-        ≡ out.old.items ++ refusal_text outcome.now (option_map (λ c. c.now) cause.entry) fault) }
-{
-    match cause {
-        None => push_text(out, outcome.kind()),
-        Some(cause) => {
-            push_text(out, "refused ")?;
-            push_text(out, cause)?;
-            push_fault(alloc, out, fault)?;
-            Ok(())
-        }
-    }
-}
-
-fn push_outcome(
-    alloc: Global,
-    out: &mut Vec<u8>,
-    entry: &Entry,
-    max_pairs: u32,
-) -> Result<(), OutOfMemory>
-    ensures { OnOk result (out.new.items
-        ≡ out.old.items ++ outcome_text max_pairs entry.now (verdict_of entry.now.outcome)) }
-{
-    match entry.outcome.verdict() {
-        None => {
-            let cause = entry.outcome.cause();
-            push_refusal(alloc, out, &entry.outcome, cause, entry.fault)
-        }
-        Some(verdict) => push_verdict(alloc, out, verdict, max_pairs),
-    }
-}
-
 /// Appends the head line of an entry.
 fn push_head(
     alloc: Global,
@@ -115,11 +64,12 @@ fn push_head(
 ) -> Result<(), OutOfMemory>
     ensures { OnOk result (out.new.items ≡ out.old.items ++ head_line max_pairs entry.now) }
 {
+    let outcome = outcome_text(alloc, entry, max_pairs)?;
     push_text(out, entry.path.as_str())?;
     push_at(alloc, out, entry.at)?;
     push_text(out, ": ")?;
     push_call(out, entry.call)?;
-    push_outcome(alloc, out, entry, max_pairs)?;
+    push_text(out, outcome.as_str())?;
     push_text(out, "\n")?;
     Ok(())
 }

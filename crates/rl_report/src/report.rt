@@ -1,6 +1,6 @@
 //! The entries of a report.
 ghost use Rattle.std.specs.Prelude.{◌≡◌, option_map};
-ghost use Rattle.rl_report.specs.Findings.{becomes_of, is_finding, is_refused, is_undecided, suggestion_of, verdict_of};
+ghost use Rattle.rl_report.specs.Findings.{becomes_of, is_finding, is_found, is_refused, is_undecided, suggestion_of, verdict_of};
 ghost use Rattle.rl_report.specs.Names.{cause_name, kind_name};
 
 use crate::names::{lexing_cause, literal_cause, pattern_cause, verdict_kind};
@@ -147,17 +147,26 @@ impl Outcome {
     }
 }
 
+/// Whether a verdict is a finding: an exponential one, or a degree above the greatest that is allowed.
+pub fn is_finding(verdict: &Verdict, max_degree: u32) -> bool
+    ensures { result ≡ is_found max_degree verdict.now }
+{
+    match verdict {
+        Verdict::Degree(degree, _) => *degree > max_degree,
+        Verdict::Expo(_) => true,
+        Verdict::Undecided(_) => false,
+    }
+}
+
 impl Entry {
-    /// Whether it is a finding: its verdict is exponential or a degree above the greatest that is allowed.
+    /// Whether it is a finding: its verdict is one.
     #[tactic(auto, unfolding(crate::specs::Findings::is_finding))]
     pub fn is_finding(&self, max_degree: u32) -> bool
         ensures { result ≡ is_finding max_degree self.now }
     {
         match self.outcome.verdict() {
-            Some(Verdict::Degree(degree, _)) => *degree > max_degree,
-            Some(Verdict::Expo(_)) => true,
-            Some(Verdict::Undecided(_)) => false,
             None => false,
+            Some(verdict) => is_finding(verdict, max_degree),
         }
     }
 

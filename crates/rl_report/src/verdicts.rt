@@ -1,5 +1,5 @@
 //! Verdicts and families as texts.
-ghost use Rattle.std.specs.Prelude.{◌≡◌, ◌+◌, [], ◌∷◌, ◌++◌, All, IfOk, OnOk, codes, length};
+ghost use Rattle.std.specs.Prelude.{◌≡◌, ◌+◌, [], ◌∷◌, ◌++◌, All, IfOk, OnOk, codes, length, string_bytes};
 ghost use Rattle.rl_ranges.specs.Text.{IsText};
 ghost use Rattle.rl_report.specs.Names.{Text};
 ghost use Rattle.rl_report.specs.Verdicts.{IsFamilyOf, family_part, family_parts, family_text_line, later_parts, verdict_text};
@@ -7,23 +7,23 @@ ghost use Rattle.rl_report.specs.Verdicts.{IsFamilyOf, family_part, family_parts
 use crate::names::{limit_name, limit_number};
 use crate::pieces::{push_number, push_quoted, push_text};
 use rl_lists::{Bytes, Codes, OutOfMemory};
-use rl_syntax::{Family, Limit, Universe, Verdict};
+use rl_syntax::{Family, Universe, Verdict};
 use std::alloc::Global;
 
-/// Appends the name and the number of a limit that was passed.
-fn push_limit(
-    alloc: Global,
-    out: &mut Vec<u8>,
-    limit: Limit,
-    max_pairs: u32,
-) -> Result<(), OutOfMemory>
-    ensures { OnOk result (out.new.items ≡ out.old.items ++ verdict_text max_pairs (Verdict.Undecided limit)) }
+/// A verdict: `degree D`, `exponential` or `undecided L over N`.
+pub fn verdict_text(alloc: Global, verdict: &Verdict, max_pairs: u32) -> Result<String, OutOfMemory>
+    ensures { IfOk result (λ text. string_bytes text ≡ verdict_text max_pairs verdict.now) }
 {
-    push_text(out, "undecided ")?;
-    push_text(out, limit_name(limit))?;
-    push_text(out, " over ")?;
-    push_number(alloc, out, limit_number(limit, max_pairs) as usize)?;
-    Ok(())
+    let text = match verdict {
+        Verdict::Degree(degree, _) => format!(in alloc; "degree {degree}")?,
+        Verdict::Expo(_) => String::from_str(alloc, "exponential")?,
+        Verdict::Undecided(limit) => {
+            let name = limit_name(*limit);
+            let number = limit_number(*limit, max_pairs);
+            format!(in alloc; "undecided {name} over {number}")?
+        }
+    };
+    Ok(text)
 }
 
 /// Appends a verdict.
@@ -35,15 +35,8 @@ pub fn push_verdict(
 ) -> Result<(), OutOfMemory>
     ensures { OnOk result (out.new.items ≡ out.old.items ++ verdict_text max_pairs verdict.now) }
 {
-    match verdict {
-        Verdict::Degree(degree, _) => {
-            push_text(out, "degree ")?;
-            push_number(alloc, out, *degree as usize)?;
-            Ok(())
-        }
-        Verdict::Expo(_) => push_text(out, "exponential"),
-        Verdict::Undecided(limit) => push_limit(alloc, out, *limit, max_pairs),
-    }
+    let text = verdict_text(alloc, verdict, max_pairs)?;
+    push_text(out, text.as_str())
 }
 
 /// Appends a head or a pump with its letter and its number.

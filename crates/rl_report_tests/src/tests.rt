@@ -9,8 +9,8 @@ ghost use Rattle.rl_report.specs.Verdicts.{IsFamilyOf, IsVerdictOf};
 use rl_lists::{Bytes, Codes, OutOfMemory};
 use rl_pystr::StrError;
 use rl_report::{
-    Cursor, Entries, Entry, Format, Mark, MarkList, Marks, Outcome, Place, family_line, place_of,
-    render, render_shown, verdict_line,
+    Cursor, Entries, Entry, Format, Mark, MarkList, Marks, Outcome, Place, family_line, is_finding,
+    outcome_text, place_of, render, render_shown, verdict_line,
 };
 use rl_sites::Call;
 use rl_source::Name;
@@ -208,5 +208,24 @@ fn lines(rt: HostRuntime) -> Result<(), Fail> {
         family.as_slice(),
         b"  family x0 r\"\" y1 r\"a\" x1 r\"b\"\n".as_slice()
     );
+    Ok(())
+}
+
+#[test]
+fn outcomes(rt: HostRuntime) -> Result<(), Fail> {
+    let alloc = rt.alloc();
+    let fault = Place {
+        line: 2,
+        column: 14,
+    };
+    let outcome = Outcome::Literal(StrError::BadEscape(20));
+    let entries = entries(alloc, outcome, Some(fault))?;
+    for entry in entries.as_slice() {
+        let text = outcome_text(alloc, entry, 600)?;
+        assert_eq!(rt; text.as_str(), "refused bad-escape at 2:14");
+    }
+    let verdict = Verdict::Degree(2, family(alloc)?);
+    assert!(rt; is_finding(&verdict, 1));
+    assert!(rt; !is_finding(&verdict, 2));
     Ok(())
 }

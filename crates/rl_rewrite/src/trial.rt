@@ -27,17 +27,18 @@ pub(crate) enum Trial {
 /// The trial of a branch, by the trees of a body with it and without it, which pass no limit.
 pub(crate) fn run_trial(
     alloc: Global,
-    before: &Baseline,
+    before: &mut Baseline,
     after: &Re,
     limit: u32,
 ) -> Result<Trial, OutOfMemory>
-    requires inside { IsOver before.now.universe (tree_of after.now) }
-    requires letters { TellsNoMore (tree_of before.now.tree) (tree_of after.now) }
-    requires within { AreWithin before.now.universe (tree_of before.now.tree) (tree_of after.now) }
+    requires inside { IsOver before.old.universe (tree_of after.now) }
+    requires letters { TellsNoMore (tree_of before.old.tree) (tree_of after.now) }
+    requires within { AreWithin before.old.universe (tree_of before.old.tree) (tree_of after.now) }
     requires some { 1 ≤ limit }
     requires low { limit ≤ 20000 }
-    ensures verdict { IfOk result (λ t. IsVerdict before.now.universe limit (tree_of before.now.tree) (tree_of after.now) (verdict_of t)) }
-    ensures told { IfOk result (IsTold before.now.universe (tree_of before.now.tree) (tree_of after.now)) }
+    ensures verdict { IfOk result (λ t. IsVerdict before.old.universe limit (tree_of before.old.tree) (tree_of after.now) (verdict_of t)) }
+    ensures told { IfOk result (IsTold before.old.universe (tree_of before.old.tree) (tree_of after.now)) }
+    ensures unchanged { before.new ≡ before.old }
 {
     match before.compare(alloc, after, limit) {
         Ok(Sameness::Equal(_)) => Ok(Trial::Equal),

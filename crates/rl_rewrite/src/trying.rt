@@ -44,7 +44,7 @@ fn try_branch(
     alloc: Global,
     p: &Pattern,
     branch: Span,
-    tries: Tries,
+    mut tries: Tries,
     limit: u32,
 ) -> Result<Tries, OutOfMemory>
     requires guardless { guard_in (body_of p.now) ≡ false }
@@ -64,7 +64,7 @@ fn try_branch(
         return Ok(tries);
     }
     let after = tree_without(alloc, p, more.as_slice())?;
-    match run_trial(alloc, &tries.base, &after, limit)? {
+    match run_trial(alloc, &mut tries.base, &after, limit)? {
         Trial::Equal => {
             let base = next_baseline(alloc, after, p.universe())?;
             Ok(Tries {

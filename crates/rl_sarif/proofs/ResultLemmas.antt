@@ -1,12 +1,13 @@
 -- Results put one behind the other in a loop, and a document, which has no float.
-use Rattle.std.proofs.Common.{◌≡◌, ℕ, ◌+◌, ◌<◌, ◌≤◌, Bool, true, false, cond, ◌||◌, List, [], ◌∷◌, ◌++◌, length, get_or, take, map, filter, Option, None, Some, codes, ap, ap₂, sym, refl, ◌∙◌, Vec, Global, append-nil}
+use Rattle.std.proofs.Common.{◌≡◌, ℕ, ◌+◌, ◌<◌, ◌≤◌, Bool, true, false, cond, List, [], ◌∷◌, ◌++◌, length, get_or, take, map, filter, Option, None, Some, codes, ap, ap₂, sym, refl, ◌∙◌, Vec, Global, append-nil}
 use Rattle.std.proofs.lemmas.List.{map-append, take_more, take_all}
 use Rattle.std.proofs.lemmas.List.Elements.{filter-append}
 use Rattle.serde_json.specs.Data.{Data, array, object, no_members, put}
 use Rattle.serde_json.specs.View.{items_of, view}
-use Rattle.serde_json.specs.Written.{has_float, items_have_float}
+use Rattle.serde_json.specs.Written.{has_float}
 use Rattle.serde_json.specs.declared.value.Value.{Value, Array}
 use Rattle.serde_json.proofs.Views.{view-Array}
+use Rattle.rl_json.proofs.NoFloats.{items-plain}
 use Rattle.rl_report.specs.declared.places.Place.{Place}
 use Rattle.rl_report.specs.declared.report.Entry.{Entry}
 use Rattle.rl_sarif.specs.Sarif.{artifact_data, region_members, result_data, results_data, document_data, is_result}
@@ -40,14 +41,6 @@ value_all p f vs xs i h so_far = view-Array vs ∙ ap (λ ds. array (items_of ds
 pub ruleset results = (value_more, value_passed, value_all)
 
 -- ---- no float
-
-neither : (b c : Bool) → b ≡ false → c ≡ false → (b || c) ≡ false
-neither false c e f = f
-neither true c e f = e
-
-items-plain : {X : Type 0} (f : X → Data) (xs : List X) → ((x : X) → has_float (f x) ≡ false) → items_have_float (items_of (map f xs)) ≡ false
-items-plain f [] h = refl
-items-plain f (x ∷ xs) h = neither (has_float (f x)) (items_have_float (items_of (map f xs))) (h x) (items-plain f xs h)
 
 physical-plain : (at : Option Place) (path : List ℕ) → has_float (object (region_members at (put (codes "artifactLocation") (artifact_data path) no_members))) ≡ false
 physical-plain None path = refl

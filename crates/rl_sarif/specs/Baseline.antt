@@ -1,19 +1,19 @@
 -- What a baseline holds: a report in JSON, read as the keys of its entries. Members that aren't named here are passed over.
-use Rattle.std.specs.Prelude.{◌≡◌, ℕ, ◌≤◌, ◌^◌, Bool, false, ◌||◌, ◌==◌, nat_lt, List, [], ◌∷◌, Option, Some, None, option_map, option_and_then, codes, find, length, IsUtf8, if◌then◌else◌}
+use Rattle.std.specs.Prelude.{◌≡◌, ℕ, ◌≤◌, ◌^◌, Bool, false, ◌||◌, ◌==◌, nat_lt, List, [], ◌∷◌, Option, Some, None, option_map, option_and_then, codes, find, length, map, IsUtf8, if◌then◌else◌}
 use Rattle.std.specs.Option.{option_map_or}
 use Rattle.std.specs.Str.{bytes_eq}
 use Rattle.serde_json.specs.Data.{Data, Items, no_items, item}
 use Rattle.serde_json.specs.Find.{get, as_array, as_number, as_str, as_u64}
 use Rattle.serde_json.specs.Read.{read}
-use Rattle.rl_report.specs.Names.{Text}
+use Rattle.rl_sites.specs.Names.{calls}
+use Rattle.rl_syntax.specs.declared.verdict.Limit.TheVariants.{Size, Letters, Moves, Sets, Pairs}
+use Rattle.rl_report.specs.Names.{Text, call_name, limit_name}
 use Rattle.rl_sarif.specs.Keys.{EntryKey, Subject}
 
 -- ---- the names that a baseline may hold
 
 abbrev pub call_names : List Text
-call_names =
-    codes "compile" ∷ codes "match" ∷ codes "search" ∷ codes "fullmatch" ∷ codes "findall" ∷ codes "finditer" ∷ codes "split"
-    ∷ codes "sub" ∷ codes "subn" ∷ []
+call_names = map call_name calls
 
 abbrev pub kind_names : List Text
 kind_names =
@@ -21,7 +21,7 @@ kind_names =
     ∷ codes "not-plain" ∷ []
 
 abbrev pub limit_names : List Text
-limit_names = codes "size" ∷ codes "letters" ∷ codes "moves" ∷ codes "sets" ∷ codes "pairs" ∷ []
+limit_names = map limit_name (Size ∷ Letters ∷ Moves ∷ Sets ∷ Pairs ∷ [])
 
 -- the causes of refusals. The last two stand in older reports
 abbrev pub cause_names : List Text

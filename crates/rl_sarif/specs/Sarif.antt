@@ -1,16 +1,14 @@
 -- A report as a document of SARIF 2.1.0.
-use Rattle.std.specs.Prelude.{ℕ, ◌/◌, ◌%◌, Bool, true, ◌&&◌, ◌||◌, ◌==◌, nat_lt, nat_le, List, [], ◌∷◌, ◌++◌, map, filter, Option, Some, None, codes, if◌then◌else◌}
+use Rattle.std.specs.Prelude.{ℕ, ◌/◌, ◌%◌, Bool, true, ◌&&◌, ◌||◌, ◌==◌, nat_le, List, [], ◌∷◌, ◌++◌, map, filter, Option, Some, None, codes, if◌then◌else◌}
 use Rattle.std.specs.List.{flat_map}
 use Rattle.std.specs.Fmt.{digit_glyph}
 use Rattle.serde_json.specs.Data.{Data, Members, string, array, object, no_members, put}
 use Rattle.serde_json.specs.View.{items_of}
 use Rattle.serde_json.specs.Written.{compact_text}
-use Rattle.rl_syntax.specs.declared.verdict.Verdict.{Verdict}
-use Rattle.rl_syntax.specs.declared.verdict.Verdict.TheVariants.{Degree, Expo, Undecided}
 use Rattle.rl_report.specs.declared.places.Place.{Place}
 use Rattle.rl_report.specs.declared.report.Entry.{Entry}
 use Rattle.rl_report.specs.Document.{whole}
-use Rattle.rl_report.specs.Findings.{verdict_of}
+use Rattle.rl_report.specs.Findings.{verdict_of, is_finding, is_refused, is_undecided}
 use Rattle.rl_report.specs.Layouts.{call_text, outcome_text}
 use Rattle.rl_report.specs.Names.{Text, kind_name}
 
@@ -65,15 +63,9 @@ result_data max_pairs e =
     (put (codes "message") (message_data (message_text max_pairs e))
     (put (codes "locations") (array (items_of (location_data e ∷ []))) no_members)))
 
--- every outcome but a degree that is no finding
-abbrev pub is_told : ℕ → Option Verdict → Bool
-is_told max_degree None = true
-is_told max_degree (Some (Degree d family)) = nat_lt max_degree d
-is_told max_degree (Some (Expo family)) = true
-is_told max_degree (Some (Undecided limit)) = true
-
+-- a finding, or an entry that is refused or undecided: every entry but a degree that is no finding
 abbrev pub is_result : ℕ → Entry → Bool
-is_result max_degree e = is_told max_degree (verdict_of e.outcome)
+is_result max_degree e = is_finding max_degree e || is_refused e || is_undecided e
 
 abbrev pub results_data : ℕ → ℕ → List Entry → Data
 results_data max_degree max_pairs entries =

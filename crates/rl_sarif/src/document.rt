@@ -1,14 +1,12 @@
 //! A report as a document of SARIF 2.1.0.
-ghost use Rattle.std.specs.Prelude.{◌≡◌, IfOk, false, option_map};
+ghost use Rattle.std.specs.Prelude.{◌≡◌, IfOk, false, string_bytes};
 ghost use Rattle.serde_json.specs.View.{view};
-ghost use Rattle.rl_sarif.specs.Sarif.{document_data, is_told, location_data, physical_data, result_data, results_data, run_data, sarif_text, tool_data};
+ghost use Rattle.rl_sarif.specs.Sarif.{document_data, is_result, location_data, message_text, physical_data, result_data, results_data, run_data, sarif_text, tool_data};
 
-use crate::message::message;
 use crate::uri::uri_of;
 use rl_json::line_of;
 use rl_lists::{Bytes, OutOfMemory};
-use rl_report::{Entries, Entry};
-use rl_syntax::Verdict;
+use rl_report::{Entries, Entry, call_name, outcome_text};
 use serde_json::{Map, Value, json, put};
 use std::alloc::Global;
 
@@ -32,6 +30,20 @@ fn location_value(alloc: Global, entry: &Entry) -> Result<Value, OutOfMemory>
     Ok(json!(in alloc; {"physicalLocation": physical})?)
 }
 
+/// The head line of an entry without its path, its place and the line end.
+fn message(alloc: Global, entry: &Entry, max_pairs: u32) -> Result<String, OutOfMemory>
+    ensures { IfOk result (λ text. string_bytes text ≡ message_text max_pairs entry.now) }
+{
+    let outcome = outcome_text(alloc, entry, max_pairs)?;
+    match entry.call {
+        None => Ok(outcome),
+        Some(call) => {
+            let name = call_name(call);
+            Ok(format!(in alloc; "{name}: {outcome}")?)
+        }
+    }
+}
+
 fn result_value(alloc: Global, entry: &Entry, max_pairs: u32) -> Result<Value, OutOfMemory>
     ensures { IfOk result (λ v. view v ≡ result_data max_pairs entry.now) }
 {
@@ -45,14 +57,11 @@ fn result_value(alloc: Global, entry: &Entry, max_pairs: u32) -> Result<Value, O
     })?)
 }
 
-/// Whether the outcome is anything but a degree that is no finding.
-fn is_told(verdict: Option<&Verdict>, max_degree: u32) -> bool
-    ensures { result ≡ is_told max_degree (option_map (λ v. v.now) verdict.entry) }
+/// Whether the document tells of the entry: it is a finding, refused or undecided.
+fn is_result(entry: &Entry, max_degree: u32) -> bool
+    ensures { result ≡ is_result max_degree entry.now }
 {
-    match verdict {
-        Some(Verdict::Degree(degree, _)) => *degree > max_degree,
-        _ => true,
-    }
+    entry.is_finding(max_degree) || entry.is_refused() || entry.is_undecided()
 }
 
 #[tactic(auto, using(crate::proofs::ResultLemmas::results))]
@@ -66,7 +75,7 @@ fn results_value(
 {
     let mut values = Vec::new(alloc);
     for entry in entries {
-        if is_told(entry.outcome.verdict(), max_degree) {
+        if is_result(entry, max_degree) {
             let value = result_value(alloc, entry, max_pairs)?;
             values.push(value)?;
         }

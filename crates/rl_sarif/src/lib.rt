@@ -4,7 +4,6 @@
 mod document;
 mod key;
 mod laws;
-mod message;
 mod names;
 mod positions;
 mod reading;

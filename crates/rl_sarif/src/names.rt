@@ -2,17 +2,9 @@
 ghost use Rattle.std.specs.Prelude.{◌≡◌, map, option_map};
 ghost use Rattle.rl_sarif.specs.Baseline.{call_names, cause_names, kind_names, limit_names, one_of};
 
-const CALLS: [&str; 9] = [
-    "compile",
-    "match",
-    "search",
-    "fullmatch",
-    "findall",
-    "finditer",
-    "split",
-    "sub",
-    "subn",
-];
+use rl_report::{call_name, limit_name};
+use rl_sites::Call;
+use rl_syntax::Limit;
 
 const KINDS: [&str; 7] = [
     "degree",
@@ -23,8 +15,6 @@ const KINDS: [&str; 7] = [
     "too-deep-folder",
     "not-plain",
 ];
-
-const LIMITS: [&str; 5] = ["size", "letters", "moves", "sets", "pairs"];
 
 /// The last two stand in older reports.
 const CAUSES: [&str; 30] = [
@@ -76,7 +66,17 @@ fn one_of(names: &[&'static str], text: &str) -> Option<&'static str>
 pub(crate) fn call_named(text: &str) -> Option<&'static str>
     ensures { option_map (λ n. n.now) result ≡ one_of call_names text.now }
 {
-    let names: [&str; 9] = CALLS;
+    let names = [
+        call_name(Call::Compile),
+        call_name(Call::Match),
+        call_name(Call::Search),
+        call_name(Call::Fullmatch),
+        call_name(Call::Findall),
+        call_name(Call::Finditer),
+        call_name(Call::Split),
+        call_name(Call::Sub),
+        call_name(Call::Subn),
+    ];
     one_of(names.as_slice(), text)
 }
 
@@ -92,7 +92,13 @@ pub(crate) fn kind_named(text: &str) -> Option<&'static str>
 pub(crate) fn limit_named(text: &str) -> Option<&'static str>
     ensures { option_map (λ n. n.now) result ≡ one_of limit_names text.now }
 {
-    let names: [&str; 5] = LIMITS;
+    let names = [
+        limit_name(Limit::Size),
+        limit_name(Limit::Letters),
+        limit_name(Limit::Moves),
+        limit_name(Limit::Sets),
+        limit_name(Limit::Pairs),
+    ];
     one_of(names.as_slice(), text)
 }
 

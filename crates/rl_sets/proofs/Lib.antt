@@ -1,7 +1,7 @@
 pub mod SetLemmas
 pub mod RowLemmas
 pub mod WalkLemmas
-pub mod FillLemmas
+pub mod AcceptLemmas
 pub mod LiveLemmas
 pub mod RouteLemmas
 pub mod GrowthLemmas

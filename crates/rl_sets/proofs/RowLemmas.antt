@@ -5,9 +5,9 @@ use Rattle.std.proofs.lemmas.Bool.{cases_lt, cases_eq, eq-eqb, ne_eqb, cond-true
 use Rattle.std.proofs.lemmas.List.{flat_map_more, set-set, at_drop_more, get_or-set_same, get_or-set_other, length-set, length-replicate, ext_get_or}
 use Rattle.std.proofs.lemmas.List.Elements.{All-from_get_or}
 use Rattle.std.proofs.lemmas.List.Folds.{list_any-append}
-use Rattle.rl_lanes.specs.Rows.{NoneFrom, IsLeastFrom}
+use Rattle.rl_lanes.specs.Rows.{list_or, NoneFrom, IsLeastFrom}
 use Rattle.rl_lanes.specs.Tables.{image as rows_image}
-use Rattle.rl_lanes.proofs.RowLemmas.{place_within, get_or-replicate_false}
+use Rattle.rl_lanes.proofs.RowLemmas.{place_within, get_or-replicate_false, length-list_or, get_or-list_or}
 use Rattle.rl_lanes.proofs.ImageLemmas.{get_or-image, length-image}
 use Rattle.rl_prio.specs.Automaton.{Automaton, dead_state, moves_at}
 use Rattle.rl_sets.specs.Live.{below, holds, set_where, image, joined}
@@ -220,6 +220,13 @@ IsFilling-all a letter q table all f =
     }
 
 -- ---- the rows of listed and of joined sets
+-- the union of a row with one that holds nothing
+pub list_or-zeros : (row : List Bool) → list_or (replicate (length row) false) row ≡ row
+list_or-zeros row =
+    let zeros = replicate (length row) false in
+    let same : length zeros ≡ length row = length-replicate (length row) false in
+    ext_get_or false (list_or zeros row) row (length-list_or zeros row same ∙ same) (λ q lt. get_or-list_or zeros row q same ∙ ap (λ b. b || get_or row q false) (get_or-replicate_false (length row) q))
+
 pub members-listed : (a : Automaton) (row : List Bool) (qs : List ℕ) → row ≡ marked (replicate a.states false) qs → members_of row ≡ set_of a qs
 members-listed a row qs e =
     members-where a row (holds qs) (ap length e ∙ length-marked_zeros a.states qs) (λ q lt. ap (λ r. get_or r q false) e ∙ get_or-marked_zeros a.states qs q lt)

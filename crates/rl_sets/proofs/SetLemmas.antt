@@ -123,6 +123,22 @@ IsSetOf-joined a t set is =
           (IsSetOf-where a (λ x. eqb x t || holds set x) (or_from (eqb (dead_state a) t) (holds set (dead_state a)) (ne_eqb (dead_state a) t (λ e. other (sym e))) is.no_dead))
     ]
 
+-- a set joined with one of its members is that set
+pub joined-member : (a : Automaton) (t : ℕ) (set : List ℕ) → IsSetOf a set → holds set t ≡ true → joined a t set ≡ set
+unfolding joined
+joined-member a t set is in' =
+    elim (cases_eq t (dead_state a)) [
+      | inl here ↦ cond-true (eqb t (dead_state a)) set (set_where a (λ x. eqb x t || holds set x)) (eq-eqb t (dead_state a) here)
+      | inr other ↦
+          cond-false (eqb t (dead_state a)) set (set_where a (λ x. eqb x t || holds set x)) (ne_eqb t (dead_state a) other)
+          ∙ filter_same (λ x. eqb x t || holds set x) (holds set) a.states (λ x lt. same_tests _ _ (λ e. one_of x (or_cases (eqb x t) (holds set x) e)) (or_right (eqb x t) (holds set x)))
+          ∙ sym is.rising
+    ]
+  where
+    one_of : (x : ℕ) → (eqb x t ≡ true) ⊎ (holds set x ≡ true) → holds set x ≡ true
+    one_of x (inl e) = subst (λ k. holds set k ≡ true) (sym (eqb-true x t e)) in'
+    one_of x (inr e) = e
+
 pub IsSetOf-listed : (a : Automaton) (qs : List ℕ) → All (λ q. (q < a.states) × (q ≢ dead_state a)) qs → IsSetOf a (set_of a qs)
 IsSetOf-listed a qs each =
     IsSetOf-where a (holds qs) (list_any_none (λ x. eqb x (dead_state a)) qs (λ k d lt. ne_eqb (get_or qs k d) (dead_state a) (each k d lt).1))

@@ -47,7 +47,7 @@ pub record IsMadeFor (w : Walk) (a : Automaton) : Type 0 where
   pub sets : (n : ℕ) → n < length w.sets → IsSetOf a (set_at w n)
   pub apart : (m n : ℕ) → m < n → n < length w.sets → set_at w m ≢ set_at w n
   pub few : length w.sets ≤ w.limit
-  pub low : w.limit ≤ 20003
+  pub low : w.limit ≤ 60000
   pub states : w.kept.states ≡ a.states
   pub letters : length w.kept.tables ≡ suc (letters_count a)
   pub tables : (letter : ℕ) (table : List (List Bool)) → slice_get w.kept.tables letter ≡ Some (Some table) → IsTableOn a letter table
@@ -69,7 +69,7 @@ pub record IsFull (sets : List (List ℕ)) (limit : ℕ) (set : List ℕ) : Type
 
 -- the rows of a walk: as many as the limit allows, all of one length, and different
 pub record AreRows (states limit : ℕ) (rows : List (List Bool)) : Type 0 where
-  pub low : limit ≤ 20003
+  pub low : limit ≤ 60000
   pub few : length rows ≤ limit
   pub wide : All (λ row. length row ≡ states) rows
   pub apart : (m n : ℕ) → m < n → n < length rows → slice_index_or rows m [] ≢ slice_index_or rows n []

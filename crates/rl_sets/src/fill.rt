@@ -14,8 +14,9 @@ pub(crate) fn lengthen<T: Copy + Drop>(
     ensures long { OnOk result (len ≤ length list.new.items) }
     ensures short { length list.new.items ≤ max (length list.old.items) len }
 {
-    for _n in list.len()..len {
-        list.push(filler)?;
+    if len <= list.len() {
+        return Ok(());
     }
+    list.resize(len, filler)?;
     Ok(())
 }

@@ -95,7 +95,7 @@ impl SetWalk {
         ensures grown { IsGrown a.now (set_at self.old set) self.old.sets self.new.sets }
         ensures full { IfErr result (λ e. e ≡ Sets → IsOver a.now (set_at self.old set) self.old.sets self.old.limit) }
     {
-        if self.holds(set, a.states() - 2) {
+        if self.holds(set, a.accepting()) {
             return Ok(None);
         }
         match self.life(set) {
@@ -152,7 +152,7 @@ impl SetWalk {
     {
         let end = a.letters().count();
         let after = self.step_from(a, search, place, end)?;
-        if !self.holds(after, a.states() - 2) {
+        if !self.holds(after, a.accepting()) {
             return Ok(Some(0));
         }
         for letter in 0..end {
@@ -186,7 +186,7 @@ impl SetWalk {
         ensures looked { IfOk result (λ o. IfNone o (IsLookedAt a.now self.new (found_of search.new) place (letter + 1))) }
     {
         let next = self.step_from(a, search, place, letter)?;
-        if self.holds(next, a.states() - 2) {
+        if self.holds(next, a.accepting()) {
             return Ok(None);
         }
         match self.life(next) {

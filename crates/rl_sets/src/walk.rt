@@ -22,11 +22,14 @@ use std::alloc::Global;
 use std::marker::Model;
 
 /// A walk over sets of states of one automaton. Each set has one number, its place in the walk's list.
+///
+/// A row whose set was there already is kept as the spare one, so that a set that is known takes no memory.
 #[derive(Drop)]
 pub struct SetWalk {
     states: u32,
     limit: u32,
     rows: IndexSet<BitRow>,
+    spare: Option<BitRow>,
     tables: Vec<Option<BitTable>>,
     images: Vec<Option<u32>>,
     routes: Vec<Route>,
@@ -52,7 +55,7 @@ impl SetWalk {
     /// [`OutOfMemory`] where there was no memory for it.
     pub fn new(alloc: Global, a: &Prio, limit: u32) -> Result<SetWalk, OutOfMemory>
         requires some { 1 ≤ limit }
-        requires low { limit ≤ 20003 }
+        requires low { limit ≤ 60000 }
         ensures empty { IfOk result (λ w. w.sets ≡ []) }
         ensures limit { IfOk result (λ w. w.limit ≡ limit) }
         ensures made { IfOk result (λ w. IsMadeFor w a.now) }
@@ -68,6 +71,7 @@ impl SetWalk {
             states: a.states(),
             limit,
             rows: IndexSet::new(alloc),
+            spare: None,
             tables,
             images: Vec::new(alloc),
             routes,
@@ -134,11 +138,7 @@ impl SetWalk {
         if let Some(number) = self.known_image(a, set, letter) {
             return Ok(number);
         }
-        let row = self.image_row(a, set, letter)?;
-        self.make_room(a, set)?;
-        let number = self.add(row)?;
-        self.keep_image(a, set, letter, number);
-        Ok(number)
+        self.make_image(a, set, letter)
     }
 
     /// The number of the set with one more member, which is appended unless it is there. The dead state is left
@@ -161,7 +161,10 @@ impl SetWalk {
         if state == self.states - 1 {
             return Ok(set);
         }
-        let mut row = self.rows[set as usize].copy()?;
+        if self.holds(set, state) {
+            return Ok(set);
+        }
+        let mut row = self.row_of(set)?;
         row.set(state as usize, true);
         self.add(row)
     }
@@ -256,6 +259,31 @@ impl SetWalk {
         Ok(())
     }
 
+    /// A row with as many places as wanted, and any values: the spare row, or a new one.
+    fn take_row(&mut self, states: usize) -> Result<BitRow, OutOfMemory>
+        ensures len { IfOk result (λ row. length row ≡ states) }
+        ensures same { self.new ≡ self.old }
+    {
+        match self.spare.take() {
+            Some(row) if row.len() == states => Ok(row),
+            _ => BitRow::zeros(self.allocator(), states),
+        }
+    }
+
+    /// The row of a set, as a row of its own.
+    fn row_of(&mut self, set: u32) -> Result<BitRow, OutOfMemory>
+        requires { set < length self.old.sets }
+        ensures members { IfOk result (λ row. members_of row ≡ set_at self.old set) }
+        ensures len { IfOk result (λ row. length row ≡ self.old.kept.states) }
+        ensures same { self.new ≡ self.old }
+    {
+        let states = self.states as usize;
+        let mut row = self.take_row(states)?;
+        row.clear();
+        row.or_into(&self.rows[set as usize]);
+        Ok(row)
+    }
+
     /// The row of the image of a set on a letter.
     fn image_row(&mut self, a: &Prio, set: u32, letter: u32) -> Result<BitRow, OutOfMemory>
         requires made { IsMadeFor self.old a.now }
@@ -268,10 +296,31 @@ impl SetWalk {
         ensures limit { self.new.limit ≡ self.old.limit }
     {
         let states = a.states() as usize;
-        let mut row = BitRow::zeros(self.allocator(), states)?;
+        let mut row = self.take_row(states)?;
         self.reach(a, set, letter, &mut row)?;
         row.set(states - 1, false);
         Ok(row)
+    }
+
+    /// The number of the image of a set on a letter, which is kept. It stands apart, so that `step` stays small.
+    #[inline(never)]
+    fn make_image(&mut self, a: &Prio, set: u32, letter: u32) -> Result<u32, SetsError>
+        requires made { IsMadeFor self.old a.now }
+        requires set_in { set < length self.old.sets }
+        requires letter_in { letter ≤ letters_count a.now }
+        ensures listed { IfOk result (IsListed self.old.sets self.new.sets (image a.now (set_at self.old set) letter)) }
+        ensures inside { IfOk result (λ n. n < length self.new.sets) }
+        ensures longer { length self.old.sets ≤ length self.new.sets }
+        ensures made { IsMadeFor self.new a.now }
+        ensures limit { self.new.limit ≡ self.old.limit }
+        ensures full { IfErr result (λ e. e ≡ Sets → IsFull self.old.sets self.old.limit (image a.now (set_at self.old set) letter)) }
+        ensures unchanged { OnErr result (self.new.sets ≡ self.old.sets) }
+    {
+        let row = self.image_row(a, set, letter)?;
+        self.make_room(a, set)?;
+        let number = self.add(row)?;
+        self.keep_image(a, set, letter, number);
+        Ok(number)
     }
 
     /// The number of the set of a row.
@@ -287,6 +336,7 @@ impl SetWalk {
         ensures unchanged { OnErr result (self.new.sets ≡ self.old.sets) }
     {
         if let Some(number) = self.rows.get_index_of(&row) {
+            self.spare = Some(row);
             return Ok(number as u32);
         }
         if self.rows.len() == self.limit as usize {

@@ -1,11 +1,11 @@
 -- The terms of an argument, one by one.
-use Rattle.std.proofs.Common.{◌≡◌, ℕ, zero, suc, ◌+◌, ◌<◌, ◌≤◌, Bool, true, false, not, cond, List, [], ◌∷◌, take, drop, length, refl, ap, sym, ◌∙◌, arith, Some, None, Option, ltb, min, get_or, ◌⊎◌, inl, inr, ⊎_elim}
+use Rattle.std.proofs.Common.{◌≡◌, ℕ, zero, suc, ◌+◌, ◌<◌, ◌≤◌, Bool, true, false, not, cond, List, [], ◌∷◌, take, drop, length, refl, ap, sym, ◌∙◌, arith, Some, None, Option, min, get_or, ◌⊎◌, inl, inr, ⊎_elim}
 use Rattle.std.specs.Prelude.{position, unwrap_or}
 use Rattle.std.specs.List.{prefix_len}
 use Rattle.std.proofs.lemmas.Bool.{cases_lt}
-use Rattle.std.proofs.lemmas.Bool.Decides.{nat_tests}
 use Rattle.std.proofs.lemmas.List.{length-take, drop_all}
 use Rattle.rl_pattern.specs.declared.flags.Flags.{Flags}
+use Rattle.rl_pylex.proofs.Runs.{place-or-end}
 use Rattle.rl_sites.specs.declared.mark.Mark.{Mark}
 use Rattle.rl_sites.specs.declared.imports.Alias.{Alias}
 use Rattle.rl_sites.specs.declared.flag.Flag.{Flag}
@@ -17,9 +17,6 @@ pub prefix_len-within : (p : Mark → Bool) (xs : List Mark) → prefix_len p xs
 prefix_len-within p [] = omega arith
 prefix_len-within p (x ∷ xs) =
     elim (p x) as (λ b. cond b (1 + prefix_len p xs) 0 ≤ length (x ∷ xs)) [ true ↦ omega (arith, prefix_len-within p xs) | false ↦ omega arith ]
-
-place-or-end : (n m : ℕ) → n ≤ m → unwrap_or (cond (ltb n m) (Some n) None) m ≡ n
-place-or-end n m h = grind (arith, nat_tests)
 
 pub run_size : (p : Mark → Bool) (xs : List Mark) → unwrap_or (position p xs) (length xs) ≡ prefix_len (λ x. not (p x)) xs
 run_size p xs = place-or-end (prefix_len (λ x. not (p x)) xs) (length xs) (prefix_len-within (λ x. not (p x)) xs)

@@ -53,7 +53,7 @@ after-more first second (Some t) = ap (λ (l : List Call). Some (record t { trai
 rose-later : (a b c : ℕ) → Rose a b → b ≤ c → Rose a c
 rose-later a b c r l = omega arith
 
-rose-earlier : (a b c : ℕ) → a ≤ b → Rose b c → Rose a c
+pub rose-earlier : (a b c : ℕ) → a ≤ b → Rose b c → Rose a c
 rose-earlier a b c l r = omega arith
 
 -- nothing was done

@@ -1,20 +1,19 @@
 -- The pairs of states that may be splits, by the parts of the product of two copies of the graph of inner moves. The pair of
 -- the states `r` and `q` of a graph with `n` states is the number `r * n + q`.
-use Rattle.std.specs.Prelude.{◌≡◌, ℕ, ◌*◌, ◌/◌, ◌%◌, ◌<◌, ◌≤◌, Bool, true, nat_lt, ◌&&◌, List, [], ◌∷◌, ◌++◌, length, slice_index, slice_index_or, slice_set}
+use Rattle.std.specs.Prelude.{◌≡◌, ℕ, ◌*◌, ◌<◌, ◌≤◌, Bool, true, ◌&&◌, List, [], ◌∷◌, ◌++◌, length, slice_index, slice_index_or, slice_set}
 use Rattle.rl_graph.specs.Graph.{Graph, edges_of}
-use Rattle.rl_graph.specs.Product.{pair_moves}
 use Rattle.rl_graph.specs.Parts.{PartTable, IsParts, number_of, cycle_of}
 use Rattle.rl_kernel.specs.Seats.{seats_of}
 use Rattle.rl_degree.specs.internal.Kernel.{IsKernel}
 use Rattle.rl_kernel.specs.Inner.{IsInner}
 use Rattle.rl_degree.specs.internal.Moves.{AreMoveTables}
+use Rattle.rl_degree.specs.internal.FallingPairs.{falls, falling_moves}
 use Rattle.rl_degree.specs.declared.pairs.Placed.{Placed}
 use Rattle.rl_degree.specs.declared.pairs.PairTable.{PairTable}
 
--- the pair lies on a cycle of the product, and its second state is in a lower component than its first; `levels` are the
--- numbers of the components
+-- the pair lies on a cycle of the product, and falls; `levels` are the numbers of the components
 abbrev pub is_wanted : List ℕ → PartTable → ℕ → ℕ → Bool
-is_wanted levels parts n x = cycle_of parts x && nat_lt (slice_index levels (x % n)) (slice_index levels (x / n))
+is_wanted levels parts n x = cycle_of parts x && falls levels n x
 
 -- the members of each part, and the place of each pair among the members of its part
 pub record Lists : Type 0 where
@@ -66,6 +65,6 @@ pub record IsTable (g : Graph) (t : PairTable) : Type 0 where
   pub components : IsParts (edges_of g) g.states t.components
   pub kernel : IsKernel t.components g.states (seats_of t.kernel)
   pub inner : IsInner g t.components (seats_of t.kernel) t.inner
-  pub parts : IsParts (pair_moves (edges_of t.inner) t.inner.states) (t.inner.states * t.inner.states) t.parts
+  pub parts : IsParts (falling_moves (edges_of t.inner) t.kernel.levels.items t.inner.states) (t.inner.states * t.inner.states) t.parts
   pub placed : IsPlaced t.kernel.levels.items t.parts t.inner.states (lists_of t.placed)
   pub moves : 0 < t.inner.states → AreMoveTables g t.moves.items

@@ -12,6 +12,7 @@ use Rattle.rl_equiv.specs.declared.sameness.Sameness.{Sameness}
 use Rattle.rl_equiv.specs.declared.sameness.Sameness.TheVariants.{Equal, Apart, Passed}
 use Rattle.std.proofs.Math.Bool.{beq}
 use Rattle.rl_equiv.specs.declared.searching.Ends.{Ends}
+use Rattle.rl_equiv.specs.Sides.{IsSide}
 use Rattle.rl_equiv.specs.SetPairs.{first_pair, SetPairs}
 use Rattle.rl_equiv.specs.Numbering.{Reached, with_reached, reached_after}
 use Rattle.rl_equiv.specs.internal.Machines.{pair_on, all_proper, pairs_of}
@@ -27,14 +28,6 @@ pub record AreReaders (a b : Automaton) : Type 0 where
   pub first_reads : IsReader a
   pub second_reads : IsReader b
   pub same_letters : letters_count a ≡ letters_count b
-
--- the walk is one of the automaton, with the sets that the end letter gives, and two sets more than `count` at most
-pub record IsSide (a : Automaton) (limit count : ℕ) (w : Walk) : Type 0 where
-  pub made : IsMadeFor w a
-  pub limit_is : w.limit ≡ limit + 3
-  pub few : length w.sets ≤ count + 2
-  pub has_none : Contains w.sets (set_of a [])
-  pub has_end : Contains w.sets (set_of a (accepting_state a ∷ []))
 
 -- a walk has got the number of a set, which it may have appended
 pub record Gets (a : Automaton) (old new : Walk) (set : List ℕ) (n : ℕ) : Type 0 where

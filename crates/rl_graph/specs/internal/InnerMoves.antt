@@ -21,3 +21,17 @@ pub record IsNumbered (next : ℕ → ℕ → List ℕ) (n : ℕ) (numbers : Lis
 pub record AreInner (next : ℕ → ℕ → List ℕ) (n : ℕ) (numbers : List ℕ) (marks : List Bool) : Type 0 where
   pub size : length marks ≡ n
   pub inner : (q : ℕ) → q < n → IsTrue (slice_index_or marks q false) ↔ HasInner next numbers q
+
+-- two states have the number
+pub record IsShared (numbers : List ℕ) (part : ℕ) : Type 0 where
+  pub first : ℕ
+  pub second : ℕ
+  pub before : first < second
+  pub within : second < length numbers
+  pub first_is : slice_index numbers first ≡ part
+  pub second_is : slice_index numbers second ≡ part
+
+-- there is a mark for each number, and only those that two states have are marked
+pub record AreShared (numbers : List ℕ) (marks : List Bool) : Type 0 where
+  pub size : length marks ≡ length numbers
+  pub shared : (part : ℕ) → IsTrue (slice_index_or marks part false) → IsShared numbers part

@@ -1,9 +1,9 @@
 -- Attempts: items with their guards as a set, and the item lists of a tree, one for each place, in order.
-use Rattle.std.specs.Prelude.{◌≡◌, ℕ, zero, suc, ◌+◌, ◌<◌, ◌≤◌, ◌⊎◌, List, [], ◌∷◌, ◌++◌, length, map, max, slice_index_or}
+use Rattle.std.specs.Prelude.{◌≡◌, ℕ, ◌+◌, ◌<◌, ◌≤◌, ◌⊎◌, Bool, List, [], ◌∷◌, ◌++◌, length, map, max, slice_index_or}
 use Rattle.std.specs.List.{flat_map}
 use Rattle.rl_syntax.specs.Tree.{Tree, empty, one, guard, both, either, many, places}
 use Rattle.rl_prio.specs.Items.{Item, test_at, pass, replaced, first}
-use Rattle.rl_prio.specs.internal.GuardSets.{joined, guard_set}
+use Rattle.rl_prio.specs.internal.GuardSets.{no_guards, joined, guard_set, met}
 use Rattle.rl_prio.specs.declared.build.guards.Guards.{Guards}
 use Rattle.rl_prio.specs.declared.build.attempts.Attempt.{Attempt}
 use Rattle.rl_prio.specs.declared.build.attempts.Attempt.TheVariants.{Test, End}
@@ -15,6 +15,15 @@ attempt (pass gs) = End (guard_set gs)
 
 abbrev pub attempts : List Item → List Attempt
 attempts l = map attempt l
+
+-- the guards of an attempt
+abbrev pub guards_of : Attempt → Guards
+guards_of (Test gs p) = gs
+guards_of (End gs) = gs
+
+-- whether an attempt has no guard
+abbrev pub is_unguarded : Attempt → Bool
+is_unguarded a = met (guards_of a) no_guards
 
 -- the attempt with more guards in front
 abbrev pub behind : Guards → Attempt → Attempt

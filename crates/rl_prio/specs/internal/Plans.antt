@@ -1,13 +1,13 @@
 -- Plans: what the rows of an automaton are made of, and the row of a state and a letter.
 use Rattle.std.specs.Prelude.{◌≡◌, ℕ, zero, suc, ◌+◌, ◌*◌, ◌-◌, ◌/◌, ◌%◌, ◌<◌, ◌≤◌, Bool, true, false, ◌==◌, ◌&&◌, nat_lt, List, [], ◌∷◌, ◌++◌, length, map, None, Some, All, slice_index_or, if◌then◌else◌}
-use Rattle.std.specs.List.{flat_map}
+use Rattle.std.specs.List.{flat_map, range_with_len}
 use Rattle.rl_ranges.specs.Letters.{LetterTable, letter_at}
 use Rattle.rl_syntax.specs.declared.re.Ending.{Ending}
 use Rattle.rl_syntax.specs.declared.re.Ending.TheVariants.{AtEnd, Anywhere}
 use Rattle.rl_syntax.specs.Tree.{Tree, sets_in}
 use Rattle.rl_prio.specs.Items.{first}
 use Rattle.rl_prio.specs.internal.GuardSets.{met, shown, holding}
-use Rattle.rl_prio.specs.internal.Attempts.{attempts, lists_of}
+use Rattle.rl_prio.specs.internal.Attempts.{attempts, guards_of, lists_of}
 use Rattle.rl_prio.specs.declared.build.guards.Guards.{Guards}
 use Rattle.rl_prio.specs.declared.build.guards.Shown.{Shown}
 use Rattle.rl_prio.specs.declared.build.attempts.Attempt.{Attempt}
@@ -43,10 +43,14 @@ may_end Anywhere letter count = true
 unfoldable pub end_goes : Plan → ℕ → ℕ
 end_goes p letter = if may_end p.ending letter (plan_letters p) then plan_places p + 1 else plan_places p + 2
 
+-- where an attempt goes on a letter
+abbrev pub target_of : Plan → ℕ → Attempt → ℕ
+target_of p letter (Test gs place) = test_goes p place letter
+target_of p letter (End gs) = end_goes p letter
+
 -- the move of an attempt on a letter, where its guards are among those that hold
 abbrev pub move_of : Plan → Guards → ℕ → Attempt → List ℕ
-move_of p held letter (Test gs place) = if met gs held then test_goes p place letter ∷ [] else []
-move_of p held letter (End gs) = if met gs held then end_goes p letter ∷ [] else []
+move_of p held letter a = if met (guards_of a) held then target_of p letter a ∷ [] else []
 
 abbrev pub moves_of : Plan → Guards → ℕ → List Attempt → List ℕ
 moves_of p held letter l = flat_map (move_of p held letter) l
@@ -61,9 +65,26 @@ unfoldable pub before_at : Plan → ℕ → Shown
 before_at p zero = slice_index_or p.before.items 0 (shown None)
 before_at p (suc r) = slice_index_or p.before.items (suc (r % plan_kinds p)) (shown None)
 
+-- the row of attempts and a letter, behind what is shown before them
+abbrev pub row_of : Plan → Shown → List Attempt → ℕ → List ℕ
+row_of p before l letter = moves_of p (holding before (slice_index_or p.next.items letter (shown None))) letter l
+
 -- the row of a state and a letter
 abbrev pub row_at : Plan → ℕ → ℕ → List ℕ
-row_at p state letter = moves_of p (holding (before_at p state) (slice_index_or p.next.items letter (shown None))) letter (attempts_at p state)
+row_at p state letter = row_of p (before_at p state) (attempts_at p state) letter
+
+-- a row for each letter, the end letter last
+abbrev pub each_letter : Plan → (ℕ → List ℕ) → List (List ℕ)
+each_letter p row = map row (range_with_len 0 (suc (plan_letters p)))
+
+-- the rows of a state
+abbrev pub rows_of_state : Plan → ℕ → List (List ℕ)
+rows_of_state p state = each_letter p (row_at p state)
+
+-- the rows of the states before one
+abbrev pub rows_before : Plan → ℕ → List (List ℕ)
+rows_before p zero = []
+rows_before p (suc state) = rows_before p state ++ rows_of_state p state
 
 -- the attempt's place is below a number
 abbrev pub IsPlaced : ℕ → Attempt → Type 0

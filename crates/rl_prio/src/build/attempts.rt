@@ -1,7 +1,8 @@
 //! Lists of attempts.
 
 ghost use Rattle.std.specs.Prelude.{◌≡◌, ℕ, ◌<◌, ◌≤◌, ◌+◌, ◌++◌, ◌∷◌, [], List, map, length, IfOk, IfErr, OnOk, slice_index_or};
-ghost use Rattle.rl_prio.specs.internal.Attempts.{behind, onward, ends_replaced, AreReplaced, AreShort};
+ghost use Rattle.std.specs.List.{list_all};
+ghost use Rattle.rl_prio.specs.internal.Attempts.{guards_of, is_unguarded, behind, onward, ends_replaced, AreReplaced, AreShort};
 
 use crate::build::guards::Guards;
 use rl_lists::{Items, OutOfMemory};
@@ -43,6 +44,23 @@ pub(crate) enum Attempt {
 pub(crate) type AttemptList = Items<Attempt>;
 
 impl Attempt {
+    /// The guards of the attempt.
+    pub(crate) fn guards(self) -> Guards
+        ensures { result ≡ guards_of self }
+    {
+        match self {
+            Attempt::Test(guards, _) => guards,
+            Attempt::End(guards) => guards,
+        }
+    }
+
+    /// Whether the attempt has no guard.
+    fn is_unguarded(self) -> bool
+        ensures { result ≡ is_unguarded self }
+    {
+        self.guards().are_met(Guards::none())
+    }
+
     /// The attempt with more guards in front.
     pub(crate) fn behind(self, guards: Guards) -> Attempt
         ensures { result ≡ behind guards self }
@@ -52,6 +70,13 @@ impl Attempt {
             Attempt::End(own) => Attempt::End(guards.join(own)),
         }
     }
+}
+
+/// Whether no attempt has a guard.
+pub(crate) fn are_unguarded(attempts: &[Attempt]) -> bool
+    ensures { result ≡ list_all is_unguarded attempts.now }
+{
+    attempts.iter().all(|attempt| attempt.is_unguarded())
 }
 
 /// The list of one attempt.
@@ -64,7 +89,7 @@ pub(crate) fn single(alloc: Global, attempt: Attempt) -> Result<AttemptList, Out
     Items::from_slice(alloc, &[attempt])
 }
 
-/// Puts an attempt behind the last one.
+/// Appends an attempt.
 ///
 /// # Errors
 /// [`ListError::TooLong`] exactly where the list is full, [`ListError::OutOfMemory`] where there was no memory for it.
@@ -80,7 +105,7 @@ fn put(list: &mut AttemptList, attempt: Attempt) -> Result<(), ListError>
     Ok(())
 }
 
-/// Puts further attempts behind the last one, each with the guards in front.
+/// Appends further attempts, each with the guards in front.
 ///
 /// # Errors
 /// [`ListError::TooLong`] exactly where there would be more than 256, [`ListError::OutOfMemory`] where there was no memory for
@@ -101,7 +126,7 @@ pub(crate) fn put_behind(
     Ok(())
 }
 
-/// Puts an attempt behind the last one, an end replaced by further attempts.
+/// Appends an attempt, an end replaced by further attempts.
 ///
 /// # Errors
 /// [`ListError::TooLong`] exactly where there would be more than 256, [`ListError::OutOfMemory`] where there was no memory for

@@ -53,14 +53,14 @@ pub(crate) fn kinds_of(
 fn members_of(alloc: Global, set: &CodeSet, codes: &[u32]) -> Result<Items<bool>, OutOfMemory>
     ensures { IfOk result (λ list. list ≡ map (has set.now) codes.now) }
 {
-    let mut list = Items::new(alloc);
+    let mut list = Vec::with_capacity(alloc, codes.len())?;
     for code in codes {
         list.push(set.contains(*code))?;
     }
-    Ok(list)
+    Ok(Items::from_vec(list))
 }
 
-/// Puts a list behind the last one.
+/// Appends a list.
 ///
 /// # Errors
 /// [`OutOfMemory`] where there was no memory for it.

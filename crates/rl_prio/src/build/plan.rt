@@ -1,14 +1,14 @@
 //! What the rows of an automaton are made of.
 
-ghost use Rattle.std.specs.Prelude.{◌≡◌, ℕ, suc, ◌+◌, ◌*◌, ◌-◌, ◌<◌, ◌≤◌, ◌++◌, [], None, Some, All, length, map, OnOk, IfOk, IfErr, slice_index_or};
+ghost use Rattle.std.specs.Prelude.{◌≡◌, ℕ, ◌+◌, ◌*◌, ◌-◌, ◌<◌, ◌≤◌, ◌++◌, [], None, Some, All, length, map, OnOk, IfOk, IfErr, slice_index_or};
 ghost use Rattle.rl_syntax.specs.Tree.{tree_of, sets_in};
 ghost use Rattle.rl_ranges.specs.Codes.{has};
 ghost use Rattle.rl_ranges.specs.Letters.{letter_at};
-ghost use Rattle.rl_prio.specs.internal.GuardSets.{shown, holding};
+ghost use Rattle.rl_prio.specs.internal.GuardSets.{shown};
 ghost use Rattle.rl_prio.specs.internal.Attempts.{width_of};
-ghost use Rattle.rl_prio.specs.internal.Plans.{plan_letters, plan_kinds, plan_places, plan_states, holds_at, test_goes, may_end, end_goes, move_of, moves_of, attempts_at, before_at, row_at, IsPlaced, IsSound, AreRows, IsPlan};
+ghost use Rattle.rl_prio.specs.internal.Plans.{plan_letters, plan_kinds, plan_places, plan_states, holds_at, test_goes, may_end, end_goes, target_of, move_of, moves_of, attempts_at, before_at, row_of, each_letter, rows_of_state, IsPlaced, IsSound, AreRows, IsPlan};
 
-use crate::build::attempts::{Attempt, AttemptList, ListError};
+use crate::build::attempts::{Attempt, AttemptList, ListError, are_unguarded};
 use crate::build::codes::{add_members, kinds_of, samples, shown_before, shown_next};
 use crate::build::guards::{Guards, Shown, Words};
 use crate::build::lists::enter;
@@ -173,7 +173,19 @@ impl Plan {
         }
     }
 
-    /// Puts the move of an attempt on a letter into the open row, where its guards are among those that hold.
+    /// Where an attempt goes on a letter.
+    fn target(&self, letter: usize, attempt: Attempt) -> u32
+        requires sound { IsSound self.now }
+        requires placed { IsPlaced (length self.now.after.items) attempt }
+        ensures { result ≡ target_of self.now letter attempt }
+    {
+        match attempt {
+            Attempt::Test(_, place) => self.test_target(place, letter),
+            Attempt::End(_) => self.end_target(letter),
+        }
+    }
+
+    /// Appends the move of an attempt on a letter to the open row, where its guards are among those that hold.
     ///
     /// # Errors
     /// [`OutOfMemory`] where there was no memory for it.
@@ -189,22 +201,13 @@ impl Plan {
         ensures { OnOk result (rows.new
             ≡ record rows.old { open_row = rows.old.open_row ++ move_of self.now held letter attempt }) }
     {
-        match attempt {
-            Attempt::Test(guards, place) => {
-                if guards.are_met(held) {
-                    rows.put(self.test_target(place, letter))?;
-                }
-            }
-            Attempt::End(guards) => {
-                if guards.are_met(held) {
-                    rows.put(self.end_target(letter))?;
-                }
-            }
+        if attempt.guards().are_met(held) {
+            rows.put(self.target(letter, attempt))?;
         }
         Ok(())
     }
 
-    /// Puts the moves of attempts on a letter into the open row.
+    /// Appends the moves of attempts on a letter to the open row.
     ///
     /// # Errors
     /// [`OutOfMemory`] where there was no memory for them.
@@ -226,18 +229,90 @@ impl Plan {
         Ok(())
     }
 
-    /// Puts the moves of a state on a letter into the open row.
+    /// Appends to the open row where attempts go on a letter, whatever their guards are.
+    ///
+    /// # Errors
+    /// [`OutOfMemory`] where there was no memory for it.
+    fn put_targets(
+        &self,
+        rows: &mut RowTable,
+        letter: usize,
+        attempts: &[Attempt],
+    ) -> Result<(), OutOfMemory>
+        requires sound { IsSound self.now }
+        requires placed { All (IsPlaced (length self.now.after.items)) attempts.now }
+        ensures { OnOk result (rows.new
+            ≡ record rows.old { open_row = rows.old.open_row ++ map (target_of self.now letter) attempts.now }) }
+    {
+        for attempt in attempts {
+            rows.put(self.target(letter, *attempt))?;
+        }
+        Ok(())
+    }
+
+    /// Appends the rows of attempts, one for each letter, the end letter last. What is shown before them tells which of their
+    /// guards hold.
     ///
     /// # Errors
     /// [`OutOfMemory`] where there was no memory for them.
-    fn put_moves(&self, rows: &mut RowTable, state: usize, letter: usize) -> Result<(), OutOfMemory>
+    fn put_guarded(
+        &self,
+        rows: &mut RowTable,
+        before: Shown,
+        attempts: &[Attempt],
+    ) -> Result<(), OutOfMemory>
         requires sound { IsSound self.now }
-        requires letter_in { letter ≤ plan_letters self.now }
-        ensures { OnOk result (rows.new
-            ≡ record rows.old { open_row = rows.old.open_row ++ row_at self.now state letter }) }
+        requires placed { All (IsPlaced (length self.now.after.items)) attempts.now }
+        requires closed { rows.old.open_row ≡ [] }
+        ensures { OnOk result (rows.new ≡ record {
+          rows = rows.old.rows ++ each_letter self.now (row_of self.now before attempts.now);
+          open_row = [];
+        }) }
     {
-        let held = Guards::holding(self.shown_before(state), self.next[letter]);
-        self.put_each(rows, held, letter, self.attempts(state))
+        for letter in 0..self.next.len() {
+            let held = Guards::holding(before, self.next[letter]);
+            self.put_each(rows, held, letter, attempts)?;
+            rows.close()?;
+        }
+        Ok(())
+    }
+
+    /// Appends the rows of attempts without guards, one for each letter, the end letter last.
+    ///
+    /// # Errors
+    /// [`OutOfMemory`] where there was no memory for them.
+    fn put_unguarded(&self, rows: &mut RowTable, attempts: &[Attempt]) -> Result<(), OutOfMemory>
+        requires sound { IsSound self.now }
+        requires placed { All (IsPlaced (length self.now.after.items)) attempts.now }
+        requires closed { rows.old.open_row ≡ [] }
+        ensures { OnOk result (rows.new ≡ record {
+          rows = rows.old.rows ++ each_letter self.now (λ letter. map (target_of self.now letter) attempts.now);
+          open_row = [];
+        }) }
+    {
+        for letter in 0..self.next.len() {
+            self.put_targets(rows, letter, attempts)?;
+            rows.close()?;
+        }
+        Ok(())
+    }
+
+    /// Appends the rows of a state, one for each letter, the end letter last.
+    ///
+    /// # Errors
+    /// [`OutOfMemory`] where there was no memory for them.
+    fn put_state(&self, rows: &mut RowTable, state: usize) -> Result<(), OutOfMemory>
+        requires sound { IsSound self.now }
+        requires closed { rows.old.open_row ≡ [] }
+        ensures { OnOk result (rows.new
+            ≡ record { rows = rows.old.rows ++ rows_of_state self.now state; open_row = [] }) }
+    {
+        let attempts = self.attempts(state);
+        if are_unguarded(attempts) {
+            self.put_unguarded(rows, attempts)
+        } else {
+            self.put_guarded(rows, self.shown_before(state), attempts)
+        }
     }
 
     /// The rows, state by state and letter by letter, the end letter last.
@@ -248,11 +323,10 @@ impl Plan {
         requires { IsSound self.now }
         ensures { IfOk result (λ r. AreRows self.now r.rows) }
     {
-        let width = self.next.len();
-        let mut rows = RowTable::new(alloc);
-        for i in 0..self.states() * width {
-            self.put_moves(&mut rows, i / width, i % width)?;
-            rows.close()?;
+        let states = self.states();
+        let mut rows = RowTable::with_room(alloc, states * self.next.len())?;
+        for state in 0..states {
+            self.put_state(&mut rows, state)?;
         }
         Ok(rows)
     }

@@ -67,7 +67,7 @@ fn add_named(alloc: Global, guard: Guard, sets: &mut Vec<CodeSet>) -> Result<(),
     }
 }
 
-/// Puts a set behind the last one.
+/// Appends a set.
 ///
 /// # Errors
 /// [`OutOfMemory`] where there was no memory for it.

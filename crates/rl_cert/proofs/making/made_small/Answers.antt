@@ -1,6 +1,6 @@
 use Rattle.rl_syntax.specs.declared.verdict.Limit.TheVariants.{Letters, Moves, Sets, Pairs}
 use Rattle.rl_cert.specs.Holds.{question_of}
-use Rattle.rl_cert.proofs.CheckLaws.{small}
+use Rattle.rl_growth.proofs.VerdictLaws.{small}
 use Rattle.rl_cert.proofs.MadeLaws.{made-holds, made-large, made-told, limit-named, letters-named, moves-named, ok-holds, ok-fits, ok-told}
 use Rattle.rl_cert.proofs.making.made_small.Goals as goal
 

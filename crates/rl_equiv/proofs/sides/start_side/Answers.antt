@@ -1,23 +1,14 @@
-use Rattle.std.proofs.Common.{◌≡◌, ◌-◌, ℕ, List, [], ◌∷◌, ap, ◌∙◌, subst}
-use Rattle.rl_prio.specs.Automaton.{accepting_state}
+use Rattle.std.proofs.Common.{◌≡◌, [], ◌∷◌, refl, ap, ◌∙◌}
 use Rattle.rl_sets.specs.Walk.{set_of}
-use Rattle.rl_equiv.specs.internal.Searching.{Gets}
-use Rattle.rl_equiv.proofs.SideLaws.{start-set, gets-set, side-start}
+use Rattle.rl_equiv.proofs.SideLaws.{start-set, gets-set, side-gets}
 use Rattle.rl_equiv.proofs.sides.start_side.Goals as goal
 
 pub returns-clause-side : goal.returns-clause-side
 returns-clause-side c =
-    let a = c.args.a.now in
-    let none : c.new-none.result.items ≡ [] = c.new-none.ensures.items in
-    let x = subst (λ (l : List ℕ). Gets a c.in_ok-walk.walk c.put.new.walk (set_of a l) c.in_ok-put.field-0) none c.in_ok-put.ensures in
-    let ended : c.in_ok-accepting.accepting.items ≡ accepting_state a ∷ [] = c.in_ok-accepting.ensures.items ∙ ap (λ (n : ℕ). (n - 2) ∷ []) c.states.ensures.count in
-    let y = subst (λ (l : List ℕ). Gets a c.put.new.walk c.put-2.new.walk (set_of a l) c.in_ok-put-2.field-0) ended c.in_ok-put-2.ensures in
-    let first : c.in_ok-first.first.items ≡ 0 ∷ [] = c.in_ok-first.ensures.items in
-    let z = subst (λ (l : List ℕ). Gets a c.put-2.new.walk c.put-3.new.walk (set_of a l) c.in_ok-start.start) first c.in_ok-start.ensures in
-    side-start a c.args.limit c.in_ok-walk.walk c.put.new.walk c.put-2.new.walk c.put-3.new.walk c.in_ok-put.field-0 c.in_ok-put-2.field-0 c.in_ok-start.start c.in_ok-walk.ensures.empty c.in_ok-walk.ensures.limit x y z
+    side-gets c.args.a.now 20000 0 1 c.args.walk c.put.new.walk (set_of c.args.a.now c.in_ok-first.first.items) c.in_ok-start.start refl c.requires.side c.in_ok-start.ensures
 
 pub returns-clause-start : goal.returns-clause-start
 returns-clause-start c =
     let a = c.args.a.now in
     let first : c.in_ok-first.first.items ≡ 0 ∷ [] = c.in_ok-first.ensures.items in
-    gets-set a c.put-2.new.walk c.put-3.new.walk (set_of a c.in_ok-first.first.items) c.in_ok-start.start c.in_ok-start.ensures ∙ ap (set_of a) first ∙ start-set a c.requires.reads.whole.three_states
+    gets-set a c.args.walk c.put.new.walk (set_of a c.in_ok-first.first.items) c.in_ok-start.start c.in_ok-start.ensures ∙ ap (set_of a) first ∙ start-set a c.requires.reads.whole.three_states

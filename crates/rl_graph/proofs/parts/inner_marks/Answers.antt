@@ -9,7 +9,7 @@ loop-state-preserved g c =
     let next = g.M.NextStates.next c.args.m.now in
     let i = c.loop-state.invariant in
     let e = c.in_ok-push.ensures.items in (
-      ap length e ∙ (length_push c.loop-state.marks.items c.has_inner.result ∙ ap (λ z. z + 1) i.0),
+      ap length e ∙ (length_push c.loop-state.marks.items c.is_inner.result ∙ ap (λ z. z + 1) i.0),
       λ q h. subst (λ (z : List Bool). IsTrue (get_or z q false) ↔ HasInner next c.args.numbers.now q) (sym e)
-          (marks-more (HasInner next c.args.numbers.now) c.loop-state.marks.items c.loop-state.state c.has_inner.result i.0 i.1 c.has_inner.ensures q h),
+          (marks-more (HasInner next c.args.numbers.now) c.loop-state.marks.items c.loop-state.state c.is_inner.result i.0 i.1 c.is_inner.ensures q h),
     )

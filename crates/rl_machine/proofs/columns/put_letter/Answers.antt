@@ -4,7 +4,7 @@ use Rattle.rl_machine.proofs.columns.put_letter.Goals as goal
 pub loop-state-preserved : goal.loop-state-preserved
 loop-state-preserved c =
     one_more _ _ _ _ _ _ c.requires.made_for (rw (← c.states-state-end.ensures.count) c.loop-state-test.true)
-    (λ next shows. rw (← c.moves.ensures.moves, ← c.states-accepting.ensures.count) (c.all_steps.ensures next shows))
+    (λ next shows. rw (← c.moves.ensures.moves, ← c.accepting-accepting.ensures.state) (c.all_steps.ensures next shows))
     c.loop-state.invariant
 
 pub returns-clause-in_front : goal.returns-clause-in_front

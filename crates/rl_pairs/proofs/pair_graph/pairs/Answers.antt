@@ -57,7 +57,6 @@ built-requires c =
     let f = found_of c.find.new.self in
     let wide : c.in-Some.letters ≡ width a = omega (arith, c.in-Some.ensures.1, c.count.ensures, ap (λ (t : LetterTable). length t.samples) c.letters.ensures) in
     record {
-      some = omega arith;
       few = y.found.few;
       sets = all-sets a c.find.new.walk c.close.new.walk f o.keeps y.found;
       led = y.found.led;

@@ -12,26 +12,36 @@ use Rattle.rl_equiv.proofs.baseline.Baseline.compare.Goals as goal
 
 pub beside-requires-clause-base : goal.beside-requires-clause-base
 beside-requires-clause-base c =
-    (tree_of c.self.inside.tree, c.self.invariant, subst (λ (x : Base). TellsNoMore (tree_of x.tree) (tree_of c.args.other.now)) (sym c.self.view_is) c.requires.letters)
+    (tree_of c.self.inside.tree, c.self.invariant.0, subst (λ (x : Base). TellsNoMore (tree_of x.tree) (tree_of c.args.other.now)) (sym c.self.view_is) c.requires.letters)
 
 pub beside-requires-clause-inside : goal.beside-requires-clause-inside
 beside-requires-clause-inside c = subst (λ (x : Base). IsOver x.universe (tree_of c.args.other.now)) (sym c.self.view_is) c.requires.inside
 
-pub new-requires-clause-readers : goal.new-requires-clause-readers
-new-requires-clause-readers c =
+pub go_on-requires-clause-readers : goal.go_on-requires-clause-readers
+go_on-requires-clause-readers c =
     let tells = subst (λ (x : Base). TellsNoMore (tree_of x.tree) (tree_of c.args.other.now)) (sym c.self.view_is) c.requires.letters in
-    are-readers c.self.inside.universe (tree_of c.self.inside.tree) (tree_of c.args.other.now) c.self.inside.automaton c.in_ok-second.second (c.in_ok-second.ensures.stand (tree_of c.self.inside.tree) c.self.invariant tells)
+    are-readers c.self.inside.universe (tree_of c.self.inside.tree) (tree_of c.args.other.now) c.self.inside.automaton c.in_ok-second.second (c.in_ok-second.ensures.stand (tree_of c.self.inside.tree) c.self.invariant.0 tells)
+
+pub kept_side-requires-clause-reads : goal.kept_side-requires-clause-reads
+kept_side-requires-clause-reads c =
+    let tells = subst (λ (x : Base). TellsNoMore (tree_of x.tree) (tree_of c.args.other.now)) (sym c.self.view_is) c.requires.letters in
+    (are-readers c.self.inside.universe (tree_of c.self.inside.tree) (tree_of c.args.other.now) c.self.inside.automaton c.in_ok-second.second (c.in_ok-second.ensures.stand (tree_of c.self.inside.tree) c.self.invariant.0 tells)).first_reads
 
 pub run-requires-clause-readers : goal.run-requires-clause-readers
 run-requires-clause-readers c =
     let tells = subst (λ (x : Base). TellsNoMore (tree_of x.tree) (tree_of c.args.other.now)) (sym c.self.view_is) c.requires.letters in
-    are-readers c.self.inside.universe (tree_of c.self.inside.tree) (tree_of c.args.other.now) c.self.inside.automaton c.in_ok-second.second (c.in_ok-second.ensures.stand (tree_of c.self.inside.tree) c.self.invariant tells)
+    are-readers c.self.inside.universe (tree_of c.self.inside.tree) (tree_of c.args.other.now) c.self.inside.automaton c.in_ok-second.second (c.in_ok-second.ensures.stand (tree_of c.self.inside.tree) c.self.invariant.0 tells)
 
 pub returns-in_err-second-clause-passed : goal.returns-in_err-second-clause-passed
 returns-in_err-second-clause-passed c =
     let tells = subst (λ (x : Base). TellsNoMore (tree_of x.tree) (tree_of c.args.other.now)) (sym c.self.view_is) c.requires.letters in
     let p = err_from_is_err_and c.from_residual.result c.from_residual.ensures.1 in
-    rw (p.1, p.2, sym c.self.view_is) (c.in_err-second.ensures.passed (tree_of c.self.inside.tree) c.self.invariant tells)
+    rw (p.1, p.2, sym c.self.view_is) (c.in_err-second.ensures.passed (tree_of c.self.inside.tree) c.self.invariant.0 tells)
+
+pub returns-in_err-walk-clause-passed : goal.returns-in_err-walk-clause-passed
+returns-in_err-walk-clause-passed c =
+    let p = err_from_is_err_and c.from_residual-in_err-walk.result c.from_residual-in_err-walk.ensures.1 in
+    rw (p.1, p.2) tt
 
 pub returns-in_err-search-clause-passed : goal.returns-in_err-search-clause-passed
 returns-in_err-search-clause-passed c =
@@ -46,14 +56,14 @@ returns-in_err-found-clause-passed c =
 pub returns-clause-within : goal.returns-clause-within
 returns-clause-within c =
     let tells = subst (λ (x : Base). TellsNoMore (tree_of x.tree) (tree_of c.args.other.now)) (sym c.self.view_is) c.requires.letters in
-    subst (λ (x : Base). AreWithin x.universe (tree_of x.tree) (tree_of c.args.other.now)) c.self.view_is (c.in_ok-second.ensures.within (tree_of c.self.inside.tree) c.self.invariant tells)
+    subst (λ (x : Base). AreWithin x.universe (tree_of x.tree) (tree_of c.args.other.now)) c.self.view_is (c.in_ok-second.ensures.within (tree_of c.self.inside.tree) c.self.invariant.0 tells)
 
 pub returns-clause-answer : goal.returns-clause-answer
 returns-clause-answer c =
     let tells = subst (λ (x : Base). TellsNoMore (tree_of x.tree) (tree_of c.args.other.now)) (sym c.self.view_is) c.requires.letters in
     let answer = subst (λ (n : ℕ). IsAnswer (pairs_of c.self.inside.automaton c.in_ok-second.second) n c.in_ok-found.found) c.in_ok-search.ensures.limit c.in_ok-found.ensures.answer in
     subst (λ (x : Base). IsAnswer (set_pairs x.universe (tree_of x.tree) (tree_of c.args.other.now)) c.args.limit c.in_ok-found.found) c.self.view_is
-    (answer-told c.self.inside.universe (tree_of c.self.inside.tree) (tree_of c.args.other.now) c.self.inside.automaton c.in_ok-second.second (c.in_ok-second.ensures.stand (tree_of c.self.inside.tree) c.self.invariant tells)
+    (answer-told c.self.inside.universe (tree_of c.self.inside.tree) (tree_of c.args.other.now) c.self.inside.automaton c.in_ok-second.second (c.in_ok-second.ensures.stand (tree_of c.self.inside.tree) c.self.invariant.0 tells)
     c.args.limit c.in_ok-found.found answer c.in_ok-found.ensures.apart).0
 
 pub returns-clause-told : goal.returns-clause-told
@@ -61,5 +71,5 @@ returns-clause-told c =
     let tells = subst (λ (x : Base). TellsNoMore (tree_of x.tree) (tree_of c.args.other.now)) (sym c.self.view_is) c.requires.letters in
     let answer = subst (λ (n : ℕ). IsAnswer (pairs_of c.self.inside.automaton c.in_ok-second.second) n c.in_ok-found.found) c.in_ok-search.ensures.limit c.in_ok-found.ensures.answer in
     subst (λ (x : Base). IsTold x.universe (tree_of x.tree) (tree_of c.args.other.now) c.in_ok-found.found) c.self.view_is
-    (answer-told c.self.inside.universe (tree_of c.self.inside.tree) (tree_of c.args.other.now) c.self.inside.automaton c.in_ok-second.second (c.in_ok-second.ensures.stand (tree_of c.self.inside.tree) c.self.invariant tells)
+    (answer-told c.self.inside.universe (tree_of c.self.inside.tree) (tree_of c.args.other.now) c.self.inside.automaton c.in_ok-second.second (c.in_ok-second.ensures.stand (tree_of c.self.inside.tree) c.self.invariant.0 tells)
     c.args.limit c.in_ok-found.found answer c.in_ok-found.ensures.apart).1

@@ -1,4 +1,4 @@
-use Rattle.std.proofs.Common.{◌≡◌, ℕ, ◌<◌, ◌≤◌, [], length, get_or}
+use Rattle.std.proofs.Common.{ℕ, ◌<◌, ◌≤◌, [], length, get_or}
 use Rattle.rl_prio.specs.internal.Attempts.{AreReplaced}
 use Rattle.rl_prio.proofs.build.attempts.replace_ends.Given as goal
 

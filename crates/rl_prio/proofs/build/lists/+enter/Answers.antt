@@ -1,10 +1,9 @@
-use Rattle.std.proofs.Common.{◌≡◌, ◌<◌, ℕ, List, [], ◌∷◌, length, ap, ap₂, sym, refl, ◌++◌, ◌⊎◌, subst, ◌∙◌}
+use Rattle.std.proofs.Common.{◌≡◌, ◌<◌, [], ◌∷◌, length, ap, sym, ◌++◌, ◌⊎◌, subst, ◌∙◌}
 use Rattle.std.proofs.lemmas.Result.{err_from_is_err_and}
 use Rattle.rl_syntax.specs.Tree.{tree_of}
 use Rattle.rl_syntax.specs.Run.{one_more}
 use Rattle.rl_prio.specs.internal.GuardSets.{no_guards}
-use Rattle.rl_prio.specs.internal.Attempts.{ends_replaced, AreReplaced, AreEntered, AreShort, IsTooWide}
-use Rattle.rl_prio.specs.declared.build.attempts.Attempt.{Attempt}
+use Rattle.rl_prio.specs.internal.Attempts.{ends_replaced, AreReplaced, AreShort, IsTooWide}
 use Rattle.rl_prio.specs.declared.build.attempts.Attempt.TheVariants.{End}
 use Rattle.rl_prio.proofs.EnterLemmas.{wide-both_left, wide-both_right, wide-either_left, wide-either_right, wide-many_body, entered-guard, entered-both, wide-both, entered-either, wide-either, entered-many, wide-many, moved_to, entered-short}
 use Rattle.rl_prio.proofs.build.lists.+enter.Goals as goal

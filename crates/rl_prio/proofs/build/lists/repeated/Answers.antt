@@ -1,7 +1,6 @@
-use Rattle.std.proofs.Common.{◌≡◌, ◌<◌, List, [], length, get_or, inl, inr, sym, subst, ◌∙◌, arith}
+use Rattle.std.proofs.Common.{◌<◌, [], length, get_or, inr, sym, subst, ◌∙◌, arith}
 use Rattle.std.proofs.lemmas.Result.{err_from_is_err_and}
 use Rattle.rl_prio.specs.internal.Attempts.{ends_replaced}
-use Rattle.rl_prio.specs.declared.build.attempts.Attempt.{Attempt}
 use Rattle.rl_prio.proofs.build.lists.repeated.Goals as goal
 
 pub returns-in_err-replace_ends-clause-moves : goal.returns-in_err-replace_ends-clause-moves

@@ -1,10 +1,10 @@
-use Rattle.std.proofs.Common.{◌≡◌, ◌<◌, ◌≤◌, sym, subst, ◌∙◌, arith}
+use Rattle.std.proofs.Common.{sym, subst, ◌∙◌, arith}
 use Rattle.std.proofs.lemmas.Result.{err_from_is_err_and}
 use Rattle.rl_ranges.specs.Text.{code_count}
 use Rattle.rl_syntax.specs.Tree.{tree_of}
 use Rattle.rl_prio.specs.StandsFor.{StandsOver}
-use Rattle.rl_prio.specs.Automaton.{Automaton, IsAutomaton}
-use Rattle.rl_prio.specs.internal.Plans.{IsSound, IsPlan}
+use Rattle.rl_prio.specs.Automaton.{IsAutomaton}
+use Rattle.rl_prio.specs.internal.Plans.{IsPlan}
 use Rattle.rl_prio.proofs.WidthLemmas.{width-longest, longest-width}
 use Rattle.rl_prio.proofs.BuildLemmas.{sound-plan, automaton, stands, some_codes, too_long}
 use Rattle.rl_prio.proofs.prio.Prio.over_letters.Goals as goal

@@ -1,19 +1,19 @@
-use Rattle.std.proofs.Common.{◌≡◌, ◌<◌, false, [], ◌∷◌, ◌++◌, length, ap, sym, refl, ◌∙◌, subst, inl, inr, is_some, Contains}
+use Rattle.std.proofs.Common.{◌≡◌, ◌<◌, false, [], ◌∷◌, ◌++◌, length, ap, sym, ◌∙◌, subst, inl, inr, is_some, Contains}
 use Rattle.std.proofs.lemmas.List.{length-map, map_push}
 use Rattle.std.specs.List.{list_any}
 use Rattle.rl_lanes.specs.Rows.{row_eq}
 use Rattle.rl_sets.specs.Rows.{members_of}
-use Rattle.rl_sets.specs.Walk.{Walk, IsListed, IsFull, AreRows}
+use Rattle.rl_sets.specs.Walk.{Walk, IsFull, AreRows}
 use Rattle.rl_sets.proofs.WalkLemmas.{sets_of, row_found, row_stored, room_left, inserted, set_absent, AreRows-push}
 use Rattle.rl_sets.proofs.walk.SetWalk.add.Goals as goal
 
 pub returns-in-Some-clause-listed : goal.returns-in-Some-clause-listed
 returns-in-Some-clause-listed c =
     let keys = c.self.inside.rows.keys in
-    subst (λ (w : Walk). IsListed w.sets w.sets (members_of c.args.row) c.in-Some.number) c.self.view_is (record {
+    record {
       stands = row_found keys c.args.row c.in-Some.number (sym c.in-Some.is ∙ c.get_index_of.ensures.index);
-      grown = inl refl;
-    })
+      grown = inl (ap (λ (w : Walk). w.sets) c.self.view_is);
+    }
 
 pub returns-then-len-self-clause-full : goal.returns-then-len-self-clause-full
 returns-then-len-self-clause-full c _ =

@@ -1,4 +1,4 @@
-use Rattle.std.proofs.Common.{◌≡◌, ◌+◌, ◌-◌, ℕ, true, false, length, IfErr, ap, sym, ◌∙◌, subst, rules, arith}
+use Rattle.std.proofs.Common.{◌≡◌, ◌+◌, ℕ, true, false, length, IfErr, ap, sym, ◌∙◌, subst, rules, arith}
 use Rattle.std.proofs.lemmas.Result.{IfErr-weaker}
 use Rattle.rl_ranges.specs.Letters.{LetterTable}
 use Rattle.rl_prio.specs.Automaton.{letters_count, accepting_state}
@@ -19,8 +19,8 @@ returns-then-not-holds-clause-route c =
     let f = found_of c.args.search.now in
     let end : c.count-end.result ≡ letters_count a = c.count-end.ensures ∙ ap (λ (t : LetterTable). length t.samples) c.letters.ensures in
     let at = subst (λ (l : ℕ). IsImageAt a w f c.args.place l c.in_ok-after.after) end c.in_ok-after.ensures.image in
-    let free : holds (set_at w c.in_ok-after.after) (accepting_state a) ≡ false = ap (λ (n : ℕ). holds (set_at w c.in_ok-after.after) (n - 2)) (sym c.states.ensures.count) ∙ sym c.holds.ensures ∙ c.if-not-holds.true in
-    route-at-end a c.args.self.now w f c.args.place c.in_ok-after.after c.states.ensures.automaton c.requires.place_in c.requires.search c.step_from.ensures.made c.step_from.ensures.grown at free
+    let free : holds (set_at w c.in_ok-after.after) (accepting_state a) ≡ false = ap (holds (set_at w c.in_ok-after.after)) (sym c.accepting.ensures.state) ∙ sym c.holds.ensures ∙ c.if-not-holds.true in
+    route-at-end a c.args.self.now w f c.args.place c.in_ok-after.after c.accepting.ensures.automaton c.requires.place_in c.requires.search c.step_from.ensures.made c.step_from.ensures.grown at free
 
 pub loop-letter-init : goal.loop-letter-init
 loop-letter-init c =
@@ -29,7 +29,7 @@ loop-letter-init c =
     let f = found_of c.args.search.now in
     let end : c.count-end.result ≡ letters_count a = c.count-end.ensures ∙ ap (λ (t : LetterTable). length t.samples) c.letters.ensures in
     let at = subst (λ (l : ℕ). IsImageAt a w f c.args.place l c.in_ok-after.after) end c.in_ok-after.ensures.image in
-    let in' : holds (set_at w c.in_ok-after.after) (accepting_state a) ≡ true = ap (λ (n : ℕ). holds (set_at w c.in_ok-after.after) (n - 2)) (sym c.states.ensures.count) ∙ sym c.holds.ensures ∙ c.if-not-holds.false in
+    let in' : holds (set_at w c.in_ok-after.after) (accepting_state a) ≡ true = ap (holds (set_at w c.in_ok-after.after)) (sym c.accepting.ensures.state) ∙ sym c.holds.ensures ∙ c.if-not-holds.false in
     expanding-start a c.args.self.now w f c.args.place c.in_ok-after.after c.requires.search c.requires.looked c.step_from.ensures.made c.step_from.ensures.limit c.step_from.ensures.grown at in'
 
 pub returns-in_err-route-clause-grown : goal.returns-in_err-route-clause-grown

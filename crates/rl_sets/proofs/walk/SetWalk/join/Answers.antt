@@ -1,4 +1,4 @@
-use Rattle.std.proofs.Common.{◌≡◌, ◌-◌, ℕ, Bool, true, List, [], length, set, Some, IfOk, IfErr, ap, ◌∙◌, sym, refl, subst, inl, arith}
+use Rattle.std.proofs.Common.{◌≡◌, ◌-◌, ℕ, true, List, [], length, Some, IfOk, IfErr, ap, ◌∙◌, sym, refl, subst, inl, arith}
 use Rattle.std.proofs.lemmas.List.{length-set}
 use Rattle.std.proofs.lemmas.Option.{slice_get-get_or}
 use Rattle.rl_prio.specs.Automaton.{Automaton, dead_state}
@@ -7,9 +7,9 @@ use Rattle.rl_sets.specs.declared.error.SetsError.TheVariants.{Sets}
 use Rattle.rl_sets.specs.Live.{joined}
 use Rattle.rl_sets.specs.Rows.{members_of}
 use Rattle.rl_sets.specs.Walk.{Walk, set_at, IsSetOf, IsMadeFor, IsListed, IsFull}
-use Rattle.rl_sets.proofs.SetLemmas.{IsSetOf-joined}
+use Rattle.rl_sets.proofs.SetLemmas.{IsSetOf-joined, joined-member}
 use Rattle.rl_sets.proofs.RowLemmas.{joined-dead, members-joined}
-use Rattle.rl_sets.proofs.WalkLemmas.{row_at, row_wide, IsMadeFor-added}
+use Rattle.rl_sets.proofs.WalkLemmas.{IsMadeFor-added}
 use Rattle.rl_sets.proofs.walk.SetWalk.join.Goals as goal
 
 pub returns-then-state-self-clause-listed : goal.returns-then-state-self-clause-listed
@@ -21,32 +21,36 @@ returns-then-state-self-clause-listed c a made =
       grown = inl refl;
     }
 
-pub set-requires : goal.set-requires
-set-requires c =
-    omega (arith, ap length c.in_ok-row.ensures, row_wide c.self.inside.states c.self.inside.limit c.self.inside.rows.keys c.index.result.now c.args.set c.self.invariant c.index.ensures, ap (λ (w : Walk). w.kept.states) c.self.view_is, c.requires.state_in)
+pub returns-then-holds-clause-listed : goal.returns-then-holds-clause-listed
+returns-then-holds-clause-listed c a made =
+    let sets = c.args.self.now.sets in
+    let set = set_at c.args.self.now c.args.set in
+    record {
+      stands = slice_get-get_or sets c.args.set [] c.requires.set_in ∙ ap Some (sym (joined-member a c.args.state set (made.sets c.args.set c.requires.set_in) (sym c.holds.ensures ∙ c.if-holds.true)));
+      grown = inl refl;
+    }
 
 pub add-requires : goal.add-requires
 add-requires c =
-    ap length c.set.ensures ∙ length-set c.in_ok-row.row c.args.state true ∙ ap length c.in_ok-row.ensures ∙ row_wide c.self.inside.states c.self.inside.limit c.self.inside.rows.keys c.index.result.now c.args.set c.self.invariant c.index.ensures ∙ ap (λ (w : Walk). w.kept.states) c.self.view_is
+    ap length c.set.ensures ∙ length-set c.in_ok-row.row c.args.state true ∙ c.in_ok-row.ensures.len ∙ ap (λ (w : Walk). w.kept.states) (sym c.row_of.ensures.same)
 
 module _ (c : goal.After-add) (a : Automaton) (made : IsMadeFor c.args.self.now a) where
   same : members_of c.set.new.self ≡ joined a c.args.state (set_at c.args.self.now c.args.set)
   same =
-      let row = c.index.result.now in
       let states_same : c.self.inside.states ≡ a.states = ap (λ (w : Walk). w.kept.states) c.self.view_is ∙ made.states in
-      let long : length row ≡ a.states = row_wide c.self.inside.states c.self.inside.limit c.self.inside.rows.keys row c.args.set c.self.invariant c.index.ensures ∙ states_same in
-      ap members_of (c.set.ensures ∙ ap (λ (r : List Bool). set r c.args.state true) c.in_ok-row.ensures)
-      ∙ members-joined a row c.args.state long (omega (arith, c.requires.state_in, made.states)) (λ e. c.if-state-self.false (e ∙ ap (λ n. n - 1) (sym states_same)))
-      ∙ ap (joined a c.args.state) (row_at c.self.inside.rows.keys row c.args.set c.index.ensures ∙ ap (λ (w : Walk). set_at w c.args.set) c.self.view_is)
+      ap members_of c.set.ensures
+      ∙ members-joined a c.in_ok-row.row c.args.state (c.in_ok-row.ensures.len ∙ made.states) (omega (arith, c.requires.state_in, made.states)) (λ e. c.if-state-self.false (e ∙ ap (λ n. n - 1) (sym states_same)))
+      ∙ ap (joined a c.args.state) c.in_ok-row.ensures.members
 
 pub returns-clause-listed : goal.returns-clause-listed
-returns-clause-listed c a made = subst (λ (s : List ℕ). IfOk c.add.result (IsListed c.args.self.now.sets c.add.new.self.sets s)) (same c a made) c.add.ensures.listed
+returns-clause-listed c a made =
+    subst (λ (w : Walk). IfOk c.add.result (IsListed w.sets c.add.new.self.sets (joined a c.args.state (set_at c.args.self.now c.args.set)))) c.row_of.ensures.same (subst (λ (s : List ℕ). IfOk c.add.result (IsListed c.row_of.new.self.sets c.add.new.self.sets s)) (same c a made) c.add.ensures.listed)
 
 pub returns-clause-made : goal.returns-clause-made
 returns-clause-made c a made =
     let is = subst (IsSetOf a) (sym (same c a made)) (IsSetOf-joined a c.args.state (set_at c.args.self.now c.args.set) (made.sets c.args.set c.requires.set_in)) in
-    IsMadeFor-added c.args.self.now c.add.new.self a (members_of c.set.new.self) c.add.result made is c.add.ensures.listed c.add.ensures.unchanged c.add.ensures.few c.add.ensures.limit c.add.ensures.kept
+    IsMadeFor-added c.row_of.new.self c.add.new.self a (members_of c.set.new.self) c.add.result (subst (λ (w : Walk). IsMadeFor w a) (sym c.row_of.ensures.same) made) is c.add.ensures.listed c.add.ensures.unchanged c.add.ensures.few c.add.ensures.limit c.add.ensures.kept
 
 pub returns-clause-full : goal.returns-clause-full
 returns-clause-full c a made =
-    subst (λ (s : List ℕ). IfErr c.add.result (λ (e : SetsError). e ≡ Sets → IsFull c.args.self.now.sets c.args.self.now.limit s)) (same c a made) c.add.ensures.full
+    subst (λ (w : Walk). IfErr c.add.result (λ (e : SetsError). e ≡ Sets → IsFull w.sets w.limit (joined a c.args.state (set_at c.args.self.now c.args.set)))) c.row_of.ensures.same (subst (λ (s : List ℕ). IfErr c.add.result (λ (e : SetsError). e ≡ Sets → IsFull c.row_of.new.self.sets c.row_of.new.self.limit s)) (same c a made) c.add.ensures.full)

@@ -1,4 +1,4 @@
-use Rattle.std.proofs.Common.{◌≡◌, Bool, ℕ, List, false, replicate, length, ap, sym, ◌∙◌, subst}
+use Rattle.std.proofs.Common.{Bool, ℕ, List, false, replicate, ap, ◌∙◌, subst}
 use Rattle.rl_sets.specs.Rows.{marked, members_of}
 use Rattle.rl_sets.specs.Walk.{Walk, set_at}
 use Rattle.rl_sets.specs.internal.Moves.{targets_of, IsReached}

@@ -1,4 +1,4 @@
-use Rattle.std.proofs.Common.{◌≡◌, ◌-◌, ℕ, true, ap, sym, ◌∙◌}
+use Rattle.std.proofs.Common.{◌≡◌, true, ap, sym, ◌∙◌}
 use Rattle.rl_prio.specs.Automaton.{accepting_state}
 use Rattle.rl_sets.specs.Live.{holds}
 use Rattle.rl_sets.specs.Walk.{set_at}
@@ -8,5 +8,5 @@ use Rattle.rl_sets.proofs.walk.SetWalk.route_from.Goals as goal
 pub returns-then-holds-clause-none : goal.returns-then-holds-clause-none
 returns-then-holds-clause-none c =
     let set = set_at c.args.self.now c.args.set in
-    let in' : holds set (accepting_state c.args.a.now) ≡ true = ap (λ (n : ℕ). holds set (n - 2)) (sym c.states.ensures.count) ∙ sym c.holds.ensures ∙ c.if-holds.true in
+    let in' : holds set (accepting_state c.args.a.now) ≡ true = ap (holds set) (sym c.accepting.ensures.state) ∙ sym c.holds.ensures ∙ c.if-holds.true in
     accepting-dead c.args.a.now set in'

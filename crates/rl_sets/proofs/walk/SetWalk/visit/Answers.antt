@@ -1,4 +1,4 @@
-use Rattle.std.proofs.Common.{◌≡◌, ℕ, ◌-◌, true, ap, sym, ◌∙◌}
+use Rattle.std.proofs.Common.{◌≡◌, true, ap, sym, ◌∙◌}
 use Rattle.rl_prio.specs.Automaton.{accepting_state}
 use Rattle.rl_sets.specs.Live.{holds}
 use Rattle.rl_sets.specs.Walk.{set_at}
@@ -11,7 +11,7 @@ returns-then-holds-clause-looked c =
     let a = c.args.a.now in
     let w = c.step_from.new.self in
     let f = found_of c.args.search.now in
-    let in' : holds (set_at w c.in_ok-next.next) (accepting_state a) ≡ true = ap (λ (n : ℕ). holds (set_at w c.in_ok-next.next) (n - 2)) (sym c.states.ensures.count) ∙ sym c.holds.ensures ∙ c.if-holds.true in
+    let in' : holds (set_at w c.in_ok-next.next) (accepting_state a) ≡ true = ap (holds (set_at w c.in_ok-next.next)) (sym c.accepting.ensures.state) ∙ sym c.holds.ensures ∙ c.if-holds.true in
     looked-accepting a (found_set c.args.self.now f 0) c.args.self.now w f c.args.place c.args.letter c.in_ok-next.next c.requires.search c.step_from.ensures.grown c.requires.looked c.requires.place_in c.requires.letter_in c.in_ok-next.ensures.image in'
 
 pub returns-in-Dead-clause-looked : goal.returns-in-Dead-clause-looked
@@ -34,7 +34,7 @@ returns-in_ok-route-in-Live-clause-route c =
     let w = c.step_from.new.self in
     let f = found_of c.args.search.now in
     route-through a (found_set c.args.self.now f 0) c.args.self.now w f c.args.place c.args.letter c.in_ok-next.next c.requires.search c.step_from.ensures.grown c.requires.looked c.requires.place_in c.requires.letter_in c.in_ok-next.ensures.image
-    c.put_route.new.self c.in-Live.route c.in_ok-route-in-Live.route c.states.ensures.automaton
+    c.put_route.new.self c.in-Live.route c.in_ok-route-in-Live.route c.accepting.ensures.automaton
     (life-live a w c.in_ok-next.next c.in-Live.route c.step_from.ensures.made c.in_ok-next.ensures.image.within (sym c.life.ensures ∙ c.in-Live.is))
     c.put_route.ensures.sets c.in_ok-route-in-Live.ensures.put c.in_ok-route-in-Live.ensures.number
 
@@ -44,7 +44,7 @@ returns-in_ok-add-in-Unknown-clause-goes_on c =
     let w = c.step_from.new.self in
     let f = found_of c.args.search.now in
     added-goes-on a (found_set c.args.self.now f 0) c.args.self.now w f c.args.place c.args.letter c.in_ok-next.next c.requires.search c.step_from.ensures.grown c.requires.looked c.requires.place_in c.requires.letter_in c.in_ok-next.ensures.image (found_of c.add.new.self)
-    (ap (λ (n : ℕ). holds (set_at w c.in_ok-next.next) (n - 2)) (sym c.states.ensures.count) ∙ sym c.holds.ensures ∙ c.if-holds.false) c.in_ok-add-in-Unknown.ensures
+    (ap (holds (set_at w c.in_ok-next.next)) (sym c.accepting.ensures.state) ∙ sym c.holds.ensures ∙ c.if-holds.false) c.in_ok-add-in-Unknown.ensures
 
 pub returns-in_ok-add-in-Unknown-clause-looked : goal.returns-in_ok-add-in-Unknown-clause-looked
 returns-in_ok-add-in-Unknown-clause-looked c =
@@ -52,4 +52,4 @@ returns-in_ok-add-in-Unknown-clause-looked c =
     let w = c.step_from.new.self in
     let f = found_of c.args.search.now in
     added-looked a (found_set c.args.self.now f 0) c.args.self.now w f c.args.place c.args.letter c.in_ok-next.next c.requires.search c.step_from.ensures.grown c.requires.looked c.requires.place_in c.requires.letter_in c.in_ok-next.ensures.image (found_of c.add.new.self)
-    (ap (λ (n : ℕ). holds (set_at w c.in_ok-next.next) (n - 2)) (sym c.states.ensures.count) ∙ sym c.holds.ensures ∙ c.if-holds.false) c.in_ok-add-in-Unknown.ensures
+    (ap (holds (set_at w c.in_ok-next.next)) (sym c.accepting.ensures.state) ∙ sym c.holds.ensures ∙ c.if-holds.false) c.in_ok-add-in-Unknown.ensures

@@ -1,5 +1,4 @@
-use Rattle.std.proofs.Common.{◌≡◌, ◌<◌, ◌+◌, ◌*◌, suc, get_or, ap, sym, ◌∙◌, arith}
-use Rattle.rl_prio.specs.internal.Plans.{plan_letters, plan_kinds}
+use Rattle.std.proofs.Common.{◌+◌, ap, sym, ◌∙◌, arith}
 use Rattle.rl_prio.proofs.PlanLemmas.{holds_at-in, test_goes-miss, test_goes-small, test_goes-read}
 use Rattle.rl_prio.proofs.build.plan.Plan.test_target.Goals as goal
 

@@ -1,0 +1,8 @@
+use Rattle.std.proofs.Common.{◌≡◌, ◌++◌, [], map}
+use Rattle.std.specs.List.{range_with_len}
+use Rattle.rl_prio.specs.internal.Plans.{target_of}
+use Rattle.rl_prio.proofs.build.plan.Plan.put_unguarded.Given as goal
+
+abbrev pub invariant-loop-letter : goal.invariant-loop-letter
+invariant-loop-letter l =
+    l.rows ≡ record { rows = l.initial.rows.rows ++ map (λ letter. map (target_of l.self letter) l.attempts) (range_with_len 0 l.letter); open_row = [] }

@@ -1,0 +1,9 @@
+-- The table is that of the class, by computation.
+use Rattle.std.proofs.Common.{refl, arith, false}
+use Rattle.rl_pylex.specs.Bytes.{closes_bracket}
+use Rattle.rl_pylex.proofs.ClassTables.{table_from, read_table}
+use Rattle.rl_pylex.proofs.bytes.closes_bracket.Goals as goal
+
+pub returns : goal.returns
+unfolding table_from
+returns c = read_table closes_bracket _ c.args.byte false refl (omega arith)

@@ -1,0 +1,3 @@
+-- Definitions for the contracts of private functions. No public contract reaches them.
+pub mod Long
+pub mod Rows

@@ -1,0 +1,47 @@
+//! Outcomes as texts.
+ghost use Rattle.std.specs.Prelude.{◌≡◌, IfOk, string_bytes};
+ghost use Rattle.rl_report.specs.Findings.{verdict_of};
+ghost use Rattle.rl_report.specs.Layouts.{outcome_text, refusal_text};
+ghost use Rattle.rl_report.specs.Names.{cause_name};
+
+use crate::places::Place;
+use crate::report::{Entry, Outcome};
+use crate::verdicts::verdict_text;
+use rl_lists::OutOfMemory;
+use std::alloc::Global;
+
+/// The cause of a refusal with its place, or the kind of what has no cause.
+fn refusal_text(
+    alloc: Global,
+    outcome: &Outcome,
+    fault: Option<Place>,
+) -> Result<String, OutOfMemory>
+    ensures { IfOk result (λ text. string_bytes text
+        ≡ refusal_text outcome.now (cause_name outcome.now) fault) }
+{
+    let text = match (outcome.cause(), fault) {
+        (None, _) => String::from_str(alloc, outcome.kind())?,
+        (Some(cause), None) => format!(in alloc; "refused {cause}")?,
+        (Some(cause), Some(place)) => {
+            let line = place.line;
+            let column = place.column;
+            format!(in alloc; "refused {cause} at {line}:{column}")?
+        }
+    };
+    Ok(text)
+}
+
+/// The outcome of an entry, as it stands in the head line: the verdict, the cause of a refusal with its place, or the kind
+/// of what has no cause. `max_pairs` is the limit of the live pairs.
+///
+/// # Errors
+/// [`OutOfMemory`] when out of memory.
+pub fn outcome_text(alloc: Global, entry: &Entry, max_pairs: u32) -> Result<String, OutOfMemory>
+    ensures { IfOk result (λ text. string_bytes text
+        ≡ outcome_text max_pairs entry.now (verdict_of entry.now.outcome)) }
+{
+    match entry.outcome.verdict() {
+        None => refusal_text(alloc, &entry.outcome, entry.fault),
+        Some(verdict) => verdict_text(alloc, verdict, max_pairs),
+    }
+}
