@@ -10,7 +10,7 @@ ghost use Rattle.rl_expo.specs.internal.Blocks.{AreForking, HasNoForkIn, HasNoFo
 
 use crate::dense::short_fork;
 use crate::forks::{Fork, fork_among};
-use rl_graph::{Components, Multigraph, Twice, parts_of};
+use rl_graph::{Components, Multigraph, product_parts};
 use rl_kernel::{Kernel, inner_graph};
 use rl_lists::OutOfMemory;
 use std::alloc::Global;
@@ -51,7 +51,7 @@ fn fork_of(
     }
     let states = states_of(alloc, components, g.states(), number)?;
     let inner = inner_graph(alloc, g, components, &states)?;
-    let parts = parts_of(alloc, &Twice { graph: &inner })?;
+    let parts = product_parts(alloc, &inner)?;
     Ok(fork_among(g, &states, &parts))
 }
 

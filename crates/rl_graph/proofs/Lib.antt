@@ -10,3 +10,6 @@ pub mod StackLaws
 pub mod ScanLaws
 pub mod PartLaws
 pub mod WalkLaws
+pub mod MarkedLaws
+pub mod DenseLaws
+pub mod HalfLaws

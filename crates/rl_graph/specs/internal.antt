@@ -2,3 +2,6 @@
 pub mod Search
 pub mod InnerMoves
 pub mod Nodes
+pub mod Marked
+pub mod Halves
+pub mod Dense

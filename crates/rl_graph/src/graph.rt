@@ -2,6 +2,7 @@
 
 ghost use Rattle.std.specs.Prelude.{◌≡◌, ◌<◌, ◌≤◌, ◌+◌, ◌*◌, ◌^◌, All, length, IfOk, OnOk, OnErr};
 ghost use Rattle.rl_graph.specs.Graph.{edges_of, IsWhole, IsBare, IsAdded};
+ghost use Rattle.rl_graph.specs.internal.Halves.{row_at};
 
 use rl_lists::{Items, OutOfMemory};
 use std::alloc::Global;
@@ -103,6 +104,25 @@ impl Multigraph {
         let place = from as usize * self.letters as usize + letter as usize;
         let row = &self.rows[place];
         row.as_slice()
+    }
+
+    /// How many rows the graph has: one for each state and letter.
+    pub(crate) fn row_count(&self) -> u64
+        ensures { result ≡ self.now.states * self.now.letters }
+    {
+        u64::from(self.states) * u64::from(self.letters)
+    }
+
+    /// The targets of the row at a place, where the rows of a state stand together in the order of the letters; none behind
+    /// the last row.
+    pub(crate) fn row(&self, place: u64) -> &[u32]
+        ensures targets { result.now ≡ row_at self.now place }
+        ensures whole { IsWhole self.now }
+    {
+        match self.rows.get(place as usize) {
+            Some(row) => row.as_slice(),
+            None => &[],
+        }
     }
 
     /// The allocator that the graph's rows are kept in.

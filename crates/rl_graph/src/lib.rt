@@ -2,15 +2,21 @@
 #![tactic(auto)]
 
 mod components;
+mod dense;
 mod graph;
+mod halves;
 pub mod laws;
+mod marked;
 mod moves;
+mod pairs;
 mod parts;
+mod rows;
 mod walks;
 
 pub use components::Components;
 pub use graph::Multigraph;
 pub use moves::{NextStates, Twice};
+pub use pairs::{pair_parts, product_parts};
 pub use parts::{Parts, parts_of};
 pub use walks::{FoundPath, cycle_through, path_between};
 

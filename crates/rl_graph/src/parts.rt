@@ -337,6 +337,14 @@ impl Model for Parts {
 }
 
 impl Parts {
+    /// The parts with these numbers and marks.
+    pub(crate) fn new(numbers: Vec<u64>, cycles: Vec<bool>) -> Parts
+        requires { length cycles.items ≡ length numbers.items }
+        ensures { result ≡ record { numbers = numbers.items; cycles = cycles.items } }
+    {
+        Parts { numbers, cycles }
+    }
+
     /// The number of a state's part, which is below the number of states. A part that is reached from another one has
     /// the smaller number.
     pub fn of(&self, state: u64) -> u64

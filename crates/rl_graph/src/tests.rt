@@ -142,3 +142,51 @@ fn two_copies(rt: HostRuntime) -> Result<(), Fail> {
     assert_eq!(rt; path.moves.as_slice(), [1].as_slice());
     Ok(())
 }
+
+/// A graph of 13 states on one letter: each of the states 0 to 11 has a move to each of them, and 0 has one to 12 as well, which
+/// has none.
+fn cluster(alloc: Global) -> Result<Multigraph, OutOfMemory>
+    ensures states { IfOk result (λ g. g.states ≡ 13) }
+{
+    let mut moves = Vec::new(alloc);
+    for from in 0..12 {
+        for to in 0..12 {
+            moves.push((from, 0, to))?;
+        }
+    }
+    moves.push((0, 0, 12))?;
+    graph(alloc, 13, 1, &moves)
+}
+
+/// The pairs of the states 0 to 11 reach each other; a pair with the last state has no move.
+#[test]
+fn pairs_by_half_steps(rt: HostRuntime) -> Result<(), Fail> {
+    let g = cluster(rt.alloc())?;
+    let parts = product_parts(rt.alloc(), &g)?;
+    assert_eq!(rt; parts.of(0), parts.of(13));
+    assert_eq!(rt; parts.of(0), parts.of(11 * 13 + 11));
+    assert_eq!(rt; parts.of(5 * 13), parts.of(5));
+    assert!(rt; parts.of(12) < parts.of(0));
+    assert!(rt; parts.of(12 * 13) < parts.of(0));
+    assert!(rt; parts.of(12 * 13 + 12) < parts.of(0));
+    assert!(rt; parts.of(12) != parts.of(12 * 13 + 12));
+    assert!(rt; parts.of(0) < 169);
+    assert!(rt; parts.on_cycle(0) && parts.on_cycle(7 * 13 + 3));
+    assert!(rt; !parts.on_cycle(12) && !parts.on_cycle(12 * 13 + 12));
+    Ok(())
+}
+
+/// The same where one pair has no mark: it is reached, and it has no move.
+#[test]
+fn pairs_without_a_mark(rt: HostRuntime) -> Result<(), Fail> {
+    let alloc = rt.alloc();
+    let g = cluster(alloc)?;
+    let mut moving = vec![in alloc; true; 169]?;
+    moving[3 * 13 + 4] = false;
+    let parts = pair_parts(alloc, &g, &moving)?;
+    assert_eq!(rt; parts.of(0), parts.of(4 * 13 + 3));
+    assert!(rt; parts.of(3 * 13 + 4) < parts.of(0));
+    assert!(rt; !parts.on_cycle(3 * 13 + 4));
+    assert!(rt; parts.on_cycle(4 * 13 + 3));
+    Ok(())
+}

@@ -23,7 +23,7 @@ use crate::reach::{ReachError, reached};
 use crate::starts::starts_of;
 use crate::triple::Triples;
 use indexmap::IndexSet;
-use rl_graph::{Multigraph, Twice, parts_of};
+use rl_graph::{Multigraph, Twice, parts_of, product_parts};
 use rl_lists::OutOfMemory;
 use std::alloc::Global;
 
@@ -74,7 +74,7 @@ pub fn doubles_of(alloc: Global, g: &Multigraph) -> Result<Doubles, OutOfMemory>
     let _letters = g.letters();
     let starts = diagonal(alloc, states)?;
     let keys = doubles_from(alloc, g, &starts)?;
-    let parts = parts_of(alloc, &Twice { graph: g })?;
+    let parts = product_parts(alloc, g)?;
     let doubles = listed_doubles(alloc, states, &keys, &parts)?;
     Ok(doubles)
 }

@@ -1,7 +1,6 @@
-use Rattle.std.proofs.Common.{◌≡◌, ℕ, ◌*◌, ◌<◌, List, get_or, subst, sym, arith}
+use Rattle.std.proofs.Common.{◌≡◌, ℕ, List, get_or, subst, arith}
 use Rattle.std.proofs.lemmas.Nat.{mul-add-lt}
 use Rattle.rl_graph.specs.Graph.{edges_of}
-use Rattle.rl_graph.specs.Paths.{Each}
 use Rattle.rl_graph.specs.Product.{pair_moves}
 use Rattle.rl_graph.proofs.GraphLaws.{bounded-whole}
 use Rattle.rl_graph.proofs.Sums.{Has-get_or}

@@ -1,6 +1,6 @@
 use Rattle.std.proofs.Common.{◌∙◌, sym, refl}
-use Rattle.rl_degree.proofs.FallingPairLaws.{some-moves}
-use Rattle.rl_degree.proofs.falling.has_moves.Goals as goal
+use Rattle.rl_graph.proofs.MarkedLaws.{some-moves}
+use Rattle.rl_graph.proofs.marked.has_moves.Goals as goal
 
 pub returns-then-not-is_empty : goal.returns-then-not-is_empty
 returns-then-not-is_empty c =

@@ -1,9 +1,9 @@
 use Rattle.std.proofs.Common.{◌≡◌, ◌+◌, [], ◌∷◌, ◌++◌, sym, subst}
 use Rattle.std.proofs.lemmas.Bool.{both_ways}
-use Rattle.rl_degree.specs.internal.FallingPairs.{AreLettersUpTo}
-use Rattle.rl_degree.proofs.FallingPairLaws.{letters-more, letters-passed}
-use Rattle.rl_degree.proofs.falling.letters_of.Goals as goal
-use Rattle.rl_degree.proofs.falling.letters_of.Goals.{then-has_moves+in_ok-push, else-has_moves}
+use Rattle.rl_graph.specs.internal.Marked.{AreLettersUpTo}
+use Rattle.rl_graph.proofs.MarkedLaws.{letters-more, letters-passed}
+use Rattle.rl_graph.proofs.marked.letters_of.Goals as goal
+use Rattle.rl_graph.proofs.marked.letters_of.Goals.{then-has_moves+in_ok-push, else-has_moves}
 
 pub loop-letter-preserved : goal.loop-letter-preserved
 loop-letter-preserved c =
