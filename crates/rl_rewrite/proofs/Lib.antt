@@ -8,3 +8,7 @@ pub mod GoneCodes
 pub mod Joining
 pub mod TriedOne
 pub mod PlainParts
+pub mod EachPlace
+pub mod EmptyParts
+pub mod KeptParts
+pub mod NoGuards

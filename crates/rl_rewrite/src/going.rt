@@ -116,7 +116,7 @@ fn branch_may_go(branch: &Branch, dropped: &[Span]) -> bool
 }
 
 /// Whether a branch is kept.
-fn some_kept(branches: &[Branch], dropped: &[Span]) -> bool
+pub(crate) fn some_kept(branches: &[Branch], dropped: &[Span]) -> bool
     ensures { result ≡ is_kept (lies_among dropped.now) (branches_of (map branch_tree branches.now)) }
 {
     let mut kept = false;

@@ -2,6 +2,7 @@
 #![tactic(auto)]
 
 mod going;
+mod keeping;
 pub mod laws;
 mod leaving;
 mod limits;

@@ -123,6 +123,50 @@ fn branches_within_branches(rt: HostRuntime) -> Result<(), Fail> {
 }
 
 #[test]
+fn words_in_a_list(rt: HostRuntime) -> Result<(), Fail> {
+    let prefix = suggested(&rt, "(?:foo|foobar|bar)", false, Universe::Str)?;
+    assert!(rt; prefix.text.is_none() && prefix.dropped.is_empty());
+    let twice = suggested(&rt, "(?:ab|cd|ab|abc)", false, Universe::Bytes)?;
+    assert!(rt; has(&rt, &twice, "(?:ab|cd|abc)", &[9], &[])?);
+    let thrice = suggested(&rt, "(?:ab|ab|ab|c)", false, Universe::Str)?;
+    assert!(rt; has(&rt, &thrice, "(?:ab|c)", &[6, 9], &[])?);
+    Ok(())
+}
+
+#[test]
+fn branches_under_repeats(rt: HostRuntime) -> Result<(), Fail> {
+    let pairs = suggested(&rt, "(?:ab|cd|ef){2}", false, Universe::Str)?;
+    assert!(rt; pairs.text.is_none() && pairs.dropped.is_empty());
+    let options = suggested(&rt, "(?:a|aa|b){0,2}", false, Universe::Str)?;
+    assert!(rt; options.text.is_none() && options.dropped.is_empty());
+    let twice = suggested(&rt, "(?:ab|cd|ab){2}", false, Universe::Str)?;
+    assert!(rt; has(&rt, &twice, "(?:ab|cd){2}", &[9], &[])?);
+    let spelled = suggested(&rt, "(?:a|b|ab)*", false, Universe::Str)?;
+    assert!(rt; has(&rt, &spelled, "(?:a|b)*", &[7], &[])?);
+    let never = suggested(&rt, "(?:a|b|c){0}d", false, Universe::Str)?;
+    assert!(rt; has(&rt, &never, "(?:a){0}d", &[5, 7], &[])?);
+    Ok(())
+}
+
+#[test]
+fn branches_that_span_the_empty_text(rt: HostRuntime) -> Result<(), Fail> {
+    let kept = suggested(&rt, "(?:a|b|)c", false, Universe::Str)?;
+    assert!(rt; kept.text.is_none() && kept.dropped.is_empty());
+    let dropped = suggested(&rt, "(?:a*|b|)c", false, Universe::Str)?;
+    assert!(rt; has(&rt, &dropped, "(?:a*|b)c", &[8], &[])?);
+    Ok(())
+}
+
+#[test]
+fn choices_in_branches(rt: HostRuntime) -> Result<(), Fail> {
+    let spelled = suggested(&rt, "(?:a(?:b|c|d)|e(?:b|c)|ab)", false, Universe::Str)?;
+    assert!(rt; has(&rt, &spelled, "(?:a(?:b|c|d)|e(?:b|c))", &[23], &[])?);
+    let twice = suggested(&rt, "(?:x|y(?:a|b)|y(?:a|b)|z)", false, Universe::Str)?;
+    assert!(rt; has(&rt, &twice, "(?:x|y(?:a|b)|z)", &[14, 20], &[])?);
+    Ok(())
+}
+
+#[test]
 fn comments_stay(rt: HostRuntime) -> Result<(), Fail> {
     let seam = suggested(&rt, "(?:b|a # |\n|a)", true, Universe::Str)?;
     assert!(rt; has(&rt, &seam, "(?:b|a # |\n)", &[12], &[])?);

@@ -1,4 +1,4 @@
-use Rattle.std.proofs.Common.{◌≡◌, ◌≤◌, ◌∷◌, true, false, sym, ap, ◌∙◌, subst, arith}
+use Rattle.std.proofs.Common.{◌≡◌, ◌≤◌, ◌∷◌, suc, true, false, length, refl, sym, ap, ◌∙◌, subst, arith}
 use Rattle.std.proofs.lemmas.Grind.{common_steps}
 use Rattle.rl_syntax.specs.Pattern.{body_of, universe_of}
 use Rattle.rl_syntax.specs.Tree.{tree_of, size}
@@ -77,3 +77,30 @@ returns-in_ok-base-in-Equal-clause-tree c =
 
 pub returns-in_ok-base-in-Equal-clause-universe : goal.returns-in_ok-base-in-Equal-clause-universe
 returns-in_ok-base-in-Equal-clause-universe c = ap (λ (x : Base). x.universe) c.in_ok-base-in-Equal.ensures ∙ c.universe.ensures
+
+pub returns-then-not-may_go-clause-may : goal.returns-then-not-may_go-clause-may
+returns-then-not-may_go-clause-may c = c.requires.before
+
+pub returns-in_ok-base-in-Equal-clause-may : goal.returns-in_ok-base-in-Equal-clause-may
+returns-in_ok-base-in-Equal-clause-may c =
+    let h : may_go (among c.in_ok-more.more) (body_of c.args.p.now) ≡ true = grind (arith, common_steps) in h
+
+pub returns-in-Apart-clause-may : goal.returns-in-Apart-clause-may
+returns-in-Apart-clause-may c = c.requires.before
+
+pub returns-in_ok-passed-in-Passed-clause-may : goal.returns-in_ok-passed-in-Passed-clause-may
+returns-in_ok-passed-in-Passed-clause-may c = c.requires.before
+
+pub returns-then-not-may_go-clause-same : goal.returns-then-not-may_go-clause-same
+returns-then-not-may_go-clause-same c = λ e. refl
+
+pub returns-in_ok-base-in-Equal-clause-same : goal.returns-in_ok-base-in-Equal-clause-same
+returns-in_ok-base-in-Equal-clause-same c = λ e.
+    let f : length c.in_ok-more.more ≡ suc (length c.args.tries.dropped) = ap length (c.in_ok-more.ensures ∙ ap (λ d. c.args.branch ∷ d) c.as_slice.ensures) in
+    absurd (omega (arith, e, f))
+
+pub returns-in-Apart-clause-same : goal.returns-in-Apart-clause-same
+returns-in-Apart-clause-same c = λ e. refl
+
+pub returns-in_ok-passed-in-Passed-clause-same : goal.returns-in_ok-passed-in-Passed-clause-same
+returns-in_ok-passed-in-Passed-clause-same c = λ e. refl

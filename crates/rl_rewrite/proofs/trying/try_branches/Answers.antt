@@ -1,7 +1,8 @@
-use Rattle.std.proofs.Common.{◌∷◌, [], sym, ap, ◌∙◌, arith}
+use Rattle.std.proofs.Common.{◌∷◌, [], IfSome, sym, ap, ◌∙◌, subst, arith}
 use Rattle.std.proofs.lemmas.Grind.{common_steps}
 use Rattle.rl_syntax.specs.Pattern.{body_of, universe_of}
 use Rattle.rl_pattern.specs.Suggested.{branches_in, without}
+use Rattle.rl_equiv.specs.Bases.{IsBase}
 use Rattle.rl_rewrite.proofs.Stays.{none_left}
 use Rattle.rl_rewrite.proofs.TriedOne.{none, last_of}
 use Rattle.rl_rewrite.proofs.trying.try_branches.Goals as goal
@@ -14,6 +15,7 @@ loop-branch-preserved c =
       c.in_ok-tries.ensures.tried inv.0 inv.2,
       c.in_ok-tries.ensures.tree,
       c.in_ok-tries.ensures.universe,
+      c.in_ok-tries.ensures.base,
     )
 
 pub loop-branch-init : goal.loop-branch-init
@@ -23,4 +25,5 @@ loop-branch-init c = (
   rw (c.new-2.ensures, c.new-3.ensures) (none (universe_of c.args.p.now) c.args.limit (body_of c.args.p.now) c.requires.before),
   c.requires.tree ∙ sym (none_left (body_of c.args.p.now)) ∙ ap (λ d. without d (body_of c.args.p.now)) (sym c.new-2.ensures),
   c.requires.universe,
+  subst (λ d. IfSome c.in_ok-trimmer.trimmer (IsBase (universe_of c.args.p.now) (without d (body_of c.args.p.now)))) (sym c.new-2.ensures) c.in_ok-trimmer.ensures,
 )

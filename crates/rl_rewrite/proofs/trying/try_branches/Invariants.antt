@@ -1,11 +1,12 @@
--- The branches that were tried so far are the last ones of all, and the tree is what is left by then.
-use Rattle.std.proofs.Common.{◌≡◌, ◌++◌, List}
+-- The branches that were tried so far are the last ones of all, and the tree and the automaton are those of what is left by then.
+use Rattle.std.proofs.Common.{◌≡◌, ◌++◌, List, IfSome}
 use Rattle.rl_syntax.specs.declared.span.Span.{Span}
 use Rattle.rl_syntax.specs.Pattern.{body_of, universe_of}
 use Rattle.rl_syntax.specs.Tree.{tree_of}
 use Rattle.rl_pattern.specs.Suggested.{branches_in, without}
+use Rattle.rl_equiv.specs.Bases.{IsBase}
 use Rattle.rl_rewrite.specs.internal.Trials.{AreTried}
 use Rattle.rl_rewrite.proofs.trying.try_branches.Given as goal
 
 abbrev pub invariant-loop-branch : goal.invariant-loop-branch
-invariant-loop-branch l = (bs : List Span) × (l.branch-iterator.iter.rest.now ++ bs ≡ branches_in (body_of l.p)) × AreTried (universe_of l.p) l.limit (body_of l.p) bs l.tries.dropped l.tries.passed × (tree_of l.tries.base.tree ≡ without l.tries.dropped (body_of l.p)) × (l.tries.base.universe ≡ universe_of l.p)
+invariant-loop-branch l = (bs : List Span) × (l.branch-iterator.iter.rest.now ++ bs ≡ branches_in (body_of l.p)) × AreTried (universe_of l.p) l.limit (body_of l.p) bs l.tries.dropped l.tries.passed × (tree_of l.tries.base.tree ≡ without l.tries.dropped (body_of l.p)) × (l.tries.base.universe ≡ universe_of l.p) × IfSome l.trimmer (IsBase (universe_of l.p) (without l.tries.dropped (body_of l.p)))

@@ -1,0 +1,13 @@
+-- Whether the parts so far may span the empty text, and those that are left.
+use Rattle.std.proofs.Common.{◌≡◌, ◌&&◌, ◌||◌, drop, map}
+use Rattle.rl_syntax.specs.PatTree.{pat_of, items_of, branches_of}
+use Rattle.rl_syntax.specs.Counting.{branch_tree}
+use Rattle.rl_pattern.specs.Suggested.{among}
+use Rattle.rl_rewrite.specs.internal.Keeping.{items_span_empty, branch_spans_empty}
+use Rattle.rl_rewrite.proofs.keeping.+empty.Given as goal
+
+abbrev pub invariant-branches_may_be_empty-loop-branch : goal.invariant-branches_may_be_empty-loop-branch
+invariant-branches_may_be_empty-loop-branch l = (l.some || branch_spans_empty (among l.dropped) (branches_of (map branch_tree (drop l.branch-index l.branches)))) ≡ branch_spans_empty (among l.dropped) (branches_of (map branch_tree l.branches))
+
+abbrev pub invariant-items_may_be_empty-loop-item : goal.invariant-items_may_be_empty-loop-item
+invariant-items_may_be_empty-loop-item l = (l.all && items_span_empty (among l.dropped) (items_of (map pat_of (drop l.item-index l.items)))) ≡ items_span_empty (among l.dropped) (items_of (map pat_of l.items))

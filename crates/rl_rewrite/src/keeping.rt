@@ -1,0 +1,257 @@
+//! Which places of a part are kept where one more branch is dropped.
+
+ghost use Rattle.std.specs.Prelude.{◌≡◌, ◌∷◌, [], ◌++◌, List, true, map, IfOk, IfSome};
+ghost use Rattle.rl_syntax.specs.PatTree.{pat_of, items_of, branches_of};
+ghost use Rattle.rl_syntax.specs.Counting.{branch_tree};
+ghost use Rattle.rl_syntax.specs.Lowering.{lowered};
+ghost use Rattle.rl_pattern.specs.Cut.{left};
+ghost use Rattle.rl_pattern.specs.Suggested.{among as lies_among, same_span, no_span, may_go as goes};
+ghost use Rattle.rl_trim.specs.Without.{Without};
+ghost use Rattle.rl_rewrite.specs.internal.Keeping.{copies as copies_of, repeated};
+ghost use Rattle.rl_rewrite.specs.internal.Keeping.{spans_empty, items_span_empty, branch_spans_empty};
+ghost use Rattle.rl_rewrite.specs.internal.Keeping.{loses_empty, items_lose_empty, branches_lose_empty};
+ghost use Rattle.rl_rewrite.specs.internal.Keeping.{flags_in, items_flags, branches_flags};
+
+use crate::going::some_kept;
+use crate::parts::among;
+use rl_lists::{Items, OutOfMemory};
+use rl_syntax::{Branch, Pat, Span};
+use std::alloc::Global;
+
+/// Flags of places, from left to right.
+pub(crate) type Flags = Items<bool>;
+
+/// Whether two spans are the same.
+fn is_same(first: Span, second: Span) -> bool
+    ensures { result ≡ same_span first second }
+{
+    first == second
+}
+
+/// Whether what is left of a part without the branches of these spans may span the empty text.
+#[cycle(empty)]
+fn may_be_empty(part: &Pat, dropped: &[Span]) -> bool
+    ensures { result ≡ spans_empty (lies_among dropped.now) (pat_of part.now) }
+{
+    match part {
+        Pat::Class { .. } => false,
+        Pat::Nothing { .. } | Pat::Anchor { .. } | Pat::Boundary { .. } | Pat::Outside { .. } =>
+            true,
+        Pat::Seq { items, .. } => items_may_be_empty(items.as_slice(), dropped),
+        Pat::Choice { branches, .. } => {
+            let kept = some_kept(branches.as_slice(), dropped);
+            branches_may_be_empty(branches.as_slice(), dropped) || !kept
+        }
+        Pat::Repeat { min, body, .. } => may_be_empty(body, dropped) || *min == 0,
+        Pat::Group { body, .. } => may_be_empty(body, dropped),
+    }
+}
+
+/// Whether all of the items may.
+#[cycle(empty)]
+fn items_may_be_empty(items: &[Pat], dropped: &[Span]) -> bool
+    ensures { result ≡ items_span_empty (lies_among dropped.now) (items_of (map pat_of items.now)) }
+{
+    let mut all = true;
+    for item in items {
+        all = may_be_empty(item, dropped) && all;
+    }
+    all
+}
+
+/// Whether one of the branches that are left may.
+#[cycle(empty)]
+fn branches_may_be_empty(branches: &[Branch], dropped: &[Span]) -> bool
+    ensures { result ≡ branch_spans_empty (lies_among dropped.now) (branches_of (map branch_tree branches.now)) }
+{
+    let mut some = false;
+    for branch in branches {
+        some = branch_may_be_empty(branch, dropped) || some;
+    }
+    some
+}
+
+/// Whether a branch is left and may.
+#[cycle(empty)]
+fn branch_may_be_empty(branch: &Branch, dropped: &[Span]) -> bool
+    ensures { result ≡ branch_spans_empty (lies_among dropped.now) (branches_of (map branch_tree (branch.now ∷ []))) }
+{
+    if among(dropped, branch.span) {
+        false
+    } else {
+        may_be_empty(&branch.body, dropped)
+    }
+}
+
+/// Whether a branch of one more span, of those that are left, may span the empty text.
+#[cycle(losing)]
+fn may_lose_empty(part: &Pat, dropped: &[Span], gone: Span) -> bool
+    ensures { result ≡ loses_empty (lies_among dropped.now) gone (pat_of part.now) }
+{
+    match part {
+        Pat::Nothing { .. }
+        | Pat::Class { .. }
+        | Pat::Anchor { .. }
+        | Pat::Boundary { .. }
+        | Pat::Outside { .. } => false,
+        Pat::Seq { items, .. } => items_may_lose_empty(items.as_slice(), dropped, gone),
+        Pat::Choice { branches, .. } => branches_may_lose_empty(branches.as_slice(), dropped, gone),
+        Pat::Repeat { body, .. } | Pat::Group { body, .. } => may_lose_empty(body, dropped, gone),
+    }
+}
+
+/// Whether one in the items may.
+#[cycle(losing)]
+fn items_may_lose_empty(items: &[Pat], dropped: &[Span], gone: Span) -> bool
+    ensures { result ≡ items_lose_empty (lies_among dropped.now) gone (items_of (map pat_of items.now)) }
+{
+    let mut some = false;
+    for item in items {
+        some = may_lose_empty(item, dropped, gone) || some;
+    }
+    some
+}
+
+/// Whether one of the branches, or one in them, may.
+#[cycle(losing)]
+fn branches_may_lose_empty(branches: &[Branch], dropped: &[Span], gone: Span) -> bool
+    ensures { result ≡ branches_lose_empty (lies_among dropped.now) gone (branches_of (map branch_tree branches.now)) }
+{
+    let mut some = false;
+    for branch in branches {
+        some = branch_may_lose_empty(branch, dropped, gone) || some;
+    }
+    some
+}
+
+/// Whether a branch, or one in it, may.
+#[cycle(losing)]
+fn branch_may_lose_empty(branch: &Branch, dropped: &[Span], gone: Span) -> bool
+    ensures { result ≡ branches_lose_empty (lies_among dropped.now) gone (branches_of (map branch_tree (branch.now ∷ []))) }
+{
+    if among(dropped, branch.span) {
+        return false;
+    }
+    if is_same(gone, branch.span) {
+        may_be_empty(&branch.body, dropped)
+    } else {
+        may_lose_empty(&branch.body, dropped, gone)
+    }
+}
+
+/// How many copies of its body a repeat has.
+fn copies(min: u32, max: Option<u32>) -> u64
+    ensures { result ≡ copies_of min max }
+{
+    match max {
+        Some(max) => u64::from(min) + u64::from(max.saturating_sub(min)),
+        None => u64::from(min) + 1,
+    }
+}
+
+/// These flags, and others so many times.
+fn with_copies(flags: &[bool], times: u64, found: Flags) -> Result<Flags, OutOfMemory>
+    ensures { IfOk result (λ all. all ≡ found ++ repeated times flags.now) }
+{
+    let mut all = found.into_vec();
+    for _ in 0..times {
+        all.extend_from_slice(flags)?;
+    }
+    Ok(Flags::from_vec(all))
+}
+
+/// These flags, and those of the places of what is left of a part, which is kept or goes itself, where the branches of one more
+/// span go.
+#[cycle(keeping)]
+fn with_flags(
+    alloc: Global,
+    part: &Pat,
+    dropped: &[Span],
+    gone: Span,
+    keep: bool,
+    found: Flags,
+) -> Result<Flags, OutOfMemory>
+    ensures { IfOk result (λ all. all ≡ found ++ flags_in (lies_among dropped.now) gone keep (pat_of part.now)) }
+{
+    match part {
+        Pat::Nothing { .. } | Pat::Anchor { .. } | Pat::Boundary { .. } | Pat::Outside { .. } => Ok(
+            found,
+        ),
+        Pat::Class { .. } => {
+            let mut all = found;
+            all.push(keep)?;
+            Ok(all)
+        }
+        Pat::Seq { items, .. } => {
+            with_items_flags(alloc, items.as_slice(), dropped, gone, keep, found)
+        }
+        Pat::Choice { branches, .. } => {
+            with_branches_flags(alloc, branches.as_slice(), dropped, gone, keep, found)
+        }
+        Pat::Repeat { min, max, body, .. } => {
+            let flags = with_flags(alloc, body, dropped, gone, keep, Flags::new(alloc))?;
+            with_copies(flags.as_slice(), copies(*min, *max), found)
+        }
+        Pat::Group { body, .. } => with_flags(alloc, body, dropped, gone, keep, found),
+    }
+}
+
+/// These flags, and those of items.
+#[cycle(keeping)]
+fn with_items_flags(
+    alloc: Global,
+    items: &[Pat],
+    dropped: &[Span],
+    gone: Span,
+    keep: bool,
+    found: Flags,
+) -> Result<Flags, OutOfMemory>
+    ensures { IfOk result (λ all. all ≡ found ++ items_flags (lies_among dropped.now) gone keep (items_of (map pat_of items.now))) }
+{
+    let mut all = found;
+    for item in items {
+        all = with_flags(alloc, item, dropped, gone, keep, all)?;
+    }
+    Ok(all)
+}
+
+/// These flags, and those of the branches that are left.
+#[cycle(keeping)]
+fn with_branches_flags(
+    alloc: Global,
+    branches: &[Branch],
+    dropped: &[Span],
+    gone: Span,
+    keep: bool,
+    found: Flags,
+) -> Result<Flags, OutOfMemory>
+    ensures { IfOk result (λ all. all ≡ found ++ branches_flags (lies_among dropped.now) gone keep (branches_of (map branch_tree branches.now))) }
+{
+    let mut all = found;
+    for branch in branches {
+        if !among(dropped, branch.span) {
+            let stays = keep && !is_same(gone, branch.span);
+            all = with_flags(alloc, &branch.body, dropped, gone, stays, all)?;
+        }
+    }
+    Ok(all)
+}
+
+/// For each place of what is left of a part without some branches, whether it is kept where one more branch is dropped; nothing
+/// where that branch may span the empty text.
+pub(crate) fn kept_places(
+    alloc: Global,
+    part: &Pat,
+    dropped: &[Span],
+    branch: Span,
+) -> Result<Option<Flags>, OutOfMemory>
+    requires may { goes (lies_among (branch ∷ dropped.now)) (pat_of part.now) ≡ true }
+    ensures { IfOk result (λ o. IfSome o (λ keep. Without keep (lowered (left (lies_among (branch ∷ dropped.now)) no_span (pat_of part.now)))
+        (lowered (left (lies_among dropped.now) no_span (pat_of part.now))))) }
+{
+    if may_lose_empty(part, dropped, branch) {
+        return Ok(None);
+    }
+    let keep = with_flags(alloc, part, dropped, branch, true, Flags::new(alloc))?;
+    Ok(Some(keep))
+}

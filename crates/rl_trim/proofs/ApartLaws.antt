@@ -1,0 +1,56 @@
+-- Laws of words that lead apart.
+use Rattle.std.proofs.Common.{◌≡◌, ◌∙◌, ℕ, ◌+◌, ◌<◌, ◌≤◌, List, [], ◌∷◌, ◌++◌, length, get_or, take, All, Bool, true, refl, sym, ap, subst, arith}
+use Rattle.std.proofs.lemmas.List.{take_more, take_all}
+use Rattle.std.proofs.lemmas.List.Elements.{All-more, All-nil}
+use Rattle.rl_prio.specs.Automaton.{Automaton, letters_count}
+use Rattle.rl_sets.specs.Walk.{Walk}
+use Rattle.rl_equiv.specs.declared.pair.SetPair.{SetPair}
+use Rattle.rl_equiv.specs.SetPairs.{first_pair}
+use Rattle.rl_trim.specs.declared.key.Key.{Key}
+use Rattle.rl_trim.specs.internal.Trims.{trim_on, trim_run, trim_differs, LeadsApart}
+use Rattle.rl_trim.specs.Reached.{IsClosedTo}
+use Rattle.rl_trim.specs.internal.Quick.{IsGrown, no_key, pair_of, IsInside, IsKeyOf}
+use Rattle.rl_trim.proofs.SetLaws.{grown-refl, grown-grown}
+
+pub run-push : (a : Automaton) (keep : List Bool) (p : SetPair) (word : List ℕ) (letter : ℕ) → trim_run a keep p (word ++ letter ∷ []) ≡ trim_on a keep (trim_run a keep p word) letter
+run-push a keep p [] letter = refl
+run-push a keep p (l ∷ word) letter = run-push a keep (trim_on a keep p l) word letter
+
+-- the pair to which the first letters of a word lead
+pub record IsRunning (a : Automaton) (keep : List Bool) (v w : Walk) (word : List ℕ) (read : ℕ) (key : Key) : Type 0 where
+  pub grown : IsGrown a v w
+  pub inside : IsInside w key
+  pub small : All (λ letter. letter < letters_count a) (take read word)
+  pub is : pair_of w key ≡ trim_run a keep first_pair (take read word)
+
+pub running-start : (a : Automaton) (keep : List Bool) (w : Walk) (word : List ℕ) (count : ℕ) → IsClosedTo a w 0 count → IsRunning a keep w w word 0 no_key
+running-start a keep w word count c =
+    let lt : 0 < length w.sets = omega (arith, c.some, c.few) in
+    record {
+      grown = grown-refl a w c.made;
+      inside = record { first_in = lt; second_in = lt };
+      small = All-nil (λ letter. letter < letters_count a);
+      is = λ j. record { first = c.start j; second = c.start j };
+    }
+
+pub running-more : (a : Automaton) (keep : List Bool) (v w x : Walk) (word : List ℕ) (read letter : ℕ) (key next : Key) → read < length word → get_or word read 0 ≡ letter → letter < letters_count a
+    → IsRunning a keep v w word read key → IsKeyOf a keep w x (trim_on a keep (pair_of w key) letter) next → IsRunning a keep v x word (read + 1) next
+running-more a keep v w x word read letter key next lt here small r k = record {
+  grown = grown-grown a v w x r.grown k.grown;
+  inside = k.keyed.inside;
+  small = All-more (λ l. l < letters_count a) word read 0 lt r.small (subst (λ (l : ℕ). l < letters_count a) (sym here) small);
+  is =
+      k.is
+      ∙ ap (λ (p : SetPair). trim_on a keep p letter) r.is
+      ∙ ap (trim_on a keep (trim_run a keep first_pair (take read word))) (sym here)
+      ∙ sym (run-push a keep first_pair (take read word) (get_or word read 0))
+      ∙ ap (trim_run a keep first_pair) (sym (take_more word read 0 lt));
+}
+
+pub running-apart : (a : Automaton) (keep : List Bool) (v w : Walk) (word : List ℕ) (read : ℕ) (key : Key) → length word ≤ read → IsRunning a keep v w word read key → trim_differs a (pair_of w key) ≡ true → LeadsApart a keep word
+running-apart a keep v w word read key all r e =
+    let whole : take read word ≡ word = take_all read word all in
+    record {
+      small = subst (All (λ letter. letter < letters_count a)) whole r.small;
+      apart = ap (λ (l : List ℕ). trim_differs a (trim_run a keep first_pair l)) (sym whole) ∙ ap (trim_differs a) (sym r.is) ∙ e;
+    }

@@ -1,0 +1,9 @@
+pub mod WithoutItems
+pub mod WithoutMoves
+pub mod CoverLaws
+pub mod LiftLaws
+pub mod SetLaws
+pub mod ClosingLaws
+pub mod PairLaws
+pub mod TrialLaws
+pub mod ApartLaws

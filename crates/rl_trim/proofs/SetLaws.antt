@@ -1,0 +1,152 @@
+-- Laws of walks that grow, and of sets without the states that aren't kept.
+use Rattle.std.proofs.Common.{◌≡◌, ◌≢◌, ◌∙◌, ℕ, ◌+◌, ◌<◌, ◌≤◌, ◌⊎◌, inl, inr, List, [], ◌∷◌, ◌++◌, length, get_or, filter, All, Contains, Bool, true, false, ◌&&◌, ◌||◌, cond, eqb, eqb-true, eq-eqb, refl, sym, ap, subst, arith}
+use Rattle.std.specs.List.{list_any, list_all}
+use Rattle.std.proofs.lemmas.Bool.{cases_Bool, cases_lt, both_ways, and_from, or_left, or_right}
+use Rattle.std.proofs.lemmas.List.{get_or_append_left}
+use Rattle.std.proofs.lemmas.List.Elements.{All-filter, All-head, All-tail, All-push, All-weaker}
+use Rattle.std.proofs.lemmas.List.Folds.{list_any_at, list_any-append}
+use Rattle.std.proofs.lemmas.Option.{get_or_from_slice_get}
+use Rattle.rl_prio.specs.Automaton.{Automaton, dead_state}
+use Rattle.rl_sets.specs.Live.{below, holds}
+use Rattle.rl_sets.specs.Walk.{Walk, set_at, set_of, IsSetOf, IsMadeFor, IsListed}
+use Rattle.rl_sets.proofs.LiveLemmas.{found_from}
+use Rattle.rl_sets.proofs.SetLemmas.{filter_same, holds-there}
+use Rattle.rl_trim.specs.internal.Sunk.{is_kept}
+use Rattle.rl_trim.specs.internal.Trims.{trimmed}
+use Rattle.rl_trim.specs.internal.Quick.{IsGrown, IsNumbered, AreGone}
+
+-- ---- walks that grow
+
+pub grown-refl : (a : Automaton) (w : Walk) → IsMadeFor w a → IsGrown a w w
+grown-refl a w made = record { made = made; longer = omega arith; same = λ k lt. refl }
+
+pub grown-grown : (a : Automaton) (v w x : Walk) → IsGrown a v w → IsGrown a w x → IsGrown a v x
+grown-grown a v w x g h = record {
+  made = h.made;
+  longer = omega (arith, g.longer, h.longer);
+  same = λ k lt. h.same k (omega (arith, g.longer)) ∙ g.same k lt;
+}
+
+-- the number that a walk gives
+pub numbered : (a : Automaton) (old new : Walk) (set : List ℕ) (n : ℕ) → IsMadeFor new a → n < length new.sets → length old.sets ≤ length new.sets → IsListed old.sets new.sets set n → IsNumbered a old new set n
+numbered a old new set n made inside longer listed = record {
+  grown = record { made = made; longer = longer; same = λ k lt. by k lt listed.grown };
+  inside = inside;
+  is = get_or_from_slice_get new.sets n set [] listed.stands;
+}
+  where
+    by : (k : ℕ) → k < length old.sets → (new.sets ≡ old.sets) ⊎ ((Contains old.sets set → ⊥) × (new.sets ≡ old.sets ++ set ∷ [])) → set_at new k ≡ set_at old k
+    by k lt (inl e) = ap (λ (l : List (List ℕ)). get_or l k []) e
+    by k lt (inr m) = ap (λ (l : List (List ℕ)). get_or l k []) m.1 ∙ get_or_append_left old.sets (set ∷ []) [] k lt
+
+pub numbered-here : (a : Automaton) (w : Walk) (set : List ℕ) (n : ℕ) → IsMadeFor w a → n < length w.sets → set_at w n ≡ set → IsNumbered a w w set n
+numbered-here a w set n made inside is = record { grown = grown-refl a w made; inside = inside; is = is }
+
+pub numbered-same : (a : Automaton) (old new : Walk) (set other : List ℕ) (n : ℕ) → set ≡ other → IsNumbered a old new set n → IsNumbered a old new other n
+numbered-same a old new set other n e is = record { grown = is.grown; inside = is.inside; is = is.is ∙ e }
+
+-- ---- the members of a set
+
+pub holds-member : (set : List ℕ) (k d : ℕ) → k < length set → holds set (get_or set k d) ≡ true
+holds-member set k d lt = list_any_at (λ x. eqb x (get_or set k d)) set k d lt (eq-eqb (get_or set k d) (get_or set k d) refl)
+
+pub member-small : (a : Automaton) (set : List ℕ) → IsSetOf a set → (q : ℕ) → holds set q ≡ true → q < a.states
+member-small a set is q e = (holds-there (holds set) a.states q (subst (λ (l : List ℕ). holds l q ≡ true) is.rising e)).0
+
+pub members-states : (a : Automaton) (set : List ℕ) → IsSetOf a set → All (λ q. (q < a.states) × (q ≢ dead_state a)) set
+members-states a set is k d lt =
+    let there = holds-member set k d lt in (
+      member-small a set is (get_or set k d) there,
+      λ e. both_ways (holds set (dead_state a)) is.no_dead (subst (λ q. holds set q ≡ true) e there),
+    )
+
+pub trimmed-states : (a : Automaton) (keep : List Bool) (set : List ℕ) → IsSetOf a set → All (λ q. (q < a.states) × (q ≢ dead_state a)) (trimmed keep set)
+trimmed-states a keep set is = All-filter (is_kept keep) (λ q. (q < a.states) × (q ≢ dead_state a)) set (members-states a set is)
+
+-- ---- filters
+
+holds-step : (p : ℕ → Bool) (x q : ℕ) (rest : List ℕ) (b : Bool) → p x ≡ b → holds (filter p rest) q ≡ (p q && holds rest q) → holds (cond b (x ∷ filter p rest) (filter p rest)) q ≡ (p q && (eqb x q || holds rest q))
+holds-step p x q rest true e h = by (cases_Bool (eqb x q))
+  where
+    by : (eqb x q ≡ true) ⊎ (eqb x q ≡ false) → (eqb x q || holds (filter p rest) q) ≡ (p q && (eqb x q || holds rest q))
+    by (inl s) = let f : p q ≡ true = subst (λ k. p k ≡ true) (eqb-true x q s) e in rw (s, f) refl
+    by (inr s) = rw (s, h) refl
+holds-step p x q rest false e h = by (cases_Bool (eqb x q))
+  where
+    by : (eqb x q ≡ true) ⊎ (eqb x q ≡ false) → holds (filter p rest) q ≡ (p q && (eqb x q || holds rest q))
+    by (inl s) = let f : p q ≡ false = subst (λ k. p k ≡ false) (eqb-true x q s) e in rw (h, f) refl
+    by (inr s) = rw (h, s) refl
+
+pub holds-trimmed : (p : ℕ → Bool) (set : List ℕ) (q : ℕ) → holds (filter p set) q ≡ (p q && holds set q)
+holds-trimmed p [] q = by (p q)
+  where
+    by : (b : Bool) → false ≡ (b && false)
+    by true = refl
+    by false = refl
+holds-trimmed p (x ∷ rest) q = holds-step p x q rest (p x) refl (holds-trimmed p rest q)
+
+both-step : (p h : ℕ → Bool) (x : ℕ) (rest : List ℕ) (b c : Bool) → p x ≡ b → h x ≡ c → filter (λ q. p q && h q) rest ≡ filter p (filter h rest)
+    → cond (b && c) (x ∷ filter (λ q. p q && h q) rest) (filter (λ q. p q && h q) rest) ≡ filter p (cond c (x ∷ filter h rest) (filter h rest))
+both-step p h x rest true true e f more = ap (λ (l : List ℕ). x ∷ l) more ∙ ap (λ (t : Bool). cond t (x ∷ filter p (filter h rest)) (filter p (filter h rest))) (sym e)
+both-step p h x rest true false e f more = more
+both-step p h x rest false true e f more = more ∙ ap (λ (t : Bool). cond t (x ∷ filter p (filter h rest)) (filter p (filter h rest))) (sym e)
+both-step p h x rest false false e f more = more
+
+pub filter-both : (p h : ℕ → Bool) (xs : List ℕ) → filter (λ q. p q && h q) xs ≡ filter p (filter h xs)
+filter-both p h [] = refl
+filter-both p h (x ∷ rest) = both-step p h x rest (p x) (h x) refl refl (filter-both p h rest)
+
+pub filter-all : (p : ℕ → Bool) (xs : List ℕ) → All (λ x. p x ≡ true) xs → filter p xs ≡ xs
+filter-all p [] all = refl
+filter-all p (x ∷ rest) all =
+    ap (λ (t : Bool). cond t (x ∷ filter p rest) (filter p rest)) (All-head (λ y. p y ≡ true) x rest all)
+    ∙ ap (λ (l : List ℕ). x ∷ l) (filter-all p rest (All-tail (λ y. p y ≡ true) x rest all))
+
+all-step : (p : ℕ → Bool) (x : ℕ) (rest : List ℕ) (b : Bool) → p x ≡ b → list_all p (filter p rest) ≡ true → list_all p (cond b (x ∷ filter p rest) (filter p rest)) ≡ true
+all-step p x rest true e more = and_from (p x) (list_all p (filter p rest)) e more
+all-step p x rest false e more = more
+
+pub filter-passes : (p : ℕ → Bool) (xs : List ℕ) → list_all p (filter p xs) ≡ true
+filter-passes p [] = refl
+filter-passes p (x ∷ rest) = all-step p x rest (p x) refl (filter-passes p rest)
+
+-- ---- sets without the states that aren't kept
+
+-- such a set is the set of its members
+pub set-trimmed : (a : Automaton) (keep : List Bool) (set : List ℕ) → IsSetOf a set → set_of a (trimmed keep set) ≡ trimmed keep set
+set-trimmed a keep set is =
+    filter_same (holds (trimmed keep set)) (λ q. is_kept keep q && holds set q) a.states (λ q lt. holds-trimmed (is_kept keep) set q)
+    ∙ filter-both (is_kept keep) (holds set) (below a.states)
+    ∙ ap (filter (is_kept keep)) (sym is.rising)
+
+-- a set that holds none of them is the same without them
+pub untouched : (a : Automaton) (keep : List Bool) (set gone : List ℕ) → IsSetOf a set → AreGone keep a.states gone → list_any (holds set) gone ≡ false → trimmed keep set ≡ set
+untouched a keep set gone is are none = filter-all (is_kept keep) set (λ k d lt. by (get_or set k d) (holds-member set k d lt) (cases_Bool (is_kept keep (get_or set k d))))
+  where
+    by : (q : ℕ) → holds set q ≡ true → (is_kept keep q ≡ true) ⊎ (is_kept keep q ≡ false) → is_kept keep q ≡ true
+    by q there (inl e) = e
+    by q there (inr e) = absurd (both_ways (list_any (holds set) gone) none (found_from (holds set) gone q (are.all q (member-small a set is q there) e) there))
+
+-- one more state
+pub gone-none : (keep : List Bool) (gone : List ℕ) → gone ≡ [] → AreGone keep 0 gone
+gone-none keep gone e = record { small = λ k d lt. absurd (omega (arith, ap length e)); all = λ q lt f. absurd (omega arith) }
+
+pub gone-kept : (keep : List Bool) (states : ℕ) (gone : List ℕ) → is_kept keep states ≡ true → AreGone keep states gone → AreGone keep (states + 1) gone
+gone-kept keep states gone e are = record {
+  small = All-weaker (λ q. q < states) (λ q. q < states + 1) (λ q lt. omega arith) gone are.small;
+  all = λ q lt f. by q lt f (cases_lt q states);
+}
+  where
+    by : (q : ℕ) → q < states + 1 → is_kept keep q ≡ false → (q < states) ⊎ (states ≤ q) → holds gone q ≡ true
+    by q lt f (inl less) = are.all q less f
+    by q lt f (inr more) = let same : states ≡ q = omega arith in absurd (both_ways (is_kept keep q) f (subst (λ k. is_kept keep k ≡ true) same e))
+
+pub gone-more : (keep : List Bool) (states : ℕ) (gone more : List ℕ) → more ≡ gone ++ states ∷ [] → AreGone keep states gone → AreGone keep (states + 1) more
+gone-more keep states gone more e are = subst (AreGone keep (states + 1)) (sym e) (record {
+  small = All-push (λ q. q < states + 1) gone states (All-weaker (λ q. q < states) (λ q. q < states + 1) (λ q lt. omega arith) gone are.small) (omega arith);
+  all = λ q lt f. list_any-append (λ x. eqb x q) gone (states ∷ []) ∙ by q lt f (cases_lt q states);
+})
+  where
+    by : (q : ℕ) → q < states + 1 → is_kept keep q ≡ false → (q < states) ⊎ (states ≤ q) → (holds gone q || (eqb states q || false)) ≡ true
+    by q lt f (inl less) = or_left (holds gone q) (eqb states q || false) (are.all q less f)
+    by q lt f (inr here) = let same : states ≡ q = omega arith in or_right (holds gone q) (eqb states q || false) (or_left (eqb states q) false (eq-eqb states q same))

@@ -1,0 +1,3 @@
+pub mod Without
+pub mod Reached
+pub mod internal

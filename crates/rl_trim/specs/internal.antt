@@ -1,0 +1,4 @@
+-- Definitions for the contracts of private functions. No public contract reaches them.
+pub mod Quick
+pub mod Sunk
+pub mod Trims

@@ -1,0 +1,110 @@
+-- For the functions of a quick trial. Sets have numbers in a walk that grows, and pairs are found by the numbers of their sets.
+use Rattle.std.specs.Prelude.{◌≡◌, ℕ, ◌<◌, ◌≤◌, ◌⊎◌, Bool, true, false, List, length, slice_index_or, All}
+use Rattle.std.specs.List.{list_all}
+use Rattle.rl_prio.specs.Automaton.{Automaton, letters_count}
+use Rattle.rl_sets.specs.Live.{holds}
+use Rattle.rl_sets.specs.Walk.{Walk, set_at, IsMadeFor}
+use Rattle.rl_equiv.specs.declared.pair.SetPair.{SetPair}
+use Rattle.rl_trim.specs.declared.key.Key.{Key}
+use Rattle.rl_trim.specs.Reached.{IsClosedTo}
+use Rattle.rl_trim.specs.internal.Sunk.{is_kept}
+use Rattle.rl_trim.specs.internal.Trims.{trimmed, trim_on, trim_differs, IsCover, LeadsApart}
+
+-- the walk has grown: its sets keep their numbers
+pub record IsGrown (a : Automaton) (old new : Walk) : Type 0 where
+  pub made : IsMadeFor new a
+  pub longer : length old.sets ≤ length new.sets
+  pub same : (k : ℕ) → k < length old.sets → set_at new k ≡ set_at old k
+
+-- the walk has grown, and the number is that of the set
+pub record IsNumbered (a : Automaton) (old new : Walk) (set : List ℕ) (n : ℕ) : Type 0 where
+  pub grown : IsGrown a old new
+  pub inside : n < length new.sets
+  pub is : set_at new n ≡ set
+
+-- states of the automaton, among them all that aren't kept
+pub record AreGone (keep : List Bool) (states : ℕ) (gone : List ℕ) : Type 0 where
+  pub small : All (λ q. q < states) gone
+  pub all : (q : ℕ) → q < states → is_kept keep q ≡ false → holds gone q ≡ true
+
+abbrev pub no_key : Key
+no_key = record { first = 0; second = 0 }
+
+abbrev pub key_at : List Key → ℕ → Key
+key_at keys i = slice_index_or keys i no_key
+
+abbrev pub pair_of : Walk → Key → SetPair
+pair_of w key = record { first = set_at w key.first; second = set_at w key.second }
+
+abbrev pub pair_at : Walk → List Key → ℕ → SetPair
+pair_at w keys i = pair_of w (key_at keys i)
+
+-- the key is one of sets of the walk
+pub record IsInside (w : Walk) (key : Key) : Type 0 where
+  pub first_in : key.first < length w.sets
+  pub second_in : key.second < length w.sets
+
+-- the same, and its second set holds kept states alone
+pub record IsKey (w : Walk) (keep : List Bool) (key : Key) : Type 0 where
+  pub inside : IsInside w key
+  pub kept : list_all (is_kept keep) (set_at w key.second) ≡ true
+
+-- the walk has grown, and the key is that of the pair
+pub record IsKeyOf (a : Automaton) (keep : List Bool) (old new : Walk) (p : SetPair) (key : Key) : Type 0 where
+  pub grown : IsGrown a old new
+  pub keyed : IsKey new keep key
+  pub is : pair_of new key ≡ p
+
+-- a key was appended unless it was there
+pub record IsPut (keys more : List Key) (key : Key) : Type 0 where
+  pub longer : length keys ≤ length more
+  pub same : (i : ℕ) → i < length keys → key_at more i ≡ key_at keys i
+  pub new : (i : ℕ) → length keys ≤ i → i < length more → key_at more i ≡ key
+  pub place : ℕ
+  pub inside : place < length more
+  pub is : key_at more place ≡ key
+
+-- the pair is among those that are found
+pub record HasPair (w : Walk) (keys : List Key) (p : SetPair) : Type 0 where
+  pub place : ℕ
+  pub inside : place < length keys
+  pub is : pair_at w keys place ≡ p
+
+-- a set with itself without the states that aren't kept
+abbrev pub root : List Bool → Walk → ℕ → SetPair
+root keep w k = record { first = set_at w k; second = trimmed keep (set_at w k) }
+
+-- each of the first `done` sets is there with itself without the states that aren't kept
+pub record AreRooted (a : Automaton) (keep : List Bool) (w : Walk) (done : ℕ) (keys : List Key) : Type 0 where
+  pub each : (i : ℕ) → i < length keys → IsKey w keep (key_at keys i)
+  pub roots : (k : ℕ) → k < done → HasPair w keys (root keep w k)
+
+-- the pairs that are found, over the sets that are reached from the start
+pub record ArePairs (a : Automaton) (keep : List Bool) (w : Walk) (count : ℕ) (keys : List Key) : Type 0 where
+  pub closed : IsClosedTo a w count count
+  pub rooted : AreRooted a keep w count keys
+
+-- what was found stays
+pub record IsOnward (a : Automaton) (old new : Walk) (keys more : List Key) : Type 0 where
+  pub grown : IsGrown a old new
+  pub longer : length keys ≤ length more
+  pub same : (i : ℕ) → i < length keys → key_at more i ≡ key_at keys i
+
+-- the next pair of a pair on each of the first letters is there
+abbrev pub HasNexts : Automaton → List Bool → Walk → List Key → SetPair → ℕ → Type 0
+HasNexts a keep w keys p letters = (letter : ℕ) → letter < letters → HasPair w keys (trim_on a keep p letter)
+
+-- the pair at a place shows a difference, or its next ones are there
+abbrev pub IsDone : Automaton → List Bool → Walk → List Key → ℕ → Type 0
+IsDone a keep w keys i = (trim_differs a (pair_at w keys i) ≡ true) ⊎ HasNexts a keep w keys (pair_at w keys i) (letters_count a)
+
+-- the pairs at all places do
+abbrev pub AreDone : Automaton → List Bool → Walk → List Key → ℕ → Type 0
+AreDone a keep w keys places = (i : ℕ) → i < places → IsDone a keep w keys i
+
+-- a cover within the limit, and a word that leads apart
+pub record IsToldApart (a : Automaton) (keep : List Bool) (limit : ℕ) : Type 0 where
+  pub cover : List SetPair
+  pub word : List ℕ
+  pub covers : IsCover a keep limit cover
+  pub leads : LeadsApart a keep word

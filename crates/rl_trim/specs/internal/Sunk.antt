@@ -1,0 +1,33 @@
+-- For the proofs of trials: the states of a tree without some of its branches are those that are kept of the whole tree,
+-- numbered anew. Trees without a guard have the start, a state for each place, the accepting state and the dead one.
+use Rattle.std.specs.Prelude.{◌≡◌, ℕ, zero, suc, ◌+◌, ◌<◌, Bool, true, List, [], ◌∷◌, length, slice_index_or, if◌then◌else◌}
+use Rattle.rl_syntax.specs.declared.re.Ending.TheVariants.{AtEnd}
+use Rattle.rl_syntax.specs.Tree.{Tree, places}
+use Rattle.rl_prio.specs.States.{dead, state_count, moves_over}
+use Rattle.rl_sets.specs.Live.{holds}
+
+-- how many of the first places are kept
+abbrev pub kept_before : List Bool → ℕ → ℕ
+kept_before keep zero = 0
+kept_before [] (suc p) = suc (kept_before [] p)
+kept_before (k ∷ keep) (suc p) = (if k then 1 else 0) + kept_before keep p
+
+-- whether a state is kept: all are but those of the places that aren't
+abbrev pub is_kept : List Bool → ℕ → Bool
+is_kept keep zero = true
+is_kept keep (suc p) = slice_index_or keep p true
+
+-- the number that a kept state has in the smaller tree
+abbrev pub sunk : List Bool → ℕ → ℕ
+sunk keep zero = 0
+sunk keep (suc p) = suc (kept_before keep p)
+
+-- the states of the first tree are the kept ones of the second, and their moves, over the letters of any sets, are the moves
+-- between these; `n` is how many codes there are
+pub record AreSunk (sets : List (ℕ → Bool)) (n : ℕ) (keep : List Bool) (s t : Tree) : Type 0 where
+  pub flags : length keep ≡ places t
+  pub kept : places s ≡ kept_before keep (places t)
+  pub first_states : state_count s n ≡ suc (suc (suc (places s)))
+  pub second_states : state_count t n ≡ suc (suc (suc (places t)))
+  pub moves : (q r letter : ℕ) → r < dead t n → is_kept keep q ≡ true → is_kept keep r ≡ true
+      → holds (moves_over sets s AtEnd n (sunk keep q) letter) (sunk keep r) ≡ holds (moves_over sets t AtEnd n q letter) r

@@ -1,0 +1,165 @@
+//! Sets of states without those of a branch.
+
+ghost use Rattle.std.specs.Prelude.{◌≡◌, ◌<◌, ◌≤◌, length, All, IfOk, OnOk};
+ghost use Rattle.std.specs.List.{list_any};
+ghost use Rattle.rl_prio.specs.Automaton.{letters_count};
+ghost use Rattle.rl_sets.specs.Live.{holds, image};
+ghost use Rattle.rl_sets.specs.Walk.{set_at, IsMadeFor};
+ghost use Rattle.rl_trim.specs.internal.Sunk.{is_kept as is_kept_in};
+ghost use Rattle.rl_trim.specs.internal.Trims.{trimmed, trim_on, set_ends, trim_differs};
+ghost use Rattle.rl_trim.specs.internal.Quick.{IsGrown, IsNumbered, IsInside, IsKeyOf, AreGone, pair_of};
+
+use crate::key::Key;
+use rl_lists::{Members, OutOfMemory};
+use rl_prio::Prio;
+use rl_sets::{SetWalk, SetsError};
+use std::alloc::Global;
+
+/// A branch that is left out of an automaton.
+#[derive(Drop)]
+pub(crate) struct Branch<'a> {
+    alloc: Global,
+    /// The automaton.
+    pub automaton: &'a Prio,
+    /// For each place whether it is kept.
+    pub keep: &'a [bool],
+    /// The states that aren't kept.
+    gone: Vec<u32>,
+    ghost are_gone: { AreGone keep.now automaton.now.states gone.items },
+}
+
+/// Whether a state is kept.
+fn is_kept(keep: &[bool], state: u32) -> bool
+    ensures { result ≡ is_kept_in keep.now state }
+{
+    if state == 0 {
+        return true;
+    }
+    let place = state as usize - 1;
+    if place >= keep.len() {
+        return true;
+    }
+    keep[place]
+}
+
+/// The states that aren't kept.
+fn gone_of(alloc: Global, keep: &[bool], states: u32) -> Result<Vec<u32>, OutOfMemory>
+    ensures { IfOk result (λ v. AreGone keep.now states v.items) }
+{
+    let mut gone = Vec::new(alloc);
+    for state in 0..states {
+        if !is_kept(keep, state) {
+            gone.push(state)?;
+        }
+    }
+    Ok(gone)
+}
+
+/// The members that are kept.
+fn kept_of(alloc: Global, keep: &[bool], members: &Members) -> Result<Vec<u32>, OutOfMemory>
+    ensures { IfOk result (λ v. v.items ≡ trimmed keep.now members.now) }
+{
+    let mut kept = Vec::new(alloc);
+    for state in members.as_slice() {
+        if is_kept(keep, *state) {
+            kept.push(*state)?;
+        }
+    }
+    Ok(kept)
+}
+
+/// Whether a set holds one of some states.
+fn touches(walk: &SetWalk, states: &[u32], set: u32) -> bool
+    requires set_in { set < length walk.now.sets }
+    requires states_in { All (λ q. q < walk.now.kept.states) states.now }
+    ensures { result ≡ list_any (holds (set_at walk.now set)) states.now }
+{
+    for state in states {
+        if walk.holds(set, *state) {
+            return true;
+        }
+    }
+    false
+}
+
+/// The number of the image of a set on a letter.
+fn step(walk: &mut SetWalk, a: &Prio, set: u32, letter: u32) -> Result<u32, SetsError>
+    requires made { IsMadeFor walk.old a.now }
+    requires set_in { set < length walk.old.sets }
+    requires letter_in { letter ≤ letters_count a.now }
+    ensures { IfOk result (IsNumbered a.now walk.old walk.new (image a.now (set_at walk.old set) letter)) }
+{
+    walk.step(a, set, letter)
+}
+
+/// Whether the end letter leads a set to the accepting state.
+fn ends(walk: &mut SetWalk, a: &Prio, set: u32) -> Result<bool, SetsError>
+    requires made { IsMadeFor walk.old a.now }
+    requires set_in { set < length walk.old.sets }
+    ensures ends { IfOk result (λ ended. ended ≡ set_ends a.now (set_at walk.old set)) }
+    ensures grown { OnOk result (IsGrown a.now walk.old walk.new) }
+{
+    let number = step(walk, a, set, a.letters().count())?;
+    Ok(walk.holds(number, a.accepting()))
+}
+
+impl<'a> Branch<'a> {
+    /// The branch of the places that aren't kept.
+    pub(crate) fn new(
+        alloc: Global,
+        automaton: &'a Prio,
+        keep: &'a [bool],
+    ) -> Result<Branch<'a>, OutOfMemory>
+        ensures automaton { IfOk result (λ b. b.automaton.now ≡ automaton.now) }
+        ensures keep { IfOk result (λ b. b.keep.now ≡ keep.now) }
+    {
+        let gone = gone_of(alloc, keep, automaton.states())?;
+        Ok(Branch {
+            alloc,
+            automaton,
+            keep,
+            gone,
+        })
+    }
+
+    /// The number of a set without the states that aren't kept.
+    pub(crate) fn trim(&self, walk: &mut SetWalk, set: u32) -> Result<u32, SetsError>
+        requires made { IsMadeFor walk.old self.now.automaton.now }
+        requires set_in { set < length walk.old.sets }
+        ensures { IfOk result (IsNumbered self.now.automaton.now walk.old walk.new (trimmed self.now.keep.now (set_at walk.old set))) }
+    {
+        if !touches(walk, &self.gone, set) {
+            return Ok(set);
+        }
+        let members = walk.members(set)?;
+        let kept = kept_of(self.alloc, self.keep, &members)?;
+        let number = walk.intern(self.automaton, &kept)?;
+        Ok(number)
+    }
+
+    /// The next pair of a pair on a letter.
+    pub(crate) fn next(&self, walk: &mut SetWalk, key: Key, letter: u32) -> Result<Key, SetsError>
+        requires made { IsMadeFor walk.old self.now.automaton.now }
+        requires inside { IsInside walk.old key }
+        requires letter_in { letter < letters_count self.now.automaton.now }
+        ensures { IfOk result (IsKeyOf self.now.automaton.now self.now.keep.now walk.old walk.new
+            (trim_on self.now.automaton.now self.now.keep.now (pair_of walk.old key) letter)) }
+    {
+        let first = step(walk, self.automaton, key.first, letter)?;
+        let whole = step(walk, self.automaton, key.second, letter)?;
+        let second = self.trim(walk, whole)?;
+        Ok(Key { first, second })
+    }
+
+    /// Whether the end letter leads one set of a pair alone to the accepting state.
+    pub(crate) fn differs(&self, walk: &mut SetWalk, key: Key) -> Result<bool, SetsError>
+        requires made { IsMadeFor walk.old self.now.automaton.now }
+        requires inside { IsInside walk.old key }
+        ensures differs { IfOk result (λ told. told ≡ trim_differs self.now.automaton.now (pair_of walk.old key)) }
+        ensures grown { OnOk result (IsGrown self.now.automaton.now walk.old walk.new) }
+    {
+        let first = ends(walk, self.automaton, key.first)?;
+        let second = ends(walk, self.automaton, key.second)?;
+        Ok(first != second)
+    }
+}

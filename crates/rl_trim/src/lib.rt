@@ -1,0 +1,15 @@
+//! Trials of branches on one automaton: a tree without some of its branches has the automaton of the whole tree without the
+//! states of their places, so that no other automaton is built.
+#![tactic(auto)]
+
+mod branch;
+mod closed;
+mod key;
+mod pairs;
+mod trimmer;
+mod word;
+
+pub use trimmer::Trimmer;
+
+#[cfg(test)]
+mod tests;

@@ -1,0 +1,135 @@
+//! Trials of branches of small trees. The answers are worked out by hand.
+ghost use Rattle.std.specs.Prelude.{◌<◌, IfOk};
+ghost use Rattle.rl_syntax.specs.Tree.{tree_of, IsOver};
+
+use crate::Trimmer;
+use rl_equiv::{SameError, same};
+use rl_lists::OutOfMemory;
+use rl_ranges::{CodeSet, Universe};
+use rl_syntax::Re;
+use std::alloc::Global;
+use std::test::Fail;
+
+/// The tree of an ASCII code.
+fn one(alloc: Global, code: u32) -> Result<Re, OutOfMemory>
+    requires { code < 128 }
+    ensures { IfOk result (λ tree. IsOver Universe.Bytes (tree_of tree)) }
+{
+    let set = CodeSet::range(alloc, code, code)?;
+    Ok(Re::One(set))
+}
+
+/// The tree of two ASCII codes in a row.
+fn two(alloc: Global, first: u32, second: u32) -> Result<Re, OutOfMemory>
+    requires first_ascii { first < 128 }
+    requires second_ascii { second < 128 }
+    ensures { IfOk result (λ tree. IsOver Universe.Bytes (tree_of tree)) }
+{
+    let first = one(alloc, first)?;
+    let second = one(alloc, second)?;
+    Re::both(alloc, first, second)
+}
+
+/// The automaton of a tree, once a comparison of the tree with itself shows that it passes no limit.
+fn trimmer_of(alloc: Global, tree: &Re) -> Result<Trimmer, SameError>
+    requires { IsOver Universe.Bytes (tree_of tree.now) }
+{
+    let _found = same(alloc, tree, tree, Universe::Bytes, 1)?;
+    let trimmer = Trimmer::new(alloc, tree, Universe::Bytes)?;
+    Ok(trimmer)
+}
+
+/// The tree of `ab|cd|ef`.
+fn three_words(alloc: Global) -> Result<Re, OutOfMemory>
+    ensures { IfOk result (λ tree. IsOver Universe.Bytes (tree_of tree)) }
+{
+    let first = two(alloc, 97, 98)?;
+    let second = two(alloc, 99, 100)?;
+    let third = two(alloc, 101, 102)?;
+    let rest = Re::either(alloc, second, third)?;
+    Re::either(alloc, first, rest)
+}
+
+/// The tree of `a|a`.
+fn one_twice(alloc: Global) -> Result<Re, OutOfMemory>
+    ensures { IfOk result (λ tree. IsOver Universe.Bytes (tree_of tree)) }
+{
+    let first = one(alloc, 97)?;
+    let second = one(alloc, 97)?;
+    Re::either(alloc, first, second)
+}
+
+/// The tree of `(?:ab|cd)*x`.
+fn in_loop(alloc: Global) -> Result<Re, OutOfMemory>
+    ensures { IfOk result (λ tree. IsOver Universe.Bytes (tree_of tree)) }
+{
+    let first = two(alloc, 97, 98)?;
+    let second = two(alloc, 99, 100)?;
+    let either = Re::either(alloc, first, second)?;
+    let many = Re::many(alloc, either, true)?;
+    let last = one(alloc, 120)?;
+    Re::both(alloc, many, last)
+}
+
+/// The tree of `ab|ac|ab`.
+fn one_start(alloc: Global) -> Result<Re, OutOfMemory>
+    ensures { IfOk result (λ tree. IsOver Universe.Bytes (tree_of tree)) }
+{
+    let first = two(alloc, 97, 98)?;
+    let second = two(alloc, 97, 99)?;
+    let third = two(alloc, 97, 98)?;
+    let rest = Re::either(alloc, second, third)?;
+    Re::either(alloc, first, rest)
+}
+
+#[test]
+fn a_branch_of_its_own_tells_apart(rt: HostRuntime) -> Result<(), Fail> {
+    let alloc = rt.alloc();
+    let tree = three_words(alloc)?;
+    let mut trimmer = trimmer_of(alloc, &tree)?;
+    assert!(rt; trimmer.is_apart(alloc, &[false, false, true, true, true, true], 100)?);
+    assert!(rt; trimmer.is_apart(alloc, &[true, true, false, false, true, true], 100)?);
+    assert!(rt; trimmer.is_apart(alloc, &[true, true, true, true, false, false], 100)?);
+    Ok(())
+}
+
+#[test]
+fn no_branch_and_a_low_limit_tell_nothing(rt: HostRuntime) -> Result<(), Fail> {
+    let alloc = rt.alloc();
+    let tree = three_words(alloc)?;
+    let mut trimmer = trimmer_of(alloc, &tree)?;
+    assert!(rt; !trimmer.is_apart(alloc, &[true, true, true, true, true, true], 100)?);
+    assert!(rt; !trimmer.is_apart(alloc, &[false, false, true, true, true, true], 3)?);
+    Ok(())
+}
+
+#[test]
+fn a_branch_that_is_there_twice_tells_nothing(rt: HostRuntime) -> Result<(), Fail> {
+    let alloc = rt.alloc();
+    let tree = one_twice(alloc)?;
+    let mut trimmer = trimmer_of(alloc, &tree)?;
+    assert!(rt; !trimmer.is_apart(alloc, &[false, true], 100)?);
+    assert!(rt; !trimmer.is_apart(alloc, &[true, false], 100)?);
+    Ok(())
+}
+
+#[test]
+fn a_branch_in_a_loop_tells_apart(rt: HostRuntime) -> Result<(), Fail> {
+    let alloc = rt.alloc();
+    let tree = in_loop(alloc)?;
+    let mut trimmer = trimmer_of(alloc, &tree)?;
+    assert!(rt; trimmer.is_apart(alloc, &[false, false, true, true, true], 100)?);
+    assert!(rt; trimmer.is_apart(alloc, &[true, true, false, false, true], 100)?);
+    Ok(())
+}
+
+#[test]
+fn a_branch_with_the_start_of_another_tells_apart(rt: HostRuntime) -> Result<(), Fail> {
+    let alloc = rt.alloc();
+    let tree = one_start(alloc)?;
+    let mut trimmer = trimmer_of(alloc, &tree)?;
+    assert!(rt; !trimmer.is_apart(alloc, &[false, false, true, true, true, true], 100)?);
+    assert!(rt; trimmer.is_apart(alloc, &[true, true, false, false, true, true], 100)?);
+    assert!(rt; !trimmer.is_apart(alloc, &[true, true, true, true, false, false], 100)?);
+    Ok(())
+}
