@@ -3,3 +3,4 @@ pub mod SearchLaws
 pub mod BlockLaws
 pub mod SplitLaws
 pub mod DenseLaws
+pub mod MeetingLaws

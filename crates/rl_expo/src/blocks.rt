@@ -52,7 +52,7 @@ fn fork_of(
     let states = states_of(alloc, components, g.states(), number)?;
     let inner = inner_graph(alloc, g, components, &states)?;
     let parts = product_parts(alloc, &inner)?;
-    Ok(fork_among(g, &states, &parts))
+    fork_among(alloc, g, &states, &parts)
 }
 
 /// Two such moves of a state of any component that is marked.

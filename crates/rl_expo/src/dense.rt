@@ -130,29 +130,48 @@ fn has_many(row: &[u32], letters: u32) -> bool {
     row.len() > MANY_MOVES && row.len() >= letters as usize / MANY_MOVES
 }
 
-/// Two such moves of a state on a letter with many moves.
+/// Whether the row of a state on a letter is that of the state whose row on it was searched before.
+fn is_again(g: &Multigraph, before: Option<u32>, state: u32, letter: u32) -> bool
+    requires state_in { state < g.now.states }
+    requires letter_in { letter < g.now.letters }
+{
+    match before {
+        Some(searched) => searched < g.states()
+            && g.edges(searched, letter) == g.edges(state, letter),
+        None => false,
+    }
+}
+
+/// Two such moves of a state on a letter with many moves. A row that was searched in vain last on this letter, from another state
+/// of the component, isn't searched again.
 fn meet_in_row(
     g: &Multigraph,
     components: &Components,
     marks: &mut [Option<Mark>],
+    searched: &mut [Option<u32>],
     state: u32,
     letter: u32,
 ) -> Option<Fork>
     requires parts { IsParts (edges_of g.now) g.now.states components.now }
     requires marks { AreMarks g.now components.now marks.old }
+    requires size { length searched.old ≡ g.now.letters }
     requires state_in { state < g.now.states }
     requires letter_in { letter < g.now.letters }
     ensures marks { AreMarks g.now components.now marks.new }
+    ensures size { length searched.new ≡ g.now.letters }
     ensures moves { IfSome result (AreMoves g.now) }
     ensures back { IfSome result (LeadsBack g.now) }
 {
     let letters = g.letters();
-    if has_many(g.edges(state, letter), letters) {
+    if has_many(g.edges(state, letter), letters)
+        && !is_again(g, searched[letter as usize], state, letter)
+    {
         for via in 0..letters {
             if let Some(fork) = meet_on(g, components, marks, state, letter, via) {
                 return Some(fork);
             }
         }
+        searched[letter as usize] = Some(state);
     }
     None
 }
@@ -162,21 +181,44 @@ fn meet_from(
     g: &Multigraph,
     components: &Components,
     marks: &mut [Option<Mark>],
+    searched: &mut [Option<u32>],
     state: u32,
 ) -> Option<Fork>
     requires parts { IsParts (edges_of g.now) g.now.states components.now }
     requires marks { AreMarks g.now components.now marks.old }
+    requires size { length searched.old ≡ g.now.letters }
     requires state_in { state < g.now.states }
     ensures marks { AreMarks g.now components.now marks.new }
+    ensures size { length searched.new ≡ g.now.letters }
     ensures moves { IfSome result (AreMoves g.now) }
     ensures back { IfSome result (LeadsBack g.now) }
 {
     for letter in 0..g.letters() {
-        if let Some(fork) = meet_in_row(g, components, marks, state, letter) {
+        if let Some(fork) = meet_in_row(g, components, marks, searched, state, letter) {
             return Some(fork);
         }
     }
     None
+}
+
+/// For each state that it bears no mark.
+fn no_marks(
+    alloc: Global,
+    g: &Multigraph,
+    components: &Components,
+) -> Result<Vec<Option<Mark>>, OutOfMemory>
+    ensures { IfOk result (λ v. AreMarks g.now components.now v.items) }
+{
+    let marks = vec![in alloc; None; g.states() as usize]?;
+    Ok(marks)
+}
+
+/// For each letter that no row was searched on it.
+fn none_searched(alloc: Global, g: &Multigraph) -> Result<Vec<Option<u32>>, OutOfMemory>
+    ensures { IfOk result (λ v. length v.items ≡ g.now.letters) }
+{
+    let searched = vec![in alloc; None; g.letters() as usize]?;
+    Ok(searched)
 }
 
 /// Two such moves of any state of a component. A mark says of which moves it is, so none is ever cleared.
@@ -193,10 +235,11 @@ pub fn short_fork(
     ensures moves { IfOk result (λ o. IfSome o (AreMoves g.now)) }
     ensures back { IfOk result (λ o. IfSome o (LeadsBack g.now)) }
 {
-    let mut marks = vec![in alloc; None; g.states() as usize]?;
+    let mut marks = no_marks(alloc, g, components)?;
+    let mut searched = none_searched(alloc, g)?;
     for state in 0..g.states() {
         if components.of(state) == number {
-            if let Some(fork) = meet_from(g, components, &mut marks, state) {
+            if let Some(fork) = meet_from(g, components, &mut marks, &mut searched, state) {
                 return Ok(Some(fork));
             }
         }

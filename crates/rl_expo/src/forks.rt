@@ -1,12 +1,14 @@
 //! The search for two moves of a state on one letter from whose targets one word leads back, among some states of a graph.
 
-ghost use Rattle.std.specs.Prelude.{◌≡◌, ℕ, ◌+◌, ◌<◌, ◌*◌, ◌^◌, length, slice_index, All, IfSome, IfNone, IsTrue, ◌↔◌};
+ghost use Rattle.std.specs.Prelude.{◌≡◌, ℕ, ◌+◌, ◌<◌, ◌*◌, ◌^◌, length, slice_index, All, IfOk, IfSome, IfNone, IsTrue, ◌↔◌};
 ghost use Rattle.rl_kernel.specs.Seats.{seats_of, state_at};
 ghost use Rattle.rl_expo.specs.internal.Search.{AreMoves};
-ghost use Rattle.rl_expo.specs.internal.Meeting.{Meets, NoneMeets, IsMet};
+ghost use Rattle.rl_expo.specs.internal.Meeting.{Meets, NoneMeets, AreSearched, IsMet};
 
 use rl_graph::{Multigraph, Parts};
 use rl_kernel::Kernel;
+use rl_lists::OutOfMemory;
+use std::alloc::Global;
 
 /// Two moves of a state on a letter, by their numbers, the smaller one first.
 #[derive(Clone, Copy)]
@@ -94,39 +96,103 @@ fn fork_on(g: &Multigraph, kernel: &Kernel, parts: &Parts, place: u32, letter: u
     None
 }
 
-/// Two such moves of the state at a place on any letter.
-fn fork_from(g: &Multigraph, kernel: &Kernel, parts: &Parts, place: u32) -> Option<Fork>
+/// Whether an earlier place tells that no two such moves are there: it has the same row on the letter, none of whose moves meet, and
+/// the two places' pairs with themselves lie in one part.
+fn is_again(
+    g: &Multigraph,
+    kernel: &Kernel,
+    parts: &Parts,
+    earlier: Option<u32>,
+    place: u32,
+    letter: u32,
+) -> bool
     requires place_in { place < length kernel.now.states.items }
-    requires state_in { state_at (seats_of kernel.now) place < g.now.states }
+    requires letter_in { letter < g.now.letters }
+    requires earlier { IfSome earlier (λ b. (b < length kernel.now.states.items) × NoneMeets g.now (seats_of kernel.now) parts.now b letter) }
+    requires states_in { (i : ℕ) → i < length kernel.now.states.items → state_at (seats_of kernel.now) i < g.now.states }
+    requires few { length kernel.now.states.items < 2 ^ 32 }
+    requires size { length parts.now.numbers ≡ length kernel.now.states.items * length kernel.now.states.items }
+    ensures { IsTrue result → NoneMeets g.now (seats_of kernel.now) parts.now place letter }
+{
+    let Some(earlier) = earlier else {
+        return false;
+    };
+    let count = kernel.states.len() as u64;
+    let own = parts.of(pair_of(count, place, place));
+    let other = parts.of(pair_of(count, earlier, earlier));
+    let row = g.edges(kernel.states[place as usize], letter);
+    own == other && row == g.edges(kernel.states[earlier as usize], letter)
+}
+
+/// Two such moves of the state at a place on any letter. A row that was searched in vain at another place isn't searched again.
+fn fork_from(
+    g: &Multigraph,
+    kernel: &Kernel,
+    parts: &Parts,
+    searched: &mut Vec<Option<u32>>,
+    place: u32,
+) -> Option<Fork>
+    requires place_in { place < length kernel.now.states.items }
+    requires searched { AreSearched g.now (seats_of kernel.now) parts.now searched.old.items }
+    requires states_in { (i : ℕ) → i < length kernel.now.states.items → state_at (seats_of kernel.now) i < g.now.states }
     requires places { length kernel.now.places.items ≡ g.now.states }
     requires few { length kernel.now.states.items < 2 ^ 32 }
     requires size { length parts.now.numbers ≡ length kernel.now.states.items * length kernel.now.states.items }
+    ensures searched { AreSearched g.now (seats_of kernel.now) parts.now searched.new.items }
     ensures moves { IfSome result (AreMoves g.now) }
     ensures found { IfSome result (IsMet g.now (seats_of kernel.now) parts.now) }
     ensures none { IfNone result ((l : ℕ) → l < g.now.letters → NoneMeets g.now (seats_of kernel.now) parts.now place l) }
 {
+    let state = kernel.states[place as usize];
     for letter in 0..g.letters() {
-        if let Some(fork) = fork_on(g, kernel, parts, place, letter) {
-            return Some(fork);
+        if !is_again(g, kernel, parts, searched[letter as usize], place, letter) {
+            if let Some(fork) = fork_on(g, kernel, parts, place, letter) {
+                return Some(fork);
+            }
+            if g.edges(state, letter).len() > 1 {
+                searched[letter as usize] = Some(place);
+            }
         }
     }
     None
 }
 
+/// For each letter that no place was searched.
+fn none_searched(
+    alloc: Global,
+    g: &Multigraph,
+    kernel: &Kernel,
+    parts: &Parts,
+) -> Result<Vec<Option<u32>>, OutOfMemory>
+    ensures { IfOk result (λ v. AreSearched g.now (seats_of kernel.now) parts.now v.items) }
+{
+    let searched = vec![in alloc; None; g.letters() as usize]?;
+    Ok(searched)
+}
+
 /// Two such moves of any state of the kernel.
-pub fn fork_among(g: &Multigraph, kernel: &Kernel, parts: &Parts) -> Option<Fork>
+///
+/// # Errors
+/// [`OutOfMemory`] where there was no memory for the search.
+pub fn fork_among(
+    alloc: Global,
+    g: &Multigraph,
+    kernel: &Kernel,
+    parts: &Parts,
+) -> Result<Option<Fork>, OutOfMemory>
     requires states_in { (i : ℕ) → i < length kernel.now.states.items → state_at (seats_of kernel.now) i < g.now.states }
     requires places { length kernel.now.places.items ≡ g.now.states }
     requires few { length kernel.now.states.items < 2 ^ 32 }
     requires size { length parts.now.numbers ≡ length kernel.now.states.items * length kernel.now.states.items }
-    ensures moves { IfSome result (AreMoves g.now) }
-    ensures found { IfSome result (IsMet g.now (seats_of kernel.now) parts.now) }
-    ensures none { IfNone result ((i l : ℕ) → i < length kernel.now.states.items → l < g.now.letters → NoneMeets g.now (seats_of kernel.now) parts.now i l) }
+    ensures moves { IfOk result (λ o. IfSome o (AreMoves g.now)) }
+    ensures found { IfOk result (λ o. IfSome o (IsMet g.now (seats_of kernel.now) parts.now)) }
+    ensures none { IfOk result (λ o. IfNone o ((i l : ℕ) → i < length kernel.now.states.items → l < g.now.letters → NoneMeets g.now (seats_of kernel.now) parts.now i l)) }
 {
+    let mut searched = none_searched(alloc, g, kernel, parts)?;
     for place in 0..kernel.states.len() as u32 {
-        if let Some(fork) = fork_from(g, kernel, parts, place) {
-            return Some(fork);
+        if let Some(fork) = fork_from(g, kernel, parts, &mut searched, place) {
+            return Ok(Some(fork));
         }
     }
-    None
+    Ok(None)
 }

@@ -102,3 +102,25 @@ fn each_way_back_on_its_own_letter(rt: HostRuntime) -> Result<(), Fail> {
     assert_eq!(rt; found.word.as_slice(), [0, 2].as_slice());
     Ok(())
 }
+
+/// The states 0 and 21 have the same twenty moves; each target leads back to one of them, on a letter of its own.
+#[test]
+fn two_states_with_the_same_moves(rt: HostRuntime) -> Result<(), Fail> {
+    let mut graph = Multigraph::new(rt.alloc(), 22, 21)?;
+    for state in 1..21 {
+        add_to(&mut graph, 0, 0, state)?;
+        add_to(&mut graph, 21, 0, state)?;
+        add_to(
+            &mut graph,
+            state,
+            state,
+            if state % 2 == 0 { 0 } else { 21 },
+        )?;
+    }
+    assert!(rt; twin(rt.alloc(), &graph)?.is_none());
+    // one more move, on the letter of another way back
+    add_to(&mut graph, 1, 2, 0)?;
+    let found = twin(rt.alloc(), &graph)?.ok_or("no twin")?;
+    assert_eq!(rt; found.word.as_slice(), [0, 2].as_slice());
+    Ok(())
+}

@@ -1,6 +1,6 @@
 -- What the search for a fork finds in the product of two copies of a component. A state of the product is a pair of places: that
 -- of the places `i` and `j` of `m` is the number `i * m + j`. For private clauses.
-use Rattle.std.specs.Prelude.{◌≡◌, ℕ, ◌+◌, ◌*◌, ◌<◌, true, length, slice_index}
+use Rattle.std.specs.Prelude.{◌≡◌, ℕ, ◌+◌, ◌*◌, ◌<◌, true, List, length, slice_index, slice_index_or, Option, Some, None}
 use Rattle.rl_graph.specs.Graph.{Graph, edges_of}
 use Rattle.rl_graph.specs.Parts.{PartTable, number_of}
 use Rattle.rl_kernel.specs.Members.{is_member}
@@ -29,3 +29,8 @@ abbrev pub NoneMeets : Graph → Seats → PartTable → ℕ → ℕ → Type 0
 NoneMeets g s p i l =
     (j k : ℕ) → j < k → k < length (edges_of g (state_at s i) l)
     → Meets s p (own_part s p i) (slice_index (edges_of g (state_at s i) l) j) (slice_index (edges_of g (state_at s i) l) k) → ⊥
+
+-- for each letter no place, or one of whose state no two moves on the letter have such targets
+pub record AreSearched (g : Graph) (s : Seats) (p : PartTable) (searched : List (Option ℕ)) : Type 0 where
+  pub size : length searched ≡ g.letters
+  pub none : (l i : ℕ) → slice_index_or searched l None ≡ Some i → (i < length s.states) × NoneMeets g s p i l

@@ -1,16 +1,19 @@
-use Rattle.std.proofs.Common.{Option, Some, None, IfSome, IfNone, subst, arith, eq-eqb}
+use Rattle.std.proofs.Common.{Result, Ok, Err, Option, Some, None, IfOk, IfSome, IfNone, subst, arith, eq-eqb}
+use Rattle.rl_lists.specs.declared.OutOfMemory.{OutOfMemory}
 use Rattle.rl_kernel.specs.Seats.{seats_of, AreSeats}
 use Rattle.rl_expo.specs.declared.forks.Fork.{Fork}
 use Rattle.rl_expo.proofs.BlockLaws.{met-back, none_meets-no_fork}
 use Rattle.rl_expo.proofs.blocks.fork_of.Goals as goal
 
-both : (P Q R : Fork → Type 0) (o : Option Fork) → IfSome o P → IfSome o Q → ((f : Fork) → P f → Q f → R f) → IfSome o R
-both P Q R (Some f) p q h = h f p q
-both P Q R None p q h = tt
+both : (P Q R : Fork → Type 0) (r : Result (Option Fork) OutOfMemory) → IfOk r (λ o. IfSome o P) → IfOk r (λ o. IfSome o Q) → ((f : Fork) → P f → Q f → R f) → IfOk r (λ o. IfSome o R)
+both P Q R (Ok (Some f)) p q h = h f p q
+both P Q R (Ok None) p q h = tt
+both P Q R (Err e) p q h = tt
 
-none : (P Q : Type 0) (o : Option Fork) → IfNone o P → (P → Q) → IfNone o Q
-none P Q (Some f) p h = tt
-none P Q None p h = h p
+none : (P Q : Type 0) (r : Result (Option Fork) OutOfMemory) → IfOk r (λ o. IfNone o P) → (P → Q) → IfOk r (λ o. IfNone o Q)
+none P Q (Ok (Some f)) p h = tt
+none P Q (Ok None) p h = h p
+none P Q (Err e) p h = tt
 
 pub returns-clause-back : goal.returns-clause-back
 returns-clause-back c =
