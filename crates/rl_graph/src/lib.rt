@@ -19,6 +19,3 @@ pub use moves::{NextStates, Twice};
 pub use pairs::{pair_parts, product_parts};
 pub use parts::{Parts, parts_of};
 pub use walks::{FoundPath, cycle_through, path_between};
-
-#[cfg(test)]
-mod tests;

@@ -34,6 +34,3 @@ pub use laws::{one_answer, token_texts};
 pub use lex::tokens;
 pub use literals::{prefix_size, quote_count};
 pub use token_list::{Token, TokenKind, TokenList, text_of};
-
-#[cfg(test)]
-mod tests;

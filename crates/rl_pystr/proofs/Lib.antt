@@ -7,4 +7,3 @@ mod HexLaws
 mod PieceLaws
 mod BodyLaws
 mod ReadBack
-mod TestLemmas

@@ -16,6 +16,3 @@ pub use laws::read_back;
 pub use literal::Literal;
 pub use quoting::quote;
 pub use run::value;
-
-#[cfg(test)]
-mod tests;

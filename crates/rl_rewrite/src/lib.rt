@@ -16,6 +16,3 @@ mod trying;
 
 pub use plain::plain_suggestion;
 pub use suggesting::{SuggestError, suggest};
-
-#[cfg(test)]
-mod tests;

@@ -17,6 +17,3 @@ pub use laws::{
 };
 pub use positions::{Positions, unknown};
 pub use reading::{BaselineError, baseline};
-
-#[cfg(test)]
-mod tests;

@@ -10,8 +10,6 @@ mod node_map;
 mod nodes;
 mod sinks;
 mod std_sink;
-#[cfg(test)]
-mod tests;
 mod trees;
 
 pub use disk_tree::{DiskTree, Runtime};

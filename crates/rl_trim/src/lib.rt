@@ -10,6 +10,3 @@ mod trimmer;
 mod word;
 
 pub use trimmer::Trimmer;
-
-#[cfg(test)]
-mod tests;

@@ -4,9 +4,9 @@ ghost use Rattle.std.specs.List.{list_all};
 ghost use Rattle.rl_pystr.specs.Runs.{is_literal, is_comment_kind, begins_literal, ends_literal, IsLiteralRun};
 ghost use Rattle.rl_ranges.specs.Text.{code_count, IsText};
 
-use super::*;
 use rl_lists::{Bytes, Codes};
 use rl_pylex::{Token, TokenKind, tokens};
+use rl_pystr::{Literal, StrError, quote, value};
 use rl_ranges::universe::Universe;
 use std::process::Abort;
 use std::test::Fail;

@@ -3,7 +3,7 @@ use Rattle.rl_ranges.specs.declared.universe.Universe.TheVariants.{Bytes}
 use Rattle.rl_syntax.specs.Tree.{Tree, tree_of}
 use Rattle.rl_equiv.specs.Limits.{AreWithin, IsWithin}
 use Rattle.rl_equiv.proofs.BaseLaws.{joint-known}
-use Rattle.rl_trim.proofs.tests.trimmer_of.Goals as goal
+use Rattle.rl_trim_tests.proofs.tests.trimmer_of.Goals as goal
 
 within-alone : (t : Tree) → AreWithin Bytes t t → IsWithin Bytes t
 within-alone t w = record {

@@ -2,7 +2,9 @@
 
 ghost use Rattle.std.specs.Prelude.{◌≡◌, IfOk};
 
-use super::*;
+use rl_graph::{
+    Multigraph, NextStates, Twice, cycle_through, pair_parts, parts_of, path_between, product_parts,
+};
 use rl_lists::{Items, OutOfMemory};
 use std::alloc::Global;
 use std::test::Fail;

@@ -3,11 +3,10 @@ ghost use Rattle.std.specs.Prelude.{◌≡◌, ◌≤◌, IfOk};
 ghost use Rattle.rl_ranges.specs.declared.universe.Universe.{Universe as AnyUniverse};
 ghost use Rattle.rl_ranges.specs.Text.{IsText};
 
-use crate::plain::plain_suggestion;
-use crate::suggesting::{SuggestError, suggest};
 use rl_lists::OutOfMemory;
 use rl_pattern::{Flags, parse};
 use rl_ranges::{Codes, Universe};
+use rl_rewrite::{SuggestError, plain_suggestion, suggest};
 use rl_syntax::{Limit, Spans, Suggestion};
 use std::alloc::{AllocGlobal, Global};
 use std::process::Abort;

@@ -2,11 +2,11 @@
 ghost use Rattle.std.specs.Prelude.{◌<◌, IfOk};
 ghost use Rattle.rl_syntax.specs.Tree.{tree_of, IsOver};
 
-use crate::Trimmer;
 use rl_equiv::{SameError, same};
 use rl_lists::OutOfMemory;
 use rl_ranges::{CodeSet, Universe};
 use rl_syntax::Re;
+use rl_trim::Trimmer;
 use std::alloc::Global;
 use std::test::Fail;
 

@@ -1,5 +1,5 @@
 //! `tokens` on whole sources. The kinds and places are worked out by hand.
-use super::*;
+use rl_pylex::{LexError, TokenKind, line_end, prefix_size, quote_count, text_of, tokens};
 use std::alloc::Global;
 use std::process::Abort;
 use std::test::Fail;

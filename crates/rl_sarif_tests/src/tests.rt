@@ -1,7 +1,7 @@
 //! A document of SARIF, and what a baseline knows. What is wanted is worked out by hand.
-use crate::*;
 use rl_lists::{Bytes, OutOfMemory};
 use rl_report::{Entries, Entry, MarkList, Marks, Outcome, Place};
+use rl_sarif::{About, BaselineError, KnownKeys, Positions, baseline, sarif, unknown};
 use rl_sites::Call;
 use rl_source::Name;
 use rl_syntax::{Limit, Universe, Verdict};

@@ -1,8 +1,8 @@
-use crate::{
+use rl_lists::OutOfMemory;
+use rl_source::{
     Child, Children, Content, DiskTree, Held, Kind, MemSink, MemTree, MemTreeError, Name, Node,
     Nodes, Sink, SinkFailed, StdSink, Tree, TreeError, write_all,
 };
-use rl_lists::OutOfMemory;
 use std::alloc::{AllocError, Global};
 use std::os::unix::fs::symlink;
 use std::test::Fail;
