@@ -56,7 +56,7 @@ Reaches-step s text at depth next ts more kind n r here found deeper e =
     subst (λ (d : ℕ). Reaches s (at + n) d more) (ap (depth_after depth) (sym here) ∙ sym deeper)
     (Reaches-push s at depth ts more kind n r (ap (reading depth) (sym here) ∙ sym found) e)
 
-next_rest : (s xs : List ℕ) (x at : ℕ) → drop at s ≡ x ∷ xs → drop (at + 1) s ≡ xs
+pub next_rest : (s xs : List ℕ) (x at : ℕ) → drop at s ≡ x ∷ xs → drop (at + 1) s ≡ xs
 next_rest s xs x at e = sym (drop-drop 1 at s) ∙ ap (drop 1) e
 
 -- each blank of a run is a piece without a token

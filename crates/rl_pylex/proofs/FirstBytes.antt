@@ -16,7 +16,7 @@ use Rattle.rl_pylex.proofs.Firsts.{passed, taken, blank-not, joined_line-not, ne
 use Rattle.rl_pylex.proofs.Alone.{is_no_blank, is_no_backslash, is_no_line_end, is_no_hash}
 
 -- the rules up to that of comments pass
-literal_rows_left : (depth x : ℕ) (xs : List ℕ) → is_blank x ≡ false → is_backslash x ≡ false → ends_line x ≡ false → nat_eq 35 x ≡ false
+pub literal_rows_left : (depth x : ℕ) (xs : List ℕ) → is_blank x ≡ false → is_backslash x ≡ false → ends_line x ≡ false → nat_eq 35 x ≡ false
     → reading depth (x ∷ xs) ≡ first_of_rows literal_rows (x ∷ xs)
 unfolding reading
 literal_rows_left depth x xs no_blank no_backslash no_line_end no_hash =
@@ -47,11 +47,11 @@ number_is_no_literal x e = grind (arith, nat_tests)
 number_is_no_name : (x : ℕ) → starts_number x ≡ true → starts_name x ≡ false
 number_is_no_name x e = grind (arith, nat_tests)
 
-name-not : (x : ℕ) (xs : List ℕ) → starts_name x ≡ false → name (x ∷ xs) ≡ Passes
+pub name-not : (x : ℕ) (xs : List ℕ) → starts_name x ≡ false → name (x ∷ xs) ≡ Passes
 unfolding name
 name-not x xs e = ap (λ b. takes_if b (prefix_len in_name (x ∷ xs))) e
 
-number_rows_read : (depth x : ℕ) (xs : List ℕ) → starts_number x ≡ true → reading depth (x ∷ xs) ≡ first_of_rows number_rows (x ∷ xs)
+pub number_rows_read : (depth x : ℕ) (xs : List ℕ) → starts_number x ≡ true → reading depth (x ∷ xs) ≡ first_of_rows number_rows (x ∷ xs)
 number_rows_read depth x xs e =
     literal_rows_left depth x xs (number_is_no_blank x e) (number_is_no_backslash x e) (number_is_no_line_end x e) (number_is_no_hash x e)
     ∙ passed (literal (x ∷ xs)) (Some kind.Literal) _ (literal-not x xs (number_is_no_literal x e))
@@ -71,7 +71,7 @@ new_line-fits : (x : ℕ) (xs : List ℕ) → ends_line x ≡ true → new_line 
 unfolding new_line
 new_line-fits x xs e = ap (λ b. takes_if (not b) (line_end (x ∷ xs))) (some_line_end x xs e)
 
-new_line_read : (depth x : ℕ) (xs : List ℕ) → ends_line x ≡ true → reading depth (x ∷ xs) ≡ Piece (line_end_kind depth) (line_end (x ∷ xs))
+pub new_line_read : (depth x : ℕ) (xs : List ℕ) → ends_line x ≡ true → reading depth (x ∷ xs) ≡ Piece (line_end_kind depth) (line_end (x ∷ xs))
 unfolding reading
 new_line_read depth x xs e =
     passed (blank (x ∷ xs)) None _ (blank-not x xs (line_end_is_no_blank x e))
@@ -82,7 +82,7 @@ comment-fits : (xs : List ℕ) → comment (35 ∷ xs) ≡ Takes (prefix_len in_
 unfolding comment
 comment-fits xs = refl
 
-comment_read : (depth : ℕ) (xs : List ℕ) → reading depth (35 ∷ xs) ≡ Piece (Some kind.Comment) (prefix_len in_line (35 ∷ xs))
+pub comment_read : (depth : ℕ) (xs : List ℕ) → reading depth (35 ∷ xs) ≡ Piece (Some kind.Comment) (prefix_len in_line (35 ∷ xs))
 unfolding reading
 comment_read depth xs =
     passed (blank (35 ∷ xs)) None _ (blank-not 35 xs refl)

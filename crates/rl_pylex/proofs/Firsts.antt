@@ -68,7 +68,7 @@ pub literal-not : (x : ℕ) (xs : List ℕ) → starts_literal x ≡ false → l
 unfolding literal
 literal-not x xs e = ap (λ o. fit_after o (x ∷ xs)) (no_prefix x xs e)
 
-name-fits : (x : ℕ) (xs : List ℕ) → starts_name x ≡ true → name (x ∷ xs) ≡ Takes (prefix_len in_name (x ∷ xs))
+pub name-fits : (x : ℕ) (xs : List ℕ) → starts_name x ≡ true → name (x ∷ xs) ≡ Takes (prefix_len in_name (x ∷ xs))
 unfolding name
 name-fits x xs e = ap (λ b. takes_if b (prefix_len in_name (x ∷ xs))) e
 
@@ -79,16 +79,16 @@ passed f kind others e = rw e refl
 pub taken : (f : Fit) (kind : Option TokenKind) (n : ℕ) (others : Reading) → f ≡ Takes n → unwrap_or (reading_by f kind) others ≡ Piece kind n
 taken f kind n others e = rw e refl
 
-name_is_no_blank : (x : ℕ) → starts_name x ≡ true → is_blank x ≡ false
+pub name_is_no_blank : (x : ℕ) → starts_name x ≡ true → is_blank x ≡ false
 name_is_no_blank x e = grind (arith, nat_tests)
 
-name_is_no_backslash : (x : ℕ) → starts_name x ≡ true → is_backslash x ≡ false
+pub name_is_no_backslash : (x : ℕ) → starts_name x ≡ true → is_backslash x ≡ false
 name_is_no_backslash x e = grind (arith, nat_tests)
 
-name_is_no_line_end : (x : ℕ) → starts_name x ≡ true → ends_line x ≡ false
+pub name_is_no_line_end : (x : ℕ) → starts_name x ≡ true → ends_line x ≡ false
 name_is_no_line_end x e = grind (arith, nat_tests)
 
-name_is_no_hash : (x : ℕ) → starts_name x ≡ true → nat_eq 35 x ≡ false
+pub name_is_no_hash : (x : ℕ) → starts_name x ≡ true → nat_eq 35 x ≡ false
 name_is_no_hash x e = grind (arith, nat_tests)
 
 -- a name whose first byte begins no literal

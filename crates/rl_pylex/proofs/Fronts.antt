@@ -3,7 +3,7 @@ use Rattle.std.proofs.Common.{◌≡◌, ℕ, zero, suc, ◌<◌, Bool, true, Li
 use Rattle.std.proofs.lemmas.Bool.{false≢true}
 use Rattle.rl_pylex.specs.Bytes.{has_at, is_quote}
 
-has_at-read : (p : ℕ → Bool) (n : ℕ) (xs : List ℕ) → has_at p n xs ≡ true → p (get_or xs n 0) ≡ true
+pub has_at-read : (p : ℕ → Bool) (n : ℕ) (xs : List ℕ) → has_at p n xs ≡ true → p (get_or xs n 0) ≡ true
 has_at-read p n [] h = absurd (false≢true h)
 has_at-read p zero (x ∷ xs) h = h
 has_at-read p (suc n) (x ∷ xs) h = has_at-read p n xs h

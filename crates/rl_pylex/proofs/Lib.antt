@@ -13,3 +13,6 @@ pub mod LiteralFacts
 mod Firsts
 mod FirstBytes
 mod Examples
+mod Words
+mod RunPieces
+mod Without

@@ -213,7 +213,7 @@ Sized-from n text m e =
 sized_by : ℕ → ℕ → ℕ → List ℕ → Option ℕ
 sized_by n q c body = option_map (λ j. n + q + j) (close_from q c 0 body)
 
-size_after-is : (n q c j : ℕ) (text body : List ℕ) → quote_count (drop n text) ≡ q → get_or text n 0 ≡ c → drop (n + q) text ≡ body → close_from q c 0 body ≡ Some j → size_after n text ≡ Some (n + q + j)
+pub size_after-is : (n q c j : ℕ) (text body : List ℕ) → quote_count (drop n text) ≡ q → get_or text n 0 ≡ c → drop (n + q) text ≡ body → close_from q c 0 body ≡ Some j → size_after n text ≡ Some (n + q + j)
 unfolding size_after sized_by
 size_after-is n q c j text body quotes quote rest close =
     ap (λ k. sized_by n k (get_or text n 0) (drop (n + k) text)) quotes

@@ -1,7 +1,8 @@
 -- The tokens of a source: it is cut into pieces in order, each piece is what the first rule that fits takes at its place, and the tokens are the pieces that have a kind.
-use Rattle.std.specs.Prelude.{◌≡◌, ℕ, ◌+◌, ◌-◌, ◌<◌, ◌≤◌, List, [], ◌∷◌, length, take, drop, filter_map, Option, Some, None, IsUtf8, ⊤, All, AllPairs}
+use Rattle.std.specs.Prelude.{◌≡◌, ◌≢◌, ℕ, ◌+◌, ◌-◌, ◌<◌, ◌≤◌, List, [], ◌∷◌, length, take, drop, filter_map, Option, Some, None, IsUtf8, ⊤, All, AllPairs}
 use Rattle.std.specs.Str.{IsValidUpTo}
 use Rattle.rl_pylex.specs.declared.token_list.TokenKind.{TokenKind}
+use Rattle.rl_pylex.specs.declared.token_list.TokenKind.TheVariants as kind
 use Rattle.rl_pylex.specs.declared.token_list.Token.{Token}
 use Rattle.rl_pylex.specs.declared.fault.LexError.{LexError}
 use Rattle.rl_pylex.specs.declared.fault.LexError.TheVariants as error
@@ -101,3 +102,9 @@ pub record IsReadAt (source : List ℕ) (token : Token) : Type 0 where
 pub record IsInOrder (source : List ℕ) (tokens : List Token) : Type 0 where
   pub each : All (IsReadAt source) tokens
   pub ordered : AllPairs (λ a b. a.upto ≤ b.from) tokens
+
+-- the source has tokens, and none of them is a name with this text
+pub record LacksName (source name : List ℕ) : Type 0 where
+  pub tokens : List Token
+  pub are_tokens : IsTokenList source tokens
+  pub none : All (λ t. t.kind ≡ kind.Name → text_of source t ≢ name) tokens

@@ -2,8 +2,11 @@
 ghost use Rattle.std.specs.Prelude.{◌≡◌, ℕ, ◌+◌, ◌≤◌, not, ◌||◌, drop, length, position};
 ghost use Rattle.std.specs.List.{prefix_len};
 ghost use Rattle.rl_pylex.specs.Bytes.{has_at, is_blank, is_backslash, is_quote, ends_line, in_line, starts_name, in_name, in_number, is_operator, is_plain_operator, opens_bracket, closes_bracket, line_end, text_start};
+ghost use Rattle.rl_pylex.specs.internal.Absence.{is_ordinary};
 
-use crate::tables::{BLANKS, CLOSING_BRACKETS, NAME_BYTES, OPENING_BRACKETS, PLAIN_OPERATORS};
+use crate::tables::{
+    BLANKS, CLOSING_BRACKETS, NAME_BYTES, OPENING_BRACKETS, ORDINARY_BYTES, PLAIN_OPERATORS,
+};
 use memchr::memchr2;
 
 pub fn is_blank(byte: u8) -> bool
@@ -53,6 +56,13 @@ pub fn is_plain_operator(byte: u8) -> bool
     ensures { result ≡ is_plain_operator byte }
 {
     PLAIN_OPERATORS[byte as usize]
+}
+
+/// Whether the byte begins no literal without a prefix, no comment, no joined line and no fault.
+pub fn is_ordinary(byte: u8) -> bool
+    ensures { result ≡ is_ordinary byte }
+{
+    ORDINARY_BYTES[byte as usize]
 }
 
 pub fn opens_bracket(byte: u8) -> bool

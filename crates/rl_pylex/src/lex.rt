@@ -13,7 +13,7 @@ use crate::{LexError, Token, TokenKind, TokenList};
 use std::alloc::Global;
 
 /// The greatest length of a source, in bytes.
-const MOST_BYTES: usize = 4_194_304;
+pub const MOST_BYTES: usize = 4_194_304;
 
 /// Appends the token of a piece, if the piece has one.
 fn push_piece(

@@ -16,8 +16,11 @@
 //!
 //! These are simpler and more lenient than Python's own rules: brackets needn't agree, an f-string is one literal
 //! with its fields included, and an operator of two characters is two tokens.
+//!
+//! [`lacks_name`] tells without a list that a source has tokens, none of them a certain name.
 #![tactic(auto)]
 
+mod absence;
 mod bytes;
 mod coding;
 mod fault;
@@ -28,6 +31,7 @@ mod rules;
 mod tables;
 mod token_list;
 
+pub use absence::lacks_name;
 pub use bytes::line_end;
 pub use fault::LexError;
 pub use laws::{one_answer, token_texts};

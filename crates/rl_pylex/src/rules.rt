@@ -53,7 +53,7 @@ fn blank(text: &[u8]) -> Fit
 }
 
 #[tactic(auto, unfolding(crate::specs::Rules::joined_line))]
-fn joined_line(text: &[u8]) -> Fit
+pub fn joined_line(text: &[u8]) -> Fit
     ensures { result ≡ joined_line text.now }
 {
     match text {

@@ -1,5 +1,7 @@
 //! `tokens` on whole sources. The kinds and places are worked out by hand.
-use rl_pylex::{LexError, TokenKind, line_end, prefix_size, quote_count, text_of, tokens};
+use rl_pylex::{
+    LexError, TokenKind, lacks_name, line_end, prefix_size, quote_count, text_of, tokens,
+};
 use std::alloc::Global;
 use std::process::Abort;
 use std::test::Fail;
@@ -251,5 +253,68 @@ fn coding_lines(rt: HostRuntime) -> Result<(), Fail> {
         let found = tokens(rt.alloc(), source.as_bytes())?;
         assert!(rt; !found.is_empty());
     }
+    Ok(())
+}
+
+/// Sources with tokens, none of them the name `re`.
+#[test]
+fn absent_names(rt: HostRuntime) -> Result<(), Fail> {
+    for source in [
+        "",
+        "x = [1.5e3, (2)] @ y\r\n",
+        "\u{FEFF}x = r\n",
+        "# re\nx = 1 # re\n#re",
+        "x = 're' + \"re\" + 'a\\'re'\n",
+        "'''re 're'\nre''' + \"\"\"\nre\n\"\"\"",
+        "f'{re}' + F\"\"\"{re.x}\n\"\"\"",
+        "before = red + core.re_x + r2 + are + re9 + \u{E9}re + re\u{E9} + 1re",
+        "rb\"re\" + R're' + br'''re\n'''",
+        "x = \\\nr \\\r\ne",
+    ] {
+        assert!(rt; lacks_name(source.as_bytes(), b"re"));
+    }
+    assert!(rt; lacks_name(b"import re\n", b"regex"));
+    Ok(())
+}
+
+/// Sources with a token that is the name.
+#[test]
+fn present_names(rt: HostRuntime) -> Result<(), Fail> {
+    for source in [
+        "re",
+        "import re\n",
+        "x.re",
+        "(re)",
+        "'a're",
+        "re'a'",
+        "#\nre#",
+        "x \\\nre",
+        "r re",
+        "rre.re",
+    ] {
+        assert!(rt; !lacks_name(source.as_bytes(), b"re"));
+    }
+    assert!(rt; !lacks_name(b"import regex\n", b"regex"));
+    Ok(())
+}
+
+/// Sources with a fault have no tokens.
+#[test]
+fn faults_at_a_quick_look(rt: HostRuntime) -> Result<(), Fail> {
+    for source in [
+        "x = 'a\n",
+        "x = rb\"\"\"abc\n",
+        "x = $\n",
+        "x = a?",
+        "x = 1 \\ \n",
+        "# coding: latin-1\n",
+    ] {
+        assert!(rt; !lacks_name(source.as_bytes(), b"re"));
+    }
+    assert!(rt; !lacks_name(b"f\xFF", b"re"));
+    let mut spaces = vec![in rt.alloc(); b' '; 4_194_304]?;
+    assert!(rt; lacks_name(spaces.as_slice(), b"re"));
+    spaces.push(b' ')?;
+    assert!(rt; !lacks_name(spaces.as_slice(), b"re"));
     Ok(())
 }
