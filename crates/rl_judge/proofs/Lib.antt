@@ -6,3 +6,4 @@ pub mod VisitLemmas
 pub mod Spans
 pub mod Wrapping
 pub mod Suggestions
+pub mod NoEntries

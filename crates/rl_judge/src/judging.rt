@@ -18,7 +18,7 @@ use crate::told::{Told, told_of_site};
 use rl_lists::OutOfMemory;
 use rl_pylex::{LexError, TokenList, tokens};
 use rl_report::{Cursor, Entries, Entry, Outcome};
-use rl_sites::{Call, Site, sites};
+use rl_sites::{Call, Site, has_no_sites, sites};
 use rl_source::Name;
 use rl_syntax::{Mode, Universe};
 use std::alloc::Global;
@@ -243,6 +243,7 @@ impl From<JudgeError> for OutOfMemory {
 ///
 /// # Errors
 /// [`JudgeError::OutOfMemory`] when out of memory.
+#[tactic(auto, using(crate::proofs::NoEntries::no_entries))]
 pub fn judge(
     alloc: Global,
     path: &Name,
@@ -253,6 +254,9 @@ pub fn judge(
     ensures right { IfOk result (AreRight path.now source.now settings.now) }
     ensures universe { IfOk result (All IsOfItsUniverse) }
 {
+    if has_no_sites(source) {
+        return Ok(Entries::new(alloc));
+    }
     let entries = match tokens(alloc, source) {
         Ok(tokens) => site_entries(alloc, path, source, &tokens, settings)?,
         Err(fault) => fault_entries(alloc, path, source, fault)?,

@@ -155,3 +155,18 @@ fn a_guard_keeps_branches(rt: HostRuntime) -> Result<(), OutOfMemory> {
     }
     Ok(())
 }
+
+#[test]
+fn never_names_the_module(rt: HostRuntime) -> Result<(), OutOfMemory> {
+    let none = entries_of(rt.alloc(), "import os\nos.walk(\"a*\")\n", 2)?;
+    assert!(rt; none.as_slice().is_empty());
+    let faulty = entries_of(rt.alloc(), "import os\nos.walk(\"a*)\n", 2)?;
+    match faulty.as_slice() {
+        [entry] => {
+            assert!(rt; stands(entry, 2, 9));
+            assert!(rt; matches!(&entry.outcome, Outcome::Source(_)));
+        }
+        _ => assert!(rt; false),
+    }
+    Ok(())
+}

@@ -7,5 +7,6 @@ mod Filters
 mod Numbers
 mod Tabled
 mod NoAliases
+mod NoName
 mod Runs
 mod InOrder

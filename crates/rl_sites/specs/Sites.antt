@@ -1,8 +1,9 @@
 -- The sites of a source: its calls of the module whose first argument is a run of literals.
-use Rattle.std.specs.Prelude.{ℕ, ◌+◌, ◌-◌, Bool, false, ◌&&◌, ◌||◌, List, [], ◌∷◌, ◌++◌, length, take, drop, slice_get, codes, Option, Some, None, option_to_list, if◌then◌else◌}
+use Rattle.std.specs.Prelude.{◌≡◌, ℕ, ◌+◌, ◌-◌, Bool, false, ◌&&◌, ◌||◌, List, [], ◌∷◌, ◌++◌, length, take, drop, slice_get, codes, Option, Some, None, option_to_list, if◌then◌else◌}
 use Rattle.std.specs.List.{prefix_len}
 use Rattle.std.specs.Option.{option_or}
 use Rattle.rl_pylex.specs.declared.token_list.Token.{Token}
+use Rattle.rl_pylex.specs.Source.{IsTokenList}
 use Rattle.rl_sites.specs.declared.mark.Mark.{Mark}
 use Rattle.rl_sites.specs.declared.imports.Alias.{Alias}
 use Rattle.rl_sites.specs.declared.call.Call.{Call}
@@ -102,3 +103,9 @@ sites_from source aliases hidden (mark ∷ rest) =
 unfoldable pub sites_of : List ℕ → List Token → List Site
 sites_of source tokens =
     let marks = marks_from 0 tokens in sites_from source (aliases_of source marks) false marks
+
+-- the source has tokens, and no sites
+pub record HasNoSites (source : List ℕ) : Type 0 where
+  pub tokens : List Token
+  pub are_tokens : IsTokenList source tokens
+  pub none : sites_of source tokens ≡ []

@@ -5,6 +5,7 @@
 //! other arguments give, where they are spelled by the names of the module's flags.
 #![tactic(auto)]
 
+mod absence;
 mod arguments;
 mod brackets;
 mod call;
@@ -20,6 +21,7 @@ mod reading;
 mod site;
 mod terms;
 
+pub use absence::has_no_sites;
 pub use call::Call;
 pub use reading::sites;
 pub use site::{Site, SiteFlags, SiteList};

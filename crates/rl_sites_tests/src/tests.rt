@@ -1,8 +1,8 @@
-//! `sites` on small sources. The numbers of the tokens are counted by hand.
+//! `sites` and `has_no_sites` on small sources. The numbers of the tokens are counted by hand.
 use rl_lists::OutOfMemory;
 use rl_pattern::Flags;
 use rl_pylex::tokens;
-use rl_sites::{Call, Site, SiteFlags, sites};
+use rl_sites::{Call, Site, SiteFlags, has_no_sites, sites};
 use std::alloc::Global;
 
 /// Whether the source has these sites.
@@ -97,5 +97,13 @@ fn arguments_by_name_and_place(rt: HostRuntime) -> Result<(), OutOfMemory> {
     ];
     let same = gives(rt.alloc(), source, wanted.as_slice())?;
     assert!(rt; same);
+    Ok(())
+}
+
+#[test]
+fn seen_to_have_no_sites(rt: HostRuntime) -> Result<(), OutOfMemory> {
+    assert!(rt; has_no_sites(b"import os\nos.walk('a')\n"));
+    assert!(rt; has_no_sites(b"# re.match('a', s)\nx = 're.match'\n"));
+    assert!(rt; !has_no_sites(b"import re\n"));
     Ok(())
 }
