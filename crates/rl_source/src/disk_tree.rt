@@ -139,11 +139,18 @@ fn children_on_disk(rt: &Runtime, path: &str) -> io::Result<Vec<Child>> {
     Ok(children)
 }
 
+/// The room for so many bytes of a file of this length, of at most `at_most`, and for one more, so that a read that finds the
+/// end needs no more room.
+fn room_for(length: u64, at_most: usize) -> usize {
+    (length.min(at_most as u64) as usize).saturating_add(1)
+}
+
 fn bytes_on_disk(rt: &Runtime, path: &str, at_most: usize) -> io::Result<Vec<u8>> {
-    if kind_on_disk(rt, path)? != Kind::File {
+    let found = fs::symlink_metadata(rt, path)?;
+    if kind_of(found.file_type()) != Kind::File {
         return Err(io::Error::from(ErrorKind::InvalidInput));
     }
-    let mut bytes = Vec::new(rt.alloc());
+    let mut bytes = Vec::with_capacity(rt.alloc(), room_for(found.len(), at_most))?;
     let file = fs::open(rt, path)?;
     file.take(at_most as u64).read_to_end(&mut bytes)?;
     Ok(bytes)
