@@ -1,17 +1,17 @@
 -- Marked pairs: the letters with moves, and graphs with the same moves on other letters.
-use Rattle.std.proofs.Common.{◌≡◌, ℕ, ◌+◌, ◌*◌, ◌/◌, ◌%◌, ◌<◌, ◌≤◌, ◌⊎◌, inl, inr, Bool, true, false, cond, ◌&&◌, List, [], ◌∷◌, ◌++◌, length, get_or, map, eqb, ltb, le-ltb, lt-ltb, refl, sym, ◌∙◌, ap, subst, arith, div-add-mod'}
-use Rattle.std.proofs.lemmas.Bool.{cases_lt, and_parts, and_from, and_right, eqb-false, cond-true, cond-false}
+use Rattle.std.proofs.Common.{◌≡◌, ℕ, zero, suc, ◌+◌, ◌-◌, ◌*◌, ◌/◌, ◌%◌, ◌<◌, ◌≤◌, ◌↔◌, ◌⊎◌, inl, inr, Bool, true, false, not, cond, ◌&&◌, List, [], ◌∷◌, ◌++◌, length, get_or, map, eqb, ltb, le-ltb, lt-ltb, refl, sym, ◌∙◌, ap, ap₂, subst, arith, mul_comm, div-add-mod'}
+use Rattle.std.proofs.lemmas.Bool.{cases_lt, cases_Bool, and_parts, and_from, and_left, and_right, not_from_true, not_from_false, eqb-false, cond-true, cond-false}
 use Rattle.std.proofs.lemmas.List.{length_push, get_or_push, get_or_append_left}
-use Rattle.std.proofs.lemmas.Nat.{mul-add-lt}
+use Rattle.std.proofs.lemmas.Nat.{mul-add-lt, div-mul-add, mod-mul-add, div_below, mod_below}
 use Rattle.rl_graph.specs.Paths.{Has, paths, Reaches, OnCycle, IsBounded}
 use Rattle.rl_graph.specs.Graph.{Graph, edges_of, IsWhole}
 use Rattle.rl_graph.specs.Product.{pair_moves, marked_moves}
 use Rattle.rl_graph.specs.Parts.{PartTable, IsParts}
-use Rattle.rl_graph.specs.internal.Marked.{listed_moves, HasMoves, AreLetters, AreLettersUpTo}
+use Rattle.rl_graph.specs.internal.Marked.{listed_moves, both_repeat, HasMoves, AreLetters, AreLettersUpTo, IsRepeat, AreRepeats, AreRepeatsUpTo}
 use Rattle.rl_graph.proofs.Sums.{total-there, at-has, at-short, at-get_or, has-map, has-flat_map, Has-get_or, Has-left, Has-last}
 use Rattle.rl_graph.proofs.PathLaws.{nil-same, Reaches-self, Reaches-move, Reaches-trans, OnCycle-move, OnCycle-first}
 use Rattle.rl_graph.proofs.GraphLaws.{edges-state, edges-letter, bounded-whole}
-use Rattle.rl_graph.proofs.ProductLaws.{bounded-pairs}
+use Rattle.rl_graph.proofs.ProductLaws.{bounded-pairs, pairs_of, some-width}
 
 -- a list on a test
 
@@ -101,19 +101,80 @@ letters-passed g end letters none o = record {
     all l lt has (inl a) = o.all l a has
     all l lt has (inr a) = let e : l ≡ end = omega arith in absurd (none (subst (HasMoves g) e has))
 
+-- letters that repeat
+
+-- one more flag
+pub repeats-more : (next : ℕ → ℕ → List ℕ) (letters : List ℕ) (repeats : List Bool) (q k : ℕ) (flag : Bool) → k < length letters → (flag ≡ true) ↔ IsRepeat next letters q k
+    → AreRepeatsUpTo next (q * length letters + k) letters repeats → AreRepeatsUpTo next (q * length letters + k + 1) letters (repeats ++ flag ∷ [])
+repeats-more next letters repeats q k flag lt is so_far = record {
+  size = omega (arith, length_push repeats flag, so_far.size);
+  same = λ p j short below. by p j short below (cases_lt (p * length letters + j) (q * length letters + k));
+}
+  where
+    w : ℕ
+    w = length letters
+
+    by : (p j : ℕ) → j < w → p * w + j < q * w + k + 1 → (p * w + j < q * w + k) ⊎ (q * w + k ≤ p * w + j) → (get_or (repeats ++ flag ∷ []) (p * w + j) false ≡ true) ↔ IsRepeat next letters p j
+    by p j short below (inl a) =
+        let e = get_or_append_left repeats (flag ∷ []) false (p * w + j) (omega (arith, a, so_far.size)) in
+        subst (λ (b : Bool). (b ≡ true) ↔ IsRepeat next letters p j) (sym e) (so_far.same p j short a)
+    by p j short below (inr a) =
+        let same : q * w + k ≡ p * w + j = omega (arith, a, below) in
+        let e = get_or_push repeats flag false (p * w + j) (so_far.size ∙ same) in
+        let r : q ≡ p = sym (div-mul-add q w k lt) ∙ (ap (λ z. z / w) same ∙ div-mul-add p w j short) in
+        let i : k ≡ j = sym (mod-mul-add q w k lt) ∙ (ap (λ z. z % w) same ∙ mod-mul-add p w j short) in
+        subst (λ (b : Bool). (b ≡ true) ↔ IsRepeat next letters p j) (sym e)
+        (subst (λ (z : ℕ). (flag ≡ true) ↔ IsRepeat next letters z j) r (subst (λ (z : ℕ). (flag ≡ true) ↔ IsRepeat next letters q z) i is))
+
+-- where both states of a pair repeat, its moves are those on the letter before
+both-before : (next : ℕ → ℕ → List ℕ) (n : ℕ) (letters : List ℕ) (repeats : List Bool) → AreRepeats next n letters repeats
+    → (x k : ℕ) → x < n * n → k < length letters → both_repeat n (length letters) repeats x k ≡ true
+    → (0 < k) × (pair_moves next n x (get_or letters k 0) ≡ pair_moves next n x (get_or letters (k - 1) 0))
+both-before next n letters repeats rs x k inside lt both =
+    let w = length letters in
+    let some = some-width n n x inside in
+    let p = div_below x n n some inside in
+    let q = mod_below x n some in
+    let b = and_parts (get_or repeats (x / n * w + k) false) (get_or repeats (x % n * w + k) false) both in
+    let first = (rs.same (x / n) k lt (omega (arith, mul-add-lt (x / n) w k n p lt, mul_comm w n))).0 b.0 in
+    let second = (rs.same (x % n) k lt (omega (arith, mul-add-lt (x % n) w k n q lt, mul_comm w n))).0 b.1 in
+    (first.0, ap₂ (λ u v. pairs_of n v u) first.1 second.1)
+
 -- moves of marked pairs on the letters of a list
 
-pub listed-on : (next : ℕ → ℕ → List ℕ) (n : ℕ) (marks : List Bool) (letters : List ℕ) (x k : ℕ) → get_or marks x false ≡ true → k < length letters
-    → listed_moves next n marks letters x k ≡ pair_moves next n x (get_or letters k 0)
-listed-on next n marks letters x k mark lt =
-    cond-true (get_or marks x false && ltb k (length letters)) (pair_moves next n x (get_or letters k 0)) [] (and_from (get_or marks x false) (ltb k (length letters)) mark (lt-ltb k (length letters) lt))
+-- the pair has a mark, the letter is in the list, and the pair isn't passed over there
+abbrev pub is_listed : ℕ → List Bool → List ℕ → List Bool → ℕ → ℕ → Bool
+is_listed n marks letters repeats x k = get_or marks x false && (ltb k (length letters) && not (both_repeat n (length letters) repeats x k))
 
-pub listed-bounded : (g : Graph) (marks : List Bool) (letters : List ℕ) → IsWhole g → IsBounded (listed_moves (edges_of g) g.states marks letters) (g.states * g.states) (length letters)
-listed-bounded g marks letters whole = record {
+pub listed-on : (next : ℕ → ℕ → List ℕ) (n : ℕ) (marks : List Bool) (letters : List ℕ) (repeats : List Bool) (x k : ℕ) → get_or marks x false ≡ true → k < length letters → both_repeat n (length letters) repeats x k ≡ false
+    → listed_moves next n marks letters repeats x k ≡ pair_moves next n x (get_or letters k 0)
+listed-on next n marks letters repeats x k mark lt both =
+    let inner = and_from (ltb k (length letters)) (not (both_repeat n (length letters) repeats x k)) (lt-ltb k (length letters) lt) (not_from_false (both_repeat n (length letters) repeats x k) both) in
+    cond-true (is_listed n marks letters repeats x k) (pair_moves next n x (get_or letters k 0)) []
+    (and_from (get_or marks x false) (ltb k (length letters) && not (both_repeat n (length letters) repeats x k)) mark inner)
+
+pub listed-unmarked : (next : ℕ → ℕ → List ℕ) (n : ℕ) (marks : List Bool) (letters : List ℕ) (repeats : List Bool) (x k : ℕ) → get_or marks x false ≡ false → listed_moves next n marks letters repeats x k ≡ []
+listed-unmarked next n marks letters repeats x k mark =
+    cond-false (is_listed n marks letters repeats x k) (pair_moves next n x (get_or letters k 0)) []
+    (and_left (get_or marks x false) (ltb k (length letters) && not (both_repeat n (length letters) repeats x k)) mark)
+
+pub listed-passed : (next : ℕ → ℕ → List ℕ) (n : ℕ) (marks : List Bool) (letters : List ℕ) (repeats : List Bool) (x k : ℕ) → both_repeat n (length letters) repeats x k ≡ true → listed_moves next n marks letters repeats x k ≡ []
+listed-passed next n marks letters repeats x k both =
+    let inner = and_right (ltb k (length letters)) (not (both_repeat n (length letters) repeats x k)) (not_from_true (both_repeat n (length letters) repeats x k) both) in
+    cond-false (is_listed n marks letters repeats x k) (pair_moves next n x (get_or letters k 0)) []
+    (and_right (get_or marks x false) (ltb k (length letters) && not (both_repeat n (length letters) repeats x k)) inner)
+
+pub listed-behind : (next : ℕ → ℕ → List ℕ) (n : ℕ) (marks : List Bool) (letters : List ℕ) (repeats : List Bool) (x k : ℕ) → length letters ≤ k → listed_moves next n marks letters repeats x k ≡ []
+listed-behind next n marks letters repeats x k le =
+    let inner = and_left (ltb k (length letters)) (not (both_repeat n (length letters) repeats x k)) (le-ltb k (length letters) le) in
+    cond-false (is_listed n marks letters repeats x k) (pair_moves next n x (get_or letters k 0)) []
+    (and_right (get_or marks x false) (ltb k (length letters) && not (both_repeat n (length letters) repeats x k)) inner)
+
+pub listed-bounded : (g : Graph) (marks : List Bool) (letters : List ℕ) (repeats : List Bool) → IsWhole g → IsBounded (listed_moves (edges_of g) g.states marks letters repeats) (g.states * g.states) (length letters)
+listed-bounded g marks letters repeats whole = record {
   targets = λ x k m h. (bounded-pairs (edges_of g) g.states g.letters (bounded-whole g whole)).targets x (get_or letters k 0) m
-      (there-if (get_or marks x false && ltb k (length letters)) m (pair_moves (edges_of g) g.states x (get_or letters k 0)) h).1;
-  letters = λ x k le. cond-false (get_or marks x false && ltb k (length letters)) (pair_moves (edges_of g) g.states x (get_or letters k 0)) []
-      (and_right (get_or marks x false) (ltb k (length letters)) (le-ltb k (length letters) le));
+      (there-if (is_listed g.states marks letters repeats x k) m (pair_moves (edges_of g) g.states x (get_or letters k 0)) h).1;
+  letters = λ x k le. listed-behind (edges_of g) g.states marks letters repeats x k le;
 }
 
 -- a pair with a move is one of the first `n * n`
@@ -130,31 +191,52 @@ pair-moving g x l m h =
     let a = has-flat_map (λ u. map (λ v. u * n + v) (edges_of g (x % n) l)) m (edges_of g (x / n) l) h in
     (x / n, a.0, a.1)
 
-marked-listed : (g : Graph) (marks : List Bool) (letters : List ℕ) → AreLetters g letters
-    → Covers (marked_moves (edges_of g) g.states marks) (listed_moves (edges_of g) g.states marks letters)
-marked-listed g marks letters ls x l m h =
+-- a move of a marked pair on a letter of the list is one that isn't passed over, on this letter or one before it
+first-listed : (next : ℕ → ℕ → List ℕ) (n : ℕ) (marks : List Bool) (letters : List ℕ) (repeats : List Bool) → AreRepeats next n letters repeats
+    → (x m : ℕ) → x < n * n → get_or marks x false ≡ true → (k : ℕ) → k < length letters → Has m (pair_moves next n x (get_or letters k 0))
+    → (j : ℕ) × Has m (listed_moves next n marks letters repeats x j)
+first-listed next n marks letters repeats rs x m inside mark k lt h = by k lt h (cases_Bool (both_repeat n (length letters) repeats x k))
+  where
+    Listed : Type 0
+    Listed = (j : ℕ) × Has m (listed_moves next n marks letters repeats x j)
+
+    here : (k : ℕ) → k < length letters → Has m (pair_moves next n x (get_or letters k 0)) → both_repeat n (length letters) repeats x k ≡ false → Listed
+    here k lt h both = (k, subst (λ (r : List ℕ). Has m r) (sym (listed-on next n marks letters repeats x k mark lt both)) h)
+
+    by : (k : ℕ) → k < length letters → Has m (pair_moves next n x (get_or letters k 0)) → (both_repeat n (length letters) repeats x k ≡ true) ⊎ (both_repeat n (length letters) repeats x k ≡ false) → Listed
+    by k lt h (inr both) = here k lt h both
+    by zero lt h (inl both) = absurd (omega (arith, (both-before next n letters repeats rs x 0 inside lt both).0))
+    by (suc k) lt h (inl both) =
+        let e : suc k - 1 ≡ k = omega arith in
+        let same = (both-before next n letters repeats rs x (suc k) inside lt both).1 ∙ ap (λ (z : ℕ). pair_moves next n x (get_or letters z 0)) e in
+        by k (omega (arith, lt)) (subst (λ (r : List ℕ). Has m r) same h)
+        (cases_Bool (both_repeat n (length letters) repeats x k))
+
+marked-listed : (g : Graph) (marks : List Bool) (letters : List ℕ) (repeats : List Bool) → AreLetters g letters → AreRepeats (edges_of g) g.states letters repeats
+    → Covers (marked_moves (edges_of g) g.states marks) (listed_moves (edges_of g) g.states marks letters repeats)
+marked-listed g marks letters repeats ls rs x l m h =
     let next = edges_of g in
     let n = g.states in
     let a = there-if (get_or marks x false) m (pair_moves next n x l) h in
     let moves = pair-moving g x l m a.1 in
     let i = at-has l letters (ls.all l (move-in g moves.0 l moves.1 moves.2).1 moves) in
-    let e = listed-on next n marks letters x i.0 a.0 (at-short letters i.0 l i.1) ∙ ap (pair_moves next n x) (at-get_or letters i.0 l 0 i.1) in
-    (i.0, subst (λ (r : List ℕ). Has m r) (sym e) a.1)
+    let e = ap (pair_moves next n x) (at-get_or letters i.0 l 0 i.1) in
+    first-listed next n marks letters repeats rs x m (pair-in g x l m a.1) a.0 i.0 (at-short letters i.0 l i.1) (subst (λ (r : List ℕ). Has m r) (sym e) a.1)
 
-listed-marked : (g : Graph) (marks : List Bool) (letters : List ℕ) → Covers (listed_moves (edges_of g) g.states marks letters) (marked_moves (edges_of g) g.states marks)
-listed-marked g marks letters x k m h =
+listed-marked : (g : Graph) (marks : List Bool) (letters : List ℕ) (repeats : List Bool) → Covers (listed_moves (edges_of g) g.states marks letters repeats) (marked_moves (edges_of g) g.states marks)
+listed-marked g marks letters repeats x k m h =
     let n = g.states in
     let l = get_or letters k 0 in
-    let a = there-if (get_or marks x false && ltb k (length letters)) m (pair_moves (edges_of g) n x l) h in
-    let mark = (and_parts (get_or marks x false) (ltb k (length letters)) a.0).0 in
+    let a = there-if (is_listed n marks letters repeats x k) m (pair_moves (edges_of g) n x l) h in
+    let mark = (and_parts (get_or marks x false) (ltb k (length letters) && not (both_repeat n (length letters) repeats x k)) a.0).0 in
     (l, has-if (get_or marks x false) m (pair_moves (edges_of g) n x l) mark a.1)
 
 -- the parts by places of letters are those of the moves of the marked pairs
-pub listed-parts : (g : Graph) (marks : List Bool) (letters : List ℕ) (p : PartTable) → AreLetters g letters
-    → IsParts (listed_moves (edges_of g) g.states marks letters) (g.states * g.states) p → IsParts (marked_moves (edges_of g) g.states marks) (g.states * g.states) p
-listed-parts g marks letters p ls h =
-    parts-covered (listed_moves (edges_of g) g.states marks letters) (marked_moves (edges_of g) g.states marks) (g.states * g.states) p
-    (listed-marked g marks letters) (marked-listed g marks letters ls) h
+pub listed-parts : (g : Graph) (marks : List Bool) (letters : List ℕ) (repeats : List Bool) (p : PartTable) → AreLetters g letters → AreRepeats (edges_of g) g.states letters repeats
+    → IsParts (listed_moves (edges_of g) g.states marks letters repeats) (g.states * g.states) p → IsParts (marked_moves (edges_of g) g.states marks) (g.states * g.states) p
+listed-parts g marks letters repeats p ls rs h =
+    parts-covered (listed_moves (edges_of g) g.states marks letters repeats) (marked_moves (edges_of g) g.states marks) (g.states * g.states) p
+    (listed-marked g marks letters repeats) (marked-listed g marks letters repeats ls rs) h
 
 -- marks that agree with a test on the pairs: the parts are those of the moves of the pairs that pass it
 pub marked-parts : (g : Graph) (marks : List Bool) (test : ℕ → Bool) (p : PartTable) → ((x : ℕ) → x < g.states * g.states → get_or marks x false ≡ test x)

@@ -1,5 +1,5 @@
 -- The product of two copies of a graph: its moves by number, its bounds and its paths.
-use Rattle.std.proofs.Common.{◌≡◌, ◌≢◌, ℕ, zero, suc, ◌+◌, ◌*◌, ◌/◌, ◌%◌, ◌<◌, ◌⊎◌, inl, inr, List, [], ◌∷◌, length, get_or, slice_get, Some, map, flat_map, eqb, eq-eqb, ne_eqb, refl, sym, ◌∙◌, ap, ap₂, arith, suc-mul, mul_comm, length-append, get_or-append-add, div-add-mod', zero-mul}
+use Rattle.std.proofs.Common.{◌≡◌, ◌≢◌, ℕ, zero, suc, ◌+◌, ◌*◌, ◌/◌, ◌%◌, ◌<◌, ◌⊎◌, inl, inr, List, [], ◌∷◌, length, get_or, slice_get, Some, map, flat_map, eqb, eq-eqb, ne_eqb, refl, sym, ◌∙◌, ap, ap₂, subst, arith, suc-mul, mul_comm, length-append, get_or-append-add, div-add-mod', zero-mul}
 use Rattle.std.proofs.lemmas.Bool.{cases_eq}
 use Rattle.std.proofs.lemmas.List.{length-map, get_or_append_left, get_or-map}
 use Rattle.std.proofs.lemmas.Nat.{mul-add-lt, div-mul-add, mod-mul-add, div_below, mod_below}
@@ -29,7 +29,7 @@ at-pairs n (x ∷ a) b (suc i) j h k =
 not-below-zero : (k m : ℕ) → m < k * 0 → ⊥
 not-below-zero k m h = omega arith
 
-some-width : (a b m : ℕ) → m < a * b → 0 < b
+pub some-width : (a b m : ℕ) → m < a * b → 0 < b
 some-width a zero m h = absurd (not-below-zero a m h)
 some-width a (suc b) m h = omega arith
 
@@ -38,6 +38,13 @@ pub at-place : (n : ℕ) (a b : List ℕ) (m : ℕ) → m < length a * length b 
 at-place n a b m h =
     let w = some-width (length a) (length b) m h in
     ap (λ i. get_or (pairs_of n b a) i 0) (sym (div-add-mod' m (length b))) ∙ at-pairs n a b (m / length b) (m % length b) (div_below m (length b) (length a) w h) (mod_below m (length b) w)
+
+-- the same where the second row has one member
+pub at-place-one : (n : ℕ) (a b : List ℕ) (m : ℕ) → length b ≡ 1 → m < length a * length b → get_or (pairs_of n b a) m 0 ≡ get_or a m 0 * n + get_or b 0 0
+at-place-one n a b m one h =
+    let e : m * length b + 0 ≡ m = ap (λ z. m * z + 0) one ∙ omega arith in
+    let lt : m < length a = omega (arith, subst (λ (z : ℕ). m < length a * z) one h) in
+    ap (λ i. get_or (pairs_of n b a) i 0) (sym e) ∙ at-pairs n a b m 0 lt (omega (arith, one))
 
 pub bounded-pairs : (next : ℕ → ℕ → List ℕ) (n k : ℕ) → IsBounded next n k → IsBounded (pair_moves next n) (n * n) k
 bounded-pairs next n k h = record { targets = targets; letters = λ q l i. ap (flat_map (λ x. map (λ y. x * n + y) (next (q % n) l))) (h.letters (q / n) l i) }

@@ -2,7 +2,7 @@
 
 ghost use Rattle.std.specs.Prelude.{◌≡◌, ℕ, ◌*◌, ◌<◌, ◌≤◌, ◌↔◌, IsTrue, length, slice_index, IfOk};
 ghost use Rattle.rl_graph.specs.Graph.{edges_of};
-ghost use Rattle.rl_graph.specs.internal.Marked.{listed_moves, HasMoves, AreLetters};
+ghost use Rattle.rl_graph.specs.internal.Marked.{listed_moves, both_repeat, HasMoves, AreLetters, IsRepeat, AreRepeats};
 
 use crate::graph::Multigraph;
 use crate::moves::{NextStates, Twice};
@@ -10,15 +10,35 @@ use rl_lists::OutOfMemory;
 use std::alloc::Global;
 
 /// The product of two copies of a graph with the moves of the marked pairs alone, on the letters of a list alone. A letter
-/// is called by its place in the list.
+/// is called by its place in the list. It is passed over where both states of the pair have the same rows on the letter
+/// before it, since those moves were taken there. `repeats` has a flag for each state and letter, as [`repeats_of`] makes
+/// them.
 #[derive(Drop)]
 pub(crate) struct MarkedPairs<'a> {
     pub(crate) graph: &'a Multigraph,
     pub(crate) marks: &'a [bool],
     pub(crate) letters: &'a [u32],
+    pub(crate) repeats: &'a [bool],
     ghost marked: { length marks.now ≡ graph.now.states * graph.now.states },
     ghost few: { length letters.now ≤ graph.now.letters },
     ghost within: { (k : ℕ) → k < length letters.now → slice_index letters.now k < graph.now.letters },
+    ghost repeating: { AreRepeats (edges_of graph.now) graph.now.states letters.now repeats.now },
+}
+
+impl<'a> MarkedPairs<'a> {
+    /// Whether both states of a pair have the same rows on a letter as on the letter before it.
+    fn repeats_both(&self, from: u64, letter: u32) -> bool
+        requires pair_in { from < self.now.graph.now.states * self.now.graph.now.states }
+        requires letter_in { letter < length self.now.letters.now }
+        ensures { result ≡ both_repeat self.now.graph.now.states (length self.now.letters.now) self.now.repeats.now from letter }
+    {
+        let count = u64::from(self.graph.states());
+        let width = self.letters.len() as u64;
+        let first = (from / count) * width + u64::from(letter);
+        let second = (from % count) * width + u64::from(letter);
+        // Both flags are read, so that both places are made outside the loop over the letters.
+        self.repeats[first as usize] & self.repeats[second as usize]
+    }
 }
 
 impl<'a> NextStates for MarkedPairs<'a> {
@@ -26,7 +46,7 @@ impl<'a> NextStates for MarkedPairs<'a> {
 
     ghost width = { λ m. length m.letters.now };
 
-    ghost next = { λ m x k. listed_moves (edges_of m.graph.now) m.graph.now.states m.marks.now m.letters.now x k };
+    ghost next = { λ m. listed_moves (edges_of m.graph.now) m.graph.now.states m.marks.now m.letters.now m.repeats.now };
 
     fn states(&self) -> u64 {
         let count = u64::from(self.graph.states());
@@ -40,6 +60,9 @@ impl<'a> NextStates for MarkedPairs<'a> {
 
     fn count(&self, from: u64, letter: u32) -> u64 {
         if !self.marks[from as usize] {
+            return 0;
+        }
+        if self.repeats_both(from, letter) {
             return 0;
         }
         let own = self.letters[letter as usize];
@@ -78,4 +101,36 @@ pub(crate) fn letters_of(alloc: Global, g: &Multigraph) -> Result<Vec<u32>, OutO
         }
     }
     Ok(letters)
+}
+
+/// Whether a state's row on a letter of a list is equal to its row on the letter before it in the list.
+fn is_repeat(g: &Multigraph, letters: &[u32], state: u32, place: usize) -> bool
+    requires state_in { state < g.now.states }
+    requires place_in { place < length letters.now }
+    requires within { (k : ℕ) → k < length letters.now → slice_index letters.now k < g.now.letters }
+    ensures { IsTrue result ↔ IsRepeat (edges_of g.now) letters.now state place }
+{
+    if place == 0 {
+        return false;
+    }
+    g.edges(state, letters[place]) == g.edges(state, letters[place - 1])
+}
+
+/// For each state and each letter of a list whether the state's row on it is equal to its row on the letter before it. The
+/// flags of a state stand together in the order of the letters.
+pub(crate) fn repeats_of(
+    alloc: Global,
+    g: &Multigraph,
+    letters: &[u32],
+) -> Result<Vec<bool>, OutOfMemory>
+    requires { (k : ℕ) → k < length letters.now → slice_index letters.now k < g.now.letters }
+    ensures { IfOk result (λ v. AreRepeats (edges_of g.now) g.now.states letters.now v.items) }
+{
+    let mut repeats = Vec::new(alloc);
+    for state in 0..g.states() {
+        for place in 0..letters.len() {
+            repeats.push(is_repeat(g, letters, state, place))?;
+        }
+    }
+    Ok(repeats)
 }

@@ -84,6 +84,9 @@ fn chosen(first: &[u32], second: &[u32], count: u64, number: u64) -> u64
     ensures { result ≡ slice_index (flat_map (λ x. map (λ y. x * count + y) second.now) first.now) number }
 {
     let width = second.len() as u64;
+    if width == 1 {
+        return u64::from(first[number as usize]) * count + u64::from(second[0]);
+    }
     u64::from(first[(number / width) as usize]) * count
         + u64::from(second[(number % width) as usize])
 }
