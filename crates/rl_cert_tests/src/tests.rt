@@ -83,70 +83,93 @@ fn holds(alloc: Global, l: &Lowered, bytes: &[u8]) -> Result<bool, OutOfMemory>
     }
 }
 
+static OF_WORD: [(&[u8], bool); 2] = [(WORD, true), (EMPTY_PUMP, false)];
+
 #[test]
-fn certificates_of_the_rows(rt: HostRuntime) -> Result<(), OutOfMemory> {
-    let alloc = rt.alloc();
-    let word = word(alloc)?;
-    assert!(rt; holds(alloc, &word, WORD)?);
-    assert!(rt; !holds(alloc, &word, EMPTY_PUMP)?);
-    let star = doubled_star(alloc)?;
-    assert!(rt; holds(alloc, &star, DOUBLED_STAR)?);
-    assert!(rt; !holds(alloc, &star, NO_TWIN)?);
-    assert!(rt; !holds(alloc, &star, WORD)?);
+fn certificates_of_a_word(rt: HostRuntime) -> Result<(), OutOfMemory> {
+    let word = word(rt.alloc())?;
+    for (bytes, held) in &OF_WORD {
+        assert!(rt; holds(rt.alloc(), &word, bytes)? == *held);
+    }
     Ok(())
+}
+
+static OF_DOUBLED_STAR: [(&[u8], bool); 3] = [
+    (DOUBLED_STAR, true),
+    (NO_TWIN, false),
+    (WORD, false),
+];
+
+#[test]
+fn certificates_of_a_doubled_star(rt: HostRuntime) -> Result<(), OutOfMemory> {
+    let star = doubled_star(rt.alloc())?;
+    for (bytes, held) in &OF_DOUBLED_STAR {
+        assert!(rt; holds(rt.alloc(), &star, bytes)? == *held);
+    }
+    Ok(())
+}
+
+/// The certificate that is made of a tree.
+fn made(alloc: Global, l: &Lowered) -> Result<Bytes, OutOfMemory>
+    requires { IsOver Universe.Str (tree_of l.now.tree) }
+{
+    match make(alloc, l, Universe::Str, 600) {
+        Ok(certificate) => write(alloc, &certificate),
+        Err(_) => Err(OutOfMemory),
+    }
 }
 
 #[test]
 fn what_is_made_is_accepted(rt: HostRuntime) -> Result<(), OutOfMemory> {
-    let alloc = rt.alloc();
-    let star = doubled_star(alloc)?;
-    let Ok(certificate) = make(alloc, &star, Universe::Str, 600) else {
-        return Err(OutOfMemory);
-    };
-    let bytes = write(alloc, &certificate)?;
-    assert!(rt; holds(alloc, &star, bytes.as_slice())?);
+    let star = doubled_star(rt.alloc())?;
+    let bytes = made(rt.alloc(), &star)?;
+    assert!(rt; holds(rt.alloc(), &star, bytes.as_slice())?);
     Ok(())
+}
+
+/// Forms by name, and whether they are read.
+static FORMS: [(&str, &[u8], bool); 7] = [
+    ("no members", b"{}", false),
+    ("not UTF-8", b"\xff", false),
+    (
+        "minus zero",
+        b"{\"anchors\":[],\"degree\":-0,\"doubles\":[],\"heads\":[[]],\"kind\":\"degree\",\"pumps\":[],\"ranks\":[],\"triples\":[],\"version\":1}",
+        false,
+    ),
+    (
+        "a fraction",
+        b"{\"anchors\":[],\"degree\":0,\"doubles\":[],\"heads\":[[]],\"kind\":\"degree\",\"pumps\":[],\"ranks\":[],\"triples\":[],\"version\":1.0}",
+        false,
+    ),
+    (
+        "a great number",
+        b"{\"anchors\":[],\"degree\":4294967296,\"doubles\":[],\"heads\":[[]],\"kind\":\"degree\",\"pumps\":[],\"ranks\":[],\"triples\":[],\"version\":1}",
+        false,
+    ),
+    (
+        "a further member",
+        b"{\"anchors\":[],\"degree\":0,\"doubles\":[],\"heads\":[[]],\"kind\":\"degree\",\"more\":1,\"pumps\":[],\"ranks\":[],\"triples\":[],\"version\":1}",
+        false,
+    ),
+    (
+        "a member twice",
+        b"{\"anchors\":[],\"degree\":0,\"doubles\":[],\"heads\":[[]],\"kind\":\"degree\",\"pumps\":[],\"ranks\":[],\"triples\":[],\"version\":2,\"version\":1}",
+        true,
+    ),
+];
+
+/// Whether bytes are read as a certificate.
+fn is_read(alloc: Global, bytes: &[u8]) -> Result<bool, OutOfMemory> {
+    match read_of(alloc, bytes)? {
+        Some(_) => Ok(true),
+        None => Ok(false),
+    }
 }
 
 #[test]
 fn forms_that_are_refused(rt: HostRuntime) -> Result<(), OutOfMemory> {
-    let alloc = rt.alloc();
-    assert!(rt; read_of(alloc, b"{}")?.is_none());
-    assert!(rt; read_of(alloc, b"\xff")?.is_none());
-    assert!(rt;
-        read_of(
-            alloc,
-            b"{\"anchors\":[],\"degree\":-0,\"doubles\":[],\"heads\":[[]],\"kind\":\"degree\",\"pumps\":[],\"ranks\":[],\"triples\":[],\"version\":1}"
-        )?
-        .is_none()
-    );
-    assert!(rt;
-        read_of(
-            alloc,
-            b"{\"anchors\":[],\"degree\":0,\"doubles\":[],\"heads\":[[]],\"kind\":\"degree\",\"pumps\":[],\"ranks\":[],\"triples\":[],\"version\":1.0}"
-        )?
-        .is_none()
-    );
-    assert!(rt;
-        read_of(
-            alloc,
-            b"{\"anchors\":[],\"degree\":4294967296,\"doubles\":[],\"heads\":[[]],\"kind\":\"degree\",\"pumps\":[],\"ranks\":[],\"triples\":[],\"version\":1}"
-        )?
-        .is_none()
-    );
-    assert!(rt;
-        read_of(
-            alloc,
-            b"{\"anchors\":[],\"degree\":0,\"doubles\":[],\"heads\":[[]],\"kind\":\"degree\",\"more\":1,\"pumps\":[],\"ranks\":[],\"triples\":[],\"version\":1}"
-        )?
-        .is_none()
-    );
-    assert!(rt;
-        read_of(
-            alloc,
-            b"{\"anchors\":[],\"degree\":0,\"doubles\":[],\"heads\":[[]],\"kind\":\"degree\",\"pumps\":[],\"ranks\":[],\"triples\":[],\"version\":2,\"version\":1}"
-        )?
-        .is_some()
-    );
+    for (name, bytes, wanted) in &FORMS {
+        assert!(rt; is_read(rt.alloc(), bytes)? == *wanted, "{name}");
+    }
     Ok(())
 }

@@ -8,6 +8,3 @@ mod stays;
 mod twins;
 
 pub use twins::{TwinPaths, twin};
-
-#[cfg(test)]
-mod tests;

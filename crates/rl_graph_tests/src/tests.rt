@@ -1,13 +1,13 @@
 //! Small graphs worked out by hand.
 
-ghost use Rattle.std.specs.Prelude.{◌≡◌, IfOk};
+ghost use Rattle.std.specs.Prelude.{◌≡◌, IfOk, length};
 
 use rl_graph::{
-    Multigraph, NextStates, Twice, cycle_through, pair_parts, parts_of, path_between, product_parts,
+    Components, FoundPath, Multigraph, NextStates, Parts, Twice, cycle_through, pair_parts,
+    parts_of, path_between, product_parts,
 };
-use rl_lists::{Items, OutOfMemory};
+use rl_lists::{Items, OutOfMemory, Word};
 use std::alloc::Global;
-use std::test::Fail;
 
 /// The graph with these moves: from, letter, to.
 fn graph(
@@ -33,38 +33,46 @@ fn graph(
     Ok(graph)
 }
 
+/// Whether the graph has two states and two letters, and the moves of states on letters lead to these states in this order.
+fn has_moves(g: &Multigraph, rows: &[(u32, u32, &[u32])]) -> bool {
+    if g.states() != 2 || g.letters() != 2 {
+        return false;
+    }
+    for (from, letter, wanted) in rows {
+        if *from >= 2 || *letter >= 2 || g.edges(*from, *letter) != *wanted {
+            return false;
+        }
+    }
+    true
+}
+
+static ORDERED: [(u32, u32, &[u32]); 3] = [(0, 1, &[1, 0, 1]), (0, 0, &[]), (1, 0, &[0])];
+
 #[test]
-fn moves_keep_their_order(rt: HostRuntime) -> Result<(), Fail> {
-    let g = graph(
-        rt.alloc(),
-        2,
-        2,
-        &[(0, 1, 1), (0, 1, 0), (0, 1, 1), (1, 0, 0)],
-    )?;
-    assert_eq!(rt; g.states(), 2);
-    assert_eq!(rt; g.letters(), 2);
-    assert_eq!(rt; g.edges(0, 1), [1, 0, 1].as_slice());
-    assert!(rt; g.edges(0, 0).is_empty());
-    assert_eq!(rt; g.edges(1, 0), [0].as_slice());
+fn moves_keep_their_order(rt: HostRuntime) -> Result<(), OutOfMemory> {
+    let moves = [(0, 1, 1), (0, 1, 0), (0, 1, 1), (1, 0, 0)];
+    let g = graph(rt.alloc(), 2, 2, &moves)?;
+    assert!(rt; has_moves(&g, &ORDERED));
     Ok(())
 }
 
 /// State 0 has two moves to state 1 on letter 1; state 1 has one to state 0 on letter 0, and one to itself on letter 1.
-#[test]
-fn rows_are_taken_as_they_are(rt: HostRuntime) -> Result<(), Fail> {
-    let alloc = rt.alloc();
+static ROWS: [(u32, u32, &[u32]); 4] = [(0, 0, &[]), (0, 1, &[1, 1]), (1, 0, &[0]), (1, 1, &[1])];
+
+/// The graph of those rows.
+fn graph_of_rows(alloc: Global) -> Result<Multigraph, OutOfMemory> {
     let none = Items::new(alloc);
     let twice = Items::from_slice(alloc, &[1, 1])?;
     let back = Items::from_slice(alloc, &[0])?;
     let round = Items::from_slice(alloc, &[1])?;
     let rows = vec![in alloc; none, twice, back, round]?;
-    let g = Multigraph::from_rows(2, 2, rows);
-    assert_eq!(rt; g.states(), 2);
-    assert_eq!(rt; g.letters(), 2);
-    assert!(rt; g.edges(0, 0).is_empty());
-    assert_eq!(rt; g.edges(0, 1), [1, 1].as_slice());
-    assert_eq!(rt; g.edges(1, 0), [0].as_slice());
-    assert_eq!(rt; g.edges(1, 1), [1].as_slice());
+    Ok(Multigraph::from_rows(2, 2, rows))
+}
+
+#[test]
+fn rows_are_taken_as_they_are(rt: HostRuntime) -> Result<(), OutOfMemory> {
+    let g = graph_of_rows(rt.alloc())?;
+    assert!(rt; has_moves(&g, &ROWS));
     Ok(())
 }
 
@@ -90,58 +98,113 @@ fn rings(alloc: Global) -> Result<Multigraph, OutOfMemory>
     )
 }
 
+/// Whether the two rings are components, and those that are reached come first.
+fn are_rings(c: &Components) -> bool
+    requires { length c.now.numbers ≡ 7 }
+{
+    c.of(0) == c.of(1)
+        && c.of(1) == c.of(2)
+        && c.of(3) == c.of(4)
+        && c.of(0) < c.of(3)
+        && c.of(6) < c.of(5)
+        && c.of(5) < 7
+}
+
+/// Whether all but the lone state are on cycles.
+fn have_cycles(c: &Components) -> bool
+    requires { length c.now.numbers ≡ 7 }
+{
+    c.on_cycle(0)
+        && c.on_cycle(2)
+        && c.on_cycle(3)
+        && c.on_cycle(4)
+        && c.on_cycle(6)
+        && !c.on_cycle(5)
+}
+
 #[test]
-fn components_of_rings(rt: HostRuntime) -> Result<(), Fail> {
+fn components_of_rings(rt: HostRuntime) -> Result<(), OutOfMemory> {
     let g = rings(rt.alloc())?;
     let c = g.components()?;
-    assert_eq!(rt; c.of(0), c.of(1));
-    assert_eq!(rt; c.of(1), c.of(2));
-    assert_eq!(rt; c.of(3), c.of(4));
-    assert!(rt; c.of(0) < c.of(3));
-    assert!(rt; c.of(6) < c.of(5));
-    assert!(rt; c.of(5) < 7);
-    assert!(rt; c.on_cycle(0) && c.on_cycle(2) && c.on_cycle(3) && c.on_cycle(4));
-    assert!(rt; c.on_cycle(6));
-    assert!(rt; !c.on_cycle(5));
+    assert!(rt; are_rings(&c) && have_cycles(&c));
+    Ok(())
+}
+
+/// Whether this word was found, or none where none is named.
+fn is_word(found: Result<Option<Word>, OutOfMemory>, wanted: Option<&[u32]>) -> bool {
+    match found {
+        Ok(Some(word)) => wanted == Some(word.as_slice()),
+        Ok(None) => wanted.is_none(),
+        Err(_) => false,
+    }
+}
+
+/// Whether a path along this word by these moves was found.
+fn is_path(found: Result<Option<FoundPath>, OutOfMemory>, word: &[u32], moves: &[u64]) -> bool {
+    match found {
+        Ok(Some(path)) => path.word.as_slice() == word && path.moves.as_slice() == moves,
+        _ => false,
+    }
+}
+
+#[test]
+fn shortest_walks(rt: HostRuntime) -> Result<(), OutOfMemory> {
+    let g = rings(rt.alloc())?;
+    let there = is_word(g.walk(3, 2), Some(&[0, 0, 1]));
+    let stay = is_word(g.walk(5, 5), Some(&[]));
+    let nowhere = is_word(g.walk(0, 3), None);
+    assert!(rt; there && stay && nowhere);
     Ok(())
 }
 
 #[test]
-fn shortest_walks(rt: HostRuntime) -> Result<(), Fail> {
+fn shortest_cycles(rt: HostRuntime) -> Result<(), OutOfMemory> {
     let g = rings(rt.alloc())?;
-    let there = g.walk(3, 2)?.ok_or("no walk")?;
-    assert_eq!(rt; there.as_slice(), [0, 0, 1].as_slice());
-    let stay = g.walk(5, 5)?.ok_or("no walk")?;
-    assert!(rt; stay.is_empty());
-    assert!(rt; g.walk(0, 3)?.is_none());
-    let round = cycle_through(rt.alloc(), &g, 4)?.ok_or("no cycle")?;
-    assert_eq!(rt; round.word.as_slice(), [1, 0].as_slice());
-    assert_eq!(rt; round.moves.as_slice(), [0, 0].as_slice());
-    assert!(rt; cycle_through(rt.alloc(), &g, 5)?.is_none());
+    let round = is_path(cycle_through(rt.alloc(), &g, 4), &[1, 0], &[0, 0]);
+    let none = matches!(cycle_through(rt.alloc(), &g, 5), Ok(None));
+    assert!(rt; round && none);
     Ok(())
 }
 
 /// State 0 has three moves on one letter, two of them to state 1; state 1 has two, to 0 and to 1.
-#[test]
-fn two_copies(rt: HostRuntime) -> Result<(), Fail> {
-    let g = graph(
-        rt.alloc(),
+fn doubled(alloc: Global) -> Result<Multigraph, OutOfMemory>
+    ensures states { IfOk result (λ g. g.states ≡ 2) }
+    ensures letters { IfOk result (λ g. g.letters ≡ 1) }
+{
+    graph(
+        alloc,
         2,
         1,
         &[(0, 0, 1), (0, 0, 0), (0, 0, 1), (1, 0, 0), (1, 0, 1)],
-    )?;
+    )
+}
+
+/// Whether two copies have the moves of both at once.
+fn are_copies(twice: &Twice) -> bool
+    requires states { twice.now.graph.now.states ≡ 2 }
+    requires letters { twice.now.graph.now.letters ≡ 1 }
+{
+    twice.states() == 4
+        && twice.letters() == 1
+        && twice.count(1, 0) == 6
+        && twice.target(1, 0, 0) == 2
+        && twice.target(1, 0, 3) == 1
+}
+
+#[test]
+fn two_copies(rt: HostRuntime) -> Result<(), OutOfMemory> {
+    let g = doubled(rt.alloc())?;
     let twice = Twice { graph: &g };
-    assert_eq!(rt; twice.states(), 4);
-    assert_eq!(rt; twice.letters(), 1);
-    assert_eq!(rt; twice.count(1, 0), 6);
-    assert_eq!(rt; twice.target(1, 0, 0), 2);
-    assert_eq!(rt; twice.target(1, 0, 3), 1);
-    let parts = parts_of(rt.alloc(), &twice)?;
-    assert_eq!(rt; parts.of(0), parts.of(3));
-    assert!(rt; parts.on_cycle(1));
-    let path = path_between(rt.alloc(), &twice, 0, 2)?.ok_or("no path")?;
-    assert_eq!(rt; path.word.as_slice(), [0].as_slice());
-    assert_eq!(rt; path.moves.as_slice(), [1].as_slice());
+    let path = is_path(path_between(rt.alloc(), &twice, 0, 2), &[0], &[1]);
+    assert!(rt; are_copies(&twice) && path);
+    Ok(())
+}
+
+#[test]
+fn parts_of_two_copies(rt: HostRuntime) -> Result<(), OutOfMemory> {
+    let g = doubled(rt.alloc())?;
+    let parts = parts_of(rt.alloc(), &Twice { graph: &g })?;
+    assert!(rt; parts.of(0) == parts.of(3) && parts.on_cycle(1));
     Ok(())
 }
 
@@ -160,35 +223,57 @@ fn cluster(alloc: Global) -> Result<Multigraph, OutOfMemory>
     graph(alloc, 13, 1, &moves)
 }
 
+/// Whether the pairs of the states 0 to 11 are one part, and those with the last state come before it.
+fn are_halves(parts: &Parts) -> bool
+    requires { length parts.now.numbers ≡ 169 }
+{
+    parts.of(0) == parts.of(13)
+        && parts.of(0) == parts.of(11 * 13 + 11)
+        && parts.of(5 * 13) == parts.of(5)
+        && parts.of(12) < parts.of(0)
+        && parts.of(12 * 13) < parts.of(0)
+        && parts.of(12 * 13 + 12) < parts.of(0)
+        && parts.of(12) != parts.of(12 * 13 + 12)
+        && parts.of(0) < 169
+}
+
+/// Whether those of the states 0 to 11 alone are on cycles.
+fn have_pair_cycles(parts: &Parts) -> bool
+    requires { length parts.now.numbers ≡ 169 }
+{
+    parts.on_cycle(0)
+        && parts.on_cycle(7 * 13 + 3)
+        && !parts.on_cycle(12)
+        && !parts.on_cycle(12 * 13 + 12)
+}
+
 /// The pairs of the states 0 to 11 reach each other; a pair with the last state has no move.
 #[test]
-fn pairs_by_half_steps(rt: HostRuntime) -> Result<(), Fail> {
+fn pairs_by_half_steps(rt: HostRuntime) -> Result<(), OutOfMemory> {
     let g = cluster(rt.alloc())?;
     let parts = product_parts(rt.alloc(), &g)?;
-    assert_eq!(rt; parts.of(0), parts.of(13));
-    assert_eq!(rt; parts.of(0), parts.of(11 * 13 + 11));
-    assert_eq!(rt; parts.of(5 * 13), parts.of(5));
-    assert!(rt; parts.of(12) < parts.of(0));
-    assert!(rt; parts.of(12 * 13) < parts.of(0));
-    assert!(rt; parts.of(12 * 13 + 12) < parts.of(0));
-    assert!(rt; parts.of(12) != parts.of(12 * 13 + 12));
-    assert!(rt; parts.of(0) < 169);
-    assert!(rt; parts.on_cycle(0) && parts.on_cycle(7 * 13 + 3));
-    assert!(rt; !parts.on_cycle(12) && !parts.on_cycle(12 * 13 + 12));
+    assert!(rt; are_halves(&parts) && have_pair_cycles(&parts));
     Ok(())
+}
+
+/// Whether the pair of the states 3 and 4 is apart from its turned one.
+fn is_apart(parts: &Parts) -> bool
+    requires { length parts.now.numbers ≡ 169 }
+{
+    parts.of(0) == parts.of(4 * 13 + 3)
+        && parts.of(3 * 13 + 4) < parts.of(0)
+        && !parts.on_cycle(3 * 13 + 4)
+        && parts.on_cycle(4 * 13 + 3)
 }
 
 /// The same where one pair has no mark: it is reached, and it has no move.
 #[test]
-fn pairs_without_a_mark(rt: HostRuntime) -> Result<(), Fail> {
+fn pairs_without_a_mark(rt: HostRuntime) -> Result<(), OutOfMemory> {
     let alloc = rt.alloc();
     let g = cluster(alloc)?;
     let mut moving = vec![in alloc; true; 169]?;
     moving[3 * 13 + 4] = false;
     let parts = pair_parts(alloc, &g, &moving)?;
-    assert_eq!(rt; parts.of(0), parts.of(4 * 13 + 3));
-    assert!(rt; parts.of(3 * 13 + 4) < parts.of(0));
-    assert!(rt; !parts.on_cycle(3 * 13 + 4));
-    assert!(rt; parts.on_cycle(4 * 13 + 3));
+    assert!(rt; is_apart(&parts));
     Ok(())
 }

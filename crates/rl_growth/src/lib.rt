@@ -7,6 +7,3 @@ pub mod spelling;
 pub mod words;
 
 pub use judging::classify;
-
-#[cfg(test)]
-mod tests;

@@ -107,15 +107,19 @@ fn push_folder(
     nodes.push(Node { path, held })
 }
 
+fn push_child(alloc: Global, children: &mut Children, name: &str) -> Result<(), OutOfMemory> {
+    let name = Name::from_text(alloc, name)?;
+    let kind = Kind::File;
+    children.push(Child { name, kind })
+}
+
 fn map_of(alloc: Global, files: &[(&str, &str)]) -> Result<Nodes, OutOfMemory> {
     let mut nodes = Nodes::new(alloc);
     let mut children = Children::new(alloc);
     let mut folder = "";
     for (path, text) in files {
         if let Some((above, name)) = path.split_once('/') {
-            let name = Name::from_text(alloc, name)?;
-            let kind = Kind::File;
-            children.push(Child { name, kind })?;
+            push_child(alloc, &mut children, name)?;
             folder = above;
         }
         push_file(alloc, &mut nodes, path, text.as_bytes())?;
@@ -126,15 +130,41 @@ fn map_of(alloc: Global, files: &[(&str, &str)]) -> Result<Nodes, OutOfMemory> {
     Ok(nodes)
 }
 
+fn run_in(
+    alloc: Global,
+    words: &Vec<String>,
+    tree: &mut MemTree,
+    mut out: MemSink,
+    mut err: MemSink,
+) -> Ended {
+    let status = relint_main(alloc, words, tree, &mut out, &mut err);
+    Ended { status, out, err }
+}
+
+fn tree_of(alloc: Global, nodes: Nodes, fails: &[u64]) -> Result<MemTree, Fail> {
+    let failing = Vec::from_slice(alloc, fails)?;
+    Ok(MemTree::new(alloc, nodes, failing)?)
+}
+
 fn run(alloc: Global, words: &Vec<String>, nodes: Nodes, faults: &Faults) -> Result<Ended, Fail> {
-    let mut tree = MemTree::new(alloc, nodes, Vec::from_slice(alloc, faults.tree)?)?;
-    let mut out = sink(alloc, faults.step, faults.out)?;
-    let mut err = sink(alloc, 5, faults.err)?;
-    let status = relint_main(alloc, words, &mut tree, &mut out, &mut err);
-    Ok(Ended { status, out, err })
+    let mut tree = tree_of(alloc, nodes, faults.tree)?;
+    let out = sink(alloc, faults.step, faults.out)?;
+    let err = sink(alloc, 5, faults.err)?;
+    Ok(run_in(alloc, words, &mut tree, out, err))
+}
+
+// a run on these nodes, where no call fails
+fn run_over(alloc: Global, words: &[&str], nodes: Nodes) -> Result<Ended, Fail> {
+    let words = strings(alloc, words)?;
+    run(alloc, &words, nodes, &NO_FAULTS)
 }
 
 fn run_on(alloc: Global, words: &[&str], files: &[(&str, &str)]) -> Result<Ended, Fail> {
-    let words = strings(alloc, words)?;
-    run(alloc, &words, map_of(alloc, files)?, &NO_FAULTS)
+    run_over(alloc, words, map_of(alloc, files)?)
+}
+
+// whether a run without files answers so
+fn answers(alloc: Global, words: &[&str], status: u8, out: &str, err: &str) -> Result<bool, Fail> {
+    let ended = run_on(alloc, words, &[])?;
+    Ok(ended.is(status, out, err))
 }

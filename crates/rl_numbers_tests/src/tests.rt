@@ -12,7 +12,6 @@ use rl_numbers::doubling::doubles_hold;
 use rl_numbers::triple::{Triple, Triples};
 use rl_numbers::{TriplesError, doubles_of, triples_of};
 use std::alloc::Global;
-use std::test::Fail;
 
 /// The graph with these moves: from, letter, to.
 fn graph(
@@ -68,40 +67,68 @@ fn triple(p: u32, q: u32, r: u32, number: u32) -> Triple {
     Triple { p, q, r, number }
 }
 
+/// Whether the doubles that are listed are the given ones, and there is no triple.
+fn are_listed(alloc: Global, g: &Multigraph, given: &[Double]) -> Result<bool, TriplesError>
+    requires { g.now.states < 65536 }
+{
+    match lists(alloc, g, given)? {
+        Some((doubles, triples)) => Ok(doubles.as_slice() == given && triples.is_empty()),
+        None => Ok(false),
+    }
+}
+
 #[test]
-fn one_loop(rt: HostRuntime) -> Result<(), Fail> {
+fn one_loop(rt: HostRuntime) -> Result<(), TriplesError> {
     let g = graph(rt.alloc(), 1, 1, &[(0, 0, 0)])?;
-    let given = [double(0, 0, 0)];
-    let (doubles, triples) = lists(rt.alloc(), &g, &given)?.ok_or("refused")?;
-    assert_eq!(rt; doubles.as_slice(), given.as_slice());
-    assert!(rt; triples.is_empty());
+    assert!(rt; are_listed(rt.alloc(), &g, &[double(0, 0, 0)])?);
     Ok(())
 }
 
-/// Two loops on one letter with a move between them: a split of two ranks, so no triple is asked for. The state 0 is left by two
-/// moves, so its double has a greater number than the others.
+/// Two loops on one letter with a move between them: a split of two ranks, so no triple is asked for.
+fn loops(alloc: Global) -> Result<Multigraph, OutOfMemory>
+    ensures states { IfOk result (λ g. g.states ≡ 2) }
+    ensures letters { IfOk result (λ g. g.letters ≡ 1) }
+{
+    graph(alloc, 2, 1, &[(0, 0, 0), (0, 0, 1), (1, 0, 1)])
+}
+
+/// The doubles of those loops.
+fn four(number: u32) -> [Double; 4] {
+    [
+        double(0, 0, number),
+        double(0, 1, 0),
+        double(1, 0, 0),
+        double(1, 1, 0),
+    ]
+}
+
+/// Whether four doubles are listed, which hold, and there is no triple.
+fn are_held(alloc: Global, g: &Multigraph, given: &[Double]) -> Result<bool, TriplesError>
+    requires { g.now.states < 65536 }
+{
+    match lists(alloc, g, given)? {
+        Some((doubles, triples)) => {
+            let held = doubles_hold(alloc, g, doubles.as_slice())?;
+            Ok(held && doubles.as_slice().len() == 4 && triples.is_empty())
+        }
+        None => Ok(false),
+    }
+}
+
+/// The state 0 is left by two moves, so its double has a greater number than the others.
 #[test]
-fn loops_in_a_row(rt: HostRuntime) -> Result<(), Fail> {
-    let g = graph(rt.alloc(), 2, 1, &[(0, 0, 0), (0, 0, 1), (1, 0, 1)])?;
-    let given = [
-        double(0, 0, 1),
-        double(0, 1, 0),
-        double(1, 0, 0),
-        double(1, 1, 0),
-    ];
-    let (doubles, triples) = lists(rt.alloc(), &g, &given)?.ok_or("refused")?;
-    assert_eq!(rt; doubles.as_slice().len(), 4);
-    assert!(rt; doubles_hold(rt.alloc(), &g, doubles.as_slice())?);
-    assert!(rt; triples.is_empty());
-    let level = [
-        double(0, 0, 0),
-        double(0, 1, 0),
-        double(1, 0, 0),
-        double(1, 1, 0),
-    ];
-    assert!(rt; !doubles_hold(rt.alloc(), &g, &level)?);
+fn loops_in_a_row(rt: HostRuntime) -> Result<(), TriplesError> {
+    let g = loops(rt.alloc())?;
+    assert!(rt; are_held(rt.alloc(), &g, &four(1))?);
+    assert!(rt; !doubles_hold(rt.alloc(), &g, &four(0))?);
+    Ok(())
+}
+
+#[test]
+fn paths_along_a_word(rt: HostRuntime) -> Result<(), OutOfMemory> {
+    let g = loops(rt.alloc())?;
     let paths = column(rt.alloc(), &g, 1, &[0, 0])?;
-    assert_eq!(rt; paths.as_slice(), [2, 1].as_slice());
+    assert!(rt; paths.as_slice() == [2, 1].as_slice());
     Ok(())
 }
 
@@ -120,18 +147,41 @@ fn nine(number: u32) -> [Triple; 9] {
     ]
 }
 
-/// The triple (0, 1, 1) has a greater number than (0, 0, 1), or it would let a split pass.
+/// The graph of those loops.
+fn loops_of_three(alloc: Global) -> Result<Multigraph, OutOfMemory>
+    ensures states { IfOk result (λ g. g.states ≡ 3) }
+{
+    graph(
+        alloc,
+        3,
+        2,
+        &[
+            (0, 0, 0),
+            (1, 0, 1),
+            (2, 0, 2),
+            (2, 1, 0),
+            (2, 1, 1),
+            (0, 1, 1),
+        ],
+    )
+}
+
+/// Whether nine triples are listed, which hold.
+fn nine_are_held(alloc: Global, g: &Multigraph, given: &[Double]) -> Result<bool, TriplesError>
+    requires { g.now.states ≡ 3 }
+{
+    match lists(alloc, g, given)? {
+        Some((_, triples)) => {
+            let held = triples_hold(alloc, g, &[0, 0, 0], triples.as_slice())?;
+            Ok(held && triples.as_slice().len() == 9)
+        }
+        None => Ok(false),
+    }
+}
+
 #[test]
-fn loops_of_one_rank(rt: HostRuntime) -> Result<(), Fail> {
-    let moves = [
-        (0, 0, 0),
-        (1, 0, 1),
-        (2, 0, 2),
-        (2, 1, 0),
-        (2, 1, 1),
-        (0, 1, 1),
-    ];
-    let g = graph(rt.alloc(), 3, 2, &moves)?;
+fn loops_of_one_rank(rt: HostRuntime) -> Result<(), TriplesError> {
+    let g = loops_of_three(rt.alloc())?;
     let given = [
         double(0, 0, 0),
         double(1, 1, 0),
@@ -139,11 +189,15 @@ fn loops_of_one_rank(rt: HostRuntime) -> Result<(), Fail> {
         double(0, 1, 0),
         double(1, 0, 0),
     ];
-    let (_, triples) = lists(rt.alloc(), &g, &given)?.ok_or("refused")?;
-    let ranks = [0, 0, 0];
-    assert_eq!(rt; triples.as_slice().len(), 9);
-    assert!(rt; triples_hold(rt.alloc(), &g, &ranks, triples.as_slice())?);
-    assert!(rt; triples_hold(rt.alloc(), &g, &ranks, &nine(1))?);
-    assert!(rt; !triples_hold(rt.alloc(), &g, &ranks, &nine(0))?);
+    assert!(rt; nine_are_held(rt.alloc(), &g, &given)?);
+    Ok(())
+}
+
+/// The triple (0, 1, 1) has a greater number than (0, 0, 1), or it would let a split pass.
+#[test]
+fn numbers_of_triples_fall(rt: HostRuntime) -> Result<(), OutOfMemory> {
+    let g = loops_of_three(rt.alloc())?;
+    assert!(rt; triples_hold(rt.alloc(), &g, &[0, 0, 0], &nine(1))?);
+    assert!(rt; !triples_hold(rt.alloc(), &g, &[0, 0, 0], &nine(0))?);
     Ok(())
 }

@@ -1,20 +1,20 @@
 //! `parse` on small patterns. The codes of classes and the places are worked out by hand.
-ghost use Rattle.std.specs.Prelude.{◌≡◌, IsTrue, nat_lt};
-ghost use Rattle.std.specs.List.{list_all};
-ghost use Rattle.rl_ranges.specs.Text.{code_count, IsText};
+ghost use Rattle.std.specs.Prelude.{◌≡◌, IfOk};
+ghost use Rattle.rl_ranges.specs.declared.universe.Universe.{Universe as AnyUniverse};
+ghost use Rattle.rl_ranges.specs.Text.{IsText};
 
-use rl_lists::Items;
+use rl_lists::OutOfMemory;
 use rl_pattern::{Flags, PatError, parse};
-use rl_ranges::Universe;
+use rl_ranges::{Codes, Universe};
 use rl_syntax::{Feature, Pat, Pattern, Trail};
-use std::alloc::AllocGlobal;
-use std::process::Abort;
+use std::alloc::Global;
 
 // 101 groups that open
 const DEEP: &str =
     "(((((((((((((((((((((((((((((((((((((((((((((((((((((((((((((((((((((((((((((((((((((((((((((((((((((";
 
-fn no_flags() -> Flags {
+// no flag, or LOCALE alone
+fn flags_of(locale: bool) -> Flags {
     Flags {
         ignore_case: false,
         multiline: false,
@@ -22,101 +22,76 @@ fn no_flags() -> Flags {
         verbose: false,
         ascii: false,
         unicode: false,
-        locale: false,
+        locale,
     }
 }
 
-fn is_code(code: u32, universe: Universe) -> bool
-    ensures { result ≡ nat_lt code (code_count universe) }
+// the codes of ASCII text
+fn codes_of(alloc: Global, text: &str) -> Result<Codes, OutOfMemory>
+    ensures { IfOk result (λ codes. (u : AnyUniverse) → IsText u codes) }
 {
-    code < universe.count()
-}
-
-fn are_codes(codes: &[u32], universe: Universe) -> bool
-    ensures { result ≡ list_all (λ c. nat_lt c (code_count universe)) codes.now }
-{
-    codes.iter().all(|code| is_code(*code, universe))
-}
-
-#[tactic(auto, using(crate::proofs::TestLemmas::are_text))]
-fn is_text(codes: &[u32], universe: Universe) -> bool
-    ensures { IsTrue result → IsText universe codes.now }
-{
-    are_codes(codes, universe)
+    let mut codes = Codes::new(alloc);
+    for byte in text.bytes() {
+        codes.push(u32::from(byte))?;
+    }
+    Ok(codes)
 }
 
 fn parsed(
-    rt: &(impl Abort + AllocGlobal),
+    alloc: Global,
     pattern: &str,
     flags: Flags,
     universe: Universe,
 ) -> Result<Pattern, PatError> {
-    let mut codes = Items::new(rt.alloc());
-    for byte in pattern.bytes() {
-        codes.push(byte as u32)?;
-    }
-    assert!(rt; is_text(codes.as_slice(), universe));
-    parse(rt.alloc(), &codes, flags, universe)
+    let codes = codes_of(alloc, pattern)?;
+    parse(alloc, &codes, flags, universe)
 }
+
+// classes and codes, and whether the one holds the other
+static CLASSES: [(&str, Universe, u32, bool); 9] = [
+    ("[^a-c\\d]", Universe::Str, 100, true),
+    ("[^a-c\\d]", Universe::Str, 98, false),
+    ("[^a-c\\d]", Universe::Str, 53, false),
+    (".", Universe::Bytes, 255, true),
+    (".", Universe::Bytes, 10, false),
+    // the Kelvin sign is of one kind with the letter
+    ("(?i)k", Universe::Str, 75, true),
+    ("(?i)k", Universe::Str, 0x212A, true),
+    ("(?ai)k", Universe::Str, 75, true),
+    ("(?ai)k", Universe::Str, 0x212A, false),
+];
 
 // whether the pattern is a class that holds the code
-fn is_class_of(pattern: &Pattern, code: u32) -> bool {
-    match pattern.body() {
-        Pat::Class { span: _, set } => set.contains(code),
-        _ => false,
-    }
-}
-
-// why there is no pattern
-fn refused(rt: &(impl Abort + AllocGlobal), pattern: &str, flags: Flags) -> Option<PatError> {
-    match parsed(rt, pattern, flags, Universe::Str) {
-        Ok(_) => None,
-        Err(error) => Some(error),
-    }
-}
-
-// its outer anchors, and the span of its body where that is a class or nothing
-fn left(
-    rt: &(impl Abort + AllocGlobal),
+fn is_class_of(
+    alloc: Global,
     pattern: &str,
-) -> Result<Option<(bool, Trail, u32, u32)>, PatError> {
-    let found = parsed(rt, pattern, no_flags(), Universe::Str)?;
+    universe: Universe,
+    code: u32,
+) -> Result<bool, PatError> {
+    let found = parsed(alloc, pattern, flags_of(false), universe)?;
     match found.body() {
-        Pat::Class { span, set: _ } | Pat::Nothing { span } => Ok(Some((
-            found.leading(),
-            found.trailing(),
-            span.from,
-            span.upto,
-        ))),
-        _ => Ok(None),
+        Pat::Class { span: _, set } => Ok(set.contains(code)),
+        _ => Ok(false),
     }
 }
 
 #[test]
 fn classes_hold_their_codes(rt: HostRuntime) -> Result<(), PatError> {
-    let class = parsed(&rt, "[^a-c\\d]", no_flags(), Universe::Str)?;
-    assert!(rt; is_class_of(&class, 100));
-    assert!(rt; !is_class_of(&class, 98));
-    assert!(rt; !is_class_of(&class, 53));
-    let dot = parsed(&rt, ".", no_flags(), Universe::Bytes)?;
-    assert!(rt; is_class_of(&dot, 255));
-    assert!(rt; !is_class_of(&dot, 10));
-    // the Kelvin sign is of one kind with the letter
-    let letter = parsed(&rt, "(?i)k", no_flags(), Universe::Str)?;
-    assert!(rt; is_class_of(&letter, 75));
-    assert!(rt; is_class_of(&letter, 0x212A));
-    let letter = parsed(&rt, "(?ai)k", no_flags(), Universe::Str)?;
-    assert!(rt; is_class_of(&letter, 75));
-    assert!(rt; !is_class_of(&letter, 0x212A));
+    for (pattern, universe, code, held) in &CLASSES {
+        let holds = is_class_of(rt.alloc(), pattern, *universe, *code)?;
+        assert!(rt; holds == *held, "{pattern} at {code}");
+    }
     Ok(())
 }
 
-#[test]
-fn patterns_without_their_outer_anchors(rt: HostRuntime) -> Result<(), PatError> {
-    let found = parsed(&rt, "^(a|\\b)*?$", no_flags(), Universe::Str)?;
-    assert!(rt; found.leading());
-    assert_eq!(rt; found.trailing(), Trail::Dollar);
-    match found.body() {
+// whether the pattern has these outer anchors
+fn is_anchored(found: &Pattern, leading: bool, trailing: Trail) -> bool {
+    found.leading() == leading && found.trailing() == trailing
+}
+
+// whether the body is a lazy repeat with these spans that may be left out
+fn is_lazy_star(body: &Pat, whole: (u32, u32), quantifier: (u32, u32)) -> bool {
+    match body {
         Pat::Repeat {
             span,
             mark,
@@ -125,111 +100,120 @@ fn patterns_without_their_outer_anchors(rt: HostRuntime) -> Result<(), PatError>
             greedy,
             body: _,
         } => {
-            assert_eq!(rt; (span.from, span.upto), (1, 9));
-            assert_eq!(rt; (mark.from, mark.upto), (7, 9));
-            assert_eq!(rt; (*min, *max), (0, None));
-            assert!(rt; !*greedy);
+            (span.from, span.upto) == whole
+                && (mark.from, mark.upto) == quantifier
+                && *min == 0
+                && max.is_none()
+                && !*greedy
         }
-        _ => assert!(rt; false),
+        _ => false,
     }
+}
+
+#[test]
+fn patterns_without_their_outer_anchors(rt: HostRuntime) -> Result<(), PatError> {
+    let found = parsed(rt.alloc(), "^(a|\\b)*?$", flags_of(false), Universe::Str)?;
+    let anchored = is_anchored(&found, true, Trail::Dollar);
+    assert!(rt; anchored && is_lazy_star(found.body(), (1, 9), (7, 9)));
     Ok(())
+}
+
+// patterns with their outer anchors, and the span of the body
+static ANCHORED: [(&str, bool, Trail, u32, u32); 5] = [
+    ("a", false, Trail::None, 0, 1),
+    ("^a$", true, Trail::Dollar, 1, 2),
+    ("^\\Aa\\Z$", true, Trail::End, 3, 4),
+    ("$", false, Trail::Dollar, 0, 1),
+    ("(?i)^a", true, Trail::None, 5, 6),
+];
+
+// whether the body is a class or nothing, with this span
+fn is_small(body: &Pat, from: u32, upto: u32) -> bool {
+    match body {
+        Pat::Class { span, set: _ } | Pat::Nothing { span } => {
+            span.from == from && span.upto == upto
+        }
+        _ => false,
+    }
 }
 
 #[test]
 fn outer_anchors_are_taken_off(rt: HostRuntime) -> Result<(), PatError> {
-    assert_eq!(rt; left(&rt, "a")?, Some((false, Trail::None, 0, 1)));
-    assert_eq!(rt; left(&rt, "^a$")?, Some((true, Trail::Dollar, 1, 2)));
-    assert_eq!(rt; left(&rt, "^\\Aa\\Z$")?, Some((true, Trail::End, 3, 4)));
-    assert_eq!(rt; left(&rt, "$")?, Some((false, Trail::Dollar, 0, 1)));
-    assert_eq!(rt; left(&rt, "(?i)^a")?, Some((true, Trail::None, 5, 6)));
+    for (pattern, leading, trailing, from, upto) in &ANCHORED {
+        let found = parsed(rt.alloc(), pattern, flags_of(false), Universe::Str)?;
+        let anchored = is_anchored(&found, *leading, *trailing);
+        assert!(rt;
+            anchored && is_small(found.body(), *from, *upto),
+            "{pattern}"
+        );
+    }
     Ok(())
 }
 
-#[test]
-fn spelled_patterns_are_read(rt: HostRuntime) {
-    assert_eq!(rt; refused(&rt, "", no_flags()), None);
-    assert_eq!(rt;
-        refused(&rt, "(?x) (?i)a{ | [^]a-z-]+? # end", no_flags()),
-        None
-    );
+// patterns, whether LOCALE is set beside them, and why they are refused
+static ENDS: [(&str, bool, Option<PatError>); 21] = [
+    // spelled patterns are read
+    ("", false, None),
+    ("(?x) (?i)a{ | [^]a-z-]+? # end", false, None),
     // the whole pattern is read, and then its first feature is named
-    assert_eq!(rt;
-        refused(
-            &rt,
-            "(?P<n>\\12)(?(n)a|b)(?<!c)(?>d)\\N{E}{,3}+",
-            no_flags()
-        ),
-        Some(PatError::Outside(6, Feature::Backreference))
-    );
+    (
+        "(?P<n>\\12)(?(n)a|b)(?<!c)(?>d)\\N{E}{,3}+",
+        false,
+        Some(PatError::Outside(6, Feature::Backreference)),
+    ),
+    // places where no pattern goes on
+    ("a**", false, Some(PatError::Syntax(2))),
+    ("(a", false, Some(PatError::Syntax(2))),
+    ("a)", false, Some(PatError::Syntax(1))),
+    ("{3}", false, Some(PatError::Syntax(2))),
+    ("(?#c)(?i)a", false, Some(PatError::Syntax(8))),
+    ("[\\d-a]", false, Some(PatError::Syntax(4))),
+    ("(?i-:a)", false, Some(PatError::Syntax(4))),
+    // groups that open too deep
+    (DEEP, false, Some(PatError::TooDeep(100))),
+    // what is refused
+    (
+        "(?P<n>a)(?P<n>b)",
+        false,
+        Some(PatError::Outside(8, Feature::DuplicateName)),
+    ),
+    (
+        "^a|b$",
+        false,
+        Some(PatError::Outside(4, Feature::InnerAnchor)),
+    ),
+    (
+        "(?x-x:#)",
+        false,
+        Some(PatError::Outside(0, Feature::FlagClash)),
+    ),
+    ("(?P<n>a)(?P<m>b)", false, None),
+    // refusals in their order
+    ("(", true, Some(PatError::Outside(0, Feature::Locale))),
+    ("(?=a)(", false, Some(PatError::Syntax(6))),
+    (
+        "a{3,2}(?=a)",
+        false,
+        Some(PatError::Outside(1, Feature::RepeatOrder)),
+    ),
+    ("a$(b", false, Some(PatError::Syntax(4))),
+    (
+        "a$b",
+        false,
+        Some(PatError::Outside(1, Feature::InnerAnchor)),
+    ),
+    ("(?:a|b+)\\Z", false, None),
+];
+
+// why there is no pattern
+fn refused(alloc: Global, pattern: &str, flags: Flags) -> Option<PatError> {
+    parsed(alloc, pattern, flags, Universe::Str).err()
 }
 
 #[test]
-fn places_where_no_pattern_goes_on(rt: HostRuntime) {
-    assert_eq!(rt; refused(&rt, "a**", no_flags()), Some(PatError::Syntax(2)));
-    assert_eq!(rt; refused(&rt, "(a", no_flags()), Some(PatError::Syntax(2)));
-    assert_eq!(rt; refused(&rt, "a)", no_flags()), Some(PatError::Syntax(1)));
-    assert_eq!(rt; refused(&rt, "{3}", no_flags()), Some(PatError::Syntax(2)));
-    assert_eq!(rt;
-        refused(&rt, "(?#c)(?i)a", no_flags()),
-        Some(PatError::Syntax(8))
-    );
-    assert_eq!(rt;
-        refused(&rt, "[\\d-a]", no_flags()),
-        Some(PatError::Syntax(4))
-    );
-    assert_eq!(rt;
-        refused(&rt, "(?i-:a)", no_flags()),
-        Some(PatError::Syntax(4))
-    );
-}
-
-#[test]
-fn groups_that_open_too_deep(rt: HostRuntime) {
-    assert_eq!(rt;
-        refused(&rt, DEEP, no_flags()),
-        Some(PatError::TooDeep(100))
-    );
-}
-
-#[test]
-fn what_is_refused(rt: HostRuntime) {
-    assert_eq!(rt;
-        refused(&rt, "(?P<n>a)(?P<n>b)", no_flags()),
-        Some(PatError::Outside(8, Feature::DuplicateName))
-    );
-    assert_eq!(rt;
-        refused(&rt, "^a|b$", no_flags()),
-        Some(PatError::Outside(4, Feature::InnerAnchor))
-    );
-    assert_eq!(rt;
-        refused(&rt, "(?x-x:#)", no_flags()),
-        Some(PatError::Outside(0, Feature::FlagClash))
-    );
-    assert_eq!(rt; refused(&rt, "(?P<n>a)(?P<m>b)", no_flags()), None);
-}
-
-#[test]
-fn refusals_in_their_order(rt: HostRuntime) {
-    let locale = Flags {
-        locale: true,
-        ..no_flags()
-    };
-    assert_eq!(rt;
-        refused(&rt, "(", locale),
-        Some(PatError::Outside(0, Feature::Locale))
-    );
-    assert_eq!(rt;
-        refused(&rt, "(?=a)(", no_flags()),
-        Some(PatError::Syntax(6))
-    );
-    assert_eq!(rt;
-        refused(&rt, "a{3,2}(?=a)", no_flags()),
-        Some(PatError::Outside(1, Feature::RepeatOrder))
-    );
-    assert_eq!(rt; refused(&rt, "a$(b", no_flags()), Some(PatError::Syntax(4)));
-    assert_eq!(rt;
-        refused(&rt, "a$b", no_flags()),
-        Some(PatError::Outside(1, Feature::InnerAnchor))
-    );
-    assert_eq!(rt; refused(&rt, "(?:a|b+)\\Z", no_flags()), None);
+fn patterns_are_read_or_refused(rt: HostRuntime) {
+    for (pattern, locale, wanted) in &ENDS {
+        let found = refused(rt.alloc(), pattern, flags_of(*locale));
+        assert!(rt; found == *wanted, "{pattern}");
+    }
 }

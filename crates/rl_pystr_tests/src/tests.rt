@@ -4,10 +4,11 @@ ghost use Rattle.std.specs.List.{list_all};
 ghost use Rattle.rl_pystr.specs.Runs.{is_literal, is_comment_kind, begins_literal, ends_literal, IsLiteralRun};
 ghost use Rattle.rl_ranges.specs.Text.{code_count, IsText};
 
-use rl_lists::{Bytes, Codes};
+use rl_lists::{Bytes, Codes, OutOfMemory};
 use rl_pylex::{Token, TokenKind, tokens};
 use rl_pystr::{Literal, StrError, quote, value};
 use rl_ranges::universe::Universe;
+use std::alloc::Global;
 use std::process::Abort;
 use std::test::Fail;
 
@@ -65,64 +66,71 @@ fn value_at(
             assert!(rt; is_literal_run(&found.as_slice()[from..upto]));
             value(rt.alloc(), source, &found, first, count)
         }
-        Err(_) => {
-            assert!(rt; false, "no tokens");
-            Err(StrError::OutOfMemory)
+        Err(_) => Err(StrError::OutOfMemory),
+    }
+}
+
+/// Four calls.
+const CALLS: &[u8] =
+    b"import re\nre.match(\"\\x4\", s)\nre.match(\"\\N{DASH}\", s)\nre.match(\"a\" b\"b\", s)\nre.fullmatch(rb\"\\x80+\", s)\n";
+
+/// The place of a literal in a source, by its first token and the count of its tokens, and why it has no value.
+static REFUSED: [(&[u8], u32, u32, StrError); 5] = [
+    (CALLS, 7, 1, StrError::BadEscape(20)),
+    (CALLS, 16, 1, StrError::NamedEscape(39)),
+    (CALLS, 25, 2, StrError::Mixed),
+    (b"b\"\xC3\xA9\"", 0, 1, StrError::NotAscii(2)),
+    (b"f\"a\" b\"b\" \"c\"", 0, 3, StrError::FString),
+];
+
+#[test]
+fn bad_literals(rt: HostRuntime) {
+    for (source, first, count, wanted) in &REFUSED {
+        let found = value_at(&rt, source, *first, *count).err();
+        assert!(rt; found == Some(*wanted), "{wanted:?}");
+    }
+}
+
+/// Whether these are the codes of the text in ASCII.
+fn spells(codes: &[u32], text: &[u8]) -> bool {
+    if codes.len() != text.len() {
+        return false;
+    }
+    for (code, byte) in codes.iter().zip(text) {
+        if *code != u32::from(*byte) {
+            return false;
         }
     }
+    true
 }
 
-fn is_refused(
-    rt: &(impl Abort + AllocGlobal),
-    source: &[u8],
-    first: u32,
-    count: u32,
-    wanted: StrError,
-) {
-    match value_at(rt, source, first, count) {
-        Ok(_) => assert!(rt; false, "no refusal"),
-        Err(found) => assert_eq!(rt; found, wanted),
+/// Whether these are so many places, the first eight from 8 on and the others from 39 on.
+fn are_joined(places: &[u32], count: usize) -> bool {
+    for (index, place) in places.iter().enumerate() {
+        let wanted = if index < 8 { 8 + index } else { 31 + index };
+        if *place as usize != wanted {
+            return false;
+        }
     }
-}
-
-/// Whether the value has these codes of ASCII.
-fn has_codes(rt: &impl Abort, literal: &Literal, wanted: &[u8]) {
-    assert_eq!(rt; literal.codes.len(), wanted.len());
-    for (found, byte) in literal.codes.as_slice().iter().zip(wanted) {
-        assert_eq!(rt; *found, *byte as u32);
-    }
+    places.len() == count
 }
 
 #[test]
-fn bad_literals(rt: HostRuntime) -> Result<(), Fail> {
-    let source =
-        b"import re\nre.match(\"\\x4\", s)\nre.match(\"\\N{DASH}\", s)\nre.match(\"a\" b\"b\", s)\nre.fullmatch(rb\"\\x80+\", s)\n";
-    is_refused(&rt, source, 7, 1, StrError::BadEscape(20));
-    is_refused(&rt, source, 16, 1, StrError::NamedEscape(39));
-    is_refused(&rt, source, 25, 2, StrError::Mixed);
-    let whole = value_at(&rt, source, 35, 1)?;
-    has_codes(&rt, &whole, b"\\x80+");
-    assert_eq!(rt; whole.places.as_slice(), [91, 92, 93, 94, 95].as_slice());
-    assert_eq!(rt; whole.universe, Universe::Bytes);
-    assert_eq!(rt; whole.end, 96);
-    is_refused(&rt, b"b\"\xC3\xA9\"", 0, 1, StrError::NotAscii(2));
-    is_refused(&rt, b"f\"a\" b\"b\" \"c\"", 0, 3, StrError::FString);
+fn a_literal_of_bytes(rt: HostRuntime) -> Result<(), StrError> {
+    let found = value_at(&rt, CALLS, 35, 1)?;
+    let placed = found.places.as_slice() == [91, 92, 93, 94, 95].as_slice();
+    assert!(rt; placed && spells(found.codes.as_slice(), b"\\x80+"));
+    assert!(rt; found.universe == Universe::Bytes && found.end == 96);
     Ok(())
 }
 
 #[test]
-fn joined_with_a_comment(rt: HostRuntime) -> Result<(), Fail> {
+fn joined_with_a_comment(rt: HostRuntime) -> Result<(), StrError> {
     let source = b"(\n    r\"[\\w.+-]+\"   # local part\n    r\"@[\\w-]+\\.[\\w.]+\",\n)\n";
     let found = value_at(&rt, source, 1, 3)?;
-    has_codes(&rt, &found, b"[\\w.+-]+@[\\w-]+\\.[\\w.]+");
-    let places = found.places.as_slice();
-    assert_eq!(rt; places.len(), 23);
-    for (index, place) in places.iter().enumerate() {
-        let wanted = if index < 8 { 8 + index } else { 31 + index };
-        assert_eq!(rt; *place as usize, wanted);
-    }
-    assert_eq!(rt; found.universe, Universe::Str);
-    assert_eq!(rt; found.end, 54);
+    let spelled = spells(found.codes.as_slice(), b"[\\w.+-]+@[\\w-]+\\.[\\w.]+");
+    assert!(rt; spelled && are_joined(found.places.as_slice(), 23));
+    assert!(rt; found.universe == Universe::Str && found.end == 54);
     Ok(())
 }
 
@@ -145,7 +153,7 @@ fn is_text(codes: &[u32], universe: Universe) -> bool
     are_codes(codes, universe)
 }
 
-/// Quotes the codes, and reads the quoted text back.
+/// Quotes the codes.
 fn quoted(
     rt: &(impl Abort + AllocGlobal),
     codes: &[u32],
@@ -153,30 +161,57 @@ fn quoted(
 ) -> Result<Bytes, Fail> {
     let text = Codes::from_slice(rt.alloc(), codes)?;
     assert!(rt; is_text(text.as_slice(), universe));
-    let quoted = quote(rt.alloc(), &text, universe)?;
-    let back = value_at(rt, quoted.as_slice(), 0, 1)?;
-    assert_eq!(rt; back.codes.as_slice(), codes);
-    assert_eq!(rt; back.universe, universe);
-    Ok(quoted)
+    Ok(quote(rt.alloc(), &text, universe)?)
 }
+
+/// Whether the codes are read back from a quoted text.
+fn reads_back(
+    rt: &(impl Abort + AllocGlobal),
+    quoted: &[u8],
+    codes: &[u32],
+    universe: Universe,
+) -> bool {
+    match value_at(rt, quoted, 0, 1) {
+        Ok(back) => back.codes.as_slice() == codes && back.universe == universe,
+        Err(_) => false,
+    }
+}
+
+/// Codes and their quoted texts.
+static QUOTES: [(&[u32], Universe, &[u8]); 3] = [
+    (&[], Universe::Str, b"r\"\""),
+    (
+        &[97, 34, 233, 128_512],
+        Universe::Str,
+        b"\"a\\\"\\u00e9\\U0001f600\"",
+    ),
+    (&[97, 92], Universe::Bytes, b"b\"a\\\\\""),
+];
 
 #[test]
 fn quotes(rt: HostRuntime) -> Result<(), Fail> {
-    let empty = quoted(&rt, &[], Universe::Str)?;
-    assert_eq!(rt; empty.as_slice(), b"r\"\"".as_slice());
-    let quote_inside = quoted(&rt, &[97, 34, 233, 128_512], Universe::Str)?;
-    assert_eq!(rt;
-        quote_inside.as_slice(),
-        b"\"a\\\"\\u00e9\\U0001f600\"".as_slice()
-    );
-    let backslash_last = quoted(&rt, &[97, 92], Universe::Bytes)?;
-    assert_eq!(rt; backslash_last.as_slice(), b"b\"a\\\\\"".as_slice());
-    let mut all = Codes::new(rt.alloc());
+    for (codes, universe, wanted) in &QUOTES {
+        let text = quoted(&rt, codes, *universe)?;
+        let same = text.as_slice() == *wanted;
+        assert!(rt; same && reads_back(&rt, text.as_slice(), codes, *universe));
+    }
+    Ok(())
+}
+
+fn all_bytes(alloc: Global) -> Result<Codes, OutOfMemory> {
+    let mut all = Codes::new(alloc);
     for code in 0..256 {
         all.push(code)?;
     }
-    let every_byte = quoted(&rt, all.as_slice(), Universe::Bytes)?;
-    assert!(rt; every_byte.as_slice().starts_with(b"b\"\\x00\\x01"));
-    assert!(rt; every_byte.as_slice().ends_with(b"\\xfe\\xff\""));
+    Ok(all)
+}
+
+#[test]
+fn every_byte_is_quoted(rt: HostRuntime) -> Result<(), Fail> {
+    let all = all_bytes(rt.alloc())?;
+    let text = quoted(&rt, all.as_slice(), Universe::Bytes)?;
+    let bytes = text.as_slice();
+    assert!(rt; bytes.starts_with(b"b\"\\x00\\x01") && bytes.ends_with(b"\\xfe\\xff\""));
+    assert!(rt; reads_back(&rt, bytes, all.as_slice(), Universe::Bytes));
     Ok(())
 }

@@ -1,7 +1,9 @@
 //! Values from outside, and each call once.
+ghost use Rattle.std.specs.Prelude.{◌≡◌};
 
 use rl_lists::OutOfMemory;
 use rl_ranges::{CodeSet, Letters, Named, Universe};
+use std::alloc::Global;
 use std::process::Abort;
 use std::test::Fail;
 
@@ -58,36 +60,50 @@ static FOLDS: [(u32, u32, bool); 84] = [
     (0x5B, 0x7B, false), (0x3C2, 0x3C1, false),
 ];
 
+/// Classes, whether ASCII alone counts, and the universe.
+static CLASSES: [(Named, bool, Universe); 6] = [
+    (Named::Word, false, Universe::Str),
+    (Named::Digit, false, Universe::Str),
+    (Named::Space, false, Universe::Str),
+    (Named::Word, true, Universe::Str),
+    (Named::Digit, false, Universe::Bytes),
+    (Named::Space, true, Universe::Bytes),
+];
+
+// Whether a class holds the code of the row. In ASCII alone the separators 28 to 31 are no space.
+fn is_held(row: &(u32, bool, bool, bool), class: Named, is_narrow: bool) -> bool {
+    let (code, word, digit, space) = *row;
+    let is_ascii = code < 128;
+    let separates = 28 <= code && code <= 31;
+    match class {
+        Named::Word => word && (!is_narrow || is_ascii),
+        Named::Digit => digit && (!is_narrow || is_ascii),
+        Named::Space => space && (!is_narrow || is_ascii && !separates),
+    }
+}
+
+// The first code of the table that a class holds against Python's.
+fn first_wrong(
+    alloc: Global,
+    class: Named,
+    ascii: bool,
+    universe: Universe,
+) -> Result<Option<u32>, OutOfMemory> {
+    let set = CodeSet::named(alloc, class, ascii, universe)?;
+    let is_narrow = ascii || universe == Universe::Bytes;
+    for row in &NAMED {
+        if set.contains(row.0) != is_held(row, class, is_narrow) {
+            return Ok(Some(row.0));
+        }
+    }
+    Ok(None)
+}
+
 #[test]
-fn named_classes(rt: HostRuntime) -> Result<(), Fail> {
-    let alloc = rt.alloc();
-    let words = CodeSet::named(alloc, Named::Word, false, Universe::Str)?;
-    let digits = CodeSet::named(alloc, Named::Digit, false, Universe::Str)?;
-    let spaces = CodeSet::named(alloc, Named::Space, false, Universe::Str)?;
-    let ascii_words = CodeSet::named(alloc, Named::Word, true, Universe::Str)?;
-    let byte_digits = CodeSet::named(alloc, Named::Digit, false, Universe::Bytes)?;
-    let ascii_spaces = CodeSet::named(alloc, Named::Space, true, Universe::Bytes)?;
-    for &(code, word, digit, space) in &NAMED {
-        assert_eq!(rt; words.contains(code), word, "word at {code}");
-        assert_eq!(rt; digits.contains(code), digit, "digit at {code}");
-        assert_eq!(rt; spaces.contains(code), space, "space at {code}");
-        let is_ascii = code < 128;
-        let separates = 28 <= code && code <= 31;
-        assert_eq!(rt;
-            ascii_words.contains(code),
-            word && is_ascii,
-            "word at {code}"
-        );
-        assert_eq!(rt;
-            byte_digits.contains(code),
-            digit && is_ascii,
-            "digit at {code}"
-        );
-        assert_eq!(rt;
-            ascii_spaces.contains(code),
-            space && is_ascii && !separates,
-            "space at {code}"
-        );
+fn named_classes(rt: HostRuntime) -> Result<(), OutOfMemory> {
+    for (class, ascii, universe) in &CLASSES {
+        let wrong = first_wrong(rt.alloc(), *class, *ascii, *universe)?;
+        assert!(rt; wrong.is_none(), "{class:?} at {wrong:?}");
     }
     Ok(())
 }
@@ -104,58 +120,123 @@ fn folds_to(
     Ok(closed.contains(second))
 }
 
+// Whether classes of both codes match as Python says, each matches itself, and ASCII stays by itself.
+fn fold_as_python(
+    rt: &(impl Abort + AllocGlobal),
+    first: u32,
+    second: u32,
+    same: bool,
+) -> Result<bool, OutOfMemory> {
+    let is_ascii = first < 128 && second < 128;
+    let there = folds_to(rt, first, second, false)? == same;
+    let back = folds_to(rt, second, first, false)? == same;
+    let itself = folds_to(rt, first, first, false)?;
+    let narrow = folds_to(rt, first, second, true)? == (same && is_ascii);
+    Ok(there && back && itself && narrow)
+}
+
 #[test]
-fn foldings(rt: HostRuntime) -> Result<(), Fail> {
-    for &(first, second, same) in &FOLDS {
-        assert_eq!(rt;
-            folds_to(&rt, first, second, false)?,
-            same,
+fn foldings(rt: HostRuntime) -> Result<(), OutOfMemory> {
+    for (first, second, same) in &FOLDS {
+        assert!(rt;
+            fold_as_python(&rt, *first, *second, *same)?,
             "{first} with {second}"
-        );
-        assert_eq!(rt;
-            folds_to(&rt, second, first, false)?,
-            same,
-            "{second} with {first}"
-        );
-        assert!(rt; folds_to(&rt, first, first, false)?, "{first}");
-        let is_ascii = first < 128 && second < 128;
-        assert_eq!(rt;
-            folds_to(&rt, first, second, true)?,
-            same && is_ascii,
-            "{first}"
         );
     }
     Ok(())
 }
 
-#[test]
-fn sets(rt: HostRuntime) -> Result<(), Fail> {
-    let alloc = rt.alloc();
-    let none = CodeSet::none(alloc);
-    assert_eq!(rt; none.first_code(), None);
+// `[3-9]` and `[8-20]` together.
+fn union(alloc: Global) -> Result<CodeSet, OutOfMemory> {
+    let low = CodeSet::range(alloc, 3, 9)?;
+    let high = CodeSet::range(alloc, 8, 20)?;
+    low.union(&high)
+}
+
+fn complement(alloc: Global) -> Result<CodeSet, OutOfMemory> {
     let low = CodeSet::range(alloc, 3, 9)?;
     let high = CodeSet::range(alloc, 8, 20)?;
     let union = low.union(&high)?;
+    union.complement(Universe::Bytes)
+}
+
+// A copy of what both hold.
+fn meet(alloc: Global) -> Result<CodeSet, OutOfMemory> {
+    let low = CodeSet::range(alloc, 3, 9)?;
+    let high = CodeSet::range(alloc, 8, 20)?;
     let meet = low.meet(&high)?;
-    let rest = union.complement(Universe::Bytes)?;
-    let copy = meet.copy()?;
+    meet.copy()
+}
+
+#[test]
+fn unions(rt: HostRuntime) -> Result<(), OutOfMemory> {
+    let union = union(rt.alloc())?;
     for code in 0..300 {
-        assert_eq!(rt;
-            union.contains(code),
-            3 <= code && code <= 20,
-            "union at {code}"
-        );
-        assert_eq!(rt;
-            copy.contains(code),
-            code == 8 || code == 9,
-            "meet at {code}"
-        );
-        let outside = code < 3 || 20 < code && code < 256;
-        assert_eq!(rt; rest.contains(code), outside, "complement at {code}");
+        assert!(rt; union.contains(code) == (3 <= code && code <= 20), "{code}");
     }
-    assert_eq!(rt; union.first_code(), Some(3));
-    assert_eq!(rt; rest.first_code(), Some(0));
+    assert!(rt; union.first_code() == Some(3));
     Ok(())
+}
+
+#[test]
+fn complements(rt: HostRuntime) -> Result<(), OutOfMemory> {
+    let rest = complement(rt.alloc())?;
+    for code in 0..300 {
+        let outside = code < 3 || 20 < code && code < 256;
+        assert!(rt; rest.contains(code) == outside, "{code}");
+    }
+    assert!(rt; rest.first_code() == Some(0));
+    Ok(())
+}
+
+#[test]
+fn meets(rt: HostRuntime) -> Result<(), OutOfMemory> {
+    let meet = meet(rt.alloc())?;
+    for code in 0..300 {
+        assert!(rt; meet.contains(code) == (code == 8 || code == 9), "{code}");
+    }
+    let none = CodeSet::none(rt.alloc());
+    assert!(rt; none.first_code().is_none());
+    Ok(())
+}
+
+// Codes with their letters.
+static LETTERS: [(u32, u32); 9] = [
+    (0, 0),
+    (9, 0),
+    (10, 1),
+    (11, 0),
+    (0x60, 0),
+    (0x61, 2),
+    (0x62, 3),
+    (0x63, 2),
+    (255, 0),
+];
+
+fn has_letters(letters: &Letters) -> bool
+    requires { letters.now.codes ≡ 256 }
+{
+    for (code, letter) in &LETTERS {
+        if *code >= 256 || letters.letter_of(*code) != *letter {
+            return false;
+        }
+    }
+    true
+}
+
+// The code that stands for each letter.
+static SAMPLES: [u32; 4] = [0x20, 10, 0x61, 0x62];
+
+fn has_samples(letters: &Letters) -> bool {
+    if letters.count() != 4 {
+        return false;
+    }
+    for letter in 0..4 {
+        if letters.sample(letter) != SAMPLES[letter as usize] {
+            return false;
+        }
+    }
+    true
 }
 
 // The letters of `[a-c]` and `[b\n]`: NUL, line feed, `a`, `b`; `c` is one letter with `a`.
@@ -166,29 +247,6 @@ fn letters(rt: HostRuntime) -> Result<(), Fail> {
     let second = CodeSet::range(alloc, 0x62, 0x62)?.union(&CodeSet::range(alloc, 10, 10)?)?;
     let sets = vec![in alloc; first, second]?;
     let letters = Letters::of(alloc, &sets, Universe::Bytes)?;
-    assert_eq!(rt; letters.count(), 4);
-    let codes: [(u32, u32); 9] = [
-        (0, 0),
-        (9, 0),
-        (10, 1),
-        (11, 0),
-        (0x60, 0),
-        (0x61, 2),
-        (0x62, 3),
-        (0x63, 2),
-        (255, 0),
-    ];
-    for (code, letter) in codes {
-        assert!(rt; code < 256);
-        assert_eq!(rt; letters.letter_of(code), letter, "at {code}");
-    }
-    let samples: [u32; 4] = [0x20, 10, 0x61, 0x62];
-    for letter in 0..4 {
-        assert_eq!(rt;
-            letters.sample(letter),
-            samples[letter as usize],
-            "of {letter}"
-        );
-    }
+    assert!(rt; has_letters(&letters) && has_samples(&letters));
     Ok(())
 }

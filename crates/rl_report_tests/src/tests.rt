@@ -17,13 +17,12 @@ use rl_source::Name;
 use rl_syntax::{Family, Limit, Spans, Suggestion, Texts, Universe, Verdict};
 use std::alloc::Global;
 use std::process::Abort;
-use std::test::Fail;
 
 fn is_at(rt: &impl Abort, source: &[u8], byte: u32, line: u32, column: u32)
     requires within { byte ≤ length source.now }
     requires small { byte < 4294967295 }
 {
-    assert_eq!(rt; place_of(source, byte), Place { line, column });
+    assert!(rt; place_of(source, byte) == Place { line, column });
 }
 
 #[test]
@@ -36,9 +35,8 @@ fn places(rt: HostRuntime) {
     is_at(&rt, source, 9, 2, 3);
     is_at(&rt, source, 11, 3, 1);
     let first = Cursor::start().forward(source, 6);
-    assert_eq!(rt; first.byte(), 6);
     let last = first.forward(source, 12);
-    assert_eq!(rt; last.place(), Place { line: 3, column: 2 });
+    assert!(rt; first.byte() == 6 && last.place() == Place { line: 3, column: 2 });
 }
 
 /// A text of one code.
@@ -88,23 +86,18 @@ fn judged(alloc: Global) -> Result<Outcome, OutOfMemory>
     Ok(Outcome::Judged(verdict, Some(suggestion(alloc)?), Some(becomes)))
 }
 
+/// One mark in the second line.
+fn one_mark(alloc: Global, column: u32, text: Option<Bytes>) -> Result<MarkList, OutOfMemory> {
+    let mut marks = MarkList::new(alloc);
+    let at = Place { line: 2, column };
+    marks.push(Mark { at, text })?;
+    Ok(marks)
+}
+
 fn marks(alloc: Global) -> Result<Marks, OutOfMemory> {
-    let mut dropped = MarkList::new(alloc);
-    dropped.push(Mark {
-        at: Place {
-            line: 2,
-            column: 14,
-        },
-        text: Some(Bytes::from_slice(alloc, b"r\"ab\"")?),
-    })?;
-    let mut merged = MarkList::new(alloc);
-    merged.push(Mark {
-        at: Place {
-            line: 2,
-            column: 20,
-        },
-        text: None,
-    })?;
+    let text = Bytes::from_slice(alloc, b"r\"ab\"")?;
+    let dropped = one_mark(alloc, 14, Some(text))?;
+    let merged = one_mark(alloc, 20, None)?;
     Ok(Marks {
         dropped,
         merged,
@@ -112,14 +105,19 @@ fn marks(alloc: Global) -> Result<Marks, OutOfMemory> {
     })
 }
 
-/// A report of one entry.
-fn entries(alloc: Global, outcome: Outcome, fault: Option<Place>) -> Result<Entries, OutOfMemory>
+/// The path and the marks of an entry.
+fn path_and_marks(alloc: Global) -> Result<(Name, Marks), OutOfMemory> {
+    let path = Name::from_text(alloc, "m.py")?;
+    Ok((path, marks(alloc)?))
+}
+
+fn entry(path: Name, marks: Marks, outcome: Outcome, fault: Option<Place>) -> Entry
     requires verdict { IfSome (verdict_of outcome) (IsVerdictOf Str) }
     requires suggestion { IfSome (suggestion_of outcome) (λ s. IfSome s.text (IsText Str)) }
-    ensures { IfOk result (All IsOfItsUniverse) }
+    ensures { IsOfItsUniverse result }
 {
-    let entry = Entry {
-        path: Name::from_text(alloc, "m.py")?,
+    Entry {
+        path,
         at: Some(Place {
             line: 2,
             column: 13,
@@ -128,21 +126,62 @@ fn entries(alloc: Global, outcome: Outcome, fault: Option<Place>) -> Result<Entr
         universe: Universe::Str,
         fault,
         outcome,
-        marks: marks(alloc)?,
-    };
+        marks,
+    }
+}
+
+fn alone(alloc: Global, entry: Entry) -> Result<Entries, OutOfMemory>
+    requires { IsOfItsUniverse entry }
+    ensures { IfOk result (All IsOfItsUniverse) }
+{
     let mut entries = Entries::new(alloc);
     entries.push(entry)?;
     Ok(entries)
 }
 
+/// A report of one entry.
+fn entries(alloc: Global, outcome: Outcome, fault: Option<Place>) -> Result<Entries, OutOfMemory>
+    requires verdict { IfSome (verdict_of outcome) (IsVerdictOf Str) }
+    requires suggestion { IfSome (suggestion_of outcome) (λ s. IfSome s.text (IsText Str)) }
+    ensures { IfOk result (All IsOfItsUniverse) }
+{
+    let (path, marks) = path_and_marks(alloc)?;
+    alone(alloc, entry(path, marks, outcome, fault))
+}
+
+fn judged_entries(alloc: Global) -> Result<Entries, OutOfMemory>
+    ensures { IfOk result (All IsOfItsUniverse) }
+{
+    entries(alloc, judged(alloc)?, None)
+}
+
+fn refused_entries(alloc: Global) -> Result<Entries, OutOfMemory>
+    ensures { IfOk result (All IsOfItsUniverse) }
+{
+    let fault = Place {
+        line: 2,
+        column: 14,
+    };
+    let outcome = Outcome::Literal(StrError::BadEscape(20));
+    entries(alloc, outcome, Some(fault))
+}
+
+/// Whether these bytes are written.
+fn is_written(found: Result<Bytes, OutOfMemory>, wanted: &[u8]) -> bool {
+    match found {
+        Ok(bytes) => bytes.as_slice() == wanted,
+        Err(_) => false,
+    }
+}
+
 #[test]
-fn text_layout(rt: HostRuntime) -> Result<(), Fail> {
-    let alloc = rt.alloc();
-    let entries = entries(alloc, judged(alloc)?, None)?;
-    let text = render(alloc, &entries, Format::Text, 1, 600, 2)?;
-    assert_eq!(rt;
-        text.as_slice(),
-        b"m.py:2:13: match: degree 1
+fn text_and_json_layouts(rt: HostRuntime) -> Result<(), OutOfMemory> {
+    let entries = judged_entries(rt.alloc())?;
+    let text = render(rt.alloc(), &entries, Format::Text, 1, 600, 2);
+    assert!(rt;
+        is_written(
+            text,
+            b"m.py:2:13: match: degree 1
   family x0 r\"\" y1 r\"a\" x1 r\"b\"
   drop 2:14 r\"ab\"
   merge 2:20
@@ -150,82 +189,70 @@ fn text_layout(rt: HostRuntime) -> Result<(), Fail> {
   becomes undecided pairs over 600
 1 entries, 0 findings, 0 refused, 0 undecided
 "
-            .as_slice()
+        )
+    );
+    let json = render(rt.alloc(), &entries, Format::Json, 0, 600, 2);
+    assert!(rt;
+        is_written(
+            json,
+            b"{\"entries\":[{\"becomes\":{\"kind\":\"undecided\",\"limit\":\"pairs\",\"over\":600},\"call\":\"match\",\"column\":13,\"degree\":1,\"dropped\":[{\"column\":14,\"line\":2}],\"family\":{\"heads\":[\"r\\\"\\\"\",\"r\\\"b\\\"\"],\"pumps\":[\"r\\\"a\\\"\"]},\"kind\":\"degree\",\"line\":2,\"merged\":[{\"column\":20,\"line\":2}],\"passed\":[],\"path\":\"m.py\",\"suggest\":\"r\\\"x\\\"\"}],\"findings\":1,\"refused\":0,\"undecided\":0,\"version\":2}\n"
+        )
     );
     Ok(())
 }
 
-#[test]
-fn json_layout(rt: HostRuntime) -> Result<(), Fail> {
-    let alloc = rt.alloc();
-    let entries = entries(alloc, judged(alloc)?, None)?;
-    let json = render(alloc, &entries, Format::Json, 0, 600, 2)?;
-    assert_eq!(rt;
-        json.as_slice(),
-        b"{\"entries\":[{\"becomes\":{\"kind\":\"undecided\",\"limit\":\"pairs\",\"over\":600},\"call\":\"match\",\"column\":13,\"degree\":1,\"dropped\":[{\"column\":14,\"line\":2}],\"family\":{\"heads\":[\"r\\\"\\\"\",\"r\\\"b\\\"\"],\"pumps\":[\"r\\\"a\\\"\"]},\"kind\":\"degree\",\"line\":2,\"merged\":[{\"column\":20,\"line\":2}],\"passed\":[],\"path\":\"m.py\",\"suggest\":\"r\\\"x\\\"\"}],\"findings\":1,\"refused\":0,\"undecided\":0,\"version\":2}\n".as_slice()
-    );
-    Ok(())
+/// Whether this is told of the one entry.
+fn is_told(alloc: Global, entries: &[Entry], wanted: &str) -> Result<bool, OutOfMemory> {
+    match entries {
+        [entry] => {
+            let text = outcome_text(alloc, entry, 600)?;
+            Ok(text.as_str() == wanted)
+        }
+        _ => Ok(false),
+    }
 }
 
 #[test]
-fn brief_layout(rt: HostRuntime) -> Result<(), Fail> {
-    let alloc = rt.alloc();
-    let outcome = Outcome::Literal(StrError::BadEscape(20));
-    let entries = entries(
-        alloc,
-        outcome,
-        Some(Place {
-            line: 2,
-            column: 14,
-        }),
-    )?;
-    let brief = render(alloc, &entries, Format::Brief, 1, 600, 2)?;
-    assert_eq!(rt;
-        brief.as_slice(),
-        b"m.py:2:13: match: refused bad-escape at 2:14
+fn brief_layout(rt: HostRuntime) -> Result<(), OutOfMemory> {
+    let entries = refused_entries(rt.alloc())?;
+    assert!(rt; is_told(rt.alloc(), entries.as_slice(), "refused bad-escape at 2:14")?);
+    let brief = render(rt.alloc(), &entries, Format::Brief, 1, 600, 2);
+    assert!(rt;
+        is_written(
+            brief,
+            b"m.py:2:13: match: refused bad-escape at 2:14
 1 entries, 0 findings, 1 refused, 0 undecided
 "
-            .as_slice()
-    );
-    let shown = render_shown(alloc, &Entries::new(alloc), 3, Format::Text, 1, 600, 1)?;
-    assert_eq!(rt;
-        shown.as_slice(),
-        b"0 entries, 0 findings, 0 refused, 0 undecided, 3 hidden\n".as_slice()
+        )
     );
     Ok(())
 }
 
 #[test]
-fn lines(rt: HostRuntime) -> Result<(), Fail> {
-    let alloc = rt.alloc();
-    let verdict = verdict_line(alloc, &Verdict::Undecided(Limit::Sets), 600)?;
-    assert_eq!(rt;
-        verdict.as_slice(),
-        b"undecided sets over 20000\n".as_slice()
+fn hidden_entries_are_counted(rt: HostRuntime) {
+    let none = Entries::new(rt.alloc());
+    let shown = render_shown(rt.alloc(), &none, 3, Format::Text, 1, 600, 1);
+    assert!(rt;
+        is_written(
+            shown,
+            b"0 entries, 0 findings, 0 refused, 0 undecided, 3 hidden\n"
+        )
     );
-    let family = family_line(alloc, &family(alloc)?, Universe::Str)?;
-    assert_eq!(rt;
-        family.as_slice(),
-        b"  family x0 r\"\" y1 r\"a\" x1 r\"b\"\n".as_slice()
-    );
+}
+
+#[test]
+fn lines(rt: HostRuntime) -> Result<(), OutOfMemory> {
+    let verdict = verdict_line(rt.alloc(), &Verdict::Undecided(Limit::Sets), 600);
+    assert!(rt; is_written(verdict, b"undecided sets over 20000\n"));
+    let family = family(rt.alloc())?;
+    let line = family_line(rt.alloc(), &family, Universe::Str);
+    assert!(rt; is_written(line, b"  family x0 r\"\" y1 r\"a\" x1 r\"b\"\n"));
     Ok(())
 }
 
 #[test]
-fn outcomes(rt: HostRuntime) -> Result<(), Fail> {
-    let alloc = rt.alloc();
-    let fault = Place {
-        line: 2,
-        column: 14,
-    };
-    let outcome = Outcome::Literal(StrError::BadEscape(20));
-    let entries = entries(alloc, outcome, Some(fault))?;
-    for entry in entries.as_slice() {
-        let text = outcome_text(alloc, entry, 600)?;
-        assert_eq!(rt; text.as_str(), "refused bad-escape at 2:14");
-    }
-    let verdict = Verdict::Degree(2, family(alloc)?);
-    assert!(rt; is_finding(&verdict, 1));
-    assert!(rt; !is_finding(&verdict, 2));
+fn findings(rt: HostRuntime) -> Result<(), OutOfMemory> {
+    let verdict = Verdict::Degree(2, family(rt.alloc())?);
+    assert!(rt; is_finding(&verdict, 1) && !is_finding(&verdict, 2));
     Ok(())
 }

@@ -8,8 +8,7 @@ use rl_pattern::{Flags, parse};
 use rl_ranges::{Codes, Universe};
 use rl_rewrite::{SuggestError, plain_suggestion, suggest};
 use rl_syntax::{Limit, Spans, Suggestion};
-use std::alloc::{AllocGlobal, Global};
-use std::process::Abort;
+use std::alloc::Global;
 use std::test::Fail;
 
 /// The codes of ASCII text.
@@ -48,7 +47,7 @@ fn begin_at(spans: &Spans, places: &[u32]) -> bool {
 
 /// What is answered of a pattern, or why there is no suggestion.
 fn asked(
-    rt: &(impl Abort + AllocGlobal),
+    alloc: Global,
     pattern: &str,
     verbose: bool,
     universe: Universe,
@@ -57,159 +56,288 @@ fn asked(
     requires some { 1 ≤ limit }
     requires low { limit ≤ 20000 }
 {
-    let codes = codes_of(rt.alloc(), pattern)?;
+    let codes = codes_of(alloc, pattern)?;
     let flags = flags_of(verbose);
-    let parsed = parse(rt.alloc(), &codes, flags, universe)?;
-    Ok(suggest(rt.alloc(), &parsed, &codes, flags, limit))
+    let parsed = parse(alloc, &codes, flags, universe)?;
+    Ok(suggest(alloc, &parsed, &codes, flags, limit))
 }
 
-/// The suggestion for a pattern.
-fn suggested(
-    rt: &(impl Abort + AllocGlobal),
+/// Whether a suggestion has this text.
+fn has_text(alloc: Global, found: &Suggestion, text: &str) -> Result<bool, OutOfMemory> {
+    let wanted = codes_of(alloc, text)?;
+    match &found.text {
+        Some(text) => Ok(text.as_slice() == wanted.as_slice()),
+        None => Ok(false),
+    }
+}
+
+/// What is suggested: the text, and where the branches that are dropped and the quantifiers that are taken out begin.
+#[derive(Clone, Copy)]
+struct Wanted {
+    text: &'static str,
+    dropped: &'static [u32],
+    merged: &'static [u32],
+}
+
+/// Whether that is suggested for a pattern.
+fn is_suggested(
+    alloc: Global,
     pattern: &str,
     verbose: bool,
     universe: Universe,
-) -> Result<Suggestion, Fail> {
-    let found = asked(rt, pattern, verbose, universe, 600)??;
-    Ok(found)
-}
-
-/// Whether a suggestion has this text, and drops and takes out what begins at these places.
-fn has(
-    rt: &(impl Abort + AllocGlobal),
-    found: &Suggestion,
-    text: &str,
-    dropped: &[u32],
-    merged: &[u32],
+    wanted: &Wanted,
 ) -> Result<bool, Fail> {
-    let wanted = codes_of(rt.alloc(), text)?;
-    let same = match &found.text {
-        Some(text) => text.as_slice() == wanted.as_slice(),
-        None => false,
-    };
-    Ok(same && begin_at(&found.dropped, dropped) && begin_at(&found.merged, merged))
+    let found = asked(alloc, pattern, verbose, universe, 600)??;
+    let same = has_text(alloc, &found, wanted.text)?;
+    Ok(same && begin_at(&found.dropped, wanted.dropped) && begin_at(&found.merged, wanted.merged))
 }
 
-#[test]
-fn branches_are_dropped_and_quantifiers_taken_out(rt: HostRuntime) -> Result<(), Fail> {
-    let twice = suggested(&rt, "(?:ab|a|ab)c", false, Universe::Str)?;
-    assert!(rt; has(&rt, &twice, "(?:ab|a)c", &[8], &[])?);
-    let held = suggested(&rt, "(?:a|[ab])", false, Universe::Bytes)?;
-    assert!(rt; has(&rt, &held, "(?:[ab])", &[3], &[])?);
-    let stars = suggested(&rt, "(?:x*)*y", false, Universe::Str)?;
-    assert!(rt; has(&rt, &stars, "(?:x)*y", &[], &[4])?);
-    Ok(())
-}
+static SUGGESTED: [(&str, Universe, Wanted); 15] = [
+    // branches are dropped and quantifiers taken out
+    (
+        "(?:ab|a|ab)c",
+        Universe::Str,
+        Wanted {
+            text: "(?:ab|a)c",
+            dropped: &[8],
+            merged: &[],
+        },
+    ),
+    (
+        "(?:a|[ab])",
+        Universe::Bytes,
+        Wanted {
+            text: "(?:[ab])",
+            dropped: &[3],
+            merged: &[],
+        },
+    ),
+    (
+        "(?:x*)*y",
+        Universe::Str,
+        Wanted {
+            text: "(?:x)*y",
+            dropped: &[],
+            merged: &[4],
+        },
+    ),
+    // no branch is tried beside a guard
+    (
+        "(?:x*)*\\b",
+        Universe::Str,
+        Wanted {
+            text: "(?:x)*\\b",
+            dropped: &[],
+            merged: &[4],
+        },
+    ),
+    // branches within branches
+    (
+        "(?:a|(?:a|a))",
+        Universe::Str,
+        Wanted {
+            text: "(?:a)",
+            dropped: &[5, 10],
+            merged: &[],
+        },
+    ),
+    (
+        "(?:|a|)*",
+        Universe::Str,
+        Wanted {
+            text: "(?:a)*",
+            dropped: &[3, 6],
+            merged: &[],
+        },
+    ),
+    (
+        "(?:a|(a))",
+        Universe::Str,
+        Wanted {
+            text: "(?:(a))",
+            dropped: &[3],
+            merged: &[],
+        },
+    ),
+    // words in a list
+    (
+        "(?:ab|cd|ab|abc)",
+        Universe::Bytes,
+        Wanted {
+            text: "(?:ab|cd|abc)",
+            dropped: &[9],
+            merged: &[],
+        },
+    ),
+    (
+        "(?:ab|ab|ab|c)",
+        Universe::Str,
+        Wanted {
+            text: "(?:ab|c)",
+            dropped: &[6, 9],
+            merged: &[],
+        },
+    ),
+    // branches under repeats
+    (
+        "(?:ab|cd|ab){2}",
+        Universe::Str,
+        Wanted {
+            text: "(?:ab|cd){2}",
+            dropped: &[9],
+            merged: &[],
+        },
+    ),
+    (
+        "(?:a|b|ab)*",
+        Universe::Str,
+        Wanted {
+            text: "(?:a|b)*",
+            dropped: &[7],
+            merged: &[],
+        },
+    ),
+    (
+        "(?:a|b|c){0}d",
+        Universe::Str,
+        Wanted {
+            text: "(?:a){0}d",
+            dropped: &[5, 7],
+            merged: &[],
+        },
+    ),
+    // branches that span the empty text
+    (
+        "(?:a*|b|)c",
+        Universe::Str,
+        Wanted {
+            text: "(?:a*|b)c",
+            dropped: &[8],
+            merged: &[],
+        },
+    ),
+    // choices in branches
+    (
+        "(?:a(?:b|c|d)|e(?:b|c)|ab)",
+        Universe::Str,
+        Wanted {
+            text: "(?:a(?:b|c|d)|e(?:b|c))",
+            dropped: &[23],
+            merged: &[],
+        },
+    ),
+    (
+        "(?:x|y(?:a|b)|y(?:a|b)|z)",
+        Universe::Str,
+        Wanted {
+            text: "(?:x|y(?:a|b)|z)",
+            dropped: &[14, 20],
+            merged: &[],
+        },
+    ),
+];
 
 #[test]
-fn no_branch_is_tried_beside_a_guard(rt: HostRuntime) -> Result<(), Fail> {
-    let branches = suggested(&rt, "a\\Z|a", false, Universe::Str)?;
-    assert!(rt; branches.text.is_none() && branches.dropped.is_empty());
-    let stars = suggested(&rt, "(?:x*)*\\b", false, Universe::Str)?;
-    assert!(rt; has(&rt, &stars, "(?:x)*\\b", &[], &[4])?);
-    Ok(())
-}
-
-#[test]
-fn branches_within_branches(rt: HostRuntime) -> Result<(), Fail> {
-    let inner = suggested(&rt, "(?:a|(?:a|a))", false, Universe::Str)?;
-    assert!(rt; has(&rt, &inner, "(?:a)", &[5, 10], &[])?);
-    let empty = suggested(&rt, "(?:|a|)*", false, Universe::Str)?;
-    assert!(rt; has(&rt, &empty, "(?:a)*", &[3, 6], &[])?);
-    let captured = suggested(&rt, "(?:a|(a))", false, Universe::Str)?;
-    assert!(rt; has(&rt, &captured, "(?:(a))", &[3], &[])?);
-    Ok(())
-}
-
-#[test]
-fn words_in_a_list(rt: HostRuntime) -> Result<(), Fail> {
-    let prefix = suggested(&rt, "(?:foo|foobar|bar)", false, Universe::Str)?;
-    assert!(rt; prefix.text.is_none() && prefix.dropped.is_empty());
-    let twice = suggested(&rt, "(?:ab|cd|ab|abc)", false, Universe::Bytes)?;
-    assert!(rt; has(&rt, &twice, "(?:ab|cd|abc)", &[9], &[])?);
-    let thrice = suggested(&rt, "(?:ab|ab|ab|c)", false, Universe::Str)?;
-    assert!(rt; has(&rt, &thrice, "(?:ab|c)", &[6, 9], &[])?);
-    Ok(())
-}
-
-#[test]
-fn branches_under_repeats(rt: HostRuntime) -> Result<(), Fail> {
-    let pairs = suggested(&rt, "(?:ab|cd|ef){2}", false, Universe::Str)?;
-    assert!(rt; pairs.text.is_none() && pairs.dropped.is_empty());
-    let options = suggested(&rt, "(?:a|aa|b){0,2}", false, Universe::Str)?;
-    assert!(rt; options.text.is_none() && options.dropped.is_empty());
-    let twice = suggested(&rt, "(?:ab|cd|ab){2}", false, Universe::Str)?;
-    assert!(rt; has(&rt, &twice, "(?:ab|cd){2}", &[9], &[])?);
-    let spelled = suggested(&rt, "(?:a|b|ab)*", false, Universe::Str)?;
-    assert!(rt; has(&rt, &spelled, "(?:a|b)*", &[7], &[])?);
-    let never = suggested(&rt, "(?:a|b|c){0}d", false, Universe::Str)?;
-    assert!(rt; has(&rt, &never, "(?:a){0}d", &[5, 7], &[])?);
-    Ok(())
-}
-
-#[test]
-fn branches_that_span_the_empty_text(rt: HostRuntime) -> Result<(), Fail> {
-    let kept = suggested(&rt, "(?:a|b|)c", false, Universe::Str)?;
-    assert!(rt; kept.text.is_none() && kept.dropped.is_empty());
-    let dropped = suggested(&rt, "(?:a*|b|)c", false, Universe::Str)?;
-    assert!(rt; has(&rt, &dropped, "(?:a*|b)c", &[8], &[])?);
-    Ok(())
-}
-
-#[test]
-fn choices_in_branches(rt: HostRuntime) -> Result<(), Fail> {
-    let spelled = suggested(&rt, "(?:a(?:b|c|d)|e(?:b|c)|ab)", false, Universe::Str)?;
-    assert!(rt; has(&rt, &spelled, "(?:a(?:b|c|d)|e(?:b|c))", &[23], &[])?);
-    let twice = suggested(&rt, "(?:x|y(?:a|b)|y(?:a|b)|z)", false, Universe::Str)?;
-    assert!(rt; has(&rt, &twice, "(?:x|y(?:a|b)|z)", &[14, 20], &[])?);
+fn patterns_have_their_suggestions(rt: HostRuntime) -> Result<(), Fail> {
+    for (pattern, universe, wanted) in &SUGGESTED {
+        let same = is_suggested(rt.alloc(), pattern, false, *universe, wanted)?;
+        assert!(rt; same, "{pattern}");
+    }
     Ok(())
 }
 
 #[test]
 fn comments_stay(rt: HostRuntime) -> Result<(), Fail> {
-    let seam = suggested(&rt, "(?:b|a # |\n|a)", true, Universe::Str)?;
-    assert!(rt; has(&rt, &seam, "(?:b|a # |\n)", &[12], &[])?);
+    let wanted = Wanted {
+        text: "(?:b|a # |\n)",
+        dropped: &[12],
+        merged: &[],
+    };
+    let pattern = "(?:b|a # |\n|a)";
+    assert!(rt; is_suggested(rt.alloc(), pattern, true, Universe::Str, &wanted)?);
     Ok(())
+}
+
+static KEPT: [&str; 5] = [
+    // no branch is tried beside a guard
+    "a\\Z|a",
+    // words in a list
+    "(?:foo|foobar|bar)",
+    // branches under repeats
+    "(?:ab|cd|ef){2}",
+    "(?:a|aa|b){0,2}",
+    // branches that span the empty text
+    "(?:a|b|)c",
+];
+
+/// Whether the branches of a pattern stay.
+fn is_kept(alloc: Global, pattern: &str) -> Result<bool, Fail> {
+    let found = asked(alloc, pattern, false, Universe::Str, 600)??;
+    Ok(found.text.is_none() && found.dropped.is_empty())
+}
+
+#[test]
+fn branches_stay(rt: HostRuntime) -> Result<(), Fail> {
+    for pattern in &KEPT {
+        assert!(rt; is_kept(rt.alloc(), pattern)?, "{pattern}");
+    }
+    Ok(())
+}
+
+/// Whether the trials of a pattern that are passed over under a limit of 1 begin at these places.
+fn is_passed(alloc: Global, pattern: &str, places: &[u32]) -> Result<bool, Fail> {
+    let found = asked(alloc, pattern, false, Universe::Str, 1)??;
+    Ok(begin_at(&found.passed, places))
+}
+
+/// Why there is no suggestion under that limit.
+fn refused(alloc: Global, pattern: &str) -> Result<Option<SuggestError>, Fail> {
+    match asked(alloc, pattern, false, Universe::Str, 1)? {
+        Ok(_) => Ok(None),
+        Err(error) => Ok(Some(error)),
+    }
 }
 
 #[test]
 fn limits_are_told(rt: HostRuntime) -> Result<(), Fail> {
-    let found = asked(&rt, "(?:aab|aac)", false, Universe::Str, 1)??;
-    assert!(rt; begin_at(&found.passed, &[3, 7]));
-    match asked(&rt, "a{2001}", false, Universe::Str, 1)? {
-        Ok(_) => assert!(rt; false),
-        Err(error) => assert_eq!(rt; error, SuggestError::Limit(Limit::Size)),
-    }
+    assert!(rt; is_passed(rt.alloc(), "(?:aab|aac)", &[3, 7])?);
+    let over = refused(rt.alloc(), "a{2001}")?;
+    assert!(rt; over == Some(SuggestError::Limit(Limit::Size)));
     Ok(())
 }
 
+/// Whether a suggestion is empty.
+fn says_nothing(found: &Suggestion) -> bool {
+    found.text.is_none()
+        && found.dropped.is_empty()
+        && found.merged.is_empty()
+        && found.passed.is_empty()
+}
+
 /// Whether nothing goes of a pattern, as is told without a comparison.
-fn is_plain(rt: &(impl Abort + AllocGlobal), pattern: &str) -> Result<bool, Fail> {
-    let codes = codes_of(rt.alloc(), pattern)?;
-    let parsed = parse(rt.alloc(), &codes, flags_of(false), Universe::Str)?;
-    match plain_suggestion(rt.alloc(), &parsed)? {
-        Some(found) => Ok(
-            found.text.is_none()
-                && found.dropped.is_empty()
-                && found.merged.is_empty()
-                && found.passed.is_empty(),
-        ),
+fn is_plain(alloc: Global, pattern: &str) -> Result<bool, Fail> {
+    let codes = codes_of(alloc, pattern)?;
+    let parsed = parse(alloc, &codes, flags_of(false), Universe::Str)?;
+    match plain_suggestion(alloc, &parsed)? {
+        Some(found) => Ok(says_nothing(&found)),
         None => Ok(false),
     }
 }
 
-#[test]
-fn nothing_goes_of_plain_patterns(rt: HostRuntime) -> Result<(), Fail> {
-    assert!(rt; is_plain(&rt, "ab*c")?);
-    assert!(rt; is_plain(&rt, "(?:a+)?")?);
-    assert!(rt; is_plain(&rt, "(a*)*")?);
-    assert!(rt; is_plain(&rt, "a{2001}")?);
-    Ok(())
-}
+static PLAIN: [(&str, bool); 6] = [
+    ("ab*c", true),
+    ("(?:a+)?", true),
+    ("(a*)*", true),
+    ("a{2001}", true),
+    // others are left to trials
+    ("a|b", false),
+    ("(?:a*)*", false),
+];
 
 #[test]
-fn other_patterns_are_left_to_trials(rt: HostRuntime) -> Result<(), Fail> {
-    assert!(rt; !is_plain(&rt, "a|b")?);
-    assert!(rt; !is_plain(&rt, "(?:a*)*")?);
+fn nothing_goes_of_plain_patterns(rt: HostRuntime) -> Result<(), Fail> {
+    for (pattern, plain) in &PLAIN {
+        assert!(rt; is_plain(rt.alloc(), pattern)? == *plain, "{pattern}");
+    }
     Ok(())
 }

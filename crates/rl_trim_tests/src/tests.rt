@@ -8,7 +8,6 @@ use rl_ranges::{CodeSet, Universe};
 use rl_syntax::Re;
 use rl_trim::Trimmer;
 use std::alloc::Global;
-use std::test::Fail;
 
 /// The tree of an ASCII code.
 fn one(alloc: Global, code: u32) -> Result<Re, OutOfMemory>
@@ -39,6 +38,23 @@ fn trimmer_of(alloc: Global, tree: &Re) -> Result<Trimmer, SameError>
     Ok(trimmer)
 }
 
+/// Which places are kept, the limit, and whether the trial tells the trees apart.
+type Trial = (&'static [bool], u32, bool);
+
+/// Whether trials of the tree, one after the other, answer so.
+fn are_told(alloc: Global, tree: &Re, trials: &[Trial]) -> Result<bool, SameError>
+    requires { IsOver Universe.Bytes (tree_of tree.now) }
+{
+    let mut trimmer = trimmer_of(alloc, tree)?;
+    for (keep, limit, apart) in trials {
+        let is_limit = 1 <= *limit && *limit <= 20000;
+        if !is_limit || trimmer.is_apart(alloc, keep, *limit)? != *apart {
+            return Ok(false);
+        }
+    }
+    Ok(true)
+}
+
 /// The tree of `ab|cd|ef`.
 fn three_words(alloc: Global) -> Result<Re, OutOfMemory>
     ensures { IfOk result (λ tree. IsOver Universe.Bytes (tree_of tree)) }
@@ -50,6 +66,27 @@ fn three_words(alloc: Global) -> Result<Re, OutOfMemory>
     Re::either(alloc, first, rest)
 }
 
+/// A branch of its own tells apart.
+static OWN_BRANCHES: [Trial; 3] = [
+    (&[false, false, true, true, true, true], 100, true),
+    (&[true, true, false, false, true, true], 100, true),
+    (&[true, true, true, true, false, false], 100, true),
+];
+
+/// No branch tells nothing, nor does a low limit.
+static NOTHING_TOLD: [Trial; 2] = [
+    (&[true, true, true, true, true, true], 100, false),
+    (&[false, false, true, true, true, true], 3, false),
+];
+
+#[test]
+fn a_branch_of_its_own_alone_tells_apart(rt: HostRuntime) -> Result<(), SameError> {
+    let tree = three_words(rt.alloc())?;
+    assert!(rt; are_told(rt.alloc(), &tree, &OWN_BRANCHES)?);
+    assert!(rt; are_told(rt.alloc(), &tree, &NOTHING_TOLD)?);
+    Ok(())
+}
+
 /// The tree of `a|a`.
 fn one_twice(alloc: Global) -> Result<Re, OutOfMemory>
     ensures { IfOk result (λ tree. IsOver Universe.Bytes (tree_of tree)) }
@@ -57,6 +94,15 @@ fn one_twice(alloc: Global) -> Result<Re, OutOfMemory>
     let first = one(alloc, 97)?;
     let second = one(alloc, 97)?;
     Re::either(alloc, first, second)
+}
+
+static TWICE_THERE: [Trial; 2] = [(&[false, true], 100, false), (&[true, false], 100, false)];
+
+#[test]
+fn a_branch_that_is_there_twice_tells_nothing(rt: HostRuntime) -> Result<(), SameError> {
+    let tree = one_twice(rt.alloc())?;
+    assert!(rt; are_told(rt.alloc(), &tree, &TWICE_THERE)?);
+    Ok(())
 }
 
 /// The tree of `(?:ab|cd)*x`.
@@ -71,6 +117,18 @@ fn in_loop(alloc: Global) -> Result<Re, OutOfMemory>
     Re::both(alloc, many, last)
 }
 
+static LOOPED: [Trial; 2] = [
+    (&[false, false, true, true, true], 100, true),
+    (&[true, true, false, false, true], 100, true),
+];
+
+#[test]
+fn a_branch_in_a_loop_tells_apart(rt: HostRuntime) -> Result<(), SameError> {
+    let tree = in_loop(rt.alloc())?;
+    assert!(rt; are_told(rt.alloc(), &tree, &LOOPED)?);
+    Ok(())
+}
+
 /// The tree of `ab|ac|ab`.
 fn one_start(alloc: Global) -> Result<Re, OutOfMemory>
     ensures { IfOk result (λ tree. IsOver Universe.Bytes (tree_of tree)) }
@@ -82,54 +140,15 @@ fn one_start(alloc: Global) -> Result<Re, OutOfMemory>
     Re::either(alloc, first, rest)
 }
 
-#[test]
-fn a_branch_of_its_own_tells_apart(rt: HostRuntime) -> Result<(), Fail> {
-    let alloc = rt.alloc();
-    let tree = three_words(alloc)?;
-    let mut trimmer = trimmer_of(alloc, &tree)?;
-    assert!(rt; trimmer.is_apart(alloc, &[false, false, true, true, true, true], 100)?);
-    assert!(rt; trimmer.is_apart(alloc, &[true, true, false, false, true, true], 100)?);
-    assert!(rt; trimmer.is_apart(alloc, &[true, true, true, true, false, false], 100)?);
-    Ok(())
-}
+static OF_ONE_START: [Trial; 3] = [
+    (&[false, false, true, true, true, true], 100, false),
+    (&[true, true, false, false, true, true], 100, true),
+    (&[true, true, true, true, false, false], 100, false),
+];
 
 #[test]
-fn no_branch_and_a_low_limit_tell_nothing(rt: HostRuntime) -> Result<(), Fail> {
-    let alloc = rt.alloc();
-    let tree = three_words(alloc)?;
-    let mut trimmer = trimmer_of(alloc, &tree)?;
-    assert!(rt; !trimmer.is_apart(alloc, &[true, true, true, true, true, true], 100)?);
-    assert!(rt; !trimmer.is_apart(alloc, &[false, false, true, true, true, true], 3)?);
-    Ok(())
-}
-
-#[test]
-fn a_branch_that_is_there_twice_tells_nothing(rt: HostRuntime) -> Result<(), Fail> {
-    let alloc = rt.alloc();
-    let tree = one_twice(alloc)?;
-    let mut trimmer = trimmer_of(alloc, &tree)?;
-    assert!(rt; !trimmer.is_apart(alloc, &[false, true], 100)?);
-    assert!(rt; !trimmer.is_apart(alloc, &[true, false], 100)?);
-    Ok(())
-}
-
-#[test]
-fn a_branch_in_a_loop_tells_apart(rt: HostRuntime) -> Result<(), Fail> {
-    let alloc = rt.alloc();
-    let tree = in_loop(alloc)?;
-    let mut trimmer = trimmer_of(alloc, &tree)?;
-    assert!(rt; trimmer.is_apart(alloc, &[false, false, true, true, true], 100)?);
-    assert!(rt; trimmer.is_apart(alloc, &[true, true, false, false, true], 100)?);
-    Ok(())
-}
-
-#[test]
-fn a_branch_with_the_start_of_another_tells_apart(rt: HostRuntime) -> Result<(), Fail> {
-    let alloc = rt.alloc();
-    let tree = one_start(alloc)?;
-    let mut trimmer = trimmer_of(alloc, &tree)?;
-    assert!(rt; !trimmer.is_apart(alloc, &[false, false, true, true, true, true], 100)?);
-    assert!(rt; trimmer.is_apart(alloc, &[true, true, false, false, true, true], 100)?);
-    assert!(rt; !trimmer.is_apart(alloc, &[true, true, true, true, false, false], 100)?);
+fn a_branch_with_the_start_of_another_tells_apart(rt: HostRuntime) -> Result<(), SameError> {
+    let tree = one_start(rt.alloc())?;
+    assert!(rt; are_told(rt.alloc(), &tree, &OF_ONE_START)?);
     Ok(())
 }

@@ -1,6 +1,7 @@
 //! What `check` shows beside a baseline.
 
-use super::{Ended, M_PY, NO_FAULTS, map_of, push_file, run, run_on, strings};
+use super::{M_PY, map_of, push_file, run_on, run_over};
+use rl_source::Nodes;
 use std::alloc::Global;
 use std::test::Fail;
 
@@ -18,34 +19,33 @@ static KNOWN: [(&str, &str, &str); 2] = [
     ),
 ];
 
-// The baseline is the report of the first source in JSON.
-fn beside_it(alloc: Global, text: &str) -> Result<Ended, Fail> {
-    let report = run_on(
-        alloc,
-        &["check", "--format", "json", "m.py"],
-        &[("m.py", M_PY)],
-    )?;
-    let words = strings(
-        alloc,
-        &[
-            "check",
-            "--format",
-            "brief",
-            "--baseline",
-            "known.json",
-            "m.py",
-        ],
-    )?;
+// A source beside a baseline, which is the report of the first source in JSON.
+fn beside_it(alloc: Global, text: &str) -> Result<Nodes, Fail> {
+    let words = ["check", "--format", "json", "m.py"];
+    let report = run_on(alloc, &words, &[("m.py", M_PY)])?;
     let mut nodes = map_of(alloc, &[("m.py", text)])?;
     push_file(alloc, &mut nodes, "known.json", report.out.bytes())?;
-    run(alloc, &words, nodes, &NO_FAULTS)
+    Ok(nodes)
+}
+
+static WORDS: [&str; 6] = [
+    "check",
+    "--format",
+    "brief",
+    "--baseline",
+    "known.json",
+    "m.py",
+];
+
+fn shows(alloc: Global, text: &str, out: &str) -> Result<bool, Fail> {
+    let ended = run_over(alloc, &WORDS, beside_it(alloc, text)?)?;
+    Ok(ended.is(0, out, ""))
 }
 
 #[test]
 fn a_report_is_a_baseline(rt: HostRuntime) -> Result<(), Fail> {
     for (name, text, out) in &KNOWN {
-        let ended = beside_it(rt.alloc(), text)?;
-        assert!(rt; ended.is(0, out, ""), "{}", name);
+        assert!(rt; shows(rt.alloc(), text, out)?, "{}", name);
     }
     Ok(())
 }

@@ -1,6 +1,7 @@
-use super::{NO_FAULTS, map_of, push_file, run, run_on, sink, strings};
-use rl_lint::relint_main;
-use rl_source::{MemTree, Nodes, Tree};
+use super::{map_of, push_file, run_in, run_on, run_over, sink, strings, tree_of};
+use rl_lists::OutOfMemory;
+use rl_source::{Nodes, Tree};
+use std::alloc::Global;
 use std::test::Fail;
 
 static FILES: [(&str, &str); 5] = [
@@ -164,20 +165,20 @@ static CERTIFIED: [Certified; 14] = [
     },
 ];
 
+fn ends_so(alloc: Global, row: &Certified) -> Result<bool, Fail> {
+    let words = strings(alloc, row.words)?;
+    let mut tree = tree_of(alloc, map_of(alloc, &FILES)?, row.tree_fails)?;
+    let out = sink(alloc, 99, &[])?;
+    let err = sink(alloc, 99, &[])?;
+    let ended = run_in(alloc, &words, &mut tree, out, err);
+    Ok(ended.is(row.status, row.out, row.err) && tree.faults() == row.faults)
+}
+
 // A file that isn't there is a fault once it is asked for.
 #[test]
 fn certificates_end_by_their_rows(rt: HostRuntime) -> Result<(), Fail> {
     for row in &CERTIFIED {
-        let words = strings(rt.alloc(), row.words)?;
-        let failing = Vec::from_slice(rt.alloc(), row.tree_fails)?;
-        let mut tree = MemTree::new(rt.alloc(), map_of(rt.alloc(), &FILES)?, failing)?;
-        let mut out = sink(rt.alloc(), 99, &[])?;
-        let mut err = sink(rt.alloc(), 99, &[])?;
-        let status = relint_main(rt.alloc(), &words, &mut tree, &mut out, &mut err);
-        assert_eq!(rt; out.bytes(), row.out.as_bytes(), "{}", row.name);
-        assert_eq!(rt; err.bytes(), row.err.as_bytes());
-        assert_eq!(rt; status, row.status);
-        assert_eq!(rt; tree.faults(), row.faults);
+        assert!(rt; ends_so(rt.alloc(), row)?, "{}", row.name);
     }
     Ok(())
 }
@@ -231,18 +232,28 @@ static ROUNDS: [(&[&str], &[&str], &str); 9] = [
     ),
 ];
 
+fn certificate_map(alloc: Global, certificate: &[u8]) -> Result<Nodes, OutOfMemory> {
+    let mut nodes = Nodes::new(alloc);
+    push_file(alloc, &mut nodes, "c.json", certificate)?;
+    Ok(nodes)
+}
+
+fn is_verified(alloc: Global, prove: &[&str], verify: &[&str], answer: &str) -> Result<bool, Fail> {
+    let made = run_on(alloc, prove, &[])?;
+    let nodes = certificate_map(alloc, made.out.bytes())?;
+    let ended = run_over(alloc, verify, nodes)?;
+    Ok(made.status == 0 && made.err.bytes().is_empty() && ended.is(0, answer, ""))
+}
+
 // proved-then-verified
 #[test]
 fn proved_verdicts_are_verified(rt: HostRuntime) -> Result<(), Fail> {
     for (prove, verify, answer) in &ROUNDS {
-        let made = run_on(rt.alloc(), prove, &[])?;
-        assert_eq!(rt; made.status, 0);
-        assert!(rt; made.err.bytes().is_empty());
-        let mut nodes = Nodes::new(rt.alloc());
-        push_file(rt.alloc(), &mut nodes, "c.json", made.out.bytes())?;
-        let words = strings(rt.alloc(), verify)?;
-        let ended = run(rt.alloc(), &words, nodes, &NO_FAULTS)?;
-        assert!(rt; ended.is(0, answer, ""), "{:?}", verify);
+        assert!(rt;
+            is_verified(rt.alloc(), prove, verify, answer)?,
+            "{:?}",
+            verify
+        );
     }
     Ok(())
 }

@@ -1,6 +1,7 @@
 //! `cost`, and `class` where a limit is passed.
 
-use super::run_on;
+use super::{answers, run_on};
+use std::alloc::Global;
 use std::test::Fail;
 
 static COSTS: [(&str, &[&str], &str); 29] = [
@@ -191,8 +192,7 @@ static LIMITS: [(&str, &[&str], &str); 6] = [
 #[test]
 fn walks_have_their_costs(rt: HostRuntime) -> Result<(), Fail> {
     for (name, words, out) in &COSTS {
-        let ended = run_on(rt.alloc(), words, &[])?;
-        assert!(rt; ended.is(0, out, ""), "{}", name);
+        assert!(rt; answers(rt.alloc(), words, 0, out, "")?, "{}", name);
     }
     Ok(())
 }
@@ -200,18 +200,20 @@ fn walks_have_their_costs(rt: HostRuntime) -> Result<(), Fail> {
 #[test]
 fn limits_are_passed(rt: HostRuntime) -> Result<(), Fail> {
     for (name, words, out) in &LIMITS {
-        let ended = run_on(rt.alloc(), words, &[])?;
-        assert!(rt; ended.is(0, out, ""), "{}", name);
+        assert!(rt; answers(rt.alloc(), words, 0, out, "")?, "{}", name);
     }
     Ok(())
+}
+
+fn are_counted(alloc: Global, words: &[&str]) -> Result<bool, Fail> {
+    let ended = run_on(alloc, words, &[])?;
+    Ok(ended.status == 0 && ended.out.bytes().starts_with(b"steps "))
 }
 
 // How many steps these are is free.
 #[test]
 fn moves_at_their_limit_are_counted(rt: HostRuntime) -> Result<(), Fail> {
     let words = ["cost", "(|)(|)(|)(|)(|)(|)(|)(|)b", "b"];
-    let ended = run_on(rt.alloc(), &words, &[])?;
-    assert_eq!(rt; ended.status, 0);
-    assert!(rt; ended.out.bytes().starts_with(b"steps ".as_slice()));
+    assert!(rt; are_counted(rt.alloc(), &words)?);
     Ok(())
 }

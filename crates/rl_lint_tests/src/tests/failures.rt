@@ -1,7 +1,9 @@
 //! Calls of the tree and writes that fail.
 
-use super::{A_PY, B_PY, Ended, Faults, Files, M_PY, Words, map_of, run, run_on, sink, strings};
-use rl_lint::relint_main;
+use super::{
+    A_PY, B_PY, Ended, Faults, Files, M_PY, Words, map_of, run, run_in, run_on, sink, strings,
+    tree_of,
+};
 use rl_source::{MemTree, MemTreeError};
 use std::alloc::Global;
 use std::test::Fail;
@@ -145,13 +147,16 @@ static FAILING: [Failing; 9] = [
     },
 ];
 
+fn ends_so(alloc: Global, row: &Failing) -> Result<bool, Fail> {
+    let words = strings(alloc, row.words)?;
+    let ended = run(alloc, &words, map_of(alloc, row.files)?, &row.faults)?;
+    Ok(ended.is(row.status, row.out, row.err))
+}
+
 #[test]
 fn faults_end_so(rt: HostRuntime) -> Result<(), Fail> {
     for row in &FAILING {
-        let words = strings(rt.alloc(), row.words)?;
-        let nodes = map_of(rt.alloc(), row.files)?;
-        let ended = run(rt.alloc(), &words, nodes, &row.faults)?;
-        assert!(rt; ended.is(row.status, row.out, row.err), "{}", row.name);
+        assert!(rt; ends_so(rt.alloc(), row)?, "{}", row.name);
     }
     Ok(())
 }
@@ -159,12 +164,10 @@ fn faults_end_so(rt: HostRuntime) -> Result<(), Fail> {
 // Each write takes one byte, and the one with this number fails; so do these writes to `err`.
 fn nth_fails(alloc: Global, nth: u64, err: &[u64]) -> Result<Ended, Fail> {
     let words = strings(alloc, &["check", "--format", "text", "m.py"])?;
-    let map = map_of(alloc, &[("m.py", M_PY)])?;
-    let mut tree = MemTree::new(alloc, map, Vec::new(alloc))?;
-    let mut out = sink(alloc, 1, &[nth])?;
-    let mut err = sink(alloc, 99, err)?;
-    let status = relint_main(alloc, &words, &mut tree, &mut out, &mut err);
-    Ok(Ended { status, out, err })
+    let mut tree = tree_of(alloc, map_of(alloc, &[("m.py", M_PY)])?, &[])?;
+    let out = sink(alloc, 1, &[nth])?;
+    let err = sink(alloc, 99, err)?;
+    Ok(run_in(alloc, &words, &mut tree, out, err))
 }
 
 // it ended at that write, and `out` holds the first bytes of the report
@@ -176,12 +179,12 @@ fn is_cut(ended: &Ended, report: &[u8], nth: usize, err: &str) -> bool {
 }
 
 // Each write may be the one that fails, with these writes to `err` failing; it gets this text.
-fn all_are_cut(rt: &HostRuntime, err_fails: &[u64], err: &str) -> Result<bool, Fail> {
+fn all_are_cut(alloc: Global, err_fails: &[u64], err: &str) -> Result<bool, Fail> {
     let words = ["check", "--format", "text", "m.py"];
-    let report = run_on(rt.alloc(), &words, &[("m.py", M_PY)])?;
+    let report = run_on(alloc, &words, &[("m.py", M_PY)])?;
     let mut holds = report.status == 0 && report.out.bytes().len() > 100;
     for nth in 1..=report.out.bytes().len() {
-        let ended = nth_fails(rt.alloc(), nth as u64, err_fails)?;
+        let ended = nth_fails(alloc, nth as u64, err_fails)?;
         holds = holds && is_cut(&ended, report.out.bytes(), nth, err);
     }
     Ok(holds)
@@ -190,14 +193,14 @@ fn all_are_cut(rt: &HostRuntime, err_fails: &[u64], err: &str) -> Result<bool, F
 // write-fails-at-each-byte
 #[test]
 fn each_write_may_fail(rt: HostRuntime) -> Result<(), Fail> {
-    assert!(rt; all_are_cut(&rt, &[], "relint: write fault\n")?);
+    assert!(rt; all_are_cut(rt.alloc(), &[], "relint: write fault\n")?);
     Ok(())
 }
 
 // err-fails-too
 #[test]
 fn err_fails_beside_each_write(rt: HostRuntime) -> Result<(), Fail> {
-    assert!(rt; all_are_cut(&rt, &[1], "")?);
+    assert!(rt; all_are_cut(rt.alloc(), &[1], "")?);
     Ok(())
 }
 

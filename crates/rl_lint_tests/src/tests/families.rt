@@ -126,7 +126,60 @@ fn costs(alloc: Global, mode: &str, pattern: &str, text: &str, least: u64) -> Re
     Ok(ended.status == 0 && steps_of(ended.out.bytes()).is_some_and(|steps| least <= steps))
 }
 
-// The line is that of a family of the verdict, and its texts for 0 to 8 pumps cost as much as the verdict says.
+// the line is that of a family of the verdict
+fn is_family(
+    alloc: Global,
+    line: &str,
+    texts: &Vec<String>,
+    verdict: &str,
+) -> Result<bool, AllocError> {
+    let pumps = texts.len() / 2;
+    let degree = format!(in alloc; "degree {pumps}")?;
+    let is_told = if verdict == "exponential" {
+        pumps == 1
+    } else {
+        verdict == degree.as_str()
+    };
+    Ok(is_told && line.starts_with("  family x0 ") && texts.len() % 2 == 1)
+}
+
+fn have_pumps(texts: &Vec<String>) -> bool {
+    for (place, text) in texts.iter().enumerate() {
+        if place % 2 == 1 && text.is_empty() {
+            return false;
+        }
+    }
+    true
+}
+
+// how many steps a text of so many pumps costs at least
+fn least_of(verdict: &str, times: usize, pumps: usize) -> u64 {
+    if verdict == "exponential" {
+        power(2, times)
+    } else {
+        power(times as u64, pumps)
+    }
+}
+
+// The texts for 0 to 8 pumps cost as much as the verdict says.
+fn cost_enough(
+    alloc: Global,
+    texts: &Vec<String>,
+    verdict: &str,
+    mode: &str,
+    pattern: &str,
+) -> Result<bool, Fail> {
+    for times in 0..9 {
+        let text = pumped(alloc, texts, times as u64)?;
+        let least = least_of(verdict, times, texts.len() / 2);
+        if !costs(alloc, mode, pattern, text.as_str(), least)? {
+            return Ok(false);
+        }
+    }
+    Ok(true)
+}
+
+// The line is that of a family of the verdict, and its texts cost as much.
 fn reaches(
     alloc: Global,
     line: &str,
@@ -135,29 +188,8 @@ fn reaches(
     pattern: &str,
 ) -> Result<bool, Fail> {
     let texts = texts_of(alloc, line)?;
-    let pumps = texts.len() / 2;
-    let is_power = verdict == "exponential";
-    let degree = format!(in alloc; "degree {pumps}")?;
-    let mut holds = line.starts_with("  family x0 ") && texts.len() % 2 == 1;
-    holds = holds
-        && if is_power {
-            pumps == 1
-        } else {
-            verdict == degree.as_str()
-        };
-    for (place, text) in texts.iter().enumerate() {
-        holds = holds && (place % 2 == 0 || !text.is_empty());
-    }
-    for times in 0..9 {
-        let least = if is_power {
-            power(2, times)
-        } else {
-            power(times as u64, pumps)
-        };
-        let text = pumped(alloc, &texts, times as u64)?;
-        holds = holds && costs(alloc, mode, pattern, text.as_str(), least)?;
-    }
-    Ok(holds)
+    let is_told = is_family(alloc, line, &texts, verdict)? && have_pumps(&texts);
+    Ok(is_told && cost_enough(alloc, &texts, verdict, mode, pattern)?)
 }
 
 // the end of a line that names a verdict

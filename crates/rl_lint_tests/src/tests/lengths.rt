@@ -1,8 +1,8 @@
 //! Rows that are too long to spell: texts and files at the limits, and a deep tree.
 
-use super::{Ended, NO_FAULTS, push_file, push_folder, run, run_on, strings};
+use super::{NO_FAULTS, push_file, push_folder, run, run_over};
 use rl_lists::OutOfMemory;
-use rl_source::{Child, Children, Content, Held, Kind, Name, Node, Nodes};
+use rl_source::{Child, Children, Kind, Name, Nodes};
 use std::alloc::{AllocError, Global};
 use std::test::Fail;
 
@@ -88,56 +88,59 @@ fn spelled(alloc: Global, pieces: &[(&str, usize)]) -> Result<String, AllocError
     Ok(text)
 }
 
-fn run_long(alloc: Global, row: &Long) -> Result<Ended, Fail> {
+fn long_words(alloc: Global, row: &Long) -> Result<Vec<String>, AllocError> {
     let mut words = Vec::new(alloc);
     for pieces in row.words {
         words.push(spelled(alloc, pieces)?)?;
     }
-    run(alloc, &words, Nodes::new(alloc), &NO_FAULTS)
+    Ok(words)
+}
+
+fn ends_so(alloc: Global, row: &Long) -> Result<bool, Fail> {
+    let words = long_words(alloc, row)?;
+    let ended = run(alloc, &words, Nodes::new(alloc), &NO_FAULTS)?;
+    Ok(ended.is(row.status, row.out, row.err))
 }
 
 #[test]
 fn long_words_end_so(rt: HostRuntime) -> Result<(), Fail> {
     for row in &LONG {
-        let ended = run_long(rt.alloc(), row)?;
-        assert!(rt; ended.is(row.status, row.out, row.err), "{}", row.name);
+        assert!(rt; ends_so(rt.alloc(), row)?, "{}", row.name);
     }
     Ok(())
+}
+
+// whether this is the report of a file alone
+fn is_told_of(alloc: Global, path: &str, bytes: &[u8], out: &str) -> Result<bool, Fail> {
+    let mut nodes = Nodes::new(alloc);
+    push_file(alloc, &mut nodes, path, bytes)?;
+    let ended = run_over(alloc, &["check", "--format", "brief", path], nodes)?;
+    Ok(ended.is(0, out, ""))
 }
 
 // Two bytes that aren't UTF-8.
 #[test]
 fn a_source_is_not_utf8(rt: HostRuntime) -> Result<(), Fail> {
-    let words = strings(rt.alloc(), &["check", "--format", "brief", "c.py"])?;
-    let mut nodes = Nodes::new(rt.alloc());
-    push_file(rt.alloc(), &mut nodes, "c.py", &[0x66, 0xff])?;
-    let ended = run(rt.alloc(), &words, nodes, &NO_FAULTS)?;
-    assert!(rt;
-        ended.is(
-            0,
-            "c.py:1:2: refused not-utf8\n1 entries, 0 findings, 1 refused, 0 undecided\n",
-            ""
-        )
-    );
+    let out = "c.py:1:2: refused not-utf8\n1 entries, 0 findings, 1 refused, 0 undecided\n";
+    assert!(rt; is_told_of(rt.alloc(), "c.py", &[0x66, 0xff], out)?);
     Ok(())
 }
 
 // One space more than a file may have.
 #[test]
 fn a_file_is_too_long(rt: HostRuntime) -> Result<(), Fail> {
-    let words = strings(rt.alloc(), &["check", "--format", "brief", "f.py"])?;
     let text = spelled(rt.alloc(), &[(" ", 4_194_305)])?;
-    let mut nodes = Nodes::new(rt.alloc());
-    push_file(rt.alloc(), &mut nodes, "f.py", text.as_bytes())?;
-    let ended = run(rt.alloc(), &words, nodes, &NO_FAULTS)?;
-    assert!(rt;
-        ended.is(
-            0,
-            "f.py: refused file-too-long\n1 entries, 0 findings, 1 refused, 0 undecided\n",
-            ""
-        )
-    );
+    let out = "f.py: refused file-too-long\n1 entries, 0 findings, 1 refused, 0 undecided\n";
+    assert!(rt; is_told_of(rt.alloc(), "f.py", text.as_bytes(), out)?);
     Ok(())
+}
+
+fn one_folder(alloc: Global) -> Result<Children, OutOfMemory> {
+    let mut children = Children::new(alloc);
+    let name = Name::from_text(alloc, "d")?;
+    let kind = Kind::Folder;
+    children.push(Child { name, kind })?;
+    Ok(children)
 }
 
 // Folders at the levels 0 to 65, each in the one before.
@@ -145,23 +148,22 @@ fn deep_map(alloc: Global) -> Result<Nodes, OutOfMemory> {
     let mut nodes = Nodes::new(alloc);
     let mut path = String::from_str(alloc, "d")?;
     for _ in 0..65 {
-        let mut children = Children::new(alloc);
-        let name = Name::from_text(alloc, "d")?;
-        let kind = Kind::Folder;
-        children.push(Child { name, kind })?;
-        push_folder(alloc, &mut nodes, path.as_str(), children)?;
+        push_folder(alloc, &mut nodes, path.as_str(), one_folder(alloc)?)?;
         path.push_str("/d")?;
     }
     push_folder(alloc, &mut nodes, path.as_str(), Children::new(alloc))?;
     Ok(nodes)
 }
 
+fn is_told_of_folders(alloc: Global, nodes: Nodes, out: &str) -> Result<bool, Fail> {
+    let ended = run_over(alloc, &["check", "--format", "brief", "d"], nodes)?;
+    Ok(ended.is(0, out, ""))
+}
+
 #[test]
 fn a_folder_is_too_deep(rt: HostRuntime) -> Result<(), Fail> {
-    let words = strings(rt.alloc(), &["check", "--format", "brief", "d"])?;
-    let ended = run(rt.alloc(), &words, deep_map(rt.alloc())?, &NO_FAULTS)?;
     let out =
         "d/d/d/d/d/d/d/d/d/d/d/d/d/d/d/d/d/d/d/d/d/d/d/d/d/d/d/d/d/d/d/d/d/d/d/d/d/d/d/d/d/d/d/d/d/d/d/d/d/d/d/d/d/d/d/d/d/d/d/d/d/d/d/d/d/d: too-deep-folder\n1 entries, 0 findings, 1 refused, 0 undecided\n";
-    assert!(rt; ended.is(0, out, ""));
+    assert!(rt; is_told_of_folders(rt.alloc(), deep_map(rt.alloc())?, out)?);
     Ok(())
 }

@@ -1,6 +1,7 @@
 //! Runs that end before they write.
 
-use super::{Files, M_PY, SETTINGS_PY, T_PY, Words, run_on};
+use super::{Files, M_PY, SETTINGS_PY, T_PY, Words, answers, run_on};
+use std::alloc::Global;
 use std::test::Fail;
 
 struct Refusal {
@@ -206,11 +207,15 @@ static PATTERNS: [(&str, &[&str], &str); 19] = [
     ),
 ];
 
+fn is_refused(alloc: Global, row: &Refusal) -> Result<bool, Fail> {
+    let ended = run_on(alloc, row.words, row.files)?;
+    Ok(ended.is(row.status, "", row.err))
+}
+
 #[test]
 fn files_and_words_are_refused(rt: HostRuntime) -> Result<(), Fail> {
     for row in &FILES_AND_WORDS {
-        let ended = run_on(rt.alloc(), row.words, row.files)?;
-        assert!(rt; ended.is(row.status, "", row.err), "{}", row.name);
+        assert!(rt; is_refused(rt.alloc(), row)?, "{}", row.name);
     }
     Ok(())
 }
@@ -218,8 +223,7 @@ fn files_and_words_are_refused(rt: HostRuntime) -> Result<(), Fail> {
 #[test]
 fn patterns_are_refused(rt: HostRuntime) -> Result<(), Fail> {
     for (name, words, err) in &PATTERNS {
-        let ended = run_on(rt.alloc(), words, &[])?;
-        assert!(rt; ended.is(2, "", err), "{}", name);
+        assert!(rt; answers(rt.alloc(), words, 2, "", err)?, "{}", name);
     }
     Ok(())
 }

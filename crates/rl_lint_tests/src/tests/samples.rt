@@ -1,21 +1,19 @@
 //! `sample`.
 
-use super::run_on;
+use super::answers;
 use std::test::Fail;
 
 // sample-of-ten
 #[test]
 fn ten_patterns_are_drawn(rt: HostRuntime) -> Result<(), Fail> {
-    let ended = run_on(rt.alloc(), &["sample", "1", "10"], &[])?;
     let out = "10 entries, 2 findings, 0 refused, 0 undecided\n";
-    assert!(rt; ended.is(1, out, ""));
+    assert!(rt; answers(rt.alloc(), &["sample", "1", "10"], 1, out, "")?);
     Ok(())
 }
 
 fn great_sample(rt: &HostRuntime) -> Result<bool, Fail> {
-    let ended = run_on(rt.alloc(), &["sample", "7", "20000"], &[])?;
     let out = "20000 entries, 7509 findings, 2466 refused, 0 undecided\n";
-    Ok(ended.is(1, out, ""))
+    answers(rt.alloc(), &["sample", "7", "20000"], 1, out, "")
 }
 
 // great-sample: it is one line

@@ -3,6 +3,7 @@
 use super::{Faults, map_of, run, strings};
 use rl_lint::{Layout, Settings, settings_from};
 use rl_syntax::Mode;
+use std::alloc::Global;
 use std::test::Fail;
 
 static SETTINGS_FILES: [(&str, &str); 9] = [
@@ -185,25 +186,34 @@ static SETTINGS: [SettingsRow; 16] = [
     },
 ];
 
+fn ends_so(alloc: Global, row: &SettingsRow) -> Result<bool, Fail> {
+    let words = strings(alloc, row.words)?;
+    let faults = Faults {
+        tree: row.tree_fails,
+        step: 99,
+        out: &[],
+        err: row.err_fails,
+    };
+    let ended = run(alloc, &words, map_of(alloc, &SETTINGS_FILES)?, &faults)?;
+    Ok(ended.is(row.status, row.out, row.err))
+}
+
 #[test]
 fn settings_and_baselines_come_first(rt: HostRuntime) -> Result<(), Fail> {
     for row in &SETTINGS {
-        let words = strings(rt.alloc(), row.words)?;
-        let faults = Faults {
-            tree: row.tree_fails,
-            step: 99,
-            out: &[],
-            err: row.err_fails,
-        };
-        let ended = run(
-            rt.alloc(),
-            &words,
-            map_of(rt.alloc(), &SETTINGS_FILES)?,
-            &faults,
-        )?;
-        assert!(rt; ended.is(row.status, row.out, row.err), "{:?}", row.words);
+        assert!(rt; ends_so(rt.alloc(), row)?, "{:?}", row.words);
     }
     Ok(())
+}
+
+fn are_put(settings: &Settings) -> bool {
+    settings.max_pairs == 7 && settings.report == 1
+}
+
+fn are_kept(settings: &Settings) -> bool {
+    settings.max_degree == 5
+        && settings.compile_as == Mode::Match
+        && settings.format == Layout::Sarif
 }
 
 #[test]
@@ -217,10 +227,6 @@ fn settings_take_the_place_of_others(rt: HostRuntime) -> Result<(), Fail> {
         report: 2,
     };
     let settings = settings_from(rt.alloc(), &bytes, &start).expect(&rt, "settings");
-    assert_eq!(rt; settings.max_pairs, 7);
-    assert_eq!(rt; settings.report, 1);
-    assert_eq!(rt; settings.max_degree, 5);
-    assert_eq!(rt; settings.compile_as, Mode::Match);
-    assert_eq!(rt; settings.format, Layout::Sarif);
+    assert!(rt; are_put(&settings) && are_kept(&settings));
     Ok(())
 }

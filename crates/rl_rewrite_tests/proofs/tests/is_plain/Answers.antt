@@ -2,4 +2,4 @@ use Rattle.rl_ranges.specs.declared.universe.Universe.TheVariants as universe
 use Rattle.rl_rewrite_tests.proofs.tests.is_plain.Goals as goal
 
 pub parse-requires : goal.parse-requires
-parse-requires g c = c.in_ok-codes.ensures universe.Str
+parse-requires c = c.in_ok-codes.ensures universe.Str

@@ -3,7 +3,7 @@
 ghost use Rattle.std.specs.Prelude.{◌≡◌, ◌≤◌, IfOk};
 ghost use Rattle.rl_syntax.specs.Tree.{tree_of, IsOver};
 
-use crate::classify;
+use rl_growth::classify;
 use rl_lists::OutOfMemory;
 use rl_ranges::CodeSet;
 use rl_syntax::{Ending, Limit, Lowered, Re, Universe, Verdict};
@@ -23,6 +23,15 @@ fn star(alloc: Global) -> Result<Re, OutOfMemory>
 {
     let body = letter(alloc)?;
     Re::many(alloc, body, true)
+}
+
+/// The tree of `a*a*`.
+fn two_stars(alloc: Global) -> Result<Re, OutOfMemory>
+    ensures { IfOk result (λ tree. IsOver Universe.Bytes (tree_of tree)) }
+{
+    let first = star(alloc)?;
+    let second = star(alloc)?;
+    Re::both(alloc, first, second)
 }
 
 /// The tree of `(a|a)*`.
@@ -48,19 +57,22 @@ fn verdict_on(alloc: Global, tree: Re, max_pairs: u32) -> Result<Verdict, OutOfM
     classify(alloc, &l, Universe::Bytes, max_pairs)
 }
 
+/// Whether the verdict on a tree is this degree.
+fn has_degree(alloc: Global, tree: Re, degree: u32) -> Result<bool, OutOfMemory>
+    requires { IsOver Universe.Bytes (tree_of tree) }
+{
+    match verdict_on(alloc, tree, 600)? {
+        Verdict::Degree(power, _) => Ok(power == degree),
+        _ => Ok(false),
+    }
+}
+
 #[test]
 fn degrees_of_stars(rt: HostRuntime) -> Result<(), OutOfMemory> {
     let alloc = rt.alloc();
-    let flat = verdict_on(alloc, Re::Empty, 600)?;
-    assert!(rt; matches!(flat, Verdict::Degree(0, _)));
-    let one = star(alloc)?;
-    let linear = verdict_on(alloc, one, 600)?;
-    assert!(rt; matches!(linear, Verdict::Degree(1, _)));
-    let first = star(alloc)?;
-    let second = star(alloc)?;
-    let both = Re::both(alloc, first, second)?;
-    let square = verdict_on(alloc, both, 600)?;
-    assert!(rt; matches!(square, Verdict::Degree(2, _)));
+    assert!(rt; has_degree(alloc, Re::Empty, 0)?);
+    assert!(rt; has_degree(alloc, star(alloc)?, 1)?);
+    assert!(rt; has_degree(alloc, two_stars(alloc)?, 2)?);
     Ok(())
 }
 
@@ -68,11 +80,15 @@ fn degrees_of_stars(rt: HostRuntime) -> Result<(), OutOfMemory> {
 #[test]
 fn a_doubled_star_is_exponential(rt: HostRuntime) -> Result<(), OutOfMemory> {
     let alloc = rt.alloc();
-    let within = doubled_star(alloc)?;
-    let exponential = verdict_on(alloc, within, 8)?;
+    let exponential = verdict_on(alloc, doubled_star(alloc)?, 8)?;
     assert!(rt; matches!(exponential, Verdict::Expo(_)));
-    let over = doubled_star(alloc)?;
-    let undecided = verdict_on(alloc, over, 7)?;
+    Ok(())
+}
+
+#[test]
+fn seven_pairs_are_too_few_for_a_doubled_star(rt: HostRuntime) -> Result<(), OutOfMemory> {
+    let alloc = rt.alloc();
+    let undecided = verdict_on(alloc, doubled_star(alloc)?, 7)?;
     assert!(rt; matches!(undecided, Verdict::Undecided(Limit::Pairs)));
     Ok(())
 }
