@@ -1,7 +1,7 @@
 -- Laws of `edges_of`: rows in and out of range, and a graph with one row changed.
 use Rattle.std.proofs.Common.{◌≡◌, ◌≢◌, ap₂, ℕ, ◌+◌, ◌*◌, ◌^◌, ◌<◌, ◌≤◌, ◌⊎◌, inl, inr, List, [], ◌∷◌, ◌++◌, All, length, get_or, set, replicate, ltb, lt-ltb, le-ltb, ◌&&◌, refl, sym, ◌∙◌, ap, subst, arith, mul-le-mul_right, suc-mul, mul_comm, length-set, Result, Ok, Err, OnOk, OnErr, get_or-set_same, get_or-set_other}
 use Rattle.std.proofs.lemmas.Bool.{cases_eq, cases_lt, cases_order, and_from, and_left, and_right, cond-true, cond-false}
-use Rattle.std.proofs.lemmas.List.{get_or-replicate, length_push, set-get_or, get_or_read}
+use Rattle.std.proofs.lemmas.List.{get_or-replicate, length_push}
 use Rattle.std.proofs.lemmas.Nat.{mul-add-lt}
 use Rattle.rl_graph.specs.Paths.{Has, IsBounded}
 use Rattle.rl_graph.specs.Graph.{Graph, edges_of, IsWhole, IsBare, IsAdded}
@@ -145,22 +145,25 @@ whole-added g from letter to w h k t room =
     by m (inl i) = w.targets from letter m i
     by m (inr e) = rw e t
 
-pub row-same : (g : Graph) (from letter : ℕ) → from < g.states → letter < g.letters → with_row g from letter (edges_of g from letter) ≡ g
-row-same g from letter h k = ap (λ (r : List (List ℕ)). let g2 : Graph = record { states = g.states; letters = g.letters; rows = r } in g2) (ap (set g.rows (from * g.letters + letter)) (edges-in g from letter h k) ∙ set-get_or g.rows (from * g.letters + letter) [])
+-- what rows that were pushed to make of the graph
 
--- what a row that was pushed to makes of the graph
+abbrev pub with_rows : Graph → List (List ℕ) → Graph
+with_rows g rows = record { states = g.states; letters = g.letters; rows = rows }
 
-pub row-read : (g : Graph) (from letter : ℕ) (x : List ℕ) → IsWhole g → from < g.states → letter < g.letters → x ≡ get_or g.rows (from * g.letters + letter) x → x ≡ edges_of g from letter
-row-read g from letter x w h k e =
-    get_or_read g.rows (from * g.letters + letter) x (omega (arith, w.size, mul-add-lt from g.letters letter g.states h k, mul_comm g.letters g.states)) e [] ∙ sym (edges-in g from letter h k)
+-- the rows with one more number at a place
+abbrev pub pushed_at : List (List ℕ) → ℕ → ℕ → List (List ℕ)
+pushed_at rows place to = set rows place (get_or rows place [] ++ to ∷ [])
 
-pub whole-pushed : {A E : Type 0} (g : Graph) (from letter to : ℕ) (r : Result A E) (x row : List ℕ) → IsWhole g → from < g.states → letter < g.letters → to < g.states → length (edges_of g from letter) < 4294967295 → x ≡ get_or g.rows (from * g.letters + letter) x → OnOk r (row ≡ x ++ to ∷ []) → OnErr r (row ≡ x) → IsWhole (with_row g from letter row)
-whole-pushed g from letter to (Ok u) x row w h k t room e p q =
-    subst (λ (z : List ℕ). IsWhole (with_row g from letter z)) (sym (p ∙ ap (λ (z : List ℕ). z ++ to ∷ []) (row-read g from letter x w h k e))) (whole-added g from letter to w h k t room)
-whole-pushed g from letter to (Err u) x row w h k t room e p q =
-    subst (λ (z : List ℕ). IsWhole (with_row g from letter z)) (sym (q ∙ row-read g from letter x w h k e)) (subst IsWhole (sym (row-same g from letter h k)) w)
+rows-pushed : (g : Graph) (from letter to : ℕ) → from < g.states → letter < g.letters → pushed_at g.rows (from * g.letters + letter) to ≡ set g.rows (from * g.letters + letter) (edges_of g from letter ++ to ∷ [])
+rows-pushed g from letter to h k = ap (λ (r : List ℕ). set g.rows (from * g.letters + letter) (r ++ to ∷ [])) (sym (edges-in g from letter h k))
 
-pub added-pushed : {A E : Type 0} (g : Graph) (from letter to : ℕ) (r : Result A E) (x row : List ℕ) → IsWhole g → from < g.states → letter < g.letters → x ≡ get_or g.rows (from * g.letters + letter) x → OnOk r (row ≡ x ++ to ∷ []) → OnOk r (IsAdded g (with_row g from letter row) from letter to)
-added-pushed g from letter to (Ok u) x row w h k e p =
-    subst (λ (z : List ℕ). IsAdded g (with_row g from letter z) from letter to) (sym (p ∙ ap (λ (z : List ℕ). z ++ to ∷ []) (row-read g from letter x w h k e))) (added g from letter to w h k)
-added-pushed g from letter to (Err u) x row w h k e p = tt
+pub whole-pushed : {A E : Type 0} (g : Graph) (from letter to : ℕ) (r : Result A E) (rows : List (List ℕ)) → IsWhole g → from < g.states → letter < g.letters → to < g.states → length (edges_of g from letter) < 4294967295 → OnOk r (rows ≡ pushed_at g.rows (from * g.letters + letter) to) → OnErr r (rows ≡ g.rows) → IsWhole (with_rows g rows)
+whole-pushed g from letter to (Ok u) rows w h k t room p q =
+    subst (λ (z : List (List ℕ)). IsWhole (with_rows g z)) (sym (p ∙ rows-pushed g from letter to h k)) (whole-added g from letter to w h k t room)
+whole-pushed g from letter to (Err u) rows w h k t room p q =
+    subst (λ (z : List (List ℕ)). IsWhole (with_rows g z)) (sym q) w
+
+pub added-pushed : {A E : Type 0} (g : Graph) (from letter to : ℕ) (r : Result A E) (rows : List (List ℕ)) → IsWhole g → from < g.states → letter < g.letters → OnOk r (rows ≡ pushed_at g.rows (from * g.letters + letter) to) → OnOk r (IsAdded g (with_rows g rows) from letter to)
+added-pushed g from letter to (Ok u) rows w h k p =
+    subst (λ (z : List (List ℕ)). IsAdded g (with_rows g z) from letter to) (sym (p ∙ rows-pushed g from letter to h k)) (added g from letter to w h k)
+added-pushed g from letter to (Err u) rows w h k p = tt

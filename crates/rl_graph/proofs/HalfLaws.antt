@@ -191,6 +191,19 @@ module _ (next : ℕ → ℕ → List ℕ) (n k : ℕ) (marks : List Bool) (numb
       OnCycle-move (half_moves next n marks number row) x f.0 t.0 t.1
       (Reaches-trans (half_moves next n marks number row) t.0 f.1 x (Reaches-move (half_moves next n marks number row) t.0 f.1 0 t.2) (marked-reaches f.1 x f.3.0 f.3.1))
 
+  -- no node has a move to itself
+  pub no-loop : (x l : ℕ) → Has x (half_moves next n marks number row x l) → ⊥
+  no-loop x l i = by (cases_lt (x / n) n)
+    where
+      by : (x / n < n) ⊎ (n ≤ x / n) → ⊥
+      by (inl lt) =
+          let a = to-half x l x lt i in
+          omega (arith, ap (λ z. z / n) a.is, half-first (number (x / n) l) a.second (bounded (x % n) l a.second a.has), lt)
+      by (inr le) =
+          let b = to-pair x l x le i in
+          let lt = rows_in (x / n - n) b.first b.has in
+          omega (arith, ap (λ z. z / n) b.is, div-mul-add b.first n (x % n) (mod_below x n (omega (arith, lt))), le, lt)
+
   -- the moves stay among the half nodes of the rows
   pub half-bounded : (size : ℕ) → 0 < k → ((q l : ℕ) → k ≤ l → next q l ≡ []) → ((p l : ℕ) → p < n → l < k → number p l < size) → IsBounded (half_moves next n marks number row) ((n + size) * n) k
   half-bounded size some letters within = record { targets = λ x l m i. at x l m i (cases_lt (x / n) n); letters = none }
@@ -250,6 +263,11 @@ module _ (g : Graph) (numbers owners : List ℕ) (whole : IsWhole g) (some : 0 <
   halves-bounded marks =
       half-bounded (edges_of g) g.states g.letters marks (λ p l. get_or numbers (p * g.letters + l) 0) (λ r. row_at g (get_or owners r 0))
       whole.targets (move-in g) number-row (λ r. rows-in g whole (get_or owners r 0)) (length owners) some (edges-letter g) number-within
+
+  pub halves-no_loop : (marks : List Bool) (x l : ℕ) → Has x (halves g marks numbers owners x l) → ⊥
+  halves-no_loop marks =
+      no-loop (edges_of g) g.states g.letters marks (λ p l. get_or numbers (p * g.letters + l) 0) (λ r. row_at g (get_or owners r 0))
+      whole.targets (move-in g) number-row (λ r. rows-in g whole (get_or owners r 0))
 
   pub halves-parts : (marks : List Bool) (p d : PartTable) → IsParts (halves g marks numbers owners) ((g.states + length owners) * g.states) p → IsDense p (g.states * g.states) d
       → IsParts (marked_moves (edges_of g) g.states marks) (g.states * g.states) d

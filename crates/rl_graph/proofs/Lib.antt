@@ -13,3 +13,4 @@ pub mod WalkLaws
 pub mod MarkedLaws
 pub mod DenseLaws
 pub mod HalfLaws
+pub mod SpanLaws

@@ -170,6 +170,21 @@ listed-behind next n marks letters repeats x k le =
     cond-false (is_listed n marks letters repeats x k) (pair_moves next n x (get_or letters k 0)) []
     (and_right (get_or marks x false) (ltb k (length letters) && not (both_repeat n (length letters) repeats x k)) inner)
 
+-- a pair with a move to itself has a mark, and so has each of its states a move to itself
+pub listed-loop : (g : Graph) (marks : List Bool) (letters : List ℕ) (repeats : List Bool) (x k : ℕ) → IsWhole g → Has x (listed_moves (edges_of g) g.states marks letters repeats x k)
+    → (get_or marks x false ≡ true) × Has (x / g.states) (edges_of g (x / g.states) (get_or letters k 0)) × Has (x % g.states) (edges_of g (x % g.states) (get_or letters k 0))
+listed-loop g marks letters repeats x k whole h =
+    let n = g.states in
+    let l = get_or letters k 0 in
+    let a = there-if (is_listed n marks letters repeats x k) x (pair_moves (edges_of g) n x l) h in
+    let mark = (and_parts (get_or marks x false) (ltb k (length letters) && not (both_repeat n (length letters) repeats x k)) a.0).0 in
+    let b = has-flat_map (λ u. map (λ v. u * n + v) (edges_of g (x % n) l)) x (edges_of g (x / n) l) a.1 in
+    let c = has-map (λ v. b.0 * n + v) x (edges_of g (x % n) l) b.2 in
+    let lt = whole.targets (x % n) l c.0 c.1 in
+    let first : x / n ≡ b.0 = ap (λ z. z / n) c.2 ∙ div-mul-add b.0 n c.0 lt in
+    let second : x % n ≡ c.0 = ap (λ z. z % n) c.2 ∙ mod-mul-add b.0 n c.0 lt in
+    (mark, subst (λ z. Has z (edges_of g (x / n) l)) (sym first) b.1, subst (λ z. Has z (edges_of g (x % n) l)) (sym second) c.1)
+
 pub listed-bounded : (g : Graph) (marks : List Bool) (letters : List ℕ) (repeats : List Bool) → IsWhole g → IsBounded (listed_moves (edges_of g) g.states marks letters repeats) (g.states * g.states) (length letters)
 listed-bounded g marks letters repeats whole = record {
   targets = λ x k m h. (bounded-pairs (edges_of g) g.states g.letters (bounded-whole g whole)).targets x (get_or letters k 0) m

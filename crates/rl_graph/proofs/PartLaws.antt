@@ -1,5 +1,5 @@
 -- From a finished search to the parts: numbers, and moves inside a part.
-use Rattle.std.proofs.Common.{◌≡◌, ◌≢◌, ℕ, ◌+◌, ◌<◌, ◌≤◌, ◌⊎◌, ◌↔◌, inl, inr, Bool, false, IsTrue, List, [], ◌∷◌, ◌++◌, All, length, get_or, map, refl, sym, ◌∙◌, ap, subst, arith}
+use Rattle.std.proofs.Common.{◌≡◌, ◌≢◌, ℕ, ◌+◌, ◌<◌, ◌≤◌, ◌⊎◌, ◌↔◌, inl, inr, Bool, true, false, true≢false, IsTrue, set, length-set, get_or-set_same, get_or-set_other, List, [], ◌∷◌, ◌++◌, All, length, get_or, map, refl, sym, ◌∙◌, ap, subst, arith}
 use Rattle.std.proofs.lemmas.Bool.{cases_lt, cases_eq}
 use Rattle.std.proofs.lemmas.List.{get_or-map, length-map, get_or_append_left, get_or_push}
 use Rattle.std.proofs.lemmas.List.Elements.{All-from_get_or}
@@ -7,7 +7,7 @@ use Rattle.rl_graph.specs.declared.parts.Place.{Place}
 use Rattle.rl_graph.specs.declared.parts.Place.TheVariants.{Unseen, Open, Done}
 use Rattle.rl_graph.specs.Paths.{Has, paths, Reaches, OnCycle, IsBounded}
 use Rattle.rl_graph.specs.Parts.{PartTable, IsParts}
-use Rattle.rl_graph.specs.internal.InnerMoves.{HasInner, HasInnerOn, IsNumbered, AreInner, IsShared}
+use Rattle.rl_graph.specs.internal.InnerMoves.{HasInner, HasInnerOn, IsNumbered, AreInner, IsShared, AreShared, AreSharedUpTo}
 use Rattle.rl_graph.specs.internal.Search.{Stand, place_of, part_in, IsSearch, IsAllDone}
 use Rattle.rl_graph.proofs.Sums.{total-there, at-has, at-short, at-get_or, Has-get_or}
 use Rattle.rl_graph.proofs.PathLaws.{nil-same, Reaches-move, Reaches-trans, OnCycle-move, OnCycle-first}
@@ -23,12 +23,20 @@ inner-none next numbers q l none m =
     let i = at-has m.0 (next q l) m.1 in
     none i.0 (at-short (next q l) i.0 m.0 i.1) (ap (λ z. get_or numbers z 0) (at-get_or (next q l) i.0 m.0 0 i.1) ∙ m.2)
 
-pub inner-letters : (next : ℕ → ℕ → List ℕ) (n w : ℕ) (numbers : List ℕ) (q : ℕ) → IsBounded next n w → ((k : ℕ) → k < w → HasInnerOn next numbers q k → ⊥) → HasInner next numbers q → ⊥
-inner-letters next n w numbers q b none m = by (cases_lt m.0 w)
+-- a state that has no move on the letters from `end` up to the last one has none from `end` on
+pub no-more : (next : ℕ → ℕ → List ℕ) (n w end q : ℕ) → IsBounded next n w → ((l : ℕ) → end ≤ l → l < w → next q l ≡ []) → (l : ℕ) → end ≤ l → next q l ≡ []
+no-more next n w end q b none l le = by (cases_lt l w)
   where
-    by : (m.0 < w) ⊎ (w ≤ m.0) → ⊥
+    by : (l < w) ⊎ (w ≤ l) → next q l ≡ []
+    by (inl h) = none l le h
+    by (inr h) = b.letters q l h
+
+pub inner-letters : (next : ℕ → ℕ → List ℕ) (end : ℕ) (numbers : List ℕ) (q : ℕ) → ((l : ℕ) → end ≤ l → next q l ≡ []) → ((k : ℕ) → k < end → HasInnerOn next numbers q k → ⊥) → HasInner next numbers q → ⊥
+inner-letters next end numbers q idle none m = by (cases_lt m.0 end)
+  where
+    by : (m.0 < end) ⊎ (end ≤ m.0) → ⊥
     by (inl h) = none m.0 h m.1
-    by (inr h) = subst (Has m.1.0) (b.letters q m.0 h) m.1.1
+    by (inr h) = subst (Has m.1.0) (idle m.0 h) m.1.1
 
 -- one more mark
 pub marks-more : (P : ℕ → Type 0) (marks : List Bool) (n : ℕ) (b : Bool) → length marks ≡ n → ((q : ℕ) → q < n → IsTrue (get_or marks q false) ↔ P q) → (IsTrue b ↔ P n) → (q : ℕ) → q < n + 1 → IsTrue (get_or (marks ++ b ∷ []) q false) ↔ P q
@@ -40,10 +48,79 @@ marks-more P marks n b e old here q h = by (cases_lt q n)
         let a : q ≡ n = omega arith in
         subst (λ (z : Bool). IsTrue z ↔ P q) (sym (get_or_push marks b false q (omega arith))) (subst (λ (z : ℕ). IsTrue b ↔ P z) (sym a) here)
 
--- there is a mark for each number, and only those that one of the first `n` states has are marked
+-- there is a mark for each number, and those that one of the first `n` states has are marked
 pub record AreMet (numbers : List ℕ) (n : ℕ) (marks : List Bool) : Type 0 where
   pub size : length marks ≡ length numbers
   pub met : (part : ℕ) → IsTrue (get_or marks part false) → (q : ℕ) × (q < n) × (get_or numbers q 0 ≡ part)
+  pub all : (q : ℕ) → q < n → IsTrue (get_or marks (get_or numbers q 0) false)
+
+-- one more state
+
+set-stays : (marks : List Bool) (at k : ℕ) → at < length marks → IsTrue (get_or marks k false) → IsTrue (get_or (set marks at true) k false)
+set-stays marks at k lt h = by (cases_eq k at)
+  where
+    by : (k ≡ at) ⊎ (k ≢ at) → IsTrue (get_or (set marks at true) k false)
+    by (inl e) = ap (λ z. get_or (set marks at true) z false) e ∙ get_or-set_same marks at true false lt
+    by (inr ne) = get_or-set_other marks at k true false ne ∙ h
+
+pub met-more : (numbers : List ℕ) (n : ℕ) (marks : List Bool) → get_or numbers n 0 < length numbers → AreMet numbers n marks → AreMet numbers (n + 1) (set marks (get_or numbers n 0) true)
+met-more numbers n marks below m = record {
+  size = length-set marks (get_or numbers n 0) true ∙ m.size;
+  met = λ part h. from part h (cases_eq part (get_or numbers n 0));
+  all = λ q lt. all q lt (cases_lt q n);
+}
+  where
+    fits : get_or numbers n 0 < length marks
+    fits = omega (arith, m.size, below)
+
+    from : (part : ℕ) → IsTrue (get_or (set marks (get_or numbers n 0) true) part false) → (part ≡ get_or numbers n 0) ⊎ (part ≢ get_or numbers n 0) → (q : ℕ) × (q < n + 1) × (get_or numbers q 0 ≡ part)
+    from part h (inl e) = (n, omega arith, sym e)
+    from part h (inr ne) = let old = m.met part (sym (get_or-set_other marks (get_or numbers n 0) part true false ne) ∙ h) in (old.0, omega (arith, old.1), old.2)
+
+    all : (q : ℕ) → q < n + 1 → (q < n) ⊎ (n ≤ q) → IsTrue (get_or (set marks (get_or numbers n 0) true) (get_or numbers q 0) false)
+    all q lt (inl h) = set-stays marks (get_or numbers n 0) (get_or numbers q 0) fits (m.all q h)
+    all q lt (inr h) =
+        let e : q ≡ n = omega arith in
+        ap (λ z. get_or (set marks (get_or numbers n 0) true) (get_or numbers z 0) false) e ∙ get_or-set_same marks (get_or numbers n 0) true false fits
+
+-- the number of the next state was met before: it is marked as shared
+pub shared-more : (numbers : List ℕ) (n : ℕ) (met marks : List Bool) → n < length numbers → get_or numbers n 0 < length numbers → AreMet numbers n met → IsTrue (get_or met (get_or numbers n 0) false)
+    → AreSharedUpTo numbers n marks → AreSharedUpTo numbers (n + 1) (set marks (get_or numbers n 0) true)
+shared-more numbers n met marks within below m was s = record {
+  size = length-set marks (get_or numbers n 0) true ∙ s.size;
+  shared = λ part h. from part h (cases_eq part (get_or numbers n 0));
+  all = λ q r before lt same. all q r before lt same (cases_lt r n);
+}
+  where
+    fits : get_or numbers n 0 < length marks
+    fits = omega (arith, s.size, below)
+
+    from : (part : ℕ) → IsTrue (get_or (set marks (get_or numbers n 0) true) part false) → (part ≡ get_or numbers n 0) ⊎ (part ≢ get_or numbers n 0) → IsShared numbers part
+    from part h (inl e) =
+        let first = m.met (get_or numbers n 0) was in
+        record { first = first.0; second = n; before = first.1; within = within; first_is = first.2 ∙ sym e; second_is = sym e }
+    from part h (inr ne) = s.shared part (sym (get_or-set_other marks (get_or numbers n 0) part true false ne) ∙ h)
+
+    all : (q r : ℕ) → q < r → r < n + 1 → get_or numbers q 0 ≡ get_or numbers r 0 → (r < n) ⊎ (n ≤ r) → IsTrue (get_or (set marks (get_or numbers n 0) true) (get_or numbers r 0) false)
+    all q r before lt same (inl h) = set-stays marks (get_or numbers n 0) (get_or numbers r 0) fits (s.all q r before h same)
+    all q r before lt same (inr h) =
+        let e : r ≡ n = omega arith in
+        ap (λ z. get_or (set marks (get_or numbers n 0) true) (get_or numbers z 0) false) e ∙ get_or-set_same marks (get_or numbers n 0) true false fits
+
+-- it was not: no earlier state has it
+pub shared-kept : (numbers : List ℕ) (n : ℕ) (met marks : List Bool) → AreMet numbers n met → get_or met (get_or numbers n 0) false ≡ false → AreSharedUpTo numbers n marks → AreSharedUpTo numbers (n + 1) marks
+shared-kept numbers n met marks m new s = record {
+  size = s.size;
+  shared = s.shared;
+  all = λ q r before lt same. all q r before lt same (cases_lt r n);
+}
+  where
+    all : (q r : ℕ) → q < r → r < n + 1 → get_or numbers q 0 ≡ get_or numbers r 0 → (r < n) ⊎ (n ≤ r) → IsTrue (get_or marks (get_or numbers r 0) false)
+    all q r before lt same (inl h) = s.all q r before h same
+    all q r before lt same (inr h) =
+        let e : r ≡ n = omega arith in
+        let was = m.all q (omega (arith, e, before)) in
+        absurd (true≢false (sym was ∙ (ap (λ z. get_or met z false) (same ∙ ap (λ z. get_or numbers z 0) e) ∙ new)))
 
 -- the search over all roots
 
@@ -99,6 +176,21 @@ shared-inner next n w numbers q b h lt s = by (cases_eq q s.first)
     by : (q ≡ s.first) ⊎ (q ≢ s.first) → HasInner next numbers q
     by (inl e) = from s.second (omega (arith, s.within, h.size)) (λ i. omega (arith, s.before, e, i)) s.second_is
     by (inr ne) = from s.first (omega (arith, s.before, s.within, h.size)) ne s.first_is
+
+-- a state alone in its part, without a move to itself, has no move in its part
+pub lone-none : (next : ℕ → ℕ → List ℕ) (n w : ℕ) (numbers : List ℕ) (marks : List Bool) (q : ℕ) → IsBounded next n w → IsNumbered next n numbers → q < n → AreShared numbers marks
+    → get_or marks (get_or numbers q 0) false ≡ false → ((l : ℕ) → Has q (next q l) → ⊥) → HasInner next numbers q → ⊥
+lone-none next n w numbers marks q b h lt s lone none x = by (cases_eq q x.1.0) (cases_lt q x.1.0)
+  where
+    inside : x.1.0 < n
+    inside = b.targets q x.0 x.1.0 x.1.1
+
+    by : (q ≡ x.1.0) ⊎ (q ≢ x.1.0) → (q < x.1.0) ⊎ (x.1.0 ≤ q) → ⊥
+    by (inl e) o = none x.0 (subst (λ z. Has z (next q x.0)) (sym e) x.1.1)
+    by (inr ne) (inl o) =
+        true≢false (sym (s.all q x.1.0 o (omega (arith, h.size, inside)) (sym x.1.2)) ∙ (ap (λ z. get_or marks z false) x.1.2 ∙ lone))
+    by (inr ne) (inr o) =
+        true≢false (sym (s.all x.1.0 q (omega (arith, o, ne)) (omega (arith, h.size, lt)) x.1.2) ∙ lone)
 
 pub numbers-within : (next : ℕ → ℕ → List ℕ) (n : ℕ) (numbers : List ℕ) → IsNumbered next n numbers → All (λ part. part < length numbers) numbers
 numbers-within next n numbers h = All-from_get_or (λ part. part < length numbers) numbers 0 (λ i lt. omega (arith, h.size, h.below i (omega (arith, h.size))))

@@ -1,15 +1,15 @@
 -- The search for parts: where it starts, what finishing a state does, and what the done states say at the end.
-use Rattle.std.proofs.Common.{◌≡◌, ◌≢◌, ℕ, zero, suc, ◌<◌, ◌≤◌, ◌⊎◌, ◌↔◌, inl, inr, false, le-leb, List, [], ◌∷◌, ◌++◌, length, get_or, replicate, refl, sym, ◌∙◌, ap, subst, arith, get_or-take, le_antisymm}
+use Rattle.std.proofs.Common.{◌≡◌, ◌≢◌, ℕ, zero, suc, ◌<◌, ◌≤◌, ◌⊎◌, ◌↔◌, inl, inr, false, le-leb, List, [], ◌∷◌, ◌++◌, length, get_or, replicate, refl, sym, ◌∙◌, ap, subst, arith, get_or-take, get_or-set_same, get_or-set_other, length-set, le_antisymm, set, ◌+◌}
 use Rattle.std.proofs.lemmas.Bool.{cases_eq, cases_lt, lt-leb}
 use Rattle.std.proofs.lemmas.List.{get_or-replicate, length-replicate, get_or_past, length-take-le}
 use Rattle.rl_graph.specs.declared.parts.Place.{Place}
 use Rattle.rl_graph.specs.declared.parts.Place.TheVariants.{Unseen, Open, Done}
 use Rattle.rl_graph.specs.declared.parts.Frame.{Frame}
-use Rattle.rl_graph.specs.Paths.{one, Has, Pairs, Reaches, IsBounded}
-use Rattle.rl_graph.specs.internal.Search.{Stand, place_of, is_unseen, unseen, NoMark, Settled, Before, IsSearch, with_top, start_of, opened, closed_place, IsClosed, IsFinished}
+use Rattle.rl_graph.specs.Paths.{one, Has, Pairs, Reaches}
+use Rattle.rl_graph.specs.internal.Search.{Stand, place_of, is_unseen, unseen, NoMark, Settled, Before, IsSearch, IsPast, with_top, start_of, opened, closed_alone, closed_place, IsClosed, IsFinished}
 use Rattle.rl_graph.proofs.Sums.{Has-left, Has-last, Has-push, at-has, Pairs-pop}
-use Rattle.rl_graph.proofs.PathLaws.{Reaches-trans, along_moves}
-use Rattle.rl_graph.proofs.SearchLaws.{open-done, open-same, done-same, unseen-open, unseen-done, top-marks, to_top, depth-in, open_one, with_marks, from_end, total-pointwise}
+use Rattle.rl_graph.proofs.PathLaws.{Reaches-self, Reaches-trans, along_moves}
+use Rattle.rl_graph.proofs.SearchLaws.{open-done, open-same, done-same, unseen-open, unseen-done, top-marks, to_top, depth-in, open_one, with_marks, from_end, total-set, total-pointwise}
 
 -- the start
 
@@ -55,24 +55,85 @@ none-open next n s h e q k o =
 pub open_root : (next : ℕ → ℕ → List ℕ) (n : ℕ) (s : Stand) (w : ℕ) → IsSearch next n s → s.frames ≡ [] → w < n → place_of s w ≡ Unseen → IsSearch next n (opened s w)
 open_root next n s w h e i u = open_one next n s w h i u (λ q k o. absurd (none-open next n s h e q k o))
 
+-- a state without a move done at once
+
+unseen-closed_at : (places : List Place) (w c : ℕ) → w < length places → get_or places w Unseen ≡ Unseen → unseen (set places w (Done c)) + 1 ≡ unseen places
+unseen-closed_at places w c h e =
+    omega (arith, total-set (λ p. one (is_unseen p)) places w (Done c) Unseen h, ap (λ p. one (is_unseen p)) e)
+
+pub alone : (next : ℕ → ℕ → List ℕ) (n : ℕ) (s : Stand) (w : ℕ) → IsSearch next n s → s.frames ≡ [] → w < n → place_of s w ≡ Unseen → ((l : ℕ) → next w l ≡ []) → IsSearch next n (closed_alone s w)
+alone next n s w h e i u idle =
+    record {
+      size = length-set s.places w (Done s.parts) ∙ h.size;
+      room = omega (arith, h.room, unseen-closed_at s.places w s.parts fits u);
+      listed = λ k lt. absurd (none-open next n s h e (get_or s.open_states k 0) k (h.listed k lt));
+      opened = λ q k o. absurd (none q k o);
+      forth = λ q r j k a b le. absurd (none q j a);
+      back = λ q r j k a b le m. absurd (none q j a);
+      marks_rise = h.marks_rise;
+      frames_rise = h.frames_rise;
+      first = h.first;
+      marked = h.marked;
+      framed = λ f j. absurd (subst (Has f) e j);
+      looked = λ f j. absurd (subst (Has f) e j);
+      over = λ q k o. absurd (none q k o);
+      numbered = λ q c o. to_numbered q c (split q (Done c) o);
+      falls = λ q c l m o j. to_falls q c l m j (split q (Done c) o);
+      one_part = λ q r c a b. to_one q r c (split q (Done c) a) (split r (Done c) b);
+    }
+  where
+    fits : w < length s.places
+    fits = omega (arith, h.size)
+
+    split : (q : ℕ) (p : Place) → place_of (closed_alone s w) q ≡ p → ((q ≡ w) × (Done s.parts ≡ p)) ⊎ (place_of s q ≡ p)
+    split q p o = by (cases_eq q w)
+      where
+        by : (q ≡ w) ⊎ (q ≢ w) → ((q ≡ w) × (Done s.parts ≡ p)) ⊎ (place_of s q ≡ p)
+        by (inl j) = inl (j, sym (get_or-set_same s.places w (Done s.parts) Unseen fits) ∙ (ap (place_of (closed_alone s w)) (sym j) ∙ o))
+        by (inr j) = inr (sym (get_or-set_other s.places w q (Done s.parts) Unseen j) ∙ o)
+
+    none : (q k : ℕ) → place_of (closed_alone s w) q ≡ Open k → ⊥
+    none q k o = by (split q (Open k) o)
+      where
+        by : ((q ≡ w) × (Done s.parts ≡ Open k)) ⊎ (place_of s q ≡ Open k) → ⊥
+        by (inl j) = open-done k s.parts (sym j.1)
+        by (inr j) = none-open next n s h e q k j
+
+    kept : (q c : ℕ) → place_of s q ≡ Done c → place_of (closed_alone s w) q ≡ Done c
+    kept q c o = get_or-set_other s.places w q (Done s.parts) Unseen (λ j. unseen-done c (sym u ∙ (ap (place_of s) (sym j) ∙ o))) ∙ o
+
+    to_numbered : (q c : ℕ) → ((q ≡ w) × (Done s.parts ≡ Done c)) ⊎ (place_of s q ≡ Done c) → c < s.parts + 1
+    to_numbered q c (inl a) = omega (arith, done-same s.parts c a.1)
+    to_numbered q c (inr a) = omega (arith, h.numbered q c a)
+
+    to_falls : (q c l m : ℕ) → Has m (next q l) → ((q ≡ w) × (Done s.parts ≡ Done c)) ⊎ (place_of s q ≡ Done c) → (d : ℕ) × (place_of (closed_alone s w) m ≡ Done d) × (d ≤ c)
+    to_falls q c l m j (inl a) = absurd (subst (Has m) (ap (λ z. next z l) a.0 ∙ idle l) j)
+    to_falls q c l m j (inr a) = let d = h.falls q c l m a j in (d.0, kept m d.0 d.1, d.2)
+
+    to_one : (q r c : ℕ) → ((q ≡ w) × (Done s.parts ≡ Done c)) ⊎ (place_of s q ≡ Done c) → ((r ≡ w) × (Done s.parts ≡ Done c)) ⊎ (place_of s r ≡ Done c) → Reaches next q r
+    to_one q r c (inl a) (inl b) = subst (Reaches next q) (a.0 ∙ sym b.0) (Reaches-self next q)
+    to_one q r c (inl a) (inr b) = absurd (omega (arith, h.numbered r c b, done-same s.parts c a.1))
+    to_one q r c (inr a) (inl b) = absurd (omega (arith, h.numbered q c a, done-same s.parts c b.1))
+    to_one q r c (inr a) (inr b) = h.one_part q r c a b
+
 -- a state finished in the middle of a group
 
-all-looked : (next : ℕ → ℕ → List ℕ) (n w : ℕ) (t : Stand) (f : Frame) → IsBounded next n w → IsSearch next n (with_top t f) → w ≤ f.letter → (l m : ℕ) → Has m (next f.state l) → Settled t f.depth m
-all-looked next n w t f b s end l m h =
+all-looked : (next : ℕ → ℕ → List ℕ) (n : ℕ) (t : Stand) (f : Frame) → IsSearch next n (with_top t f) → IsPast next f → (l m : ℕ) → Has m (next f.state l) → Settled t f.depth m
+all-looked next n t f s end l m h =
     let i = at-has m (next f.state l) h in
     s.looked f (Has-last f t.frames) l i.0 m i.1 (by (cases_lt l f.letter))
   where
     by : (l < f.letter) ⊎ (f.letter ≤ l) → Before l (at-has m (next f.state l) h).0 f
     by (inl j) = inl j
-    by (inr j) = absurd (subst (Has m) (b.letters f.state l (omega arith)) h)
+    by (inr j) = absurd (subst (Has m) (end l j) h)
 
 -- the one open state at the depth of the top frame is that frame's
 at-top : (next : ℕ → ℕ → List ℕ) (n : ℕ) (t : Stand) (f : Frame) (q k : ℕ) → IsSearch next n (with_top t f) → place_of t q ≡ Open k → k ≡ f.depth → q ≡ f.state
 at-top next n t f q k s o e =
     sym (s.opened q k o).1 ∙ (ap (λ z. get_or t.open_states z 0) e ∙ (s.opened f.state f.depth (s.framed f (Has-last f t.frames))).1)
 
-pub popped : (next : ℕ → ℕ → List ℕ) (n w : ℕ) (t : Stand) (f : Frame) → IsBounded next n w → IsSearch next n (with_top t f) → w ≤ f.letter → ((ms : List ℕ) → t.marks ≢ ms ++ f.depth ∷ []) → IsSearch next n t
-popped next n w t f b s end unmarked =
+pub popped : (next : ℕ → ℕ → List ℕ) (n : ℕ) (t : Stand) (f : Frame) → IsSearch next n (with_top t f) → IsPast next f → ((ms : List ℕ) → t.marks ≢ ms ++ f.depth ∷ []) → IsSearch next n t
+popped next n t f s end unmarked =
     record {
       size = s.size;
       room = s.room;
@@ -112,7 +173,7 @@ popped next n w t f b s end unmarked =
 
     to_over : (q k : ℕ) → place_of t q ≡ Open k → ((g : Frame) → Has g t.frames → g.depth ≢ k) → (k ≡ f.depth) ⊎ (k ≢ f.depth) → (l m : ℕ) → Has m (next q l) → Settled t k m
     to_over q k o none (inl e) l m h =
-        subst (λ (z : ℕ). Settled t z m) (sym e) (all-looked next n w t f b s end l m (subst (λ (z : ℕ). Has m (next z l)) (at-top next n t f q k s o e) h))
+        subst (λ (z : ℕ). Settled t z m) (sym e) (all-looked next n t f s end l m (subst (λ (z : ℕ). Has m (next z l)) (at-top next n t f q k s o e) h))
     to_over q k o none (inr e) l m h = s.over q k o (λ g i. by g (Has-push g f t.frames i)) l m h
       where
         by : (g : Frame) → Has g t.frames ⊎ (g ≡ f) → g.depth ≢ k
@@ -162,8 +223,8 @@ pub unseen-closed : (k : ℕ) (s u : Stand) → IsClosed k s u → unseen u.plac
 unseen-closed k s u c =
     total-pointwise (λ p. one (is_unseen p)) Unseen u.places s.places c.size (λ q. ap one (ap is_unseen (c.places q) ∙ closed-unseen k s.parts (place_of s q)))
 
-pub closed : (next : ℕ → ℕ → List ℕ) (n w : ℕ) (t u : Stand) (f : Frame) (ms : List ℕ) → IsBounded next n w → IsSearch next n (with_top t f) → w ≤ f.letter → t.marks ≡ ms ++ f.depth ∷ [] → IsClosed f.depth (with_marks t ms) u → IsSearch next n u
-closed next n w t u f ms b s end em c =
+pub closed : (next : ℕ → ℕ → List ℕ) (n : ℕ) (t u : Stand) (f : Frame) (ms : List ℕ) → IsSearch next n (with_top t f) → IsPast next f → t.marks ≡ ms ++ f.depth ∷ [] → IsClosed f.depth (with_marks t ms) u → IsSearch next n u
+closed next n t u f ms s end em c =
     record {
       size = c.size ∙ s.size;
       room = omega (arith, s.room, unseen-closed f.depth (with_marks t ms) u c, c.parts, short, inside);
@@ -266,7 +327,7 @@ closed next n w t u f ms b s end em c =
 
     settled_in : (q j : ℕ) → place_of t q ≡ Open j → f.depth ≤ j → (l m : ℕ) → Has m (next q l) → (j ≡ f.depth) ⊎ (j ≢ f.depth) → Settled t j m
     settled_in q j o h l m i (inl e) =
-        subst (λ (z : ℕ). Settled t z m) (sym e) (all-looked next n w t f b s end l m (subst (λ (z : ℕ). Has m (next z l)) (at-top next n t f q j s o e) i))
+        subst (λ (z : ℕ). Settled t z m) (sym e) (all-looked next n t f s end l m (subst (λ (z : ℕ). Has m (next z l)) (at-top next n t f q j s o e) i))
     settled_in q j o h l m i (inr e) = s.over q j o (λ g y. by g (Has-push g f t.frames y)) l m i
       where
         by : (g : Frame) → Has g t.frames ⊎ (g ≡ f) → g.depth ≢ j
@@ -287,9 +348,9 @@ closed next n w t u f ms b s end em c =
         Reaches-trans next q f.state r (to_top next n t f s q x.0 x.1) (s.forth f.state r f.depth y.0 (s.framed f (Has-last f t.frames)) y.1 y.2)
 
 -- a state finished, in either case
-pub finished : (next : ℕ → ℕ → List ℕ) (n w : ℕ) (t u : Stand) (f : Frame) → IsBounded next n w → IsSearch next n (with_top t f) → w ≤ f.letter → IsFinished f.depth t u → IsSearch next n u
-finished next n w t u f b s end (inl r) = closed next n w t u f r.0 b s end r.1 r.2
-finished next n w t u f b s end (inr r) = subst (IsSearch next n) (sym r.1) (popped next n w t f b s end r.0)
+pub finished : (next : ℕ → ℕ → List ℕ) (n : ℕ) (t u : Stand) (f : Frame) → IsSearch next n (with_top t f) → IsPast next f → IsFinished f.depth t u → IsSearch next n u
+finished next n t u f s end (inl r) = closed next n t u f r.0 s end r.1 r.2
+finished next n t u f s end (inr r) = subst (IsSearch next n) (sym r.1) (popped next n t f s end r.0)
 
 pub finished-unseen : (k : ℕ) (t u : Stand) → IsFinished k t u → unseen u.places ≡ unseen t.places
 finished-unseen k t u (inl r) = unseen-closed k (with_marks t r.0) u r.2

@@ -2,6 +2,7 @@ pub mod Paths
 pub mod Twins
 pub mod Bounds
 pub mod Graph
+pub mod Spans
 pub mod Product
 pub mod Parts
 pub mod Walks

@@ -5,3 +5,4 @@ pub mod Nodes
 pub mod Marked
 pub mod Halves
 pub mod Dense
+pub mod GrownRows

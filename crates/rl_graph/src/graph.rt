@@ -4,7 +4,8 @@ ghost use Rattle.std.specs.Prelude.{◌≡◌, ◌<◌, ◌≤◌, ◌+◌, ◌*
 ghost use Rattle.rl_graph.specs.Graph.{edges_of, IsWhole, IsBare, IsAdded};
 ghost use Rattle.rl_graph.specs.internal.Halves.{row_at};
 
-use rl_lists::{Items, OutOfMemory};
+use crate::row_list::RowList;
+use rl_lists::OutOfMemory;
 use std::alloc::Global;
 use std::marker::Model;
 
@@ -14,7 +15,7 @@ use std::marker::Model;
 pub struct Multigraph {
     states: u32,
     letters: u32,
-    rows: Vec<Items<u32>>,
+    rows: RowList,
 }
 
 impl Model for Multigraph {
@@ -22,9 +23,9 @@ impl Model for Multigraph {
 
     ghost Value = { Graph };
 
-    ghost view = { λ g. record { states = g.states; letters = g.letters; rows = g.rows.items } };
+    ghost view = { λ g. record { states = g.states; letters = g.letters; rows = g.rows } };
 
-    ghost invariant = { λ g. IsWhole (record { states = g.states; letters = g.letters; rows = g.rows.items }) };
+    ghost invariant = { λ g. IsWhole (record { states = g.states; letters = g.letters; rows = g.rows }) };
 }
 
 impl Multigraph {
@@ -35,11 +36,7 @@ impl Multigraph {
     pub fn new(alloc: Global, states: u32, letters: u32) -> Result<Multigraph, OutOfMemory>
         ensures { IfOk result (λ g. IsBare g states letters) }
     {
-        let count = states as usize * letters as usize;
-        let mut rows = Vec::with_capacity(alloc, count)?;
-        for _i in 0..count {
-            rows.push(Items::new(alloc))?;
-        }
+        let rows = RowList::of_empty_rows(alloc, states as usize * letters as usize)?;
         Ok(Multigraph {
             states,
             letters,
@@ -49,12 +46,12 @@ impl Multigraph {
 
     /// The graph of rows of targets, one row for each state and letter: those of a state stand together in the order of
     /// the letters, and a row has the targets of the moves in order.
-    pub fn from_rows(states: u32, letters: u32, rows: Vec<Items<u32>>) -> Multigraph
-        requires size { length rows.items ≡ states * letters }
-        requires targets { All (All (λ target. target < states)) rows.items }
-        requires short { All (λ row. length row < 2 ^ 32) rows.items }
-        ensures { result ≡ record { states = states; letters = letters; rows = rows.items } }
+    pub fn from_rows(states: u32, letters: u32, rows: RowList) -> Multigraph
+        requires size { length rows ≡ states * letters }
+        requires targets { All (All (λ target. target < states)) rows }
+        ensures { result ≡ record { states = states; letters = letters; rows = rows } }
     {
+        let _count = rows.len();
         Multigraph {
             states,
             letters,
@@ -62,10 +59,12 @@ impl Multigraph {
         }
     }
 
-    /// Adds a move, the last one of its state and letter.
+    /// Adds a move, the last one of its state and letter. Moves are best added row by row: a row that isn't the last one written
+    /// is copied first, and what it was copied from stays.
     ///
     /// # Errors
-    /// [`OutOfMemory`] where there was no memory for the move; the graph is unchanged then.
+    /// [`OutOfMemory`] where there was no memory for the move, or the rows and what they were copied from would hold 2^32 moves;
+    /// the graph is unchanged then.
     pub fn add(&mut self, from: u32, letter: u32, to: u32) -> Result<(), OutOfMemory>
         requires from_in { from < self.old.states }
         requires letter_in { letter < self.old.letters }
@@ -75,7 +74,7 @@ impl Multigraph {
         ensures unchanged { OnErr result (self.new ≡ self.old) }
     {
         let place = from as usize * self.letters as usize + letter as usize;
-        self.rows[place].push(to)
+        self.rows.push_at(place, to)
     }
 
     /// How many states the graph has.
@@ -102,8 +101,7 @@ impl Multigraph {
         ensures whole { IsWhole self.now }
     {
         let place = from as usize * self.letters as usize + letter as usize;
-        let row = &self.rows[place];
-        row.as_slice()
+        self.rows.row(place)
     }
 
     /// How many rows the graph has: one for each state and letter.
@@ -119,14 +117,11 @@ impl Multigraph {
         ensures targets { result.now ≡ row_at self.now place }
         ensures whole { IsWhole self.now }
     {
-        match self.rows.get(place as usize) {
-            Some(row) => row.as_slice(),
-            None => &[],
-        }
+        self.rows.row(place as usize)
     }
 
     /// The allocator that the graph's rows are kept in.
     pub(crate) fn allocator(&self) -> Global {
-        *self.rows.allocator()
+        self.rows.allocator()
     }
 }

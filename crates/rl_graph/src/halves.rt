@@ -1,6 +1,7 @@
 //! The product of two copies of a graph by half steps, where the marked pairs alone move.
 
-ghost use Rattle.std.specs.Prelude.{◌≡◌, ◌+◌, ◌*◌, ◌<◌, ◌^◌, length};
+ghost use Rattle.std.specs.Prelude.{◌≡◌, ◌+◌, ◌*◌, ◌<◌, ◌≤◌, ◌^◌, ℕ, true, [], length};
+ghost use Rattle.rl_graph.specs.Paths.{Has};
 ghost use Rattle.rl_graph.specs.internal.Halves.{halves, AreRows};
 
 use crate::graph::Multigraph;
@@ -66,5 +67,23 @@ impl<'a> NextStates for HalfSteps<'a> {
         let row = self.rows.numbers[place as usize];
         let targets = self.graph.edges(second as u32, letter);
         (count + row) * count + u64::from(targets[number as usize])
+    }
+
+    fn end_letter(&self, from: u64) -> u32 {
+        let count = u64::from(self.graph.states());
+        if from >= count * count {
+            return 1;
+        }
+        if self.marks[from as usize] {
+            self.graph.letters()
+        } else {
+            0
+        }
+    }
+
+    fn may_loop(&self, from: u64) -> bool {
+        // A pair moves to half nodes alone, and a half node to pairs alone.
+        let _states = self.graph.states();
+        false
     }
 }

@@ -10,6 +10,7 @@ mod marked;
 mod moves;
 mod pairs;
 mod parts;
+mod row_list;
 mod rows;
 mod walks;
 
@@ -18,4 +19,5 @@ pub use graph::Multigraph;
 pub use moves::{NextStates, Twice};
 pub use pairs::{pair_parts, product_parts};
 pub use parts::{Parts, parts_of};
+pub use row_list::RowList;
 pub use walks::{FoundPath, cycle_through, path_between};

@@ -1,8 +1,9 @@
 //! The product of two copies of a graph, where the marked pairs alone move.
 
-ghost use Rattle.std.specs.Prelude.{◌≡◌, ℕ, ◌*◌, ◌<◌, ◌≤◌, ◌↔◌, IsTrue, length, slice_index, IfOk};
+ghost use Rattle.std.specs.Prelude.{◌≡◌, ℕ, ◌*◌, ◌<◌, ◌≤◌, ◌↔◌, IsTrue, true, false, length, slice_index, slice_index_or, IfOk};
 ghost use Rattle.rl_graph.specs.Graph.{edges_of};
-ghost use Rattle.rl_graph.specs.internal.Marked.{listed_moves, both_repeat, HasMoves, AreLetters, IsRepeat, AreRepeats};
+ghost use Rattle.rl_graph.specs.Paths.{Has};
+ghost use Rattle.rl_graph.specs.internal.Marked.{listed_moves, both_repeat, both_loop, HasMoves, AreLetters, IsRepeat, AreRepeats, HasLoop, AreLoops};
 
 use crate::graph::Multigraph;
 use crate::moves::{NextStates, Twice};
@@ -12,17 +13,20 @@ use std::alloc::Global;
 /// The product of two copies of a graph with the moves of the marked pairs alone, on the letters of a list alone. A letter
 /// is called by its place in the list. It is passed over where both states of the pair have the same rows on the letter
 /// before it, since those moves were taken there. `repeats` has a flag for each state and letter, as [`repeats_of`] makes
-/// them.
+/// them, and `loops` one for each state, as [`loops_of`] makes them.
 #[derive(Drop)]
 pub(crate) struct MarkedPairs<'a> {
     pub(crate) graph: &'a Multigraph,
     pub(crate) marks: &'a [bool],
     pub(crate) letters: &'a [u32],
     pub(crate) repeats: &'a [bool],
+    pub(crate) loops: &'a [bool],
     ghost marked: { length marks.now ≡ graph.now.states * graph.now.states },
     ghost few: { length letters.now ≤ graph.now.letters },
     ghost within: { (k : ℕ) → k < length letters.now → slice_index letters.now k < graph.now.letters },
     ghost repeating: { AreRepeats (edges_of graph.now) graph.now.states letters.now repeats.now },
+    ghost looped: { length loops.now ≡ graph.now.states },
+    ghost looping: { (q l : ℕ) → q < graph.now.states → Has q (edges_of graph.now q l) → slice_index_or loops.now q false ≡ true },
 }
 
 impl<'a> MarkedPairs<'a> {
@@ -38,6 +42,15 @@ impl<'a> MarkedPairs<'a> {
         let second = (from % count) * width + u64::from(letter);
         // Both flags are read, so that both places are made outside the loop over the letters.
         self.repeats[first as usize] & self.repeats[second as usize]
+    }
+
+    /// Whether both states of a pair have moves to themselves.
+    fn loop_both(&self, from: u64) -> bool
+        requires { from < self.now.graph.now.states * self.now.graph.now.states }
+        ensures { result ≡ both_loop self.now.graph.now.states self.now.loops.now from }
+    {
+        let count = u64::from(self.graph.states());
+        self.loops[(from / count) as usize] & self.loops[(from % count) as usize]
     }
 }
 
@@ -74,6 +87,23 @@ impl<'a> NextStates for MarkedPairs<'a> {
         let own = self.letters[letter as usize];
         let pairs = Twice { graph: self.graph };
         pairs.target(from, own, number)
+    }
+
+    fn end_letter(&self, from: u64) -> u32 {
+        if self.marks[from as usize] {
+            self.letters()
+        } else {
+            0
+        }
+    }
+
+    fn may_loop(&self, from: u64) -> bool {
+        let _states = self.graph.states();
+        if self.marks[from as usize] {
+            self.loop_both(from)
+        } else {
+            false
+        }
     }
 }
 
@@ -133,4 +163,42 @@ pub(crate) fn repeats_of(
         }
     }
     Ok(repeats)
+}
+
+/// Whether a state has a move to itself on a letter.
+fn has_loop_on(g: &Multigraph, state: u32, letter: u32) -> bool
+    requires state_in { state < g.now.states }
+    requires letter_in { letter < g.now.letters }
+    ensures { IsTrue result ↔ Has state (edges_of g.now state letter) }
+{
+    for target in g.edges(state, letter) {
+        if *target == state {
+            return true;
+        }
+    }
+    false
+}
+
+/// Whether a state has a move to itself.
+fn has_loop(g: &Multigraph, state: u32) -> bool
+    requires { state < g.now.states }
+    ensures { IsTrue result ↔ HasLoop (edges_of g.now) state }
+{
+    for letter in 0..g.letters() {
+        if has_loop_on(g, state, letter) {
+            return true;
+        }
+    }
+    false
+}
+
+/// For each state whether it has a move to itself.
+pub(crate) fn loops_of(alloc: Global, g: &Multigraph) -> Result<Vec<bool>, OutOfMemory>
+    ensures { IfOk result (λ v. AreLoops (edges_of g.now) g.now.states v.items) }
+{
+    let mut loops = Vec::new(alloc);
+    for state in 0..g.states() {
+        loops.push(has_loop(g, state))?;
+    }
+    Ok(loops)
 }

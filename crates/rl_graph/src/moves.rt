@@ -1,7 +1,7 @@
 //! Graphs whose moves are asked for one at a time, and the product of two copies of a multigraph.
 
-ghost use Rattle.std.specs.Prelude.{◌≡◌, ℕ, ◌+◌, ◌*◌, ◌/◌, ◌%◌, ◌^◌, ◌<◌, ◌≤◌, List, length, slice_index, map, flat_map};
-ghost use Rattle.rl_graph.specs.Paths.{IsBounded};
+ghost use Rattle.std.specs.Prelude.{◌≡◌, ℕ, ◌+◌, ◌*◌, ◌/◌, ◌%◌, ◌^◌, ◌<◌, ◌≤◌, true, List, [], length, slice_index, map, flat_map};
+ghost use Rattle.rl_graph.specs.Paths.{Has, IsBounded};
 ghost use Rattle.rl_graph.specs.Graph.{edges_of};
 ghost use Rattle.rl_graph.specs.Product.{pair_moves};
 
@@ -40,6 +40,23 @@ pub trait NextStates {
         requires number_in { number < length (next self.now from letter) }
         ensures target { result ≡ slice_index (next self.now from letter) number }
         ensures inside { result < size self.now };
+
+    /// A letter from which on a state has no move: the number of letters, where an impl doesn't know a smaller one.
+    fn end_letter(&self, from: u64) -> u32
+        requires { from < size self.now }
+        ensures within { result ≤ width self.now }
+        ensures none { (l : ℕ) → result ≤ l → l < width self.now → next self.now from l ≡ [] }
+    {
+        self.letters()
+    }
+
+    /// Whether a state may have a move to itself: true where it has one, and where an impl doesn't know that it has none.
+    fn may_loop(&self, from: u64) -> bool
+        requires { from < size self.now }
+        ensures { (l : ℕ) → Has from (next self.now from l) → result ≡ true }
+    {
+        true
+    }
 }
 
 impl NextStates for Multigraph {

@@ -9,7 +9,7 @@ ghost use Rattle.rl_graph.specs.internal.Halves.{AreRows};
 use crate::dense::dense;
 use crate::graph::Multigraph;
 use crate::halves::HalfSteps;
-use crate::marked::{MarkedPairs, letters_of, repeats_of};
+use crate::marked::{MarkedPairs, letters_of, loops_of, repeats_of};
 use crate::moves::{NextStates, Twice};
 use crate::parts::{Parts, parts_of};
 use crate::rows::{Rows, rows_of};
@@ -110,11 +110,13 @@ fn whole_parts(alloc: Global, g: &Multigraph, moving: &[bool]) -> Result<Parts, 
     let _states = g.states();
     let letters = letters_of(alloc, g)?;
     let repeats = repeats_of(alloc, g, &letters)?;
+    let loops = loops_of(alloc, g)?;
     let pairs = MarkedPairs {
         graph: g,
         marks: moving,
         letters: &letters,
         repeats: &repeats,
+        loops: &loops,
     };
     let parts = parts_of(alloc, &pairs)?;
     Ok(parts)

@@ -4,7 +4,7 @@ ghost use Rattle.std.specs.Prelude.{◌≡◌, ◌<◌, ◌≤◌, ◌+◌, ◌^
 ghost use Rattle.rl_graph.specs.Paths.{Has, Reaches, OnCycle};
 ghost use Rattle.rl_graph.specs.Parts.{number_of, cycle_of, IsParts};
 ghost use Rattle.rl_graph.specs.internal.InnerMoves.{HasInner, HasInnerOn, IsNumbered, AreInner, AreShared};
-ghost use Rattle.rl_graph.specs.internal.Search.{stand_of, start_of, opened, place_of, part_in, unseen, with_top, IsSearch, IsCut, IsClosed, IsFinished, IsListed, IsAllDone, IsUnseenMove, IsMet, IsKept, StaysSeen, work_of};
+ghost use Rattle.rl_graph.specs.internal.Search.{stand_of, start_of, opened, place_of, part_in, unseen, with_top, IsSearch, IsCut, IsClosed, IsFinished, IsListed, IsAllDone, IsUnseenMove, IsPast, IsMet, IsKept, StaysSeen, IsVisited, closed_alone, work_of};
 ghost use Rattle.rl_graph.specs.declared.parts.Place.TheVariants.{Unseen, Done};
 
 use crate::moves::NextStates;
@@ -126,6 +126,7 @@ impl Search {
         requires search { IsSearch (M.next m.now) (M.size m.now) (with_top (stand_of self.old) frame.old) }
         ensures search { IsSearch (M.next m.now) (M.size m.now) (with_top (stand_of self.new) frame.new) }
         ensures kept { IsKept (stand_of self.old) (stand_of self.new) }
+        ensures state { frame.new.state ≡ frame.old.state }
         ensures letter { frame.new.letter ≡ frame.old.letter }
         ensures found { IfSome result (λ w. IsUnseenMove (M.next m.now) (M.size m.now) (stand_of self.new) frame.new w) }
         ensures end { IfNone result (length (M.next m.now frame.new.state frame.new.letter) ≤ frame.new.number) }
@@ -149,10 +150,11 @@ impl Search {
         ensures search { IsSearch (M.next m.now) (M.size m.now) (with_top (stand_of self.new) frame.new) }
         ensures kept { IsKept (stand_of self.old) (stand_of self.new) }
         ensures found { IfSome result (λ w. IsUnseenMove (M.next m.now) (M.size m.now) (stand_of self.new) frame.new w) }
-        ensures end { IfNone result (M.width m.now ≤ frame.new.letter) }
+        ensures end { IfNone result (IsPast (M.next m.now) frame.new) }
     {
-        let letters = m.letters();
-        while frame.letter < letters {
+        let _states = m.states();
+        let end = m.end_letter(frame.state);
+        while frame.letter < end {
             let found = self.scan(m, frame);
             if found.is_some() {
                 return found;
@@ -193,6 +195,35 @@ impl Search {
         }
         Ok(())
     }
+
+    /// Makes an unseen state that has no move the next part, alone.
+    fn close_alone(&mut self, state: u64)
+        requires state_in { state < length (stand_of self.old).places }
+        requires room { (stand_of self.old).parts < 2 ^ 63 }
+        ensures { stand_of self.new ≡ closed_alone (stand_of self.old) state }
+    {
+        self.places[state as usize] = Place::Done(self.parts);
+        self.parts += 1;
+    }
+
+    /// Searches from an unseen state, while no state is open. A state without a move is done at once.
+    fn visit<M: NextStates>(&mut self, m: &M, root: u64) -> Result<(), OutOfMemory>
+        requires search { IsSearch (M.next m.now) (M.size m.now) (stand_of self.old) }
+        requires frames { (stand_of self.old).frames ≡ [] }
+        requires root_in { root < M.size m.now }
+        requires not_seen { place_of (stand_of self.old) root ≡ Unseen }
+        ensures search { OnOk result (IsSearch (M.next m.now) (M.size m.now) (stand_of self.new)) }
+        ensures frames { OnOk result ((stand_of self.new).frames ≡ []) }
+        ensures visited { OnOk result (IsVisited root (stand_of self.old) (stand_of self.new)) }
+    {
+        let _states = m.states();
+        if m.end_letter(root) == 0 {
+            self.close_alone(root);
+            return Ok(());
+        }
+        self.open(root)?;
+        self.run(m)
+    }
 }
 
 /// The number of the part in a place; 0 for a state that isn't done.
@@ -214,8 +245,7 @@ fn searched<M: NextStates>(alloc: Global, m: &M) -> Result<Search, OutOfMemory>
     let mut search = Search::new(alloc, count)?;
     for root in 0..count {
         if let Place::Unseen = search.places[root as usize] {
-            search.open(root)?;
-            search.run(m)?;
+            search.visit(m, root)?;
         }
     }
     Ok(search)
@@ -261,7 +291,7 @@ fn has_inner<M: NextStates>(m: &M, numbers: &[u64], state: u64) -> bool
     ensures { IsTrue result ↔ HasInner (M.next m.now) numbers.now state }
 {
     let _states = m.states();
-    for letter in 0..m.letters() {
+    for letter in 0..m.end_letter(state) {
         if has_inner_on(m, numbers, state, letter) {
             return true;
         }
@@ -269,7 +299,7 @@ fn has_inner<M: NextStates>(m: &M, numbers: &[u64], state: u64) -> bool
     false
 }
 
-/// A mark for each number of a part: only numbers that two states have are marked.
+/// A mark for each number of a part: the numbers that two states have are marked.
 fn shared_marks(alloc: Global, numbers: &[u64]) -> Result<Vec<bool>, OutOfMemory>
     requires { All (λ part. part < length numbers.now) numbers.now }
     ensures { IfOk result (λ v. AreShared numbers.now v.items) }
@@ -286,8 +316,8 @@ fn shared_marks(alloc: Global, numbers: &[u64]) -> Result<Vec<bool>, OutOfMemory
     Ok(shared)
 }
 
-/// Whether a state has a move to a state with the same number. A state whose number is marked as shared has one, so only
-/// the moves of the others are looked at.
+/// Whether a state has a move to a state with the same number. A state whose number is marked as shared has one. Another
+/// one has one where it has a move to itself, so its moves are looked at only where it may.
 fn is_inner<M: NextStates>(m: &M, numbers: &[u64], shared: &[bool], state: u64) -> bool
     requires state_in { state < M.size m.now }
     requires numbered { IsNumbered (M.next m.now) (M.size m.now) numbers.now }
@@ -298,7 +328,7 @@ fn is_inner<M: NextStates>(m: &M, numbers: &[u64], shared: &[bool], state: u64) 
     if shared[numbers[state as usize] as usize] {
         return true;
     }
-    has_inner(m, numbers, state)
+    m.may_loop(state) && has_inner(m, numbers, state)
 }
 
 /// For each state whether it has a move to a state with the same number.

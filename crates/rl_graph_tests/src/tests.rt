@@ -3,10 +3,10 @@
 ghost use Rattle.std.specs.Prelude.{◌≡◌, IfOk, length};
 
 use rl_graph::{
-    Components, FoundPath, Multigraph, NextStates, Parts, Twice, cycle_through, pair_parts,
-    parts_of, path_between, product_parts,
+    Components, FoundPath, Multigraph, NextStates, Parts, RowList, Twice, cycle_through,
+    pair_parts, parts_of, path_between, product_parts,
 };
-use rl_lists::{Items, OutOfMemory, Word};
+use rl_lists::{OutOfMemory, Word};
 use std::alloc::Global;
 
 /// The graph with these moves: from, letter, to.
@@ -56,16 +56,34 @@ fn moves_keep_their_order(rt: HostRuntime) -> Result<(), OutOfMemory> {
     Ok(())
 }
 
+static MIXED: [(u32, u32, &[u32]); 3] = [(0, 0, &[1, 0, 1]), (0, 1, &[0, 1]), (1, 1, &[1])];
+
+/// A row that isn't the last one written grows as well, and keeps its moves.
+#[test]
+fn moves_are_added_in_turn(rt: HostRuntime) -> Result<(), OutOfMemory> {
+    let moves = [
+        (0, 0, 1),
+        (0, 1, 0),
+        (0, 0, 0),
+        (0, 1, 1),
+        (1, 1, 1),
+        (0, 0, 1),
+    ];
+    let g = graph(rt.alloc(), 2, 2, &moves)?;
+    assert!(rt; has_moves(&g, &MIXED));
+    Ok(())
+}
+
 /// State 0 has two moves to state 1 on letter 1; state 1 has one to state 0 on letter 0, and one to itself on letter 1.
 static ROWS: [(u32, u32, &[u32]); 4] = [(0, 0, &[]), (0, 1, &[1, 1]), (1, 0, &[0]), (1, 1, &[1])];
 
 /// The graph of those rows.
 fn graph_of_rows(alloc: Global) -> Result<Multigraph, OutOfMemory> {
-    let none = Items::new(alloc);
-    let twice = Items::from_slice(alloc, &[1, 1])?;
-    let back = Items::from_slice(alloc, &[0])?;
-    let round = Items::from_slice(alloc, &[1])?;
-    let rows = vec![in alloc; none, twice, back, round]?;
+    let mut rows = RowList::new(alloc);
+    rows.push_row(&[])?;
+    rows.push_row(&[1, 1])?;
+    rows.push_row(&[0])?;
+    rows.push_row(&[1])?;
     Ok(Multigraph::from_rows(2, 2, rows))
 }
 
@@ -275,5 +293,71 @@ fn pairs_without_a_mark(rt: HostRuntime) -> Result<(), OutOfMemory> {
     moving[3 * 13 + 4] = false;
     let parts = pair_parts(alloc, &g, &moving)?;
     assert!(rt; is_apart(&parts));
+    Ok(())
+}
+
+/// Whether the pairs of equal states of the first ring are one part, which comes before the pair of the state 4 with itself; that
+/// one and the pair of the state 3 with itself, which it moves to, are parts of their own.
+fn are_marked_rings(parts: &Parts) -> bool
+    requires { length parts.now.numbers ≡ 49 }
+{
+    parts.of(0) == parts.of(8)
+        && parts.of(8) == parts.of(16)
+        && parts.of(16) < parts.of(32)
+        && parts.of(24) < parts.of(32)
+        && parts.of(1) != parts.of(40)
+        && parts.of(1) != parts.of(48)
+}
+
+/// Whether the pairs of the first ring and the pair of the loop are on cycles, and four others aren't.
+fn have_marked_cycles(parts: &Parts) -> bool
+    requires { length parts.now.numbers ≡ 49 }
+{
+    parts.on_cycle(0)
+        && parts.on_cycle(8)
+        && parts.on_cycle(16)
+        && parts.on_cycle(48)
+        && !parts.on_cycle(32)
+        && !parts.on_cycle(24)
+        && !parts.on_cycle(1)
+        && !parts.on_cycle(40)
+}
+
+/// Five pairs of the rings move: those of each state of the first ring, the state 4 and the loop with themselves.
+#[test]
+fn most_pairs_without_a_mark(rt: HostRuntime) -> Result<(), OutOfMemory> {
+    let alloc = rt.alloc();
+    let g = rings(alloc)?;
+    let mut moving = vec![in alloc; false; 49]?;
+    for state in [0, 1, 2, 4, 6] {
+        moving[state * 8] = true;
+    }
+    let parts = pair_parts(alloc, &g, &moving)?;
+    assert!(rt; are_marked_rings(&parts) && have_marked_cycles(&parts));
+    Ok(())
+}
+
+/// State 0 has a move to itself on letter 0, and state 1 has one on letter 1.
+fn two_loops(alloc: Global) -> Result<Multigraph, OutOfMemory>
+    ensures states { IfOk result (λ g. g.states ≡ 2) }
+{
+    graph(alloc, 2, 2, &[(0, 0, 0), (1, 1, 1)])
+}
+
+/// Whether the pairs of equal states alone are on cycles.
+fn equal_pairs_loop(parts: &Parts) -> bool
+    requires { length parts.now.numbers ≡ 4 }
+{
+    parts.on_cycle(0) && !parts.on_cycle(1) && !parts.on_cycle(2) && parts.on_cycle(3)
+}
+
+/// A pair of states that have moves to themselves on different letters has none.
+#[test]
+fn loops_on_different_letters(rt: HostRuntime) -> Result<(), OutOfMemory> {
+    let alloc = rt.alloc();
+    let g = two_loops(alloc)?;
+    let moving = vec![in alloc; true; 4]?;
+    let parts = pair_parts(alloc, &g, &moving)?;
+    assert!(rt; equal_pairs_loop(&parts));
     Ok(())
 }

@@ -12,6 +12,7 @@ ghost use Rattle.rl_pairs.specs.internal.Finding.{found_of, with_row, first_key,
 use crate::counting::{image_of, joined_with, rest_of};
 use crate::error::PairsError;
 use indexmap::IndexSet;
+use rl_graph::RowList;
 use rl_lists::{Items, OutOfMemory, Word};
 use rl_prio::Prio;
 use rl_sets::SetWalk;
@@ -39,7 +40,7 @@ pub(crate) struct Finder {
     /// The rests.
     pub rests: Vec<Word>,
     /// The rows.
-    pub rows: Vec<Word>,
+    pub rows: RowList,
 }
 
 impl Finder {
@@ -60,7 +61,7 @@ impl Finder {
             keys,
             leads,
             rests,
-            rows: Vec::new(alloc),
+            rows: RowList::new(alloc),
         })
     }
 
@@ -98,11 +99,10 @@ impl Finder {
     }
 
     /// Appends a row.
-    fn end_row(&mut self, row: Word) -> Result<(), OutOfMemory>
-        ensures { OnOk result (found_of self.new ≡ with_row (found_of self.old) row) }
+    fn end_row(&mut self, row: &[u32]) -> Result<(), OutOfMemory>
+        ensures { OnOk result (found_of self.new ≡ with_row (found_of self.old) row.now) }
     {
-        self.rows.push(row)?;
-        Ok(())
+        self.rows.push_row(row)
     }
 
     /// The number of a pair, if it is found.
@@ -124,13 +124,13 @@ impl Finder {
         &mut self,
         a: &Prio,
         walk: &mut SetWalk,
-        row: &mut Word,
+        row: &mut Vec<u32>,
         from: u32,
         letter: u32,
         key: Key,
     ) -> Result<(), PairsError>
         requires counting { IsCounting a.now walk.old }
-        requires found { IsFound a.now walk.old (with_row (found_of self.old) row.old) }
+        requires found { IsFound a.now walk.old (with_row (found_of self.old) row.old.items) }
         requires place { length (found_of self.old).rows ≡ from * width a.now + letter }
         requires from_in { from < length (found_of self.old).keys }
         requires letter_in { letter ≤ letters_count a.now }
@@ -138,10 +138,10 @@ impl Finder {
         requires state_in { key.state < a.now.states }
         requires reached { Has (pair_of walk.old key) (next_pairs a.now (pair_at walk.old (found_of self.old) from) letter) }
         ensures onward { OnOk result (IsOnward a.now walk.old walk.new) }
-        ensures found { OnOk result (IsFound a.now walk.new (with_row (found_of self.new) row.new)) }
+        ensures found { OnOk result (IsFound a.now walk.new (with_row (found_of self.new) row.new.items)) }
         ensures stays { OnOk result (Stays (found_of self.old) (found_of self.new)) }
         ensures rows { OnOk result ((found_of self.new).rows ≡ (found_of self.old).rows) }
-        ensures noted { OnOk result (IsNoted a.now walk.new (found_of self.new) (pair_of walk.old key) row.old row.new) }
+        ensures noted { OnOk result (IsNoted a.now walk.new (found_of self.new) (pair_of walk.old key) row.old.items row.new.items) }
         ensures errors { IfErr result (IsRightError a.now (found_of self.old).limit) }
     {
         if let Some(number) = self.number_of(key) {
@@ -161,11 +161,12 @@ impl Finder {
         Ok(())
     }
 
-    /// Looks at the moves of a pair on a letter.
+    /// Looks at the moves of a pair on a letter. The row is a place to write in; what it holds is let go.
     fn expand_on(
         &mut self,
         a: &Prio,
         walk: &mut SetWalk,
+        row: &mut Vec<u32>,
         from: u32,
         letter: u32,
     ) -> Result<(), PairsError>
@@ -178,9 +179,9 @@ impl Finder {
         ensures errors { IfErr result (IsRightError a.now (found_of self.old).limit) }
     {
         let _states = a.states();
+        row.clear();
         let pair = self.keys[from as usize];
         let targets = a.moves(pair.state, letter);
-        let mut row = Items::new(*self.rows.allocator());
         let mut set = image_of(walk, a, pair.set, letter)?;
         for k in 0..targets.len() {
             set = set_before(walk, a, targets, k, set)?;
@@ -188,14 +189,20 @@ impl Finder {
                 state: targets[k],
                 set,
             };
-            self.visit(a, walk, &mut row, from, letter, key)?;
+            self.visit(a, walk, row, from, letter, key)?;
         }
-        self.end_row(row)?;
+        self.end_row(row.as_slice())?;
         Ok(())
     }
 
     /// Looks at the moves of a pair: the letters in rising order, the end letter last.
-    fn expand(&mut self, a: &Prio, walk: &mut SetWalk, from: u32) -> Result<(), PairsError>
+    fn expand(
+        &mut self,
+        a: &Prio,
+        walk: &mut SetWalk,
+        row: &mut Vec<u32>,
+        from: u32,
+    ) -> Result<(), PairsError>
         requires counting { IsCounting a.now walk.old }
         requires found { IsFound a.now walk.old (found_of self.old) }
         requires moved { IsMoved a.now walk.old (found_of self.old) (from * width a.now) }
@@ -205,9 +212,9 @@ impl Finder {
     {
         let end = a.letters().count();
         for letter in 0..end {
-            self.expand_on(a, walk, from, letter)?;
+            self.expand_on(a, walk, row, from, letter)?;
         }
-        self.expand_on(a, walk, from, end)?;
+        self.expand_on(a, walk, row, from, end)?;
         Ok(())
     }
 
@@ -219,9 +226,10 @@ impl Finder {
         ensures further { OnOk result (IsFurther a.now walk.old walk.new (found_of self.old) (found_of self.new) (length (found_of self.new).keys * width a.now)) }
         ensures errors { IfErr result (IsRightError a.now (found_of self.old).limit) }
     {
+        let mut row = Vec::new(*self.leads.allocator());
         let mut place = 0;
         while place < self.count() {
-            self.expand(a, walk, place)?;
+            self.expand(a, walk, &mut row, place)?;
             place += 1;
         }
         Ok(())

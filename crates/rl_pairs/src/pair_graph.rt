@@ -1,6 +1,6 @@
 //! Graphs of live pairs.
 
-ghost use Rattle.std.specs.Prelude.{◌≡◌, ℕ, ◌+◌, ◌*◌, ◌^◌, ◌<◌, ◌≤◌, true, All, length, map, IfOk, IfErr, IsTrue};
+ghost use Rattle.std.specs.Prelude.{◌≡◌, ℕ, ◌+◌, ◌*◌, ◌<◌, ◌≤◌, true, All, length, map, IfOk, IfErr};
 ghost use Rattle.rl_prio.specs.Automaton.{letters_count};
 ghost use Rattle.rl_graph.specs.Paths.{paths};
 ghost use Rattle.rl_sets.specs.Live.{IsRest};
@@ -95,26 +95,6 @@ fn listed(alloc: Global, walk: &SetWalk, keys: &IndexSet<Key>) -> Result<Vec<Pai
     Ok(pairs)
 }
 
-/// Whether each row is so short that its moves have numbers.
-fn are_short(rows: &[Word]) -> bool
-    ensures { IsTrue result → All (λ row. length row < 2 ^ 32) rows.now }
-{
-    rows.iter().all(|row| row.len() < u32::MAX as usize)
-}
-
-/// The graph of rows of targets, one for each state and letter.
-fn graph_of(states: u32, letters: u32, rows: Vec<Word>) -> Result<Multigraph, OutOfMemory>
-    requires rows { length rows.items ≡ states * letters }
-    requires targets { All (All (λ k. k < states)) rows.items }
-    ensures { IfOk result (λ g. g ≡ record { states = states; letters = letters; rows = rows.items }) }
-{
-    // The moves of a longer row have no numbers; no memory holds so many.
-    if !are_short(&rows) {
-        return Err(OutOfMemory);
-    }
-    Ok(Multigraph::from_rows(states, letters, rows))
-}
-
 /// The graph of the pairs that were found.
 fn built(
     alloc: Global,
@@ -139,7 +119,7 @@ fn built(
         rests,
         rows,
     } = finder;
-    let graph = graph_of(states, letters, rows)?;
+    let graph = Multigraph::from_rows(states, letters, rows);
     Ok(PairGraph {
         graph,
         pairs,

@@ -31,7 +31,12 @@ pub record IsShared (numbers : List ℕ) (part : ℕ) : Type 0 where
   pub first_is : slice_index numbers first ≡ part
   pub second_is : slice_index numbers second ≡ part
 
--- there is a mark for each number, and only those that two states have are marked
-pub record AreShared (numbers : List ℕ) (marks : List Bool) : Type 0 where
+-- there is a mark for each number: only those that two states have are marked, among them those of two of the first `end` states
+pub record AreSharedUpTo (numbers : List ℕ) (end : ℕ) (marks : List Bool) : Type 0 where
   pub size : length marks ≡ length numbers
   pub shared : (part : ℕ) → IsTrue (slice_index_or marks part false) → IsShared numbers part
+  pub all : (q r : ℕ) → q < r → r < end → slice_index numbers q ≡ slice_index numbers r → IsTrue (slice_index_or marks (slice_index numbers r) false)
+
+-- the numbers that two states have are marked
+abbrev pub AreShared : List ℕ → List Bool → Type 0
+AreShared numbers marks = AreSharedUpTo numbers (length numbers) marks

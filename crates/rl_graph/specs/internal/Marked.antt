@@ -32,10 +32,23 @@ pub record AreRepeatsUpTo (next : ℕ → ℕ → List ℕ) (end : ℕ) (letters
 abbrev pub AreRepeats : (ℕ → ℕ → List ℕ) → ℕ → List ℕ → List Bool → Type 0
 AreRepeats next n letters repeats = AreRepeatsUpTo next (n * length letters) letters repeats
 
+-- the state has a move to itself
+abbrev pub HasLoop : (ℕ → ℕ → List ℕ) → ℕ → Type 0
+HasLoop next q = (l : ℕ) × Has q (next q l)
+
+-- the flags of the first `n` states: the state has a move to itself
+pub record AreLoops (next : ℕ → ℕ → List ℕ) (n : ℕ) (loops : List Bool) : Type 0 where
+  pub size : length loops ≡ n
+  pub same : (q : ℕ) → q < n → IsTrue (slice_index_or loops q false) ↔ HasLoop next q
+
 -- the flags of both states of a pair
 abbrev pub both_repeat : ℕ → ℕ → List Bool → ℕ → ℕ → Bool
 both_repeat n width repeats x k =
     slice_index_or repeats (x / n * width + k) false && slice_index_or repeats (x % n * width + k) false
+
+-- both states of a pair have moves to themselves, by the flags
+abbrev pub both_loop : ℕ → List Bool → ℕ → Bool
+both_loop n loops x = slice_index_or loops (x / n) false && slice_index_or loops (x % n) false
 
 -- the moves of the marked pairs on the letters of a list, where those that repeat are passed over; a letter is called by its
 -- place in the list

@@ -84,6 +84,10 @@ pub record IsListed (s : Stand) : Type 0 where
 abbrev pub IsAllDone : ℕ → Stand → Type 0
 IsAllDone n s = (q : ℕ) → q < n → (c : ℕ) × (place_of s q ≡ Done c)
 
+-- the frame's state has no move on the frame's letter or a later one
+abbrev pub IsPast : (ℕ → ℕ → List ℕ) → Frame → Type 0
+IsPast next f = (l : ℕ) → f.letter ≤ l → next f.state l ≡ []
+
 -- a search with one more frame on top
 abbrev pub with_top : Stand → Frame → Stand
 with_top s f = record s { frames = s.frames ++ f ∷ [] }
@@ -97,6 +101,14 @@ pub record IsUnseenMove (next : ℕ → ℕ → List ℕ) (n : ℕ) (s : Stand) 
 -- the start of a search over `n` states
 abbrev pub start_of : ℕ → Stand
 start_of n = record { places = replicate n Unseen; open_states = []; marks = []; frames = []; parts = 0 }
+
+-- an unseen state done at once, as the next part
+abbrev pub closed_alone : Stand → ℕ → Stand
+closed_alone s w = record s { places = slice_set s.places w (Done s.parts); parts = s.parts + 1 }
+
+-- no state that was seen is unseen now, and neither is `w`
+abbrev pub IsVisited : ℕ → Stand → Stand → Type 0
+IsVisited w old new = (q : ℕ) → place_of new q ≡ Unseen → (place_of old q ≡ Unseen) × (q ≢ w)
 
 -- the frame of a state that was just opened
 abbrev pub first_frame : ℕ → ℕ → Frame

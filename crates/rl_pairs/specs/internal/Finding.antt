@@ -23,7 +23,7 @@ pub record Found : Type 0 where
   pub rows : List (List ℕ)
 
 abbrev pub found_of : Finder → Found
-found_of f = record { limit = f.limit; keys = f.keys.keys; leads = f.leads.items; rests = f.rests.items; rows = f.rows.items }
+found_of f = record { limit = f.limit; keys = f.keys.keys; leads = f.leads.items; rests = f.rests.items; rows = f.rows }
 
 -- the same with one more row
 abbrev pub with_row : Found → List ℕ → Found

@@ -5,5 +5,5 @@ use Rattle.rl_graph.proofs.graph.Multigraph.from_rows.Goals as goal
 
 pub invariant_of-result : goal.invariant_of-result
 invariant_of-result c =
-    let g : Graph = record { states = c.args.states; letters = c.args.letters; rows = c.args.rows.items } in
-    whole-rows g (omega arith) (omega arith) c.requires.size c.requires.targets c.requires.short
+    let g : Graph = record { states = c.args.states; letters = c.args.letters; rows = c.args.rows } in
+    whole-rows g (omega arith) (omega arith) c.requires.size c.requires.targets c.len-count.ensures.short

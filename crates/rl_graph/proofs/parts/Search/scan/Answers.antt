@@ -16,7 +16,7 @@ target-target-requires-clause-state_in g c =
 pub returns-then-meet-clause-found : goal.returns-then-meet-clause-found
 returns-then-meet-clause-found g c =
     let row = g.M.NextStates.next c.args.m.now c.loop-frame.frame.state c.loop-frame.frame.letter in
-    let lt : c.loop-frame.frame.number < length row = omega (arith, c.loop-frame.invariant.3) in
+    let lt : c.loop-frame.frame.number < length row = omega (arith, c.loop-frame.invariant.4) in
     let m = c.if-meet.ensures in
     record {
       within = c.target-target.ensures.inside;
@@ -29,6 +29,6 @@ loop-frame-preserved g c =
     let i = c.loop-frame.invariant in
     let next = g.M.NextStates.next c.args.m.now in
     let row = next c.loop-frame.frame.state c.loop-frame.frame.letter in
-    let lt : c.loop-frame.frame.number < length row = omega (arith, c.loop-frame.invariant.3) in
+    let lt : c.loop-frame.frame.number < length row = omega (arith, c.loop-frame.invariant.4) in
     let r = met next (g.M.NextStates.size c.args.m.now) (stand_of c.loop-frame.self) (stand_of c.meet.new.self) c.loop-frame.frame c.target-target.result i.0 lt c.target-target.ensures.target c.if-meet.ensures in
-    (r.0, record { places = r.1.places ∙ i.1.places; frames = r.1.frames ∙ i.1.frames }, i.2, i.3, i.4)
+    (r.0, record { places = r.1.places ∙ i.1.places; frames = r.1.frames ∙ i.1.frames }, i.2, i.3, i.4, i.5)

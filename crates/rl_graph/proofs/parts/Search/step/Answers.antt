@@ -34,7 +34,7 @@ returns-in_ok-open-in-Some-clause-work g c =
 
 pub returns-in-None-clause-search : goal.returns-in-None-clause-search
 returns-in-None-clause-search g c =
-    finished (g.M.NextStates.next c.args.m.now) (g.M.NextStates.size c.args.m.now) (g.M.NextStates.width c.args.m.now) (stand_of c.advance.new.self) (stand_of c.finish.new.self) c.advance.new.frame c.states-states.ensures.bounded c.advance.ensures.search c.in-None.ensures.end c.finish.ensures
+    finished (g.M.NextStates.next c.args.m.now) (g.M.NextStates.size c.args.m.now) (stand_of c.advance.new.self) (stand_of c.finish.new.self) c.advance.new.frame c.advance.ensures.search c.in-None.ensures.end c.finish.ensures
 
 pub returns-in-None-clause-work : goal.returns-in-None-clause-work
 returns-in-None-clause-work g c =

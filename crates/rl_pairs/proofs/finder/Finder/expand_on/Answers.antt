@@ -3,7 +3,7 @@ use Rattle.std.proofs.lemmas.Result.{err_from_is_err_and}
 use Rattle.rl_sets.specs.Live.{image}
 use Rattle.rl_pairs.specs.declared.finder.Key.{Key}
 use Rattle.rl_pairs.specs.internal.Errors.{IsRightError}
-use Rattle.rl_pairs.specs.internal.Finding.{Found, found_of, pair_at, width, IsTrying, IsFurther}
+use Rattle.rl_pairs.specs.internal.Finding.{Found, found_of, with_row, pair_at, width, IsTrying, IsFurther}
 use Rattle.rl_pairs.proofs.ExpandLaws.{pair-image, move-pairs, key-read, number-read, trying-start, trying-counted, trying-reached, trying-found, trying-more, letter-done}
 use Rattle.rl_pairs.proofs.finder.Finder.expand_on.Goals as goal
 
@@ -31,7 +31,7 @@ loop-k-init c =
     let a = c.args.a.now in
     let e = key-read f c.args.from c.index-pair.result.now c.index-pair.ensures in
     let t = trying-start a v c.image_of.new.walk f (image a (pair_at v f c.args.from).set c.args.letter) c.moves-targets.result.now c.in_ok-set.set c.requires.found c.in_ok-set.ensures.onward (number-read a v c.image_of.new.walk f c.index-pair.result.now c.args.from c.args.letter c.in_ok-set.set e c.in_ok-set.ensures.image) in
-    subst (λ (found : List ℕ). IsTrying a v c.image_of.new.walk f f (image a (pair_at v f c.args.from).set c.args.letter) c.moves-targets.result.now found 0 c.in_ok-set.set) (sym c.new-row.ensures) t
+    subst (λ (found : List ℕ). IsTrying a v c.image_of.new.walk f f (image a (pair_at v f c.args.from).set c.args.letter) c.moves-targets.result.now found 0 c.in_ok-set.set) (sym c.clear.ensures.items) t
 
 pub set_before-requires : goal.set_before-requires
 set_before-requires c =
@@ -46,7 +46,7 @@ set_before-requires c =
       k_in = c.loop-k-test.true;
       targets_in = c.moves-targets.ensures.targets;
       set_in = t.number.within;
-      counted = trying-counted a v f c.args.from c.args.letter (image a (pair_at v f c.args.from).set c.args.letter) ts whole c.requires.found c.requires.from_in c.requires.letter_in c.loop-k.walk (found_of c.loop-k.self) c.loop-k.row c.loop-k.k c.loop-k.set t c.loop-k-test.true;
+      counted = trying-counted a v f c.args.from c.args.letter (image a (pair_at v f c.args.from).set c.args.letter) ts whole c.requires.found c.requires.from_in c.requires.letter_in c.loop-k.walk (found_of c.loop-k.self) c.loop-k.row.items c.loop-k.k c.loop-k.set t c.loop-k-test.true;
     }
 
 pub returns-in_err-set-2-clause-errors : goal.returns-in_err-set-2-clause-errors
@@ -70,13 +70,13 @@ visit-requires c =
     let whole = move-pairs a v f c.index-pair.result.now c.args.from c.args.letter ts (key-read f c.args.from c.index-pair.result.now c.index-pair.ensures) c.moves-targets.ensures.moves in
     record {
       counting = o.counting;
-      found = trying-found a v f c.args.from c.args.letter img ts whole c.requires.found c.requires.from_in c.requires.letter_in c.loop-k.walk x g c.loop-k.row c.loop-k.k c.loop-k.set n t c.loop-k-test.true o is;
+      found = trying-found a v f c.args.from c.args.letter img ts whole c.requires.found c.requires.from_in c.requires.letter_in c.loop-k.walk x g c.loop-k.row.items c.loop-k.k c.loop-k.set n t c.loop-k-test.true o is;
       place = ap length t.rows ∙ c.requires.moved.long;
       from_in = omega (arith, c.requires.from_in, t.stays.longer);
       letter_in = c.requires.letter_in;
       set_in = is.within;
       state_in = c.moves-targets.ensures.targets c.loop-k.k 0 c.loop-k-test.true;
-      reached = trying-reached a v f c.args.from c.args.letter img ts whole c.requires.found c.requires.from_in c.requires.letter_in c.loop-k.walk x g c.loop-k.row c.loop-k.k c.loop-k.set n t c.loop-k-test.true o is (get_or ts c.loop-k.k 0) refl;
+      reached = trying-reached a v f c.args.from c.args.letter img ts whole c.requires.found c.requires.from_in c.requires.letter_in c.loop-k.walk x g c.loop-k.row.items c.loop-k.k c.loop-k.set n t c.loop-k-test.true o is (get_or ts c.loop-k.k 0) refl;
     }
 
 pub returns-in_err-visit-clause-errors : goal.returns-in_err-visit-clause-errors
@@ -99,7 +99,7 @@ loop-k-preserved c =
     let img = image a (pair_at v f c.args.from).set c.args.letter in
     let whole = move-pairs a v f c.index-pair.result.now c.args.from c.args.letter ts (key-read f c.args.from c.index-pair.result.now c.index-pair.ensures) c.moves-targets.ensures.moves in
     let b = c.in_ok-visit.ensures in
-    trying-more a v f c.args.from c.args.letter img ts whole c.requires.found c.requires.from_in c.requires.letter_in c.loop-k.walk x g c.loop-k.row c.loop-k.k c.loop-k.set n t c.loop-k-test.true o is c.visit.new.walk (found_of c.visit.new.self) c.visit.new.row (get_or ts c.loop-k.k 0) refl b.onward b.found b.stays b.rows b.noted
+    trying-more a v f c.args.from c.args.letter img ts whole c.requires.found c.requires.from_in c.requires.letter_in c.loop-k.walk x g c.loop-k.row.items c.loop-k.k c.loop-k.set n t c.loop-k-test.true o is c.visit.new.walk (found_of c.visit.new.self) c.visit.new.row.items (get_or ts c.loop-k.k 0) refl b.onward b.found b.stays b.rows b.noted
 
 pub returns-clause-further : goal.returns-clause-further
 returns-clause-further c =
@@ -108,5 +108,5 @@ returns-clause-further c =
     let a = c.args.a.now in
     let ts = c.moves-targets.result.now in
     let whole = move-pairs a v f c.index-pair.result.now c.args.from c.args.letter ts (key-read f c.args.from c.index-pair.result.now c.index-pair.ensures) c.moves-targets.ensures.moves in
-    let done = letter-done a v f c.args.from c.args.letter (image a (pair_at v f c.args.from).set c.args.letter) ts whole c.requires.found c.requires.from_in c.requires.letter_in c.loop-k.walk (found_of c.loop-k.self) c.loop-k.row c.loop-k.k c.loop-k.set c.loop-k.invariant c.loop-k-test.false c.requires.moved in
-    subst (λ (g : Found). IsFurther a v c.loop-k.walk f g (c.args.from * width a + suc c.args.letter)) (sym c.in_ok-end_row.ensures) done
+    let done = letter-done a v f c.args.from c.args.letter (image a (pair_at v f c.args.from).set c.args.letter) ts whole c.requires.found c.requires.from_in c.requires.letter_in c.loop-k.walk (found_of c.loop-k.self) c.loop-k.row.items c.loop-k.k c.loop-k.set c.loop-k.invariant c.loop-k-test.false c.requires.moved in
+    subst (λ (g : Found). IsFurther a v c.loop-k.walk f g (c.args.from * width a + suc c.args.letter)) (sym (c.in_ok-end_row.ensures ∙ ap (with_row (found_of c.loop-k.self)) c.as_slice.ensures.value)) done
