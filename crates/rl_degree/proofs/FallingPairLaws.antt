@@ -1,5 +1,5 @@
 -- Pairs that fall: their flags, and what is reached from them.
-use Rattle.std.proofs.Common.{◌≡◌, ℕ, ◌+◌, ◌*◌, ◌/◌, ◌%◌, ◌<◌, ◌≤◌, ◌⊎◌, inl, inr, Bool, true, false, List, [], ◌∷◌, ◌++◌, get_or, map, ltb, sym, ◌∙◌, ap, ap₂, arith}
+use Rattle.std.proofs.Common.{◌≡◌, ℕ, ◌+◌, ◌*◌, ◌/◌, ◌%◌, ◌<◌, ◌≤◌, ◌⊎◌, inl, inr, Bool, true, false, List, [], ◌∷◌, ◌++◌, get_or, map, ltb, eqb, bit_and, not, ◌&&◌, sym, ◌∙◌, ap, ap₂, arith}
 use Rattle.std.proofs.lemmas.Bool.{cases_lt}
 use Rattle.std.proofs.lemmas.List.{length_push, get_or_push, get_or_append_left}
 use Rattle.std.proofs.lemmas.Nat.{div-mul-add, mod-mul-add}
@@ -12,27 +12,30 @@ use Rattle.rl_graph.proofs.PathLaws.{move-path, along_moves}
 use Rattle.rl_graph.proofs.MarkedLaws.{there-if, has-if}
 use Rattle.rl_kernel.specs.Inner.{IsInner}
 use Rattle.rl_kernel.specs.Seats.{Seats, AreSeats}
-use Rattle.rl_degree.specs.internal.FallingPairs.{falls, falling_moves, AreFlagsUpTo}
+use Rattle.rl_degree.specs.internal.FallingPairs.{falls, falling_moves, is_walked, AreFlagsUpTo}
 
 -- flags
 
-pub flags-more : (levels : List ℕ) (n first second end : ℕ) (flags : List Bool) → second < n → end ≡ first * n + second → AreFlagsUpTo levels n end flags
-    → AreFlagsUpTo levels n (end + 1) (flags ++ ltb (get_or levels second 0) (get_or levels first 0) ∷ [])
-flags-more levels n first second end flags lt e f = record {
-  size = length_push flags (ltb (get_or levels second 0) (get_or levels first 0)) ∙ ap (λ z. z + 1) f.size;
+-- one more flag
+pub flags-more : (levels entries : List ℕ) (n first second end : ℕ) (flags : List Bool) (flag : Bool) → second < n → end ≡ first * n + second
+    → flag ≡ (ltb (get_or levels second 0) (get_or levels first 0) && not (eqb (bit_and (get_or entries first 0) (get_or entries second 0)) 0))
+    → AreFlagsUpTo levels entries n end flags → AreFlagsUpTo levels entries n (end + 1) (flags ++ flag ∷ [])
+flags-more levels entries n first second end flags flag lt e is f = record {
+  size = length_push flags flag ∙ ap (λ z. z + 1) f.size;
   right = λ x small. by x small (cases_lt x end);
 }
   where
-    last : falls levels n (first * n + second) ≡ ltb (get_or levels second 0) (get_or levels first 0)
+    last : is_walked levels entries n (first * n + second) ≡ flag
     last =
-        ap₂ ltb (ap (λ z. get_or levels z 0) (mod-mul-add first n second lt)) (ap (λ z. get_or levels z 0) (div-mul-add first n second lt))
+        ap₂ (λ p q. ltb (get_or levels q 0) (get_or levels p 0) && not (eqb (bit_and (get_or entries p 0) (get_or entries q 0)) 0)) (div-mul-add first n second lt) (mod-mul-add first n second lt)
+        ∙ sym is
 
-    by : (x : ℕ) → x < end + 1 → (x < end) ⊎ (end ≤ x) → get_or (flags ++ ltb (get_or levels second 0) (get_or levels first 0) ∷ []) x false ≡ falls levels n x
+    by : (x : ℕ) → x < end + 1 → (x < end) ⊎ (end ≤ x) → get_or (flags ++ flag ∷ []) x false ≡ is_walked levels entries n x
     by x small (inl a) =
-        get_or_append_left flags (ltb (get_or levels second 0) (get_or levels first 0) ∷ []) false x (omega (arith, f.size)) ∙ f.right x a
+        get_or_append_left flags (flag ∷ []) false x (omega (arith, f.size)) ∙ f.right x a
     by x small (inr a) =
         let k : x ≡ end = omega arith in
-        get_or_push flags (ltb (get_or levels second 0) (get_or levels first 0)) false x (f.size ∙ sym k) ∙ sym (ap (falls levels n) (k ∙ e) ∙ last)
+        get_or_push flags flag false x (f.size ∙ sym k) ∙ sym (ap (is_walked levels entries n) (k ∙ e) ∙ last)
 
 -- inner moves: they stay in a component, so a pair that falls moves to pairs that fall
 

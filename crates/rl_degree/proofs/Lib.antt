@@ -7,6 +7,7 @@ pub mod SplitLaws
 pub mod RankPaths
 pub mod FallingLaws
 pub mod PairLaws
+pub mod EnteredLaws
 pub mod FallingPairLaws
 pub mod KernelLaws
 pub mod GroupLaws

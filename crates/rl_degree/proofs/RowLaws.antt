@@ -1,22 +1,25 @@
 -- The search by rows of middle states: its words, one more step, the end, and what it answers.
-use Rattle.std.proofs.Common.{◌≡◌, ◌≢◌, ℕ, zero, suc, ◌+◌, ◌-◌, ◌<◌, ◌≤◌, ◌⊎◌, inl, inr, Bool, true, false, not, List, [], ◌∷◌, ◌++◌, length, get_or, set, replicate, reverse, append_assoc, refl, sym, ◌∙◌, ap, ap₂, subst, arith}
-use Rattle.std.proofs.lemmas.Bool.{cases_eq, cases_lt, cases_Bool, cond-true, cond-false, and_parts, and_from, or_left, or_right, both_ways}
-use Rattle.std.proofs.lemmas.List.{get_or-set_same, get_or-set_other, get_or-replicate, get_or_push, get_or_append_left, length_push, length-set, length-replicate, append-nil, reverse-append}
+use Rattle.std.proofs.Common.{eqb, ◌≡◌, ◌≢◌, ℕ, zero, suc, ◌+◌, ◌-◌, ◌*◌, ◌/◌, ◌%◌, ◌<◌, ◌≤◌, ◌⊎◌, inl, inr, Bool, true, false, not, List, [], ◌∷◌, ◌++◌, length, get_or, set, replicate, reverse, map, flat_map, append_assoc, refl, sym, ◌∙◌, ap, ap₂, subst, arith}
+use Rattle.std.proofs.lemmas.Bool.{eqb-false, cases_eq, cases_lt, cases_Bool, cond-true, cond-false, and_parts, and_from, or_left, or_right, both_ways}
+use Rattle.std.proofs.lemmas.List.{get_or_read, get_or-set_same, get_or-set_other, get_or-replicate, get_or_push, get_or_append_left, length_push, length-set, length-replicate, append-nil, reverse-append}
 use Rattle.rl_lanes.specs.Rows.{list_or, list_and_not, HasOther}
 use Rattle.rl_lanes.specs.Tables.{image as rows_image}
 use Rattle.rl_lanes.proofs.RowLemmas.{length-list_or, get_or-list_or, length-list_and_not, get_or-list_and_not, get_or-replicate_false}
 use Rattle.rl_lanes.proofs.ImageLemmas.{get_or-image, length-image}
 use Rattle.rl_graph.specs.Paths.{total, one, Has, paths, Reaches}
-use Rattle.rl_graph.specs.Graph.{Graph}
-use Rattle.rl_graph.proofs.Sums.{total-there, Has-left, Has-last, Has-push, at-has, at-short, at-get_or}
+use Rattle.rl_graph.specs.Graph.{Graph, edges_of}
+use Rattle.rl_graph.specs.Product.{pair_moves}
+use Rattle.rl_graph.proofs.Sums.{total-there, Has-left, Has-right, Has-last, Has-push, Has-get_or, Has-map, has-map, has-flat_map, at-has, at-short, at-get_or}
 use Rattle.rl_graph.proofs.PathLaws.{nil-same, paths-nil, through_one, positive, move-path, Reaches-move, Reaches-trans}
 use Rattle.rl_kernel.specs.Members.{is_member}
-use Rattle.rl_degree.specs.internal.Moves.{cell, with_cell, IsMoveTable}
-use Rattle.rl_degree.specs.internal.Rows.{Field, field_of, Stand, has_middle, row_with, start_stand, number_of_new, words_from, word_at, IsRooted, reached, IsReached, behind, IsFound, Waits, IsPassed, IsSearching, work_of, IsFurther, IsImage, IsFollowedOn, IsFollowedUpTo}
+use Rattle.rl_degree.specs.internal.Moves.{cell, with_cell, IsMoveTable, IsUsed, AreMoveTables}
+use Rattle.rl_degree.specs.internal.Pairs.{IsTable}
+use Rattle.rl_degree.specs.internal.Rows.{Field, field_of, Stand, has_middle, row_with, start_stand, number_of_new, words_from, word_at, IsRooted, reached, IsReached, behind, IsFound, Waits, IsPassed, IsSearching, work_of, IsFurther, IsImage, IsMet, outer_of, outer_moves, IsFollowedOn, IsFollowedUpTo}
 use Rattle.rl_degree.specs.declared.pairs.PairTable.{PairTable}
 use Rattle.rl_degree.specs.declared.rows.Step.{Step}
 use Rattle.rl_degree.specs.declared.rows.Found.{Found}
 use Rattle.rl_kernel.proofs.MemberLaws.{member-there}
+use Rattle.rl_kernel.proofs.InnerPaths.{pair-first}
 use Rattle.rl_degree.proofs.TableLaws.{cell-one_back, cell-one_here, cell-none, cell-or_back, cell-or_here, cell-or_stays}
 
 -- words
@@ -312,40 +315,61 @@ reach-further d f l y image old fresh s img move member (inr a) =
 
 -- the moves of the pair on a letter, one after the other
 
--- the middle states were seen beside the targets of the first moves
-abbrev pub IsSpreadUpTo : Field → Found → ℕ → List Bool → ℕ → Stand → Type 0
-IsSpreadUpTo d f l image end s =
-    (j k : ℕ) → j < end → is_member d.members d.places (get_or (d.pairs (get_or d.members f.place 0) l) j 0) ≡ true → get_or image k false ≡ true
-    → cell s.seen (get_or d.places (get_or (d.pairs (get_or d.members f.place 0) l) j 0) 0) k ≡ true
+-- what was met stays so
+pub met-stays : (d : Field) (f : Found) (image : List Bool) (y : ℕ) (old new : Stand) → IsFurther d f old new → IsMet d image old y → IsMet d image new y
+met-stays d f image y old new further met member k on = further.grows (get_or d.places y 0) k (met member k on)
 
-pub spread-passed : (d : Field) (f : Found) (l end : ℕ) (image : List Bool) (s : Stand) → is_member d.members d.places (get_or (d.pairs (get_or d.members f.place 0) l) end 0) ≡ false
-    → IsSpreadUpTo d f l image end s → IsSpreadUpTo d f l image (end + 1) s
-spread-passed d f l end image s other old j k lt member on = by (cases_lt j end)
+-- what is no member is met
+pub met-passed : (d : Field) (image : List Bool) (y : ℕ) (s : Stand) → is_member d.members d.places y ≡ false → IsMet d image s y
+met-passed d image y s other member k on = absurd (both_ways (is_member d.members d.places y) other member)
+
+-- what stays so for the first numbers, and holds for the next one
+pub first-more : (before after : ℕ → Type 0) (end : ℕ) → ((j : ℕ) → before j → after j) → after end → ((j : ℕ) → j < end → before j) → (j : ℕ) → j < end + 1 → after j
+first-more before after end stays here old j lt = by (cases_lt j end)
   where
-    by : (j < end) ⊎ (end ≤ j) → cell s.seen (get_or d.places (get_or (d.pairs (get_or d.members f.place 0) l) j 0) 0) k ≡ true
-    by (inl a) = old j k a member on
-    by (inr a) =
-        let e : j ≡ end = omega arith in
-        absurd (both_ways (is_member d.members d.places (get_or (d.pairs (get_or d.members f.place 0) l) j 0))
-        (ap (λ (z : ℕ). is_member d.members d.places (get_or (d.pairs (get_or d.members f.place 0) l) z 0)) e ∙ other) member)
+    by : (j < end) ⊎ (end ≤ j) → after j
+    by (inl a) = stays j (old j a)
+    by (inr a) = let e : end ≡ j = omega arith in subst after e here
 
-pub spread-more : (d : Field) (f : Found) (l end : ℕ) (image : List Bool) (old new : Stand) → IsFurther d f old new
-    → ((k : ℕ) → get_or image k false ≡ true → cell new.seen (get_or d.places (get_or (d.pairs (get_or d.members f.place 0) l) end 0) 0) k ≡ true)
-    → IsSpreadUpTo d f l image end old → IsSpreadUpTo d f l image (end + 1) new
-spread-more d f l end image old new further here before j k lt member on = by (cases_lt j end)
-  where
-    by : (j < end) ⊎ (end ≤ j) → cell new.seen (get_or d.places (get_or (d.pairs (get_or d.members f.place 0) l) j 0) 0) k ≡ true
-    by (inl a) = further.grows (get_or d.places (get_or (d.pairs (get_or d.members f.place 0) l) j 0) 0) k (before j k a member on)
-    by (inr a) = let e : j ≡ end = omega arith in rw e (here k on)
+-- what holds at all places of a list holds of its members
+pub each-place : (is : ℕ → Type 0) (l : List ℕ) (end : ℕ) → length l ≤ end → ((j : ℕ) → j < end → is (get_or l j 0)) → (y : ℕ) → Has y l → is y
+each-place is l end long all y h =
+    let j = at-has y l h in
+    subst is (at-get_or l j.0 y 0 j.1) (all j.0 (omega (arith, at-short l j.0 y j.1)))
 
-pub spread-all : (d : Field) (f : Found) (l end : ℕ) (image : List Bool) (s : Stand) → IsImage d f l image → length (d.pairs (get_or d.members f.place 0) l) ≤ end
-    → IsSpreadUpTo d f l image end s → IsFollowedOn d f l s
-spread-all d f l end image s img long all m fresh y k hy member hk =
-    let row = d.pairs (get_or d.members f.place 0) l in
-    let j = at-has y row hy in
-    let e = at-get_or row j.0 y 0 j.1 in
-    subst (λ (z : ℕ). cell s.seen (get_or d.places z 0) k ≡ true) e
-    (all j.0 k (omega (arith, at-short row j.0 y j.1)) (ap (is_member d.members d.places) e ∙ member) ((img.moves k).1 (m, fresh, hk)))
+pub has-long : (x : ℕ) (l : List ℕ) → Has x l → length l ≡ 0 → ⊥
+has-long x l h e = let i = at-has x l h in absurd (omega (arith, e, at-short l i.0 x i.1))
+
+-- the pairs of the targets of the two states
+has-both : (n x y : ℕ) (a b : List ℕ) → Has x a → Has y b → Has (x * n + y) (flat_map (λ x. map (λ y. x * n + y) b) a)
+has-both n x y [] b hx hy = absurd hx
+has-both n x y (z ∷ a) b (inl e) hy =
+    Has-left (x * n + y) (map (λ y. z * n + y) b) (flat_map (λ x. map (λ y. x * n + y) b) a)
+    (subst (λ (u : ℕ). Has (u * n + y) (map (λ y. z * n + y) b)) (sym e) (Has-map (λ y. z * n + y) y b hy))
+has-both n x y (z ∷ a) b (inr h) hy =
+    Has-right (x * n + y) (map (λ y. z * n + y) b) (flat_map (λ x. map (λ y. x * n + y) b) a) (has-both n x y a b h hy)
+
+pub outer-has : (next : ℕ → ℕ → List ℕ) (n p q z l x y : ℕ) (firsts seconds : List ℕ) → p ≡ z / n → q ≡ z % n → firsts ≡ next p l → seconds ≡ next q l
+    → Has x firsts → Has y seconds → Has (x * n + y) (pair_moves next n z l)
+outer-has next n p q z l x y firsts seconds ep eq ef es hx hy =
+    has-both n x y (next (z / n) l) (next (z % n) l) (subst (λ (r : List ℕ). Has x r) (ef ∙ ap (λ (i : ℕ). next i l) ep) hx) (subst (λ (r : List ℕ). Has y r) (es ∙ ap (λ (i : ℕ). next i l) eq) hy)
+
+-- and no others
+pub outer-only : (next : ℕ → ℕ → List ℕ) (n p q z l m : ℕ) (firsts seconds : List ℕ) → p ≡ z / n → q ≡ z % n → firsts ≡ next p l → seconds ≡ next q l
+    → Has m (pair_moves next n z l) → (x : ℕ) × (y : ℕ) × Has x firsts × Has y seconds × (m ≡ x * n + y)
+outer-only next n p q z l m firsts seconds ep eq ef es h =
+    let a = has-flat_map (λ x. map (λ y. x * n + y) (next (z % n) l)) m (next (z / n) l) h in
+    let b = has-map (λ y. a.0 * n + y) m (next (z % n) l) a.2 in (
+      a.0,
+      b.0,
+      subst (λ (r : List ℕ). Has a.0 r) (sym (ef ∙ ap (λ (i : ℕ). next i l) ep)) a.1,
+      subst (λ (r : List ℕ). Has b.0 r) (sym (es ∙ ap (λ (i : ℕ). next i l) eq)) b.1,
+      b.2,
+    )
+
+-- what was met beside all of them was followed
+pub met-all : (d : Field) (f : Found) (l : ℕ) (image : List Bool) (s : Stand) → IsImage d f l image → ((y : ℕ) → Has y (outer_moves d f l) → IsMet d image s y) → IsFollowedOn d f l s
+met-all d f l image s img all m fresh y k hy member hk = all y hy member k ((img.moves k).1 (m, fresh, hk))
 
 -- the letters, one after the other
 pub followed-more : (d : Field) (f : Found) (end : ℕ) (old new : Stand) → IsFurther d f old new → IsFollowedOn d f end new → IsFollowedUpTo d f end old → IsFollowedUpTo d f (end + 1) new
@@ -367,6 +391,27 @@ image-of g t part l f table row on e = record {
     λ h. ap (λ (r : List Bool). get_or r k false) e ∙ (get_or-image table f.middle g.states k on.wide).1 (h.0, h.1, (on.moves h.0 k).1 h.2),
   );
 }
+
+-- where something was found there are tables
+pub tables-there : (g : Graph) (t : PairTable) (part : ℕ) (f : Found) (s : Stand) → IsTable g t → IsSearching (field_of g t part) (behind f s) → AreMoveTables g t.inner t.moves.items
+tables-there g t part f s is h =
+    let here = (h.found f (inl refl)).place_in in
+    is.moves (outer_of (field_of g t part) f) (is.placed.pairs part f.place here) (is.placed.are_wanted part f.place here)
+
+-- a letter that its pair moves on is used
+pub used-there : (g : Graph) (t : PairTable) (part l p : ℕ) (f : Found) (s : Stand) (firsts : List ℕ) → IsTable g t → IsSearching (field_of g t part) (behind f s) → p ≡ outer_of (field_of g t part) f / t.inner.states
+    → firsts ≡ edges_of t.inner p l → eqb (length firsts) 0 ≡ false → IsUsed t.inner l
+used-there g t part l p f s firsts is h ep ef some =
+    let here = is.placed.pairs part f.place (h.found f (inl refl)).place_in in
+    let ne : length firsts ≢ 0 = eqb-false (length firsts) 0 some in
+    let small = pair-first t.inner.states (outer_of (field_of g t part) f) here in
+    (p, get_or firsts 0 0, omega (arith, small, ep), subst (λ (r : List ℕ). Has (get_or firsts 0 0) r) ef (Has-get_or firsts 0 0 (omega (arith, ne))))
+
+-- the table of a letter
+pub table-at : (g : Graph) (t : PairTable) (part l : ℕ) (f : Found) (s : Stand) (table : List (List Bool)) → IsTable g t → IsSearching (field_of g t part) (behind f s) → l < g.letters → IsUsed t.inner l → table ≡ get_or t.moves.items l table → IsMoveTable g l table
+table-at g t part l f s table is h small used e =
+    let are = tables-there g t part f s is h in
+    subst (IsMoveTable g l) (sym (get_or_read t.moves.items l table (omega (arith, are.size)) e [])) (are.right l small used)
 
 -- what was found is followed
 

@@ -1,14 +1,14 @@
 -- Tables of bits: one more bit, one more row, and the moves on a letter.
-use Rattle.std.proofs.Common.{◌≡◌, ◌≢◌, ℕ, ◌+◌, ◌<◌, ◌≤◌, ◌⊎◌, inl, inr, Bool, true, false, List, [], length, get_or, set, replicate, sym, ◌∙◌, ap, subst, arith}
+use Rattle.std.proofs.Common.{◌∷◌, ◌++◌, ◌≡◌, ◌≢◌, ℕ, ◌+◌, ◌<◌, ◌≤◌, ◌⊎◌, inl, inr, Bool, true, false, List, [], length, get_or, set, replicate, sym, ◌∙◌, ap, subst, arith}
 use Rattle.std.proofs.lemmas.Bool.{cases_eq, cases_lt, or_cases, or_left, or_right, both_ways}
-use Rattle.std.proofs.lemmas.List.{get_or-set_same, get_or-set_other, get_or-replicate, length-set, length-replicate, get_or_past}
+use Rattle.std.proofs.lemmas.List.{get_or_append_left, get_or_push, get_or-set_same, get_or-set_other, get_or-replicate, length-set, length-replicate, get_or_past}
 use Rattle.rl_lanes.specs.Rows.{list_or}
 use Rattle.rl_lanes.proofs.RowLemmas.{get_or-list_or, get_or-replicate_false}
 use Rattle.rl_lanes.proofs.ImageLemmas.{row_lengths-set}
 use Rattle.rl_graph.specs.Paths.{Has}
 use Rattle.rl_graph.specs.Graph.{Graph, edges_of, IsWhole}
 use Rattle.rl_graph.proofs.Sums.{at-has, at-short, at-get_or, Has-get_or}
-use Rattle.rl_degree.specs.internal.Moves.{cell, with_cell, IsMoveTableUpTo}
+use Rattle.rl_degree.specs.internal.Moves.{cell, with_cell, IsMoveTable, IsMoveTableUpTo, IsUsed}
 
 -- one more bit
 
@@ -139,3 +139,17 @@ marked-all g letter state end rows long m = record {
         let i = at-has x (edges_of g state letter) (rw e at has) in
         let f = at-get_or (edges_of g state letter) i.0 x 0 i.1 in
         rw e (subst (λ (z : ℕ). cell rows state z ≡ true) f (m.first i.0 (omega (arith, at-short (edges_of g state letter) i.0 x i.1))))
+
+-- one more table
+pub tables-more : (g inner : Graph) (end : ℕ) (old new : List (List (List Bool))) (table : List (List Bool)) → length old ≡ end → new ≡ old ++ table ∷ [] → (IsUsed inner end → IsMoveTable g end table)
+    → ((k : ℕ) → k < end → IsUsed inner k → IsMoveTable g k (get_or old k [])) → (k : ℕ) → k < end + 1 → IsUsed inner k → IsMoveTable g k (get_or new k [])
+tables-more g inner end old new table long e here before k lt used = by (cases_lt k end)
+  where
+    by : (k < end) ⊎ (end ≤ k) → IsMoveTable g k (get_or new k [])
+    by (inl a) =
+        let at : get_or new k [] ≡ get_or old k [] = ap (λ (v : List (List (List Bool))). get_or v k []) e ∙ get_or_append_left old (table ∷ []) [] k (omega (arith, long)) in
+        subst (IsMoveTable g k) (sym at) (before k a used)
+    by (inr a) =
+        let same : k ≡ end = omega arith in
+        let at : get_or new k [] ≡ table = ap (λ (v : List (List (List Bool))). get_or v k []) e ∙ get_or_push old table [] k (omega (arith, long)) in
+        subst (IsMoveTable g k) (sym at) (subst (λ (z : ℕ). IsMoveTable g z table) (sym same) (here (subst (IsUsed inner) same used)))

@@ -1,6 +1,7 @@
 -- Definitions for the contracts of private functions. No public contract reaches them.
 pub mod Kernel
 pub mod Groups
+pub mod Entries
 pub mod FallingPairs
 pub mod Pairs
 pub mod Moves

@@ -1,40 +1,59 @@
 //! The parts of the product of two copies of a graph, as far as its pairs fall: the second state of such a pair is in a lower
 //! component than the first.
 
-ghost use Rattle.std.specs.Prelude.{◌≡◌, ◌+◌, ◌*◌, ◌<◌, length, IfOk, OnOk};
+ghost use Rattle.std.specs.Prelude.{◌≡◌, ◌+◌, ◌*◌, ◌<◌, ◌&&◌, not, nat_lt, nat_eq, length, slice_index, IfOk, OnOk};
+ghost use Rattle.std.specs.Int.Bits.{bit_and};
 ghost use Rattle.rl_graph.specs.Graph.{edges_of};
-ghost use Rattle.rl_graph.specs.Parts.{IsParts};
-ghost use Rattle.rl_degree.specs.internal.FallingPairs.{falling_moves, AreFlags, AreFlagsUpTo};
+ghost use Rattle.rl_degree.specs.internal.FallingPairs.{falling_moves, AreFlags, AreFlagsUpTo, IsParted};
 
+use crate::entries::entries_of;
 use rl_graph::{Multigraph, Parts, pair_parts};
 use rl_lists::OutOfMemory;
 use std::alloc::Global;
 
-/// Appends for each pair with a first state whether it falls.
-fn push_flags(flags: &mut Vec<bool>, levels: &[u32], first: usize) -> Result<(), OutOfMemory>
+/// Whether a pair falls and a move may lead to it: to each of its states some move leads on one letter, or on letters that are
+/// a multiple of 64 apart.
+fn is_walked(levels: &[u32], entries: &[u64], first: usize, second: usize) -> bool
     requires first_in { first < length levels.now }
-    requires so_far { AreFlagsUpTo levels.now (length levels.now) (first * length levels.now) flags.old.items }
-    ensures { OnOk result (AreFlagsUpTo levels.now (length levels.now) ((first + 1) * length levels.now) flags.new.items) }
+    requires second_in { second < length levels.now }
+    requires size { length entries.now ≡ length levels.now }
+    ensures { result ≡ (nat_lt (slice_index levels.now second) (slice_index levels.now first) && not (nat_eq (bit_and (slice_index entries.now first) (slice_index entries.now second)) 0)) }
+{
+    levels[second] < levels[first] && entries[first] & entries[second] != 0
+}
+
+/// Appends for each pair with a first state whether it falls and a move may lead to it.
+fn push_flags(
+    flags: &mut Vec<bool>,
+    levels: &[u32],
+    entries: &[u64],
+    first: usize,
+) -> Result<(), OutOfMemory>
+    requires first_in { first < length levels.now }
+    requires size { length entries.now ≡ length levels.now }
+    requires so_far { AreFlagsUpTo levels.now entries.now (length levels.now) (first * length levels.now) flags.old.items }
+    ensures { OnOk result (AreFlagsUpTo levels.now entries.now (length levels.now) ((first + 1) * length levels.now) flags.new.items) }
 {
     for second in 0..levels.len() {
-        flags.push(levels[second] < levels[first])?;
+        flags.push(is_walked(levels, entries, first, second))?;
     }
     Ok(())
 }
 
-/// For each pair whether it falls.
-fn falling_flags(alloc: Global, levels: &[u32]) -> Result<Vec<bool>, OutOfMemory>
-    ensures { IfOk result (λ v. AreFlags levels.now (length levels.now) v.items) }
+/// For each pair whether it falls and a move may lead to it.
+fn falling_flags(alloc: Global, levels: &[u32], entries: &[u64]) -> Result<Vec<bool>, OutOfMemory>
+    requires { length entries.now ≡ length levels.now }
+    ensures { IfOk result (λ v. AreFlags levels.now entries.now (length levels.now) v.items) }
 {
     let mut flags = Vec::new(alloc);
     for first in 0..levels.len() {
-        push_flags(&mut flags, levels, first)?;
+        push_flags(&mut flags, levels, entries, first)?;
     }
     Ok(flags)
 }
 
 /// The parts of the product of two copies of a graph with the moves of the pairs that fall alone, by the number of each state's
-/// component.
+/// component. Only pairs that a move may lead to are walked, since no other pair is in a part with a second one.
 ///
 /// # Errors
 /// [`OutOfMemory`] where there was no memory for them.
@@ -44,9 +63,11 @@ pub(crate) fn falling_parts(
     levels: &[u32],
 ) -> Result<Parts, OutOfMemory>
     requires { length levels.now ≡ g.now.states }
-    ensures { IfOk result (IsParts (falling_moves (edges_of g.now) levels.now g.now.states) (g.now.states * g.now.states)) }
+    ensures { IfOk result (IsParted (falling_moves (edges_of g.now) levels.now g.now.states) (g.now.states * g.now.states)) }
 {
-    let flags = falling_flags(alloc, levels)?;
+    let _states = g.states();
+    let entries = entries_of(alloc, g)?;
+    let flags = falling_flags(alloc, levels, &entries)?;
     let parts = pair_parts(alloc, g, &flags)?;
     Ok(parts)
 }

@@ -2,6 +2,7 @@
 #![tactic(auto)]
 
 mod chains;
+mod entries;
 mod falling;
 mod groups;
 mod kernel;

@@ -1,7 +1,7 @@
 //! The moves of a graph as tables of bits.
 
-ghost use Rattle.std.specs.Prelude.{◌≡◌, ◌<◌, ◌+◌, IfOk};
-ghost use Rattle.rl_degree.specs.internal.Moves.{IsMoveTable, IsMoveTableUpTo, AreMoveTables};
+ghost use Rattle.std.specs.Prelude.{◌≡◌, ◌<◌, ◌+◌, false, IfOk};
+ghost use Rattle.rl_degree.specs.internal.Moves.{IsMoveTable, IsMoveTableUpTo, IsUsed, AreMoveTables};
 
 use rl_graph::Multigraph;
 use rl_lanes::BitTable;
@@ -34,16 +34,52 @@ fn move_table(alloc: Global, g: &Multigraph, letter: u32) -> Result<BitTable, Ou
     Ok(table)
 }
 
-/// The table of each letter of a graph.
+/// Whether a graph has a move on a letter.
+fn is_used(g: &Multigraph, letter: u32) -> bool
+    requires { letter < g.now.letters }
+    ensures { result ≡ false → IsUsed g.now letter → ⊥ }
+{
+    for state in 0..g.states() {
+        if !g.edges(state, letter).is_empty() {
+            return true;
+        }
+    }
+    false
+}
+
+/// The table of a letter, an empty one where no inner move is on the letter.
+fn table_on(
+    alloc: Global,
+    g: &Multigraph,
+    inner: &Multigraph,
+    letter: u32,
+) -> Result<BitTable, OutOfMemory>
+    requires letter_in { letter < g.now.letters }
+    requires inner { inner.now.letters ≡ g.now.letters }
+    ensures { IfOk result (λ t. IsUsed inner.now letter → IsMoveTable g.now letter t) }
+{
+    if is_used(inner, letter) {
+        move_table(alloc, g, letter)
+    } else {
+        Ok(BitTable::zeros(alloc, 0, 0)?)
+    }
+}
+
+/// A table for each letter of a graph; on a letter that no inner move has it is empty.
 ///
 /// # Errors
 /// [`OutOfMemory`] where there was no memory for them.
-pub(crate) fn move_tables(alloc: Global, g: &Multigraph) -> Result<Vec<BitTable>, OutOfMemory>
-    ensures { IfOk result (λ v. AreMoveTables g.now v.items) }
+pub(crate) fn move_tables(
+    alloc: Global,
+    g: &Multigraph,
+    inner: &Multigraph,
+) -> Result<Vec<BitTable>, OutOfMemory>
+    requires { inner.now.letters ≡ g.now.letters }
+    ensures { IfOk result (λ v. AreMoveTables g.now inner.now v.items) }
 {
     let mut tables = Vec::new(alloc);
     for letter in 0..g.letters() {
-        tables.push(move_table(alloc, g, letter)?)?;
+        tables.push(table_on(alloc, g, inner, letter)?)?;
     }
     Ok(tables)
 }

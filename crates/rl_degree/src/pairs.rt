@@ -3,7 +3,8 @@
 ghost use Rattle.std.specs.Prelude.{◌≡◌, ℕ, ◌<◌, ◌+◌, ◌*◌, ◌^◌, false, length, slice_index, MatchOption, IfOk, OnOk};
 ghost use Rattle.rl_graph.specs.Parts.{number_of};
 ghost use Rattle.rl_kernel.specs.Members.{is_member, IsPlace};
-ghost use Rattle.rl_degree.specs.internal.Pairs.{is_wanted, lists_of, row_of, with_pair, IsBarePlaced, IsPlaced, IsTable};
+ghost use Rattle.rl_degree.specs.internal.Moves.{AreMoveTables};
+ghost use Rattle.rl_degree.specs.internal.Pairs.{is_wanted, lists_of, row_of, HasOwnList, HaveOwnLists, IsOwnList, IsPut, IsBarePlaced, IsPlaced, IsTable};
 
 use crate::falling::falling_parts;
 use crate::kernel::kernel_of;
@@ -14,17 +15,18 @@ use rl_lanes::BitTable;
 use rl_lists::{Items, OutOfMemory};
 use std::alloc::Global;
 
-/// The pairs that lie on a cycle and fall, by parts: the members of each part of the product, and for each pair its
-/// place among the members of its part.
+/// The pairs that lie on a cycle and fall, by parts: for each part of the product the number of its list, the lists of members,
+/// and for each pair its place among the members of its part. The list 0 is that of all parts with no member.
 #[derive(Drop)]
 pub(crate) struct Placed {
+    pub(crate) numbers: Vec<u64>,
     pub(crate) members: Vec<Items<u64>>,
     pub(crate) places: Vec<u64>,
 }
 
 /// A graph's components, the states that a split may join, their inner moves, the parts of the product of two copies of these
-/// with the moves of the pairs that fall alone, the pairs of each part, and for each letter the table of the graph's moves; no
-/// table where no state is one of those states.
+/// with the moves of the pairs that fall alone, the pairs of each part, and for each letter that
+/// an inner move is on the table of the graph's moves, an empty one for the others; no table where no part has a pair.
 #[derive(Drop)]
 pub(crate) struct PairTable {
     pub(crate) components: Components,
@@ -46,15 +48,19 @@ pub(crate) fn pair_of(count: u64, from: u32, to: u32) -> u64
 impl PairTable {
     /// The pairs of a part.
     pub(crate) fn members_of(&self, part: u64) -> &[u64]
-        requires { part < length self.now.placed.members.items }
+        requires { part < length self.now.placed.numbers.items }
         ensures { result.now ≡ row_of (lists_of self.now.placed) part }
     {
-        self.placed.members[part as usize].as_slice()
+        let number = self.placed.numbers[part as usize] as usize;
+        match self.placed.members.get(number) {
+            Some(row) => row.as_slice(),
+            None => &[],
+        }
     }
 
     /// The pair at a place among the pairs of a part.
     pub(crate) fn pair_at(&self, part: u64, place: usize) -> u64
-        requires part_in { part < length self.now.placed.members.items }
+        requires part_in { part < length self.now.placed.numbers.items }
         requires place_in { place < length (row_of (lists_of self.now.placed) part) }
         ensures { result ≡ slice_index (row_of (lists_of self.now.placed) part) place }
     {
@@ -64,7 +70,7 @@ impl PairTable {
 
     /// The place of a pair among the pairs of a part, if it is one of them.
     pub(crate) fn place_in(&self, part: u64, pair: u64) -> Option<usize>
-        requires part_in { part < length self.now.placed.members.items }
+        requires part_in { part < length self.now.placed.numbers.items }
         requires pair_in { pair < length self.now.placed.places.items }
         ensures { MatchOption result (is_member (row_of (lists_of self.now.placed) part) self.now.placed.places.items pair ≡ false) (IsPlace (row_of (lists_of self.now.placed) part) self.now.placed.places.items pair) }
     {
@@ -95,21 +101,42 @@ impl Placed {
     fn new(alloc: Global, count: usize) -> Result<Placed, OutOfMemory>
         ensures { IfOk result (λ p. IsBarePlaced count (lists_of p)) }
     {
-        let mut members = Vec::with_capacity(alloc, count)?;
-        for _part in 0..count {
-            members.push(Items::new(alloc))?;
-        }
+        let numbers = vec![in alloc; 0; count]?;
+        let mut members = Vec::new(alloc);
+        members.push(Items::new(alloc))?;
         let places = vec![in alloc; 0; count]?;
-        Ok(Placed { members, places })
+        Ok(Placed {
+            numbers,
+            members,
+            places,
+        })
+    }
+
+    /// The number of a part's own list, which is made where the part has none yet.
+    fn own_list(&mut self, alloc: Global, part: u64) -> Result<u64, OutOfMemory>
+        requires part_in { part < length self.old.numbers.items }
+        requires lists { HaveOwnLists (lists_of self.old) }
+        ensures { IfOk result (λ number. IsOwnList part number (lists_of self.old) (lists_of self.new)) }
+    {
+        let number = self.numbers[part as usize];
+        if number > 0 {
+            return Ok(number);
+        }
+        let next = self.members.len() as u64;
+        self.members.push(Items::new(alloc))?;
+        self.numbers[part as usize] = next;
+        Ok(next)
     }
 
     /// Puts a pair behind the members of a part.
-    fn put(&mut self, part: u64, pair: u64) -> Result<(), OutOfMemory>
-        requires part_in { part < length self.old.members.items }
+    fn put(&mut self, alloc: Global, part: u64, pair: u64) -> Result<(), OutOfMemory>
+        requires part_in { part < length self.old.numbers.items }
         requires pair_in { pair < length self.old.places.items }
-        ensures { OnOk result (lists_of self.new ≡ with_pair part pair (lists_of self.old)) }
+        requires lists { HaveOwnLists (lists_of self.old) }
+        ensures { OnOk result (IsPut part pair (lists_of self.old) (lists_of self.new)) }
     {
-        let row = &mut self.members[part as usize];
+        let number = self.own_list(alloc, part)?;
+        let row = &mut self.members[number as usize];
         let place = row.len() as u64;
         row.push(pair)?;
         self.places[pair as usize] = place;
@@ -134,10 +161,27 @@ fn placed_pairs(
     let mut placed = Placed::new(alloc, pairs as usize)?;
     for pair in 0..pairs {
         if wanted(levels, parts, count, pair) {
-            placed.put(parts.of(pair), pair)?;
+            placed.put(alloc, parts.of(pair), pair)?;
         }
     }
     Ok(placed)
+}
+
+/// The tables of the letters of a graph, as far as its inner moves have them, none where no pair is placed.
+fn tables_for(
+    alloc: Global,
+    g: &Multigraph,
+    inner: &Multigraph,
+    placed: &Placed,
+) -> Result<Vec<BitTable>, OutOfMemory>
+    requires { inner.now.letters ≡ g.now.letters }
+    ensures { IfOk result (λ v. HasOwnList (lists_of placed.now) → AreMoveTables g.now inner.now v.items) }
+{
+    if placed.members.len() > 1 {
+        move_tables(alloc, g, inner)
+    } else {
+        Ok(Vec::new(alloc))
+    }
 }
 
 /// The tables of a graph.
@@ -153,11 +197,7 @@ pub(crate) fn table_of(alloc: Global, g: &Multigraph) -> Result<PairTable, OutOf
     let count = u64::from(inner.states());
     let parts = falling_parts(alloc, &inner, &kernel.levels)?;
     let placed = placed_pairs(alloc, &kernel.levels, &parts, count)?;
-    let moves = if count > 0 {
-        move_tables(alloc, g)?
-    } else {
-        Vec::new(alloc)
-    };
+    let moves = tables_for(alloc, g, &inner, &placed)?;
     Ok(PairTable {
         components,
         kernel,

@@ -2,12 +2,13 @@
 //! letters. The outer two are a pair of a part of the product; for each of these pairs a row of bits holds the middle states
 //! that were met beside it. What was met at once stays together, so that a step moves a whole row.
 
-ghost use Rattle.std.specs.Prelude.{◌≡◌, ◌<◌, ◌≤◌, ◌*◌, [], true, false, length, replicate, slice_index_or, IfOk, OnOk, IfSome, IfNone};
+ghost use Rattle.std.specs.Prelude.{◌≡◌, ℕ, ◌<◌, ◌≤◌, ◌+◌, ◌*◌, ◌/◌, ◌%◌, [], true, false, length, replicate, slice_index_or, IfOk, OnOk, IfSome, IfNone};
+ghost use Rattle.rl_graph.specs.Paths.{Has};
 ghost use Rattle.rl_degree.specs.internal.Pairs.{IsTable};
-ghost use Rattle.rl_degree.specs.internal.Rows.{field_of, stand_of, start_stand, number_of_new, steps_with, has_middle, behind, word_at, IsRooted, IsReached, IsSearching, IsImage, IsFurther, IsFollowedOn, IsFollowedUpTo};
+ghost use Rattle.rl_degree.specs.internal.Rows.{field_of, stand_of, start_stand, number_of_new, steps_with, has_middle, outer_of, outer_moves, behind, word_at, IsRooted, IsReached, IsSearching, IsImage, IsMet, IsFurther, IsFollowedOn, IsFollowedUpTo};
 
-use crate::pairs::PairTable;
-use rl_graph::{Multigraph, NextStates, Twice};
+use crate::pairs::{PairTable, pair_of};
+use rl_graph::Multigraph;
 use rl_lanes::BitRow;
 use rl_lists::{Items, OutOfMemory, Word};
 use std::alloc::Global;
@@ -157,7 +158,58 @@ impl Search {
         Ok(())
     }
 
-    /// Meets the middle states of a row beside each pair that the pair of what was found moves to on a letter.
+    /// Meets the middle states of a row beside a pair that the pair of what was found moves to on a letter.
+    fn meet(
+        &mut self,
+        g: &Multigraph,
+        table: &PairTable,
+        part: u64,
+        found: &Found,
+        letter: u32,
+        image: &BitRow,
+        next: u64,
+    ) -> Result<(), OutOfMemory>
+        requires table { IsTable g.now table.now }
+        requires part_in { part < table.now.inner.states * table.now.inner.states }
+        requires searching { IsSearching (field_of g.now table.now part) (behind found.now (stand_of self.old)) }
+        requires image { IsImage (field_of g.now table.now part) found.now letter image.now }
+        requires moves { Has next (outer_moves (field_of g.now table.now part) found.now letter) }
+        ensures { OnOk result (IsFurther (field_of g.now table.now part) found.now (stand_of self.old) (stand_of self.new) × IsMet (field_of g.now table.now part) image.now (stand_of self.new) next) }
+    {
+        if let Some(place) = table.place_in(part, next) {
+            self.reach(found.step, letter, place, image)?;
+        }
+        Ok(())
+    }
+
+    /// Meets them beside the pairs of a first state with each of the second ones.
+    fn spread_from(
+        &mut self,
+        g: &Multigraph,
+        table: &PairTable,
+        part: u64,
+        found: &Found,
+        letter: u32,
+        image: &BitRow,
+        first: u32,
+        seconds: &[u32],
+    ) -> Result<(), OutOfMemory>
+        requires table { IsTable g.now table.now }
+        requires part_in { part < table.now.inner.states * table.now.inner.states }
+        requires searching { IsSearching (field_of g.now table.now part) (behind found.now (stand_of self.old)) }
+        requires image { IsImage (field_of g.now table.now part) found.now letter image.now }
+        requires moves { (y : ℕ) → Has y seconds.now → Has (first * table.now.inner.states + y) (outer_moves (field_of g.now table.now part) found.now letter) }
+        ensures { OnOk result (IsFurther (field_of g.now table.now part) found.now (stand_of self.old) (stand_of self.new) × ((y : ℕ) → Has y seconds.now → IsMet (field_of g.now table.now part) image.now (stand_of self.new) (first * table.now.inner.states + y))) }
+    {
+        let count = u64::from(table.inner.states());
+        for place in 0..seconds.len() {
+            let next = pair_of(count, first, seconds[place]);
+            self.meet(g, table, part, found, letter, image, next)?;
+        }
+        Ok(())
+    }
+
+    /// Meets them beside the pairs of each of the first states with each of the second ones.
     fn spread(
         &mut self,
         g: &Multigraph,
@@ -166,40 +218,38 @@ impl Search {
         found: &Found,
         letter: u32,
         image: &BitRow,
+        firsts: &[u32],
+        seconds: &[u32],
     ) -> Result<(), OutOfMemory>
         requires table { IsTable g.now table.now }
         requires part_in { part < table.now.inner.states * table.now.inner.states }
-        requires letter_in { letter < g.now.letters }
         requires searching { IsSearching (field_of g.now table.now part) (behind found.now (stand_of self.old)) }
         requires image { IsImage (field_of g.now table.now part) found.now letter image.now }
-        ensures { OnOk result (IsFurther (field_of g.now table.now part) found.now (stand_of self.old) (stand_of self.new) × IsFollowedOn (field_of g.now table.now part) found.now letter (stand_of self.new)) }
+        requires moves { (x y : ℕ) → Has x firsts.now → Has y seconds.now → Has (x * table.now.inner.states + y) (outer_moves (field_of g.now table.now part) found.now letter) }
+        ensures { OnOk result (IsFurther (field_of g.now table.now part) found.now (stand_of self.old) (stand_of self.new) × ((x y : ℕ) → Has x firsts.now → Has y seconds.now → IsMet (field_of g.now table.now part) image.now (stand_of self.new) (x * table.now.inner.states + y))) }
     {
-        let _states = g.states();
-        let pairs = Twice {
-            graph: &table.inner,
-        };
-        let pair = table.pair_at(part, found.place);
-        for number in 0..pairs.count(pair, letter) {
-            let next = pairs.target(pair, letter, number);
-            if let Some(place) = table.place_in(part, next) {
-                self.reach(found.step, letter, place, image)?;
-            }
+        for place in 0..firsts.len() {
+            self.spread_from(g, table, part, found, letter, image, firsts[place], seconds)?;
         }
         Ok(())
     }
 
-    /// Follows what was found on a letter.
+    /// Follows what was found, beside the pair of two states, on a letter.
     fn follow_on(
         &mut self,
         g: &Multigraph,
         table: &PairTable,
         part: u64,
         found: &Found,
+        first: u32,
+        second: u32,
         letter: u32,
         image: &mut BitRow,
     ) -> Result<(), OutOfMemory>
         requires table { IsTable g.now table.now }
         requires part_in { part < table.now.inner.states * table.now.inner.states }
+        requires first { first ≡ outer_of (field_of g.now table.now part) found.now / table.now.inner.states }
+        requires second { second ≡ outer_of (field_of g.now table.now part) found.now % table.now.inner.states }
         requires letter_in { letter < g.now.letters }
         requires searching { IsSearching (field_of g.now table.now part) (behind found.now (stand_of self.old)) }
         requires wide { length image.old ≡ g.now.states }
@@ -207,16 +257,13 @@ impl Search {
         ensures followed { OnOk result (IsFollowedOn (field_of g.now table.now part) found.now letter (stand_of self.new)) }
         ensures same_width { length image.new ≡ length image.old }
     {
-        let _states = g.states();
-        let pairs = Twice {
-            graph: &table.inner,
-        };
-        let pair = table.pair_at(part, found.place);
-        if pairs.count(pair, letter) == 0 {
+        let firsts = table.inner.edges(first, letter);
+        let seconds = table.inner.edges(second, letter);
+        if firsts.is_empty() || seconds.is_empty() {
             return Ok(());
         }
         table.moves[letter as usize].image(&found.middle, image);
-        self.spread(g, table, part, found, letter, image)
+        self.spread(g, table, part, found, letter, image, firsts, seconds)
     }
 
     /// Follows what was found on all letters.
@@ -239,8 +286,12 @@ impl Search {
         ensures followed { OnOk result (IsFollowedUpTo (field_of g.now table.now part) found.now g.now.letters (stand_of self.new)) }
         ensures same_width { length image.new ≡ length image.old }
     {
+        let count = u64::from(table.inner.states());
+        let pair = table.pair_at(part, found.place);
+        let first = (pair / count) as u32;
+        let second = (pair % count) as u32;
         for letter in 0..g.letters() {
-            self.follow_on(g, table, part, found, letter, image)?;
+            self.follow_on(g, table, part, found, first, second, letter, image)?;
         }
         Ok(())
     }

@@ -7,14 +7,18 @@ use rl_lists::OutOfMemory;
 use std::alloc::Global;
 use std::test::Fail;
 
-/// The longest chain of the graph of 4 states and 2 letters with these moves: from, letter, to. A graph with a twin has none.
-fn chain_in(alloc: Global, moves: &[(u32, u32, u32)]) -> Result<Option<Chain>, OutOfMemory> {
-    let mut graph = Multigraph::new(alloc, 4, 2)?;
+/// The longest chain of the graph of 4 states and so many letters with these moves: from, letter, to. A graph with a twin has none.
+fn chain_over(
+    alloc: Global,
+    letters: u32,
+    moves: &[(u32, u32, u32)],
+) -> Result<Option<Chain>, OutOfMemory> {
+    let mut graph = Multigraph::new(alloc, 4, letters)?;
     for step in moves {
         let from = step.0;
         let letter = step.1;
         let to = step.2;
-        if from < 4 && letter < 2 && to < 4 {
+        if from < 4 && letter < letters && to < 4 {
             if graph.edges(from, letter).len() < 1000 {
                 graph.add(from, letter, to)?;
             }
@@ -27,6 +31,11 @@ fn chain_in(alloc: Global, moves: &[(u32, u32, u32)]) -> Result<Option<Chain>, O
             Ok(Some(chain))
         }
     }
+}
+
+/// The same for a graph of 2 letters.
+fn chain_in(alloc: Global, moves: &[(u32, u32, u32)]) -> Result<Option<Chain>, OutOfMemory> {
+    chain_over(alloc, 2, moves)
 }
 
 #[test]
@@ -97,6 +106,57 @@ fn rings_in_step(rt: HostRuntime) -> Result<(), Fail> {
     assert_eq!(rt; one.ranks.as_slice(), [1, 1, 0, 0].as_slice());
     match one.links.as_slice() {
         [link] => assert_eq!(rt; link.word.as_slice(), [0, 0].as_slice()),
+        _ => return Err(Fail::from("not one link")),
+    }
+    Ok(())
+}
+
+/// The loops of the states 0, 1 and 2 in a row. The first two share the letter 1, on which a move leads from the one to the other;
+/// the last two share none.
+#[test]
+fn loops_on_some_letters(rt: HostRuntime) -> Result<(), Fail> {
+    let moves = [
+        (0, 0, 0),
+        (0, 1, 0),
+        (0, 2, 0),
+        (0, 1, 1),
+        (1, 1, 1),
+        (1, 3, 1),
+        (1, 2, 2),
+        (2, 0, 2),
+        (2, 2, 2),
+    ];
+    let one = chain_over(rt.alloc(), 4, &moves)?.ok_or("a twin")?;
+    assert_eq!(rt; one.ranks.as_slice(), [1, 0, 0, 0].as_slice());
+    match one.links.as_slice() {
+        [link] => {
+            assert_eq!(rt; link.from, 0);
+            assert_eq!(rt; link.to, 1);
+            assert_eq!(rt; link.word.as_slice(), [1].as_slice());
+        }
+        _ => return Err(Fail::from("not one link")),
+    }
+    Ok(())
+}
+
+/// The state 0 is entered on the letter 0 alone, and the state 1 on the letters 0 and 64, but it loops on 64 alone.
+#[test]
+fn letters_that_are_64_apart(rt: HostRuntime) -> Result<(), Fail> {
+    let moves = [(0, 0, 0), (0, 0, 1), (1, 64, 1)];
+    let none = chain_over(rt.alloc(), 65, &moves)?.ok_or("a twin")?;
+    assert!(rt; none.links.is_empty());
+    assert_eq!(rt; none.ranks.as_slice(), [0, 0, 0, 0].as_slice());
+    Ok(())
+}
+
+/// Both states loop on the letter 64, on which a move leads from the one to the other; the first one loops on 0 too.
+#[test]
+fn a_split_on_a_letter_behind_64(rt: HostRuntime) -> Result<(), Fail> {
+    let moves = [(0, 0, 0), (0, 64, 0), (0, 64, 1), (1, 64, 1)];
+    let one = chain_over(rt.alloc(), 65, &moves)?.ok_or("a twin")?;
+    assert_eq!(rt; one.ranks.as_slice(), [1, 0, 0, 0].as_slice());
+    match one.links.as_slice() {
+        [link] => assert_eq!(rt; link.word.as_slice(), [64].as_slice()),
         _ => return Err(Fail::from("not one link")),
     }
     Ok(())

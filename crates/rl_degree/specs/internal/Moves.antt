@@ -24,7 +24,11 @@ pub record IsMoveTableUpTo (g : Graph) (letter end : ℕ) (rows : List (List Boo
   pub moves : (q t : ℕ) → cell rows q t ≡ true → Has t (edges_of g q letter)
   pub all : (q t : ℕ) → q < end → Has t (edges_of g q letter) → cell rows q t ≡ true
 
--- a table for each letter
-pub record AreMoveTables (g : Graph) (tables : List (List (List Bool))) : Type 0 where
+-- the letter is one of a move of the graph
+abbrev pub IsUsed : Graph → ℕ → Type 0
+IsUsed g l = (q : ℕ) × (m : ℕ) × (q < g.states) × Has m (edges_of g q l)
+
+-- a table for each letter; those of the letters on which the graph of inner moves has a move are right
+pub record AreMoveTables (g inner : Graph) (tables : List (List (List Bool))) : Type 0 where
   pub size : length tables ≡ g.letters
-  pub right : (l : ℕ) → l < g.letters → IsMoveTable g l (slice_index_or tables l [])
+  pub right : (l : ℕ) → l < g.letters → IsUsed inner l → IsMoveTable g l (slice_index_or tables l [])

@@ -1,13 +1,13 @@
 -- The pairs of states that may be splits, by the parts of the product of two copies of the graph of inner moves. The pair of
 -- the states `r` and `q` of a graph with `n` states is the number `r * n + q`.
-use Rattle.std.specs.Prelude.{◌≡◌, ℕ, ◌*◌, ◌<◌, ◌≤◌, Bool, true, ◌&&◌, List, [], ◌∷◌, ◌++◌, length, slice_index, slice_index_or, slice_set}
+use Rattle.std.specs.Prelude.{◌≡◌, ◌≢◌, ℕ, ◌*◌, ◌<◌, ◌≤◌, ◌⊎◌, Bool, true, ◌&&◌, List, [], ◌∷◌, ◌++◌, length, slice_index, slice_index_or, slice_set}
 use Rattle.rl_graph.specs.Graph.{Graph, edges_of}
 use Rattle.rl_graph.specs.Parts.{PartTable, IsParts, number_of, cycle_of}
 use Rattle.rl_kernel.specs.Seats.{seats_of}
 use Rattle.rl_degree.specs.internal.Kernel.{IsKernel}
 use Rattle.rl_kernel.specs.Inner.{IsInner}
 use Rattle.rl_degree.specs.internal.Moves.{AreMoveTables}
-use Rattle.rl_degree.specs.internal.FallingPairs.{falls, falling_moves}
+use Rattle.rl_degree.specs.internal.FallingPairs.{falls, falling_moves, IsParted}
 use Rattle.rl_degree.specs.declared.pairs.Placed.{Placed}
 use Rattle.rl_degree.specs.declared.pairs.PairTable.{PairTable}
 
@@ -15,31 +15,53 @@ use Rattle.rl_degree.specs.declared.pairs.PairTable.{PairTable}
 abbrev pub is_wanted : List ℕ → PartTable → ℕ → ℕ → Bool
 is_wanted levels parts n x = cycle_of parts x && falls levels n x
 
--- the members of each part, and the place of each pair among the members of its part
+-- for each part the number of its list, the lists of members, and the place of each pair among the members of its part
 pub record Lists : Type 0 where
+  pub numbers : List ℕ
   pub members : List (List ℕ)
   pub places : List ℕ
 
 abbrev pub lists_of : Placed → Lists
-lists_of p = record { members = p.members.items; places = p.places.items }
+lists_of p = record { numbers = p.numbers.items; members = p.members.items; places = p.places.items }
+
+-- the number of a part's list
+abbrev pub list_of : Lists → ℕ → ℕ
+list_of p k = slice_index p.numbers k
 
 -- the members of a part
 abbrev pub row_of : Lists → ℕ → List ℕ
-row_of p k = slice_index_or p.members k []
+row_of p k = slice_index_or p.members (list_of p k) []
+
+-- the list 0 is that of all parts with no member, and each other one is that of one part
+pub record HaveOwnLists (p : Lists) : Type 0 where
+  pub none : slice_index_or p.members 0 [] ≡ []
+  pub within : (k : ℕ) → list_of p k < length p.members
+  pub own : (j k : ℕ) → list_of p j ≡ list_of p k → (list_of p j ≡ 0) ⊎ (j ≡ k)
+
+-- a part has a list of its own, with the same members as before
+pub record IsOwnList (part number : ℕ) (old new : Lists) : Type 0 where
+  pub is : list_of new part ≡ number
+  pub some : 0 < number
+  pub within : number < length new.members
+  pub size : length new.numbers ≡ length old.numbers
+  pub rows : (k : ℕ) → row_of new k ≡ row_of old k
+  pub places : new.places ≡ old.places
+  pub lists : HaveOwnLists new
 
 -- one more member of a part
-abbrev pub with_pair : ℕ → ℕ → Lists → Lists
-with_pair part x p =
-    record {
-      members = slice_set p.members part (row_of p part ++ x ∷ []);
-      places = slice_set p.places x (length (row_of p part));
-    }
+pub record IsPut (part x : ℕ) (old new : Lists) : Type 0 where
+  pub here : row_of new part ≡ row_of old part ++ x ∷ []
+  pub elsewhere : (k : ℕ) → k ≢ part → row_of new k ≡ row_of old k
+  pub places : new.places ≡ slice_set old.places x (length (row_of old part))
+  pub size : length new.numbers ≡ length old.numbers
+  pub lists : HaveOwnLists new
 
 -- no member of any of so many parts
 pub record IsBarePlaced (count : ℕ) (p : Lists) : Type 0 where
-  pub rows : length p.members ≡ count
+  pub numbered : length p.numbers ≡ count
   pub size : length p.places ≡ count
   pub empty : (k : ℕ) → row_of p k ≡ []
+  pub lists : HaveOwnLists p
 
 -- the pair stands at its place among the members of its part
 pub record IsHeld (parts : PartTable) (p : Lists) (x : ℕ) : Type 0 where
@@ -48,8 +70,9 @@ pub record IsHeld (parts : PartTable) (p : Lists) (x : ℕ) : Type 0 where
 
 -- the wanted ones of the pairs below `end` are held, and the members are pairs of their part
 pub record IsPlacedUpTo (levels : List ℕ) (parts : PartTable) (n end : ℕ) (p : Lists) : Type 0 where
-  pub rows : length p.members ≡ n * n
+  pub numbered : length p.numbers ≡ n * n
   pub size : length p.places ≡ n * n
+  pub lists : HaveOwnLists p
   pub held : (x : ℕ) → x < end → is_wanted levels parts n x ≡ true → IsHeld parts p x
   pub pairs : (k i : ℕ) → i < length (row_of p k) → slice_index (row_of p k) i < n * n
   pub of_part : (k i : ℕ) → i < length (row_of p k) → number_of parts (slice_index (row_of p k) i) ≡ k
@@ -60,11 +83,16 @@ pub record IsPlacedUpTo (levels : List ℕ) (parts : PartTable) (n end : ℕ) (p
 abbrev pub IsPlaced : List ℕ → PartTable → ℕ → Lists → Type 0
 IsPlaced levels parts n p = IsPlacedUpTo levels parts n (n * n) p
 
--- the tables are right for the graph. A state of a pair is a place among the states that a split may join
+-- some part has a list of its own
+abbrev pub HasOwnList : Lists → Type 0
+HasOwnList p = 1 < length p.members
+
+-- the tables are right for the graph, those of its moves where some pair is wanted. A state of a pair is a place among the states
+-- that a split may join
 pub record IsTable (g : Graph) (t : PairTable) : Type 0 where
   pub components : IsParts (edges_of g) g.states t.components
   pub kernel : IsKernel t.components g.states (seats_of t.kernel)
   pub inner : IsInner g t.components (seats_of t.kernel) t.inner
-  pub parts : IsParts (falling_moves (edges_of t.inner) t.kernel.levels.items t.inner.states) (t.inner.states * t.inner.states) t.parts
+  pub parts : IsParted (falling_moves (edges_of t.inner) t.kernel.levels.items t.inner.states) (t.inner.states * t.inner.states) t.parts
   pub placed : IsPlaced t.kernel.levels.items t.parts t.inner.states (lists_of t.placed)
-  pub moves : 0 < t.inner.states → AreMoveTables g t.moves.items
+  pub moves : (x : ℕ) → x < t.inner.states * t.inner.states → is_wanted t.kernel.levels.items t.parts t.inner.states x ≡ true → AreMoveTables g t.inner t.moves.items

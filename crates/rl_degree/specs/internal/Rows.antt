@@ -59,6 +59,14 @@ stand_of s =
 abbrev pub has_middle : Found → ℕ → Bool
 has_middle f m = slice_index_or f.middle m false
 
+-- the pair that the middle states were found beside
+abbrev pub outer_of : Field → Found → ℕ
+outer_of d f = slice_index d.members f.place
+
+-- its moves on a letter
+abbrev pub outer_moves : Field → Found → ℕ → List ℕ
+outer_moves d f l = d.pairs (outer_of d f) l
+
 -- the row with one state
 abbrev pub row_with : ℕ → ℕ → List Bool
 row_with n m = slice_set (replicate n false) m true
@@ -162,6 +170,11 @@ pub record IsFurther (d : Field) (f : Found) (old new : Stand) : Type 0 where
 pub record IsImage (d : Field) (f : Found) (l : ℕ) (image : List Bool) : Type 0 where
   pub wide : length image ≡ d.states
   pub moves : (k : ℕ) → (slice_index_or image k false ≡ true) ↔ ((m : ℕ) × (has_middle f m ≡ true) × Has k (d.next m l))
+
+-- the middle states of a row were seen beside a pair, where that is in the part
+abbrev pub IsMet : Field → List Bool → Stand → ℕ → Type 0
+IsMet d image s y =
+    is_member d.members d.places y ≡ true → (k : ℕ) → slice_index_or image k false ≡ true → cell s.seen (slice_index d.places y) k ≡ true
 
 -- what was found was followed on a letter
 abbrev pub IsFollowedOn : Field → Found → ℕ → Stand → Type 0

@@ -1,6 +1,7 @@
-use Rattle.std.proofs.Common.{ℕ, ◌∙◌, ap, subst, false, get_or}
+use Rattle.std.proofs.Common.{ℕ, List, ◌∙◌, ap, subst, false, get_or}
 use Rattle.rl_graph.proofs.MarkedLaws.{marked-parts}
-use Rattle.rl_degree.specs.internal.FallingPairs.{falls, AreFlags}
+use Rattle.rl_degree.specs.internal.FallingPairs.{is_walked, AreFlags}
+use Rattle.rl_degree.proofs.EnteredLaws.{falling-parted}
 use Rattle.rl_degree.proofs.falling.falling_parts.Goals as goal
 
 pub returns : goal.returns
@@ -8,6 +9,10 @@ returns c =
     let g = c.args.g.now in
     let n = g.states in
     let levels = c.args.levels.now in
-    let f : AreFlags levels n c.in_ok-flags.flags.items = subst (λ (z : ℕ). AreFlags levels z c.in_ok-flags.flags.items) c.requires c.in_ok-flags.ensures in
-    marked-parts g c.deref.result.now (falls levels n) c.in_ok-parts.parts
-    (λ x lt. ap (λ z. get_or z x false) c.deref.ensures.value ∙ f.right x lt) c.in_ok-parts.ensures
+    let entries = c.in_ok-entries.entries.items in
+    let parts = c.in_ok-parts.parts in
+    let flags = c.in_ok-flags.flags.items in
+    let f : AreFlags levels entries n flags =
+    subst (λ (z : List ℕ). AreFlags levels z n flags) c.deref.ensures.value (subst (λ (z : ℕ). AreFlags levels c.deref.result.now z flags) c.requires c.in_ok-flags.ensures) in
+    falling-parted g levels entries parts c.states-states.ensures.whole c.in_ok-entries.ensures
+    (marked-parts g c.deref-2.result.now (is_walked levels entries n) parts (λ x lt. ap (λ z. get_or z x false) c.deref-2.ensures.value ∙ f.right x lt) c.in_ok-parts.ensures)

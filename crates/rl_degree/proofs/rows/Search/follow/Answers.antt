@@ -1,4 +1,4 @@
-use Rattle.std.proofs.Common.{◌∙◌}
+use Rattle.std.proofs.Common.{inl, refl, ◌∙◌}
 use Rattle.rl_degree.specs.internal.Rows.{field_of, stand_of}
 use Rattle.rl_degree.proofs.RowLaws.{further-more, followed-more}
 use Rattle.rl_degree.proofs.rows.Search.follow.Goals as goal
@@ -16,3 +16,6 @@ loop-letter-preserved c =
       followed = followed-more d f c.loop-letter.letter old new o.further o.followed i.followed;
       wide = c.follow_on.ensures.same_width ∙ i.wide;
     }
+
+pub pair_at-pair-requires-clause-place_in : goal.pair_at-pair-requires-clause-place_in
+pair_at-pair-requires-clause-place_in c = (c.requires.searching.found c.args.found.now (inl refl)).place_in

@@ -1,62 +1,36 @@
-use Rattle.std.proofs.Common.{ℕ, ◌≡◌, true, false, length, get_or, refl, inl, sym, ◌∙◌, ap, subst, arith}
+use Rattle.std.proofs.Common.{ℕ, ◌+◌, ◌*◌, get_or, arith}
 use Rattle.rl_graph.specs.Paths.{Has}
-use Rattle.rl_graph.specs.Graph.{edges_of}
-use Rattle.rl_graph.specs.Product.{pair_moves}
 use Rattle.rl_graph.proofs.Sums.{Has-get_or}
-use Rattle.rl_kernel.specs.Members.{is_member}
-use Rattle.rl_degree.specs.internal.Moves.{cell}
-use Rattle.rl_degree.specs.internal.Rows.{field_of, stand_of, IsReached}
-use Rattle.rl_degree.proofs.RowLaws.{further-more, reach-further, spread-more, spread-passed, spread-all}
+use Rattle.rl_degree.specs.internal.Rows.{field_of, stand_of, IsMet}
+use Rattle.rl_degree.proofs.RowLaws.{further-more, met-stays, first-more, each-place}
 use Rattle.rl_degree.proofs.rows.Search.spread.Goals as goal
-use Rattle.rl_degree.proofs.rows.Search.spread.Goals.{in-Some+in_ok-reach, in_default}
 
-pub pair_at-pair-requires-clause-place_in : goal.pair_at-pair-requires-clause-place_in
-pair_at-pair-requires-clause-place_in c = (c.requires.searching.found c.args.found.now (inl refl)).place_in
+pub spread_from-requires-clause-moves : goal.spread_from-requires-clause-moves
+spread_from-requires-clause-moves c y =
+    let firsts = c.args.firsts.now in
+    c.requires.moves (get_or firsts c.loop-place.place 0) y (Has-get_or firsts c.loop-place.place 0 (omega arith))
 
-pub loop-number-preserved : goal.loop-number-preserved
-loop-number-preserved c =
-    let g = c.args.g.now in
-    let t = c.args.table.now in
-    let d = field_of g t c.args.part in
+pub loop-place-preserved : goal.loop-place-preserved
+loop-place-preserved c =
+    let d = field_of c.args.g.now c.args.table.now c.args.part in
     let f = c.args.found.now in
-    let l = c.args.letter in
     let image = c.args.image.now in
-    let number = c.loop-number.number in
-    let y = c.target-next.result in
-    let old = stand_of c.loop-number.self in
-    let i = c.loop-number.invariant in
-    let row = d.pairs (get_or d.members f.place 0) l in
-    let same = λ (k : ℕ). ap (λ (z : ℕ). get_or (pair_moves (edges_of t.inner) t.inner.states z l) k 0) c.pair_at-pair.ensures in
-    let long : length row ≡ c.count-number-end.result =
-    sym (c.count-number-end.ensures ∙ ap (λ (z : ℕ). length (pair_moves (edges_of t.inner) t.inner.states z l)) c.pair_at-pair.ensures) in
-    let at : y ≡ get_or row number 0 = c.target-next.ensures.target ∙ same number in
-    let has : Has y row = subst (λ (z : ℕ). Has z row) (sym at) (Has-get_or row number 0 (omega arith)) in
-    elim c.match-place_in.branch [
-      | in-Some+in_ok-reach w ↦
-          let new = stand_of w.reach.new.self in
-          let place = w.in-Some.ensures in
-          let met : IsReached f.step l (get_or d.places y 0) image old new = subst (λ (z : ℕ). IsReached f.step l z image old new) place.place w.in_ok-reach.ensures in
-          let r = reach-further d f l y image old new i.further.searching c.requires.image has place.member met in
-          let here = subst (λ (z : ℕ). (k : ℕ) → get_or image k false ≡ true → cell new.seen (get_or d.places z 0) k ≡ true) at r.1 in
-          rw w.self-is (record {
-            further = further-more d f (stand_of c.args.self.now) old new i.further r.0;
-            spread = spread-more d f l number image old new r.0 here i.spread;
-          })
-      | in_default w ↦
-          rw w.self-is (record {
-            further = i.further;
-            spread = spread-passed d f l number image old (ap (is_member d.members d.places) (sym at) ∙ w.in_default.ensures) i.spread;
-          })
-    ]
+    let n = c.args.table.now.inner.states in
+    let old = stand_of c.loop-place.self in
+    let new = stand_of c.spread_from.new.self in
+    let o = c.in_ok-spread_from.ensures in
+    let first = λ (i : ℕ). get_or c.args.firsts.now i 0 in
+    record {
+      further = further-more d f (stand_of c.args.self.now) old new c.loop-place.invariant.further o.0;
+      met = first-more (λ i. (y : ℕ) → Has y c.args.seconds.now → IsMet d image old (first i * n + y)) (λ i. (y : ℕ) → Has y c.args.seconds.now → IsMet d image new (first i * n + y)) c.loop-place.place
+          (λ i met y h. met-stays d f image (first i * n + y) old new o.0 (met y h)) o.1 c.loop-place.invariant.met;
+    }
 
 pub returns : goal.returns
 returns c =
-    let g = c.args.g.now in
-    let t = c.args.table.now in
-    let d = field_of g t c.args.part in
-    let f = c.args.found.now in
-    let l = c.args.letter in
-    let row = d.pairs (get_or d.members f.place 0) l in
-    let long : length row ≡ c.count-number-end.result =
-    sym (c.count-number-end.ensures ∙ ap (λ (z : ℕ). length (pair_moves (edges_of t.inner) t.inner.states z l)) c.pair_at-pair.ensures) in
-    (c.loop-number.invariant.further, spread-all d f l c.loop-number.number c.args.image.now (stand_of c.loop-number.self) c.requires.image (omega arith) c.loop-number.invariant.spread)
+    let d = field_of c.args.g.now c.args.table.now c.args.part in
+    let s = stand_of c.loop-place.self in
+    let n = c.args.table.now.inner.states in (
+      c.loop-place.invariant.further,
+      λ x y hx hy. each-place (λ x. (y : ℕ) → Has y c.args.seconds.now → IsMet d c.args.image.now s (x * n + y)) c.args.firsts.now c.loop-place.place (omega arith) c.loop-place.invariant.met x hx y hy,
+    )

@@ -1,0 +1,24 @@
+-- On which letters the states of a graph are entered: a word for each state, in which each letter has a bit. Letters that are
+-- a multiple of 64 apart have one bit. For private clauses.
+use Rattle.std.specs.Prelude.{◌≡◌, ℕ, ◌%◌, ◌<◌, List, length, slice_index}
+use Rattle.std.specs.Int.{bit_at}
+use Rattle.rl_graph.specs.Paths.{Has}
+use Rattle.rl_graph.specs.Graph.{Graph, edges_of}
+
+-- the letter's bit is set in the state's word
+abbrev pub HasLetter : List ℕ → ℕ → ℕ → Type 0
+HasLetter entries q l = bit_at (slice_index entries q) (l % 64) ≡ 1
+
+-- no bit was cleared
+abbrev pub KeepsLetters : List ℕ → List ℕ → Type 0
+KeepsLetters old new = (q l : ℕ) → HasLetter old q l → HasLetter new q l
+
+-- the bits of the moves of the states below `end` are set
+pub record AreEntriesUpTo (g : Graph) (end : ℕ) (entries : List ℕ) : Type 0 where
+  pub size : length entries ≡ g.states
+  pub entered : (q l m : ℕ) → q < end → Has m (edges_of g q l) → HasLetter entries m l
+
+-- the bits of all moves are set
+pub record AreEntries (g : Graph) (entries : List ℕ) : Type 0 where
+  pub size : length entries ≡ g.states
+  pub entered : (q l m : ℕ) → Has m (edges_of g q l) → HasLetter entries m l
