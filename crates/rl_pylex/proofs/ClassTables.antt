@@ -1,5 +1,5 @@
 -- A table that holds for each byte whether it is of a class.
-use Rattle.std.proofs.Common.{◌≡◌, ℕ, zero, suc, ◌+◌, ◌<◌, Bool, List, [], ◌∷◌, get_or, ap, ◌∙◌, arith}
+use Rattle.std.proofs.Common.{◌≡◌, ℕ, zero, suc, ◌+◌, ◌<◌, Bool, false, List, [], ◌∷◌, get_or, ap, sym, ◌∙◌, arith}
 
 -- the class at n numbers from i on
 unfoldable pub table_from : (ℕ → Bool) → ℕ → ℕ → List Bool
@@ -17,3 +17,9 @@ table_at p i (suc n) (suc k) d h =
 pub read_table : (p : ℕ → Bool) (table : List Bool) (c : ℕ) (d : Bool) → table ≡ table_from p 0 256 → c < 256 → get_or table c d ≡ p c
 read_table p table c d same h =
     let at : 0 + c ≡ c = omega arith in ap (λ (t : List Bool). get_or t c d) same ∙ table_at p 0 256 c d h ∙ ap p at
+
+-- a byte's class, where two classes have one table
+pub read_each : (p q : ℕ → Bool) (c : ℕ) → table_from p 0 256 ≡ table_from q 0 256 → c < 256 → p c ≡ q c
+read_each p q c same h =
+    let at : 0 + c ≡ c = omega arith in
+    ap p (sym at) ∙ sym (table_at p 0 256 c false h) ∙ ap (λ (t : List Bool). get_or t c false) same ∙ table_at q 0 256 c false h ∙ ap q at

@@ -1,6 +1,7 @@
 pub mod Runs
 mod Searches
 mod ClassTables
+mod Lanes
 mod Closing
 pub mod Fronts
 mod Sizes

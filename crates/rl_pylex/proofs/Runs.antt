@@ -7,13 +7,12 @@ use Rattle.rl_pylex.specs.Bytes.{in_line, in_name, in_number, is_blank}
 use Rattle.rl_pylex.specs.Literals.{is_plain}
 use Rattle.rl_pylex.specs.Coding.{is_gap, in_coding}
 use Rattle.rl_pylex.specs.internal.Long.{is_long_plain}
-use Rattle.rl_pylex.specs.internal.Absence.{is_free}
 
 not-not : (b : Bool) → not (not b) ≡ b
 not-not true = refl
 not-not false = refl
 
-prefix_len-not-not : (p : ℕ → Bool) (xs : List ℕ) → prefix_len (λ x. not (not (p x))) xs ≡ prefix_len p xs
+pub prefix_len-not-not : (p : ℕ → Bool) (xs : List ℕ) → prefix_len (λ x. not (not (p x))) xs ≡ prefix_len p xs
 prefix_len-not-not p [] = refl
 prefix_len-not-not p (x ∷ xs) = simp (not-not, prefix_len-not-not p xs)
 
@@ -53,8 +52,5 @@ plain_run xs = run is_plain xs
 
 pub long_run : (quote : ℕ) (xs : List ℕ) → unwrap_or (position (λ c. not (is_long_plain quote c)) xs) (length xs) ≡ prefix_len (is_long_plain quote) xs
 long_run quote xs = run (is_long_plain quote) xs
-
-pub free_run : (first : ℕ) (xs : List ℕ) → unwrap_or (position (λ c. not (is_free first c)) xs) (length xs) ≡ prefix_len (is_free first) xs
-free_run first xs = run (is_free first) xs
 
 pub ruleset runs = (prefix_len-within)

@@ -1,19 +1,24 @@
 -- A run of ordinary bytes, passed step by step, with no word that is the name.
-use Rattle.std.proofs.Common.{◌≡◌, ℕ, zero, suc, ◌+◌, ◌<◌, Bool, true, false, cond, not, ◌&&◌, List, [], ◌∷◌, length, get_or, drop, refl, ap, sym, ◌∙◌, arith, subst}
+use Rattle.std.proofs.Common.{◌≡◌, ℕ, zero, suc, ◌+◌, ◌<◌, ◌≤◌, Bool, true, false, not, ◌&&◌, ◌||◌, List, [], ◌∷◌, length, get_or, drop, refl, ap, sym, ◌∙◌, arith, subst}
 use Rattle.std.proofs.Common.{add-zero, add_assoc, add-one}
 use Rattle.std.specs.Prelude.{nat_eq, ◌==◌}
-use Rattle.std.specs.List.{prefix_len}
-use Rattle.std.specs.Char.{is_ascii_alphabetic}
+use Rattle.std.specs.Char.{is_ascii_lowercase}
+use Rattle.std.specs.List.{prefix_len, starts_with}
 use Rattle.std.proofs.lemmas.Bool.{false≢true}
 use Rattle.std.proofs.lemmas.Bool.Decides.{nat_tests}
-use Rattle.std.proofs.lemmas.List.{drop_more}
+use Rattle.std.proofs.lemmas.List.{drop_more, drop-drop, get_or-drop}
 use Rattle.rl_pylex.specs.Bytes.{has_at, in_name}
-use Rattle.rl_pylex.specs.internal.Absence.{is_ordinary, is_free, word_at, lacks_word, is_inside, IsPassed, IsFreeRun}
+use Rattle.rl_pylex.specs.internal.Absence.{is_ordinary, word_at, lacks_word, is_inside, IsFree, IsPassed, IsFreeRun}
+use Rattle.rl_pylex.specs.internal.Blocks.{stops_at}
 use Rattle.rl_pylex.proofs.Fronts.{has_at-within, has_at-read}
 use Rattle.rl_pylex.proofs.Cuts.{next_rest}
 
 and-false : (b c : Bool) → b ≡ false → (b && c) ≡ false
 and-false b c e = rw e refl
+
+and-right : (b c : Bool) → c ≡ false → (b && c) ≡ false
+and-right true c e = e
+and-right false c e = refl
 
 -- a text that begins with another byte than the name
 pub word_at-other : (first x : ℕ) (name xs : List ℕ) → 0 < length name → get_or name 0 0 ≡ first → nat_eq first x ≡ false → word_at name (x ∷ xs) ≡ false
@@ -21,6 +26,73 @@ unfolding word_at
 word_at-other first x [] xs some same other = absurd (omega arith)
 word_at-other first x (y ∷ ys) xs some same other =
     let differs : nat_eq y x ≡ false = ap (λ k. nat_eq k x) same ∙ other in rw differs refl
+
+both_same : (a b x y : ℕ) → nat_eq a x ≡ true → nat_eq b y ≡ true → (x == a && y == b) ≡ false → ⊥
+both_same a b x y first second apart = grind (arith, nat_tests)
+
+-- a text that doesn't begin with the first two bytes of the name
+word_at-pair : (name text : List ℕ) → 2 ≤ length name → (get_or text 0 0 == get_or name 0 0 && get_or text 1 0 == get_or name 1 0) ≡ false → word_at name text ≡ false
+unfolding word_at
+word_at-pair [] text long apart = absurd (omega arith)
+word_at-pair (a ∷ []) text long apart = absurd (omega arith)
+word_at-pair (a ∷ b ∷ name) [] long apart = refl
+word_at-pair (a ∷ b ∷ name) (x ∷ []) long apart = by-test (nat_eq a x) refl
+  where
+    by-test : (t : Bool) → nat_eq a x ≡ t → word_at (a ∷ b ∷ name) (x ∷ []) ≡ false
+    by-test true e = rw e refl
+    by-test false e = rw e refl
+word_at-pair (a ∷ b ∷ name) (x ∷ y ∷ text) long apart = by-tests (nat_eq a x) (nat_eq b y) refl refl
+  where
+    by-tests : (t u : Bool) → nat_eq a x ≡ t → nat_eq b y ≡ u → word_at (a ∷ b ∷ name) (x ∷ y ∷ text) ≡ false
+    by-tests false u e f = rw e refl
+    by-tests true false e f = rw (e, f) refl
+    by-tests true true e f = absurd (both_same a b x y e f apart)
+
+small_in_name : (c : ℕ) → is_ascii_lowercase c ≡ true → in_name c ≡ true
+small_in_name c e = grind (arith, nat_tests)
+
+has_small : (n : ℕ) (text : List ℕ) → is_ascii_lowercase (get_or text n 0) ≡ true → has_at in_name n text ≡ true
+has_small n [] e = absurd (false≢true e)
+has_small zero (x ∷ text) e = small_in_name x e
+has_small (suc n) (x ∷ text) e = has_small n text e
+
+-- a text with a small letter where the name would end
+word_at-inside : (name text : List ℕ) → is_ascii_lowercase (get_or text (length name) 0) ≡ true → word_at name text ≡ false
+unfolding word_at
+word_at-inside name text e = and-right (starts_with nat_eq text name) _ (ap not (has_small (length name) text e))
+
+no_pair : (b c : Bool) → (b && c && true) ≡ false → (b && c) ≡ false
+no_pair true true e = e
+no_pair true false e = refl
+no_pair false c e = refl
+
+stop_parts : (b c : Bool) → (not b || c) ≡ false → (b ≡ true) × (c ≡ false)
+stop_parts true c e = (refl, e)
+stop_parts false c e = absurd (false≢true (sym e))
+
+word_at-unless : (name text : List ℕ) → 2 ≤ length name
+    → (get_or text 0 0 == get_or name 0 0 && get_or text 1 0 == get_or name 1 0 && not (is_ascii_lowercase (get_or text (length name) 0))) ≡ false → word_at name text ≡ false
+word_at-unless name text long apart = by-test (is_ascii_lowercase (get_or text (length name) 0)) refl
+  where
+    pair : Bool → Bool
+    pair b = get_or text 0 0 == get_or name 0 0 && get_or text 1 0 == get_or name 1 0 && not b
+
+    by-test : (b : Bool) → is_ascii_lowercase (get_or text (length name) 0) ≡ b → word_at name text ≡ false
+    by-test true e = word_at-inside name text e
+    by-test false e = word_at-pair name text long (no_pair (get_or text 0 0 == get_or name 0 0) (get_or text 1 0 == get_or name 1 0) (ap pair (sym e) ∙ apart))
+
+-- bytes that are no stops
+pub free-run : (name text : List ℕ) (n : ℕ) → 2 ≤ length name → ((k : ℕ) → k < n → stops_at name text k ≡ false) → IsFree name text n
+free-run name text n long clear k below =
+    let parts = stop_parts (is_ordinary (get_or text k 0)) _ (clear k below) in
+    let rest = drop k text in
+    let here : get_or rest 0 0 ≡ get_or text k 0 = get_or-drop k text 0 0 ∙ ap (λ p. get_or text p 0) (add-zero k) in
+    let next : get_or rest 1 0 ≡ get_or text (k + 1) 0 = get_or-drop k text 1 0 in
+    let end : get_or rest (length name) 0 ≡ get_or text (k + length name) 0 = get_or-drop k text (length name) 0 in (
+      parts.0,
+      word_at-unless name rest long
+          ((λ i. here i == get_or name 0 0 && next i == get_or name 1 0 && not (is_ascii_lowercase (end i))) ∙ parts.1),
+    )
 
 pub lacks_word-step : (name xs : List ℕ) (x : ℕ) (inside : Bool) → is_ordinary x ≡ true → (not inside && word_at name (x ∷ xs)) ≡ false
     → lacks_word name inside (x ∷ xs) ≡ lacks_word name (in_name x) xs
@@ -51,59 +123,35 @@ passed-one name text xs x at e o w p =
           ∙ ap (λ (b : Bool). lacks_word name b (drop (at + 1) text)) (sym (inside_after text xs x at e));
     }
 
-and-parts : (b c : Bool) → (b && not c) ≡ true → (b ≡ true) × (c ≡ false)
-and-parts true true e = absurd (false≢true e)
-and-parts true false e = (refl, refl)
-and-parts false c e = absurd (false≢true e)
+free-on : (name text : List ℕ) (at n : ℕ) → n ≤ length (drop at text) → IsFree name (drop at text) n → IsPassed name text at → IsPassed name text (at + n)
+free-on name text at zero within free p = subst (λ (k : ℕ). IsPassed name text k) (sym (add-zero at)) p
+free-on name text at (suc n) within free p =
+    let rest = drop at text in
+    let here : drop (at + n) text ≡ get_or rest n 0 ∷ drop (n + 1) rest = sym (drop-drop n at text) ∙ drop_more rest n 0 within in
+    let word : word_at name (get_or rest n 0 ∷ drop (n + 1) rest) ≡ false =
+    ap (word_at name) (sym (drop_more rest n 0 within)) ∙ (free n (omega arith)).1 in
+    let step : at + n + 1 ≡ at + suc n = omega arith in
+    subst (λ (k : ℕ). IsPassed name text k) step
+    (passed-one name text (drop (n + 1) rest) (get_or rest n 0) (at + n) here (free n (omega arith)).0 (and-right (not (is_inside (at + n) text)) (word_at name (get_or rest n 0 ∷ drop (n + 1) rest)) word)
+    (free-on name text at n (omega (arith, within)) (λ k below. free k (omega (arith, below))) p))
 
-other_way : (m n : ℕ) → (m == n) ≡ false → nat_eq n m ≡ false
-other_way m n e = grind (arith, nat_tests)
-
-free_parts : (first x : ℕ) → is_free first x ≡ true → (is_ordinary x ≡ true) × (nat_eq first x ≡ false)
-free_parts first x e =
-    let parts = and-parts (is_ordinary x) (x == first) e in (parts.0, other_way x first parts.1)
-
-and-right : (b c : Bool) → c ≡ false → (b && c) ≡ false
-and-right true c e = e
-and-right false c e = refl
-
-free_first : (name text xs : List ℕ) (first x at : ℕ) (b : Bool) → is_free first x ≡ b → 0 < length name → get_or name 0 0 ≡ first → drop at text ≡ x ∷ xs
-    → IsPassed name text at → (IsPassed name text (at + 1) → IsPassed name text (at + 1 + prefix_len (is_free first) xs))
-    → IsPassed name text (at + cond b (1 + prefix_len (is_free first) xs) 0)
-free_first name text xs first x at false is some same e p later = subst (λ (n : ℕ). IsPassed name text n) (sym (add-zero at)) p
-free_first name text xs first x at true is some same e p later =
-    let parts = free_parts first x is in
-    let one : IsPassed name text (at + 1) =
-    passed-one name text xs x at e parts.0 (and-right (not (is_inside at text)) (word_at name (x ∷ xs)) (word_at-other first x name xs some same parts.1)) p in
-    subst (λ (n : ℕ). IsPassed name text n) (add_assoc at 1 (prefix_len (is_free first) xs)) (later one)
-
-free-from : (name text rest : List ℕ) (first at : ℕ) → 0 < length name → get_or name 0 0 ≡ first → drop at text ≡ rest → IsPassed name text at → IsPassed name text (at + prefix_len (is_free first) rest)
-free-from name text [] first at some same e p = subst (λ (n : ℕ). IsPassed name text n) (sym (add-zero at)) p
-free-from name text (x ∷ xs) first at some same e p =
-    free_first name text xs first x at (is_free first x) refl some same e p (λ one. free-from name text xs first (at + 1) some same (next_rest text xs x at e) one)
-
-pub passed-start : (name text : List ℕ) (first n : ℕ) → has_at is_ascii_alphabetic 0 name ≡ true → first ≡ get_or name 0 0 → n ≡ prefix_len (is_free first) text → IsPassed name text n
-passed-start name text first n word same e =
+pub passed-start : (name text : List ℕ) (n : ℕ) → n ≤ length text → IsFree name text n → IsPassed name text n
+passed-start name text n within free =
     let none : IsPassed name text 0 = record { run = sym (zero-add (prefix_len is_ordinary text)); free = refl } in
-    let whole : 0 + prefix_len (is_free first) text ≡ n = zero-add (prefix_len (is_free first) text) ∙ sym e in
-    subst (λ (k : ℕ). IsPassed name text k) whole
-    (free-from name text text first 0 (has_at-within is_ascii_alphabetic 0 name word) (sym same) refl none)
+    subst (λ (k : ℕ). IsPassed name text k) (zero-add n) (free-on name text 0 n within free none)
   where
     zero-add : (k : ℕ) → 0 + k ≡ k
     zero-add k = omega arith
 
-pub passed-on : (name text : List ℕ) (first at n : ℕ) → has_at is_ascii_alphabetic 0 name ≡ true → first ≡ get_or name 0 0
-    → IsPassed name text at → has_at is_ordinary at text ≡ true → false ≡ (not (is_inside at text) && word_at name (drop at text))
-    → n ≡ prefix_len (is_free first) (drop (at + 1) text) → IsPassed name text (at + (1 + n))
-passed-on name text first at n word same p o w e =
+pub passed-on : (name text : List ℕ) (at n : ℕ) → IsPassed name text at → has_at is_ordinary at text ≡ true → false ≡ (not (is_inside at text) && word_at name (drop at text))
+    → n ≤ length (drop (at + 1) text) → IsFree name (drop (at + 1) text) n → IsPassed name text (at + (1 + n))
+passed-on name text at n p o w within free =
     let below : at < length text = has_at-within is_ordinary at text o in
     let here : drop at text ≡ get_or text at 0 ∷ drop (at + 1) text = drop_more text at 0 below in
     let one : IsPassed name text (at + 1) =
     passed-one name text (drop (at + 1) text) (get_or text at 0) at here (has_at-read is_ordinary at text o)
     (ap (λ ys. not (is_inside at text) && word_at name ys) (sym here) ∙ sym w) p in
-    let end : at + 1 + prefix_len (is_free first) (drop (at + 1) text) ≡ at + (1 + n) = omega (arith, e) in
-    subst (λ (k : ℕ). IsPassed name text k) end
-    (free-from name text (drop (at + 1) text) first (at + 1) (has_at-within is_ascii_alphabetic 0 name word) (sym same) refl one)
+    subst (λ (k : ℕ). IsPassed name text k) (add_assoc at 1 n) (free-on name text (at + 1) n within free one)
 
 -- a run ends at a byte that isn't ordinary, and at the end of the text
 ended : (name rest : List ℕ) (inside : Bool) → has_at is_ordinary 0 rest ≡ false → (prefix_len is_ordinary rest ≡ 0) × (lacks_word name inside rest ≡ true)

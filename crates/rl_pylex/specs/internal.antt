@@ -2,3 +2,4 @@
 pub mod Long
 pub mod Rows
 pub mod Absence
+pub mod Blocks

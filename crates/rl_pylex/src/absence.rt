@@ -1,37 +1,26 @@
 // A quick look at a source: whether it has tokens, none of them a certain name.
-ghost use Rattle.std.specs.Prelude.{◌≡◌, ℕ, ◌+◌, ◌<◌, ◌≤◌, length, drop, true, not, ◌&&◌, position, IsTrue, IfSome};
+ghost use Rattle.std.specs.Prelude.{◌≡◌, ℕ, ◌+◌, ◌<◌, ◌≤◌, length, drop, true, not, ◌&&◌, IsTrue, IfSome};
 ghost use Rattle.std.specs.Char.{is_ascii_alphabetic};
-ghost use Rattle.std.specs.List.{prefix_len};
 ghost use Rattle.rl_pylex.specs.Bytes.{has_at, in_name, text_start};
-ghost use Rattle.rl_pylex.specs.Source.{IsReadable, LacksName};
-ghost use Rattle.rl_pylex.specs.internal.Absence.{is_ordinary, is_free, word_at, is_inside, IsFreeRun, size_of_fit, size_between, ReachesWithout};
+ghost use Rattle.rl_pylex.specs.Source.{LacksName};
+ghost use Rattle.rl_pylex.specs.internal.Absence.{is_ordinary, word_at, is_inside, IsFree, IsFreeRun, size_of_fit, size_between, ReachesWithout};
 
+use crate::blocks::size_before_stop;
 use crate::bytes::{in_name, is_ordinary, is_quote, line_size, rest_from, text_start};
-use crate::coding::wrong_coding;
-use crate::lex::MOST_BYTES;
+use crate::lex::check_source;
 use crate::literals::size_after;
 use crate::rules::{Fit, joined_line};
 
-/// Whether the byte is ordinary and not the first of the name.
-fn is_free(byte: u8, first: u8) -> bool
-    ensures { result ≡ is_free first byte }
-{
-    is_ordinary(byte) && byte != first
-}
-
-fn after_free(text: &[u8], first: u8) -> Option<usize>
-    ensures { result ≡ position (λ c. not (is_free first c)) text.now }
-{
-    text.iter().position(|byte| !is_free(*byte, first))
-}
-
-/// How many ordinary bytes other than the first of the name stand at the front of the text.
-#[tactic(auto, using(crate::proofs::Runs::free_run, crate::proofs::Runs::runs))]
-fn free_size(text: &[u8], first: u8) -> usize
-    ensures value { result ≡ prefix_len (is_free first) text.now }
+/// A number of ordinary bytes at the front of the text, at none of which the name stands as a whole word.
+fn free_size(text: &[u8], name: &[u8]) -> usize
     ensures within { result ≤ length text.now }
+    ensures free { IsFree name.now text.now result }
 {
-    after_free(text, first).unwrap_or(text.len())
+    if name.len() < 2 {
+        0
+    } else {
+        size_before_stop(text, name)
+    }
 }
 
 fn has_name_byte(text: &[u8], at: usize) -> bool
@@ -82,13 +71,12 @@ fn run_without(text: &[u8], name: &[u8]) -> Option<usize>
     ensures free { IfSome result (IsFreeRun name.now text.now) }
     ensures within { IfSome result (λ n. n ≤ length text.now) }
 {
-    let first = name[0];
-    let mut at = free_size(text, first);
+    let mut at = free_size(text, name);
     while has_ordinary(text, at) {
         if is_word(text, at, name) {
             return None;
         }
-        at += 1 + free_size(rest_from(text, at + 1), first);
+        at += 1 + free_size(rest_from(text, at + 1), name);
     }
     Some(at)
 }
@@ -125,19 +113,6 @@ fn size_between(text: &[u8]) -> Option<usize>
     size_found(text)
 }
 
-/// Whether the source has at most 4,194,304 bytes of UTF-8, with no coding line of another coding.
-fn is_readable(source: &[u8]) -> bool
-    ensures { IsTrue result → IsReadable source.now }
-{
-    if source.len() > MOST_BYTES {
-        return false;
-    }
-    if simdutf8::compat::from_utf8(source).is_err() {
-        return false;
-    }
-    wrong_coding(rest_from(source, text_start(source))).is_none()
-}
-
 /// Whether the source is cut into pieces from the place `first` on where its text begins, none of them the name.
 fn passes_without(source: &[u8], first: usize, name: &[u8]) -> bool
     requires word { has_at is_ascii_alphabetic 0 name.now ≡ true }
@@ -165,5 +140,5 @@ pub fn lacks_name(source: &[u8], name: &[u8]) -> bool
     requires { has_at is_ascii_alphabetic 0 name.now ≡ true }
     ensures { IsTrue result → LacksName source.now name.now }
 {
-    is_readable(source) && passes_without(source, text_start(source), name)
+    check_source(source).is_ok() && passes_without(source, text_start(source), name)
 }

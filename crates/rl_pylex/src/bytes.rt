@@ -4,6 +4,7 @@ ghost use Rattle.std.specs.List.{prefix_len};
 ghost use Rattle.rl_pylex.specs.Bytes.{has_at, is_blank, is_backslash, is_quote, ends_line, in_line, starts_name, in_name, in_number, is_operator, is_plain_operator, opens_bracket, closes_bracket, line_end, text_start};
 ghost use Rattle.rl_pylex.specs.internal.Absence.{is_ordinary};
 
+use crate::blocks::{BLOCK, line_in_block};
 use crate::tables::{
     BLANKS, CLOSING_BRACKETS, NAME_BYTES, OPENING_BRACKETS, ORDINARY_BYTES, PLAIN_OPERATORS,
 };
@@ -117,13 +118,28 @@ fn after_line(text: &[u8]) -> Option<usize>
     memchr2(b'\n', b'\r', text)
 }
 
-/// How many bytes there are up to the next line end or the end of the text.
 #[tactic(auto, using(crate::proofs::Runs::line_run, crate::proofs::Runs::runs))]
-pub fn line_size(text: &[u8]) -> usize
+fn line_size_slowly(text: &[u8]) -> usize
     ensures value { result ≡ prefix_len in_line text.now }
     ensures within { result ≤ length text.now }
 {
     after_line(text).unwrap_or(text.len())
+}
+
+/// How many bytes there are up to the next line end or the end of the text.
+pub fn line_size(text: &[u8]) -> usize
+    ensures value { result ≡ prefix_len in_line text.now }
+    ensures within { result ≤ length text.now }
+{
+    let mut at = 0;
+    while text.len() - at >= BLOCK {
+        let inside = line_in_block(text, at);
+        if inside < BLOCK {
+            return at + inside;
+        }
+        at += BLOCK;
+    }
+    at + line_size_slowly(rest_from(text, at))
 }
 
 fn after_blanks(text: &[u8]) -> Option<usize>

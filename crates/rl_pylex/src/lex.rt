@@ -13,7 +13,7 @@ use crate::{LexError, Token, TokenKind, TokenList};
 use std::alloc::Global;
 
 /// The greatest length of a source, in bytes.
-pub const MOST_BYTES: usize = 4_194_304;
+const MOST_BYTES: usize = 4_194_304;
 
 /// Appends the token of a piece, if the piece has one.
 fn push_piece(
@@ -72,6 +72,24 @@ fn read_pieces(alloc: Global, source: &[u8], first: usize) -> Result<TokenList, 
     Ok(tokens)
 }
 
+/// Refuses a source that isn't at most 4,194,304 bytes of UTF-8, or whose coding line names another coding.
+pub fn check_source(source: &[u8]) -> Result<(), LexError>
+    ensures ok { IfOk result (λ _. IsReadable source.now) }
+    ensures err { IfErr result (IsFault source.now) }
+{
+    if source.len() > MOST_BYTES {
+        return Err(LexError::FileTooLong);
+    }
+    if let Err(error) = simdutf8::compat::from_utf8(source) {
+        return Err(LexError::NotUtf8(error.valid_up_to() as u32));
+    }
+    let first = text_start(source);
+    match wrong_coding(rest_from(source, first)) {
+        None => Ok(()),
+        Some(place) => Err(LexError::Coding((first + place) as u32)),
+    }
+}
+
 /// The tokens of a source in order. They don't overlap, and each one's text is its slice of the source.
 ///
 /// # Errors
@@ -88,15 +106,6 @@ pub fn tokens(alloc: Global, source: &[u8]) -> Result<TokenList, LexError>
     ensures ok { IfOk result (IsTokenList source.now) }
     ensures err { IfErr result (IsFault source.now) }
 {
-    if source.len() > MOST_BYTES {
-        return Err(LexError::FileTooLong);
-    }
-    if let Err(error) = simdutf8::compat::from_utf8(source) {
-        return Err(LexError::NotUtf8(error.valid_up_to() as u32));
-    }
-    let first = text_start(source);
-    if let Some(place) = wrong_coding(rest_from(source, first)) {
-        return Err(LexError::Coding((first + place) as u32));
-    }
-    read_pieces(alloc, source, first)
+    check_source(source)?;
+    read_pieces(alloc, source, text_start(source))
 }

@@ -21,6 +21,7 @@
 #![tactic(auto)]
 
 mod absence;
+mod blocks;
 mod bytes;
 mod coding;
 mod fault;

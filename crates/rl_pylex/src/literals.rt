@@ -6,6 +6,7 @@ ghost use Rattle.rl_pylex.specs.Bytes.{has_at, is_quote, ends_line};
 ghost use Rattle.rl_pylex.specs.Literals.{is_prefix, opens_after, prefix_size, starts_literal, Skips, is_plain, quotes_at, quote_count, unit_size, close_from, size_after};
 ghost use Rattle.rl_pylex.specs.internal.Long.{is_long_plain};
 
+use crate::blocks::{BLOCK, plain_in_block};
 use crate::bytes::{ends_line, is_quote, rest_from};
 use crate::tables::LITERAL_STARTS;
 use memchr::memchr2;
@@ -85,13 +86,28 @@ fn after_plain(text: &[u8]) -> Option<usize>
     text.iter().position(|byte| !is_plain(*byte))
 }
 
-/// How many bytes at the front of a literal's body are passed one by one.
 #[tactic(auto, using(crate::proofs::Runs::plain_run, crate::proofs::Runs::runs))]
-fn plain_size(text: &[u8]) -> usize
+fn plain_size_slowly(text: &[u8]) -> usize
     ensures value { result ≡ prefix_len is_plain text.now }
     ensures within { result ≤ length text.now }
 {
     after_plain(text).unwrap_or(text.len())
+}
+
+/// How many bytes at the front of a literal's body are passed one by one.
+fn plain_size(text: &[u8]) -> usize
+    ensures value { result ≡ prefix_len is_plain text.now }
+    ensures within { result ≤ length text.now }
+{
+    let mut at = 0;
+    while text.len() - at >= BLOCK {
+        let plain = plain_in_block(text, at);
+        if plain < BLOCK {
+            return at + plain;
+        }
+        at += BLOCK;
+    }
+    at + plain_size_slowly(rest_from(text, at))
 }
 
 fn after_long_plain(text: &[u8], quote: u8) -> Option<usize>

@@ -298,6 +298,81 @@ fn present_names(rt: HostRuntime) -> Result<(), Fail> {
     Ok(())
 }
 
+/// A text of so many `x`, a piece, and so many `x` behind it.
+fn between(alloc: Global, before: usize, piece: &str, behind: usize) -> Result<String, Fail> {
+    let mut source = String::new(alloc);
+    for _one in 0..before {
+        source.push('x')?;
+    }
+    source.push_str(piece)?;
+    for _one in 0..behind {
+        source.push('x')?;
+    }
+    Ok(source)
+}
+
+/// Whether a quick look gives this answer for the piece at each place of a block, and across two of them.
+fn looks(rt: &(impl Abort + AllocGlobal), piece: &str, wanted: bool) -> Result<(), Fail> {
+    for behind in [0, 3, 17, 33] {
+        for before in 0..36 {
+            let source = between(rt.alloc(), before, piece, behind)?;
+            assert_eq!(rt; lacks_name(source.as_bytes(), b"re"), wanted);
+        }
+    }
+    Ok(())
+}
+
+/// The name `re` as a token at each place of a block.
+#[test]
+fn names_in_blocks(rt: HostRuntime) -> Result<(), Fail> {
+    for piece in [
+        " re ",
+        "(re)",
+        ".re\n",
+        "\tre=",
+        "\u{c}re;",
+        "\"a\"re#",
+        " return re ",
+    ] {
+        looks(&rt, piece, false)?;
+    }
+    Ok(())
+}
+
+/// The name `re` inside other tokens at each place of a block.
+#[test]
+fn others_in_blocks(rt: HostRuntime) -> Result<(), Fail> {
+    for piece in [
+        " return ",
+        " are ",
+        " re_ ",
+        " re9 ",
+        " \u{E9}re ",
+        " re\u{E9} ",
+        " r e ",
+        "'re'",
+        "\"a re\\\"re\"",
+        "'''\nre'''",
+        "# re ",
+        "\\\n",
+        "\r\n\t\u{c}%&",
+    ] {
+        looks(&rt, piece, true)?;
+    }
+    Ok(())
+}
+
+/// A fault at each place of a block.
+#[test]
+fn faults_in_blocks(rt: HostRuntime) -> Result<(), Fail> {
+    for piece in [
+        "?", "$", "`", "\\ ", "'", "\"\n", "\u{0}", "\u{b}", "\u{1f}", "\u{7f}",
+    ] {
+        looks(&rt, piece, false)?;
+    }
+    Ok(())
+}
+
 /// Sources with a fault have no tokens.
 #[test]
 fn faults_at_a_quick_look(rt: HostRuntime) -> Result<(), Fail> {

@@ -1,5 +1,5 @@
 -- What a quick look for a name passes: runs of ordinary bytes, and the literals, comments and joined lines between them.
-use Rattle.std.specs.Prelude.{◌≡◌, ◌≢◌, ℕ, zero, suc, ◌+◌, Bool, true, false, not, ◌&&◌, ◌||◌, ◌==◌, nat_eq, List, [], ◌∷◌, length, drop, All, Option, Some, None, if◌then◌else◌}
+use Rattle.std.specs.Prelude.{◌≡◌, ◌≢◌, ℕ, zero, suc, ◌+◌, ◌<◌, Bool, true, false, not, ◌&&◌, ◌||◌, ◌==◌, nat_eq, List, [], ◌∷◌, length, slice_index, drop, All, Option, Some, None, if◌then◌else◌}
 use Rattle.std.specs.List.{prefix_len, starts_with}
 use Rattle.rl_pylex.specs.declared.token_list.Token.{Token}
 use Rattle.rl_pylex.specs.declared.token_list.TokenKind.TheVariants as kind
@@ -14,10 +14,6 @@ use Rattle.rl_pylex.specs.Source.{text_of, Reaches}
 unfoldable pub is_ordinary : ℕ → Bool
 is_ordinary c = is_blank c || ends_line c || in_name c || is_operator c
 
--- an ordinary byte other than the first of the name
-abbrev pub is_free : ℕ → ℕ → Bool
-is_free first c = is_ordinary c && not (c == first)
-
 -- the text begins with the name, and no byte of a name follows
 unfoldable pub word_at : List ℕ → List ℕ → Bool
 word_at name text = starts_with nat_eq text name && not (has_at in_name (length name) text)
@@ -27,6 +23,11 @@ abbrev pub lacks_word : List ℕ → Bool → List ℕ → Bool
 lacks_word name inside [] = true
 lacks_word name inside (c ∷ text) =
     not (is_ordinary c) || (not (not inside && word_at name (c ∷ text)) && lacks_word name (in_name c) text)
+
+-- Each of the first n bytes of the text is ordinary, and the name doesn't stand there as a whole word.
+abbrev pub IsFree : List ℕ → List ℕ → ℕ → Type 0
+IsFree name text n =
+    (k : ℕ) → k < n → (is_ordinary (slice_index text k) ≡ true) × (word_at name (drop k text) ≡ false)
 
 -- a byte of a name stands before the place
 abbrev pub is_inside : ℕ → List ℕ → Bool

@@ -3,8 +3,8 @@ use Rattle.std.proofs.Common.{length, ◌-◌, ◌≤◌}
 use Rattle.rl_pylex.specs.internal.Absence.{IsPassed}
 use Rattle.rl_pylex.proofs.absence.run_without.Given as goal
 
-abbrev pub invariant-loop-first : goal.invariant-loop-first
-invariant-loop-first l = (l.at ≤ length l.text) × IsPassed l.name l.text l.at
+abbrev pub invariant-loop-at : goal.invariant-loop-at
+invariant-loop-at l = (l.at ≤ length l.text) × IsPassed l.name l.text l.at
 
-abbrev pub decreases-loop-first : goal.decreases-loop-first
-decreases-loop-first l = length l.initial.text - l.at
+abbrev pub decreases-loop-at : goal.decreases-loop-at
+decreases-loop-at l = length l.initial.text - l.at

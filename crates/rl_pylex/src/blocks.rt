@@ -1,0 +1,123 @@
+// Blocks of 16 bytes, each looked at as a whole.
+ghost use Rattle.std.specs.Prelude.{◌≡◌, ℕ, ◌+◌, ◌<◌, ◌≤◌, ◌==◌, false, not, length, map, slice_index, if◌then◌else◌};
+ghost use Rattle.std.specs.Int.Count.{count_trailing_zeros};
+ghost use Rattle.std.specs.List.{prefix_len, range_with_len};
+ghost use Rattle.std.specs.Simd.Lanes.{mask_l, chunk};
+ghost use Rattle.rl_pylex.specs.Bytes.{in_line};
+ghost use Rattle.rl_pylex.specs.Literals.{is_plain};
+ghost use Rattle.rl_pylex.specs.internal.Absence.{is_ordinary};
+ghost use Rattle.rl_pylex.specs.internal.Blocks.{is_stop, stops_at};
+
+use std::simd::prelude::*;
+
+/// How many bytes a block has.
+pub const BLOCK: usize = 16;
+
+/// The kinds of bytes that aren't ordinary, by the low four bits: a bit for each kind that has such a byte.
+const LOW_KINDS: [u8; 16] = [35, 3, 7, 7, 7, 3, 3, 7, 3, 2, 2, 3, 18, 2, 3, 11];
+
+/// The same by the high four bits.
+const HIGH_KINDS: [u8; 16] = [1, 2, 4, 8, 0, 16, 32, 8, 0, 0, 0, 0, 0, 0, 0, 0];
+
+/// The kinds of bytes that aren't ordinary, of each byte of a block: 0 where it is ordinary.
+#[inline(always)]
+fn odd_kinds(block: u8x16) -> u8x16
+    ensures { map (λ kinds. kinds == 0) result ≡ map is_ordinary block }
+{
+    let low = u8x16::from_array(LOW_KINDS).swizzle_dyn(block & u8x16::splat(15));
+    let high = u8x16::from_array(HIGH_KINDS).swizzle_dyn(block >> u8x16::splat(4));
+    low & high
+}
+
+/// The place of the lowest bit of a mask, or 16 where it has none.
+#[inline(always)]
+fn lowest(found: u64) -> usize
+    ensures { result ≡ (if found == 0 then 16 else count_trailing_zeros 64 found) }
+{
+    if found == 0 {
+        BLOCK
+    } else {
+        found.trailing_zeros() as usize
+    }
+}
+
+/// A bit for each byte of a block that isn't ordinary, or is `first` with `second` behind it and no small letter
+/// after both. `behind` is the block one place further, `after` the one further by the length of the name.
+#[inline(always)]
+fn stops(block: u8x16, behind: u8x16, after: u8x16, first: u8, second: u8) -> u64
+    ensures { result ≡ mask_l (map (λ k. is_stop first second (slice_index block k) (slice_index behind k) (slice_index after k)) (range_with_len 0 16)) }
+{
+    let pairs = block.simd_eq(u8x16::splat(first)) & behind.simd_eq(u8x16::splat(second));
+    let ends = (after - u8x16::splat(b'a')).simd_ge(u8x16::splat(26));
+    (pairs & ends | odd_kinds(block).simd_ne(u8x16::splat(0))).to_bitmask()
+}
+
+/// How many bytes of the block at a place come before the first that isn't ordinary, or at which the name may stand.
+#[inline(always)]
+fn free_in_block(text: &[u8], at: usize, name: &[u8]) -> usize
+    requires long { 2 ≤ length name.now }
+    requires room { at + 16 + length name.now ≤ length text.now }
+    ensures few { result ≤ 16 }
+    ensures free { (k : ℕ) → at ≤ k → k < at + result → stops_at name.now text.now k ≡ false }
+{
+    let block = u8x16::from_slice(&text[at..]);
+    let behind = u8x16::from_slice(&text[at + 1..]);
+    let after = u8x16::from_slice(&text[at + name.len()..]);
+    lowest(stops(block, behind, after, name[0], name[1]))
+}
+
+/// A number of bytes at the front of the text, each of them ordinary, and at none of them the name as a whole word. It
+/// reaches up to the first byte that isn't ordinary or at which the name may stand, but ends earlier where fewer bytes
+/// than a block and the name are left.
+pub fn size_before_stop(text: &[u8], name: &[u8]) -> usize
+    requires { 2 ≤ length name.now }
+    ensures within { result ≤ length text.now }
+    ensures free { (k : ℕ) → k < result → stops_at name.now text.now k ≡ false }
+{
+    let room = BLOCK + name.len();
+    let mut at = 0;
+    while text.len() - at >= room {
+        let free = free_in_block(text, at, name);
+        if free < BLOCK {
+            return at + free;
+        }
+        at += BLOCK;
+    }
+    at
+}
+
+/// A bit for each byte of a block that ends a run of plain bytes.
+#[inline(always)]
+fn plain_stops(block: u8x16) -> u64
+    ensures { result ≡ mask_l (map (λ c. not (is_plain c)) block) }
+{
+    let quotes = block.simd_eq(u8x16::splat(b'"')) | block.simd_eq(u8x16::splat(b'\''));
+    let ends = block.simd_eq(u8x16::splat(b'\n')) | block.simd_eq(u8x16::splat(b'\r'));
+    (quotes | ends | block.simd_eq(u8x16::splat(b'\\'))).to_bitmask()
+}
+
+/// How many plain bytes stand at the front of the block at a place.
+#[inline(always)]
+pub fn plain_in_block(text: &[u8], at: usize) -> usize
+    requires { at + 16 ≤ length text.now }
+    ensures { result ≡ prefix_len is_plain (chunk at 16 text.now) }
+{
+    lowest(plain_stops(u8x16::from_slice(&text[at..])))
+}
+
+/// A bit for each byte of a block that ends a line.
+#[inline(always)]
+fn line_stops(block: u8x16) -> u64
+    ensures { result ≡ mask_l (map (λ c. not (in_line c)) block) }
+{
+    (block.simd_eq(u8x16::splat(b'\n')) | block.simd_eq(u8x16::splat(b'\r'))).to_bitmask()
+}
+
+/// How many bytes of a line stand at the front of the block at a place.
+#[inline(always)]
+pub fn line_in_block(text: &[u8], at: usize) -> usize
+    requires { at + 16 ≤ length text.now }
+    ensures { result ≡ prefix_len in_line (chunk at 16 text.now) }
+{
+    lowest(line_stops(u8x16::from_slice(&text[at..])))
+}
