@@ -43,9 +43,8 @@ use Rattle.rl_pairs.proofs.CostLaws.{twin-inside, chain-inside}
 use Rattle.rl_pairs.proofs.FamilyLaws.{spells-reads}
 use Rattle.rl_pairs.proofs.VerdictLaws.{graph-within}
 use Rattle.rl_growth.specs.Questions.{StandsForSome}
-use Rattle.rl_growth.specs.Routes.{bare, state_after}
+use Rattle.rl_growth.specs.Routes.{bare, state_after, IsLongest}
 use Rattle.rl_growth.specs.FamilyWords.{IsTwinWords, IsChainWords}
-use Rattle.rl_growth.proofs.LongestLaws.{IsLongest}
 use Rattle.rl_growth.proofs.VerdictLaws.{twin_right, chain_right, flat_right}
 use Rattle.rl_numbers.specs.declared.double.Double.{Double}
 use Rattle.rl_numbers.specs.declared.triple.Triple.{Triple}

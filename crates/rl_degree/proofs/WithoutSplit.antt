@@ -8,10 +8,10 @@ use Rattle.rl_graph.specs.Bounds.{bound_b, bound_h}
 use Rattle.rl_graph.proofs.Sums.{total-there, Has-filter}
 use Rattle.rl_graph.proofs.PathLaws.{nil-same, through_one, along_moves, one-le}
 use Rattle.rl_graph.proofs.FirstSums.{upto, upto-there, upto-bound, shares, along-upto}
-use Rattle.rl_degree.specs.Leavers.{Runs, Leaver, Later, HasNoSplit}
+use Rattle.rl_degree.specs.Leavers.{Runs, HasNoSplit}
 use Rattle.rl_degree.proofs.Pigeons.{Each-map}
 use Rattle.rl_degree.proofs.Leaving.{leaving, stay_or_leave, inside-less, inside-within, Has-passes, leaving-bound, strictly}
-use Rattle.rl_degree.proofs.FiveTimes.{first_then, runs-there, runs-part, falls-along, split_of_many}
+use Rattle.rl_degree.proofs.FiveTimes.{first_then, runs-there, runs-part, falls-along, Leaver, LeavesLater, split_of_many}
 use Rattle.rl_degree.proofs.Levels.{stable, table, IsLevel, level-of, Reached, reach_count}
 
 -- a path that is where a test passes at one time, and where it does not at the next
@@ -96,7 +96,7 @@ module _ (next : ℕ → ℕ → List ℕ) (n k : ℕ) (level : ℕ → ℕ) (wi
 
   -- a leaver for each time at which a path leaves, the later ones first
   gathered : (s : ℕ) (w : List ℕ) (f : ℕ → ℕ) (c m : ℕ) → ((i : ℕ) → f i ≤ c) → ((i : ℕ) → 1 ≤ f i → (x : Leaver next level s w) × (x.time ≡ i))
-      → (l : List (Leaver next level s w)) × Pairs Later l × Each (λ x. x.time < m) l × (upto f m ≤ length l * c)
+      → (l : List (Leaver next level s w)) × Pairs LeavesLater l × Each (λ x. x.time < m) l × (upto f m ≤ length l * c)
   gathered s w f c zero h there = ([], tt, tt, omega arith)
   gathered s w f c (suc m) h there = by (cases_lt 0 (f m)) (gathered s w f c m h there)
     where
@@ -109,12 +109,12 @@ module _ (next : ℕ → ℕ → List ℕ) (n k : ℕ) (level : ℕ → ℕ) (wi
       last : (i m : ℕ) → i ≡ m → i < suc m
       last i m e = omega arith
 
-      by : (0 < f m) ⊎ (f m ≤ 0) → (l : List (Leaver next level s w)) × Pairs Later l × Each (λ x. x.time < m) l × (upto f m ≤ length l * c)
-          → (l : List (Leaver next level s w)) × Pairs Later l × Each (λ x. x.time < suc m) l × (upto f (suc m) ≤ length l * c)
+      by : (0 < f m) ⊎ (f m ≤ 0) → (l : List (Leaver next level s w)) × Pairs LeavesLater l × Each (λ x. x.time < m) l × (upto f m ≤ length l * c)
+          → (l : List (Leaver next level s w)) × Pairs LeavesLater l × Each (λ x. x.time < suc m) l × (upto f (suc m) ≤ length l * c)
       by (inl some) r =
           let x = there m some in (
             x.0 ∷ r.0,
-            (Each-map (λ y. y.time < m) (Later x.0) r.0 (λ y lt. earlier y.time x.0.time m lt x.1) r.2, r.1),
+            (Each-map (λ y. y.time < m) (LeavesLater x.0) r.0 (λ y lt. earlier y.time x.0.time m lt x.1) r.2, r.1),
             (last x.0.time m x.1, Each-map (λ y. y.time < m) (λ y. y.time < suc m) r.0 (λ y lt. wider y.time m lt) r.2),
             omega (arith, r.3, h m),
           )
@@ -178,7 +178,7 @@ module _ (next : ℕ → ℕ → List ℕ) (n k : ℕ) (level : ℕ → ℕ) (wi
       subst (λ y. paths next s t w ≤ y) (sym (pow-succ' x e))
       (level-step n k (bound_b n) (x ^ e) (length g.0) (paths next s t w) (omega arith) power (few g.0 g.1 (cases_lt (length g.0) (bound_b n))) (omega (arith, all, sum, stays, g.3)))
     where
-      few : (l : List (Leaver next level s w)) → Pairs Later l → (length l < bound_b n) ⊎ (bound_b n ≤ length l) → length l ≤ bound_b n
+      few : (l : List (Leaver next level s w)) → Pairs LeavesLater l → (length l < bound_b n) ⊎ (bound_b n ≤ length l) → length l ≤ bound_b n
       few l p (inl h) = omega arith
       few l p (inr h) = let r = split_of_many next n k level within levels.falls s lt w l p h in absurd (no_split r.0 r.1 r.2 r.3 r.4)
 

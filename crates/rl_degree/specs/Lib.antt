@@ -1,4 +1,5 @@
 pub mod internal
 pub mod Leavers
+pub mod Passages
 pub mod FallingNumbers
 pub mod Chains

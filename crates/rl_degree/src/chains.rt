@@ -73,7 +73,6 @@ fn chain_from(
     bests: &[Best],
     start: u32,
 ) -> Result<Splits, OutOfMemory>
-    requires few { g.now.states < 65536 }
     requires table { IsTable g.now table.now }
     requires no_twin { HasNoTwin (edges_of g.now) }
     requires bests { AreBests (edges_of g.now) g.now.states table.now.components g.now.states bests.now }
@@ -143,9 +142,6 @@ fn some_loop(
     Ok(None)
 }
 
-/// The greatest number of states that the tables of pairs are made for.
-const MOST_STATES: u32 = 65_535;
-
 /// A longest chain of splits of a graph without a twin, all ranks and a cycle.
 ///
 /// A split leads from a state on a cycle to one in a lower component. Where two components have such states, it takes the parts
@@ -157,8 +153,7 @@ const MOST_STATES: u32 = 65_535;
 /// chains go by the components of the graph in their order, and only a split that lengthens a chain is looked for.
 ///
 /// # Errors
-/// [`OutOfMemory`] where there was no memory for the search or the answer, as for a graph of 65,536 states or more, which has
-/// over four billion pairs.
+/// [`OutOfMemory`] where there was no memory for the search or the answer.
 pub fn degree(alloc: Global, g: &Multigraph) -> Result<Chain, OutOfMemory>
     requires no_twin { HasNoTwin (edges_of g.now) }
     ensures links { IfOk result (λ c. IsChain (edges_of g.now) c.links) }
@@ -168,9 +163,7 @@ pub fn degree(alloc: Global, g: &Multigraph) -> Result<Chain, OutOfMemory>
     ensures cycle { IfOk result (λ c. IfSome c.cycle (IsLoop (edges_of g.now) g.now.states)) }
     ensures no_cycle { IfOk result (λ c. IfNone c.cycle (HasNoCycle (edges_of g.now))) }
 {
-    if g.states() > MOST_STATES {
-        return Err(OutOfMemory);
-    }
+    let _states = g.states();
     let table = table_of(alloc, g)?;
     let bests = all_bests(alloc, g, &table)?;
     let ranks = ranks_of(alloc, g, &table.components, &bests)?;

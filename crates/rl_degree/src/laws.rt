@@ -5,26 +5,21 @@ ghost use Rattle.std.specs.Prelude.{◌≡◌, ◌≢◌, ℕ, suc, ◌+◌, ◌
 ghost use Rattle.rl_graph.specs.Paths.{Pairs, paths, Reaches, IsWithin, IsBounded};
 ghost use Rattle.rl_graph.specs.Twins.{HasNoTwin, IsSplit, Link, ChainFrom, IsRank};
 ghost use Rattle.rl_graph.specs.Bounds.{bound_b, bound_h};
-ghost use Rattle.rl_degree.specs.Leavers.{Leaver, Later, FiveCross, NeverRises, HasNoSplit, HasNoEqualSplit};
+ghost use Rattle.rl_degree.specs.Leavers.{NeverRises, HasNoSplit, HasNoEqualSplit};
+ghost use Rattle.rl_degree.specs.Passages.{Passage, Later, FiveOfOneColour};
 ghost use Rattle.rl_degree.specs.FallingNumbers.{IsDoubles, IsTriples};
 
 /// Five times. In a graph without a twin at most one path leads along a word between states that reach each other: so says
-/// `alone`. Let the states have levels that never rise along a move, as the strong components do in their order. Of enough
-/// paths from one state that leave its level at different times, the later ones first, there are five of which each two cross
-/// in the same states: the path of the later time is in `r` at the earlier time, and that of the earlier time is in `q` at the
-/// later time. These two states are a split.
-///
-/// The law of two states is a case of it. Let `a` and `b` lie in different strong components, and let there be `bound_b n`
-/// different times, for each of which some path from `s` to `t` along `w` moves from `a` to `b` at that time. Say that the
-/// states that reach `a` have level 1, and the others level 0. No move rises: where its target reaches `a`, so does its start.
-/// Such a path is on level 1 up to its time, as `s` is, since it goes on to `a`. At its time it moves to `b`, on level 0: as `a`
-/// moves to `b` and lies in another component, `b` doesn't reach `a`. So these paths leave the level of `s` at these times, and
-/// there are five of the times of which each two have the same `r` and `q`, a split.
+/// `alone`. Let `a` and `b` lie in different strong components, and let there be `bound_b n` different times, the later ones
+/// first, for each of which a path from `s` to `t` along `w` moves from `a` to `b` at that time. The colour of two times is the
+/// state of the later one's path at the earlier time, and that of the earlier one's path at the later time. Then there are five
+/// of the times of which each two have one colour, and that colour is a split: so says `cross`.
 pub fn five_times()
     ensures alone { (next : ℕ → ℕ → List ℕ) → HasNoTwin next → (s t : ℕ) (w back : List ℕ) → 1 ≤ paths next t s back → paths next s t w ≤ 1 }
-    ensures cross { (next : ℕ → ℕ → List ℕ) (n k : ℕ) (level : ℕ → ℕ) → IsWithin next n k → NeverRises next n level
-        → (s : ℕ) → s < n → (w : List ℕ) (leavers : List (Leaver next level s w)) → Pairs Later leavers → bound_b n ≤ length leavers
-        → FiveCross next level s w leavers }
+    ensures cross { (next : ℕ → ℕ → List ℕ) (n k : ℕ) → IsWithin next n k
+        → (s t a b : ℕ) → s < n → (Reaches next a b → Reaches next b a → ⊥)
+        → (w : List ℕ) (passages : List (Passage next s t a b w)) → Pairs Later passages → bound_b n ≤ length passages
+        → FiveOfOneColour next s t a b w passages }
 {}
 
 /// Paths without a split. In a graph without a twin and without a split the number of paths between two states along a word has

@@ -99,7 +99,6 @@ fn best_by_split(
     to: u32,
     best: Best,
 ) -> Result<Best, OutOfMemory>
-    requires few { g.now.states < 65536 }
     requires table { IsTable g.now table.now }
     requires no_twin { HasNoTwin (edges_of g.now) }
     requires marks { AreMarks g.now table.now marks.old.items }
@@ -140,7 +139,6 @@ fn best_by_splits(
     state: u32,
     start: Best,
 ) -> Result<Best, OutOfMemory>
-    requires few { g.now.states < 65536 }
     requires table { IsTable g.now table.now }
     requires no_twin { HasNoTwin (edges_of g.now) }
     requires marks { AreMarks g.now table.now marks.old.items }
@@ -173,7 +171,6 @@ fn best_of(
     bests: &[Best],
     component: u32,
 ) -> Result<Best, OutOfMemory>
-    requires few { g.now.states < 65536 }
     requires table { IsTable g.now table.now }
     requires no_twin { HasNoTwin (edges_of g.now) }
     requires marks { AreMarks g.now table.now marks.old.items }
@@ -208,7 +205,6 @@ pub(crate) fn all_bests(
     g: &Multigraph,
     table: &PairTable,
 ) -> Result<Vec<Best>, OutOfMemory>
-    requires few { g.now.states < 65536 }
     requires table { IsTable g.now table.now }
     requires no_twin { HasNoTwin (edges_of g.now) }
     ensures { IfOk result (λ v. AreBests (edges_of g.now) g.now.states table.now.components g.now.states v.items) }

@@ -14,21 +14,18 @@ use rl_lists::{Items, OutOfMemory, Word};
 use std::alloc::Global;
 use std::collections::VecDeque;
 
-/// A search has at most so many steps, so that their numbers fit.
-const MOST_STEPS: usize = 4_294_967_295;
-
 /// A step of a search: the step that it follows, and the letter. The steps are numbered from 1; the number 0 stands for the
 /// start.
 #[derive(Clone, Copy)]
 struct Step {
-    from: u32,
+    from: usize,
     letter: u32,
 }
 
 /// What a step found: a pair, by its place among the members of the part, and the middle states that are new beside it.
 #[derive(Drop)]
 pub(crate) struct Found {
-    step: u32,
+    step: usize,
     place: usize,
     middle: BitRow,
 }
@@ -117,24 +114,21 @@ impl Search {
     }
 
     /// Keeps one more step, and answers its number. Where no step is kept it is 0.
-    fn add_step(&mut self, from: u32, letter: u32) -> Result<u32, OutOfMemory>
+    fn add_step(&mut self, from: usize, letter: u32) -> Result<usize, OutOfMemory>
         ensures number { IfOk result (λ k. k ≡ number_of_new (stand_of self.old)) }
         ensures steps { OnOk result (stand_of self.new ≡ record (stand_of self.old) { steps = steps_with from letter (stand_of self.old) }) }
     {
         if !self.keeps {
             return Ok(0);
         }
-        if self.steps.len() >= MOST_STEPS {
-            return Err(OutOfMemory);
-        }
         self.steps.push(Step { from, letter })?;
-        Ok(self.steps.len() as u32)
+        Ok(self.steps.len())
     }
 
     /// Meets middle states beside the pair at a place, by a letter from a step. Those that are new go into the queue.
     fn reach(
         &mut self,
-        from: u32,
+        from: usize,
         letter: u32,
         place: usize,
         image: &BitRow,
@@ -308,7 +302,7 @@ impl Search {
         let mut letters = Vec::new(alloc);
         let mut at = found.step;
         while at > 0 {
-            let step = self.steps[at as usize - 1];
+            let step = self.steps[at - 1];
             letters.push(step.letter)?;
             at = step.from;
         }

@@ -108,7 +108,6 @@ pub(crate) fn split_word(
 /// # Errors
 /// [`OutOfMemory`] where there was no memory for the marks.
 pub(crate) fn no_marks(alloc: Global, table: &PairTable) -> Result<Vec<Option<bool>>, OutOfMemory>
-    requires { table.now.inner.states < 65536 }
     ensures { IfOk result (λ v. v.items ≡ replicate (table.now.inner.states * table.now.inner.states) None) }
 {
     let count = table.inner.states() as usize;

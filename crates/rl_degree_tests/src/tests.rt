@@ -7,6 +7,17 @@ use rl_lists::OutOfMemory;
 use std::alloc::Global;
 use std::test::Fail;
 
+/// The longest chain of a graph. A graph with a twin has none.
+fn chain_of(alloc: Global, graph: &Multigraph) -> Result<Option<Chain>, OutOfMemory> {
+    match twin(alloc, graph)? {
+        Some(_) => Ok(None),
+        None => {
+            let chain = degree(alloc, graph)?;
+            Ok(Some(chain))
+        }
+    }
+}
+
 /// The longest chain of the graph of 4 states and so many letters with these moves: from, letter, to. A graph with a twin has none.
 fn chain_over(
     alloc: Global,
@@ -24,13 +35,7 @@ fn chain_over(
             }
         }
     }
-    match twin(alloc, &graph)? {
-        Some(_) => Ok(None),
-        None => {
-            let chain = degree(alloc, &graph)?;
-            Ok(Some(chain))
-        }
-    }
+    chain_of(alloc, &graph)
 }
 
 /// The same for a graph of 2 letters.
@@ -46,6 +51,18 @@ fn no_cycle(rt: HostRuntime) -> Result<(), Fail> {
     assert!(rt; none.links.is_empty());
     assert_eq!(rt; none.ranks.as_slice(), [0, 0, 0, 0].as_slice());
     assert!(rt; none.cycle.is_none());
+    Ok(())
+}
+
+/// A graph of 65,536 states and no move has no link, no rank but 0 and no cycle.
+#[test]
+fn many_states_and_no_move(rt: HostRuntime) -> Result<(), Fail> {
+    let graph = Multigraph::new(rt.alloc(), 65_536, 1)?;
+    let chain = chain_of(rt.alloc(), &graph)?.ok_or("a twin")?;
+    assert!(rt; chain.links.is_empty());
+    assert_eq!(rt; chain.ranks.len(), 65_536);
+    assert!(rt; chain.ranks.as_slice().iter().all(|rank| *rank == 0));
+    assert!(rt; chain.cycle.is_none());
     Ok(())
 }
 

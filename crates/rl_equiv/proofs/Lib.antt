@@ -16,3 +16,5 @@ pub mod SeenLaws
 pub mod RegionLaws
 pub mod ToldLaws
 pub mod IndexLaws
+pub mod Together
+pub mod DifferLaws

@@ -59,12 +59,11 @@ impl Multigraph {
         }
     }
 
-    /// Adds a move, the last one of its state and letter. Moves are best added row by row: a row that isn't the last one written
-    /// is copied first, and what it was copied from stays.
+    /// Adds a move, the last one of its state and letter. In whatever order moves are added, they take time and memory in
+    /// proportion to their number. They are best added row by row: a row is moved, once, where it grows after another one.
     ///
     /// # Errors
-    /// [`OutOfMemory`] where there was no memory for the move, or the rows and what they were copied from would hold 2^32 moves;
-    /// the graph is unchanged then.
+    /// [`OutOfMemory`] where there was no memory for the move; the graph is unchanged then.
     pub fn add(&mut self, from: u32, letter: u32, to: u32) -> Result<(), OutOfMemory>
         requires from_in { from < self.old.states }
         requires letter_in { letter < self.old.letters }

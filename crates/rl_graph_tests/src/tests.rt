@@ -1,6 +1,6 @@
 //! Small graphs worked out by hand.
 
-ghost use Rattle.std.specs.Prelude.{◌≡◌, IfOk, length};
+ghost use Rattle.std.specs.Prelude.{◌≡◌, ◌<◌, IfOk, length};
 
 use rl_graph::{
     Components, FoundPath, Multigraph, NextStates, Parts, RowList, Twice, cycle_through,
@@ -71,6 +71,34 @@ fn moves_are_added_in_turn(rt: HostRuntime) -> Result<(), OutOfMemory> {
     ];
     let g = graph(rt.alloc(), 2, 2, &moves)?;
     assert!(rt; has_moves(&g, &MIXED));
+    Ok(())
+}
+
+/// The graph of two states with so many moves from each of them to itself, added in turn.
+fn in_turn(alloc: Global, count: usize) -> Result<Multigraph, OutOfMemory>
+    requires { count < 4294967295 }
+    ensures { IfOk result (λ g. (g.states ≡ 2) × (g.letters ≡ 1)) }
+{
+    let mut graph = Multigraph::new(alloc, 2, 1)?;
+    for _turn in 0..count {
+        for state in 0..2 {
+            if graph.edges(state, 0).len() < count {
+                graph.add(state, 0, state)?;
+            }
+        }
+    }
+    Ok(graph)
+}
+
+/// Two rows that grow in turn take no more than a few times the memory of their moves.
+#[test]
+fn many_moves_are_added_in_turn(rt: HostRuntime) -> Result<(), OutOfMemory> {
+    let g = in_turn(rt.alloc(), 200_000)?;
+    for state in 0..2 {
+        let row = g.edges(state, 0);
+        assert_eq!(rt; row.len(), 200_000);
+        assert!(rt; row.iter().all(|target| *target == state));
+    }
     Ok(())
 }
 

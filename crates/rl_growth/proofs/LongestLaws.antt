@@ -2,14 +2,14 @@
 use Rattle.std.proofs.Common.{◌≡◌, ℕ, zero, suc, ◌<◌, ◌≤◌, List, [], ◌∷◌, length, get_or, All, IfNone, sym, subst, arith}
 use Rattle.rl_graph.specs.Paths.{paths, Reaches}
 use Rattle.rl_graph.specs.Graph.{Graph, edges_of}
-use Rattle.rl_graph.specs.Twins.{IsSplit, Link, ChainFrom, IsRank}
+use Rattle.rl_graph.specs.Twins.{IsSplit, Link, ChainFrom}
 use Rattle.rl_prio.specs.Automaton.{Automaton}
 use Rattle.rl_degree.specs.declared.chains.Split.{Split}
 use Rattle.rl_degree.specs.declared.chains.Chain.{Chain}
 use Rattle.rl_degree.specs.Chains.{links_of, IsSplitIn, IsChain, AreRanks, HasNoCycle}
 use Rattle.rl_pairs.specs.PairTable.{PairTable, moves_in, lead_in}
 use Rattle.rl_growth.specs.Questions.{IsLed}
-use Rattle.rl_growth.specs.Routes.{split_at, state_before, IsRoute}
+use Rattle.rl_growth.specs.Routes.{split_at, state_before, IsRoute, IsLongest}
 use Rattle.rl_growth.proofs.RouteLaws.{before-more}
 
 module _ (next : ℕ → ℕ → List ℕ) where
@@ -57,14 +57,7 @@ route_of next n splits lead some leads chain within =
         subst (λ (x : ℕ). Reaches next x (split_at splits (suc j)).from) (sym (before-more splits (suc j) j (omega arith)))
         (next-there next splits (start next splits) (started next splits chain) j lt)
 
--- a longest chain of splits, ranks and, unless there is none, a cycle
-pub record IsLongest (next : ℕ → ℕ → List ℕ) (n : ℕ) (c : Chain) : Type 0 where
-  pub route : IsRoute next n c.links
-  pub longest : (s : ℕ) (ms : List Link) → s < n → ChainFrom next s ms → length ms ≤ length c.links
-  pub long : length c.ranks ≡ n
-  pub ranked : (q : ℕ) → q < n → IsRank next q (get_or c.ranks q 0)
-  pub no_cycle : IfNone c.cycle ((q letter : ℕ) (w : List ℕ) → paths next q q (letter ∷ w) ≡ 0)
-
+-- and as the call answers it
 pub longest_of : (a : Automaton) (g : PairTable) (h : Graph) (c : Chain) → h ≡ g.graph → IsLed a g → IsChain (edges_of h) c.links → All (IsSplitIn h.states) c.links
     → ((s : ℕ) (ms : List Link) → s < h.states → ChainFrom (edges_of h) s ms → length ms ≤ length c.links) → AreRanks (edges_of h) h.states c.ranks → IfNone c.cycle (HasNoCycle (edges_of h)) → IsLongest (moves_in g) g.graph.states c
 longest_of a g h c same led chain within longest ranks no_cycle =

@@ -1,8 +1,9 @@
 -- Chains of splits by their places, and the words along them.
-use Rattle.std.specs.Prelude.{◌≡◌, ℕ, ◌-◌, ◌<◌, List, [], ◌∷◌, map, take, length, slice_index_or, nat_eq, if◌then◌else◌}
-use Rattle.rl_graph.specs.Paths.{Reaches}
-use Rattle.rl_graph.specs.Twins.{IsSplit, Link}
+use Rattle.std.specs.Prelude.{◌≡◌, ℕ, ◌-◌, ◌<◌, ◌≤◌, List, [], ◌∷◌, map, take, length, slice_index_or, nat_eq, if◌then◌else◌, IfNone}
+use Rattle.rl_graph.specs.Paths.{paths, Reaches}
+use Rattle.rl_graph.specs.Twins.{IsSplit, Link, ChainFrom, IsRank}
 use Rattle.rl_degree.specs.declared.chains.Split.{Split}
+use Rattle.rl_degree.specs.declared.chains.Chain.{Chain}
 use Rattle.rl_degree.specs.Chains.{links_of}
 use Rattle.rl_pairs.specs.Families.{Chained}
 
@@ -39,3 +40,11 @@ pub record IsWay (next : ℕ → ℕ → List ℕ) (splits : List Split) (k : �
   pub rounds : pumps ≡ map (λ m. m.word) links
   pub count : length links ≡ k
   pub ends : map bare links ≡ links_of (take k splits)
+
+-- a longest chain of splits, with the ranks of the states, and with a cycle unless there is none
+pub record IsLongest (next : ℕ → ℕ → List ℕ) (n : ℕ) (c : Chain) : Type 0 where
+  pub route : IsRoute next n c.links
+  pub longest : (s : ℕ) (ms : List Link) → s < n → ChainFrom next s ms → length ms ≤ length c.links
+  pub long : length c.ranks ≡ n
+  pub ranked : (q : ℕ) → q < n → IsRank next q (slice_index_or c.ranks q 0)
+  pub no_cycle : IfNone c.cycle ((q letter : ℕ) (w : List ℕ) → paths next q q (letter ∷ w) ≡ 0)

@@ -63,7 +63,7 @@ err_is_no : (e : PatError) (p : Pattern) (r : Result Pattern PatError) → r ≡
 err_is_no e p r this one = cc
 
 reads : (flags : Flags) (p : Pattern) (dropped merged : List Span) (text : List ℕ) → ReadsAlike flags p dropped merged text → IsReadable flags (universe_of p) text
-reads flags p dropped merged text h e parsed = elim (h (Err e) parsed) [
+reads flags p dropped merged text h e parsed = elim (h.answers (Err e) parsed) [
   | inl none ↦ err_only e (Err e) refl none
   | inr some ↦ absurd (err_is_no e some.0 (Err e) refl some.1)
 ]

@@ -1,6 +1,7 @@
 -- The graph of the inner moves of a graph, as it grows.
-use Rattle.std.proofs.Common.{◌≡◌, ◌≢◌, ℕ, ◌+◌, ◌<◌, ◌≤◌, ◌⊎◌, inl, inr, true, List, [], ◌∷◌, length, get_or, sym, ◌∙◌, ap, subst, arith}
+use Rattle.std.proofs.Common.{◌≡◌, ◌≢◌, ℕ, ◌+◌, ◌<◌, ◌≤◌, ◌⊎◌, inl, inr, true, List, [], ◌∷◌, length, get_or, refl, sym, ◌∙◌, ap, subst, arith}
 use Rattle.std.proofs.lemmas.Bool.{cases_eq, cases_lt}
+use Rattle.std.proofs.lemmas.List.{length_push}
 use Rattle.rl_graph.specs.Paths.{Has}
 use Rattle.rl_graph.specs.Graph.{Graph, edges_of, IsBare, IsAdded}
 use Rattle.rl_graph.specs.Parts.{PartTable, number_of}
@@ -10,7 +11,7 @@ use Rattle.rl_kernel.specs.Members.{is_member}
 use Rattle.rl_kernel.specs.Seats.{Seats, state_at, AreSeats}
 use Rattle.rl_kernel.proofs.MemberLaws.{member-there, there-member}
 use Rattle.rl_kernel.specs.Inner.{IsKept, IsInner}
-use Rattle.rl_kernel.specs.internal.Growing.{Before, IsInnerUpTo}
+use Rattle.rl_kernel.specs.internal.Growing.{Before, IsBareFrom, IsInnerUpTo}
 
 -- a state and a letter with a move are in range
 pub move-state : (g : Graph) (q l m : ℕ) → Has m (edges_of g q l) → q < g.states
@@ -155,3 +156,37 @@ inner-done g p s i h long is = record {
   same_letters = is.same_letters;
   kept = λ q l m. (is.kept q l m, λ kept. is.all q l m (inl (omega (arith, kept.from_in))) kept);
 }
+
+-- rows that no move was added to yet
+
+-- behind the row of the place `i` on the letter `c` no move is there, and in it there are at most so many
+pub record IsFilling (i c end : ℕ) (h : Graph) : Type 0 where
+  pub few : length (edges_of h i c) ≤ end
+  pub bare : IsBareFrom i (c + 1) h
+
+pub filling-first : (i c : ℕ) (h : Graph) → IsBareFrom i c h → IsFilling i c 0 h
+filling-first i c h b = record {
+  few = omega (arith, ap length (b i c (inr (refl, omega arith))));
+  bare = later;
+}
+  where
+    later : IsBareFrom i (c + 1) h
+    later q l (inl a) = b q l (inl a)
+    later q l (inr a) = b q l (inr (a.0, omega (arith, a.1)))
+
+pub filling-added : (i c end t : ℕ) (h k : Graph) → IsAdded h k i c t → IsFilling i c end h → IsFilling i c (end + 1) k
+filling-added i c end t h k a f = record {
+  few = omega (arith, f.few, ap length a.here, length_push (edges_of h i c) t);
+  bare = later;
+}
+  where
+    later : IsBareFrom i (c + 1) k
+    later q l (inl b) = a.elsewhere q l (inl (λ e. omega (arith, b, e))) ∙ f.bare q l (inl b)
+    later q l (inr b) = a.elsewhere q l (inr (λ e. omega (arith, b.1, e))) ∙ f.bare q l (inr b)
+
+pub filling-passed : (i c end : ℕ) (h : Graph) → IsFilling i c end h → IsFilling i c (end + 1) h
+filling-passed i c end h f = record { few = omega (arith, f.few); bare = f.bare }
+
+pub bare-state : (i c : ℕ) (h : Graph) → IsBareFrom i c h → IsBareFrom (i + 1) 0 h
+bare-state i c h b q l (inl a) = b q l (inl (omega (arith, a)))
+bare-state i c h b q l (inr a) = b q l (inl (omega (arith, a.0)))

@@ -6,15 +6,12 @@ ghost use Rattle.rl_graph.specs.Parts.{number_of};
 ghost use Rattle.rl_kernel.specs.Members.{is_member, IsPlace};
 ghost use Rattle.rl_kernel.specs.Seats.{seats_of, AreSeats};
 ghost use Rattle.rl_kernel.specs.Inner.{IsInner};
-ghost use Rattle.rl_kernel.specs.internal.Growing.{IsInnerUpTo};
+ghost use Rattle.rl_kernel.specs.internal.Growing.{IsBareFrom, IsInnerUpTo};
 
 use crate::kernel::Kernel;
 use rl_graph::{Components, Multigraph};
 use rl_lists::OutOfMemory;
 use std::alloc::Global;
-
-/// No more moves than this are kept of a state on a letter. A graph has no more.
-const MOST_MOVES: usize = 4_294_967_295;
 
 /// The place of a state, if it is in the component with a number.
 fn place_within(components: &Components, kernel: &Kernel, own: u32, state: u32) -> Option<u32>
@@ -42,16 +39,15 @@ fn add_inner_on(
     requires size { length components.now.numbers ≡ g.now.states }
     requires seats { AreSeats components.now g.now.states g.now.states (seats_of kernel.now) }
     requires so_far { IsInnerUpTo g.now components.now (seats_of kernel.now) place letter inner.old }
-    ensures { OnOk result (IsInnerUpTo g.now components.now (seats_of kernel.now) place (letter + 1) inner.new) }
+    requires bare { IsBareFrom place letter inner.old }
+    ensures so_far { OnOk result (IsInnerUpTo g.now components.now (seats_of kernel.now) place (letter + 1) inner.new) }
+    ensures bare { OnOk result (IsBareFrom place (letter + 1) inner.new) }
 {
     let state = kernel.states[place as usize];
     let own = kernel.levels[place as usize];
     let row = g.edges(state, letter);
     for number in 0..row.len() {
         if let Some(next) = place_within(components, kernel, own, row[number]) {
-            if inner.edges(place, letter).len() >= MOST_MOVES {
-                return Err(OutOfMemory);
-            }
             inner.add(place, letter, next)?;
         }
     }
@@ -70,7 +66,9 @@ fn add_inner_from(
     requires size { length components.now.numbers ≡ g.now.states }
     requires seats { AreSeats components.now g.now.states g.now.states (seats_of kernel.now) }
     requires so_far { IsInnerUpTo g.now components.now (seats_of kernel.now) place 0 inner.old }
-    ensures { OnOk result (IsInnerUpTo g.now components.now (seats_of kernel.now) (place + 1) 0 inner.new) }
+    requires bare { IsBareFrom place 0 inner.old }
+    ensures so_far { OnOk result (IsInnerUpTo g.now components.now (seats_of kernel.now) (place + 1) 0 inner.new) }
+    ensures bare { OnOk result (IsBareFrom (place + 1) 0 inner.new) }
 {
     for letter in 0..g.letters() {
         add_inner_on(inner, g, components, kernel, place, letter)?;

@@ -16,8 +16,7 @@ use Rattle.std.proofs.lemmas.List.Sums.{sum_by-cons}
 use Rattle.std.proofs.lemmas.List.FromFn.{length-map-range_with_len, get_or-map-range_with_len}
 use Rattle.std.proofs.lemmas.Nat.Bits.{bit_at-lt, bit_at-zero, same_from_bits_below}
 use Rattle.std.proofs.lemmas.Simd.{bit_mask_l, mask_l-lt, ones-mask_l, get_or-chunk}
-use Rattle.rl_lanes.specs.Packed.{bit, truths}
-use Rattle.rl_lanes.specs.internal.PackedWords.{words_of}
+use Rattle.rl_lanes.specs.Packed.{bit, truths, words_of}
 use Rattle.rl_lanes.proofs.WordLemmas.{ones-take_one}
 use Rattle.rl_lanes.proofs.PackedLemmas.{AreWords, IsRow, IsRow-from_bits, IsRow-length, IsRow-get_or, bit-at}
 

@@ -11,8 +11,8 @@ use Rattle.std.proofs.lemmas.Bool.{and_parts, both_ways, not-true, not-false, fa
 use Rattle.std.proofs.lemmas.Nat.{and_le_l}
 use Rattle.rl_lanes.specs.Rows.{Meets, AreApart, IsSubset, HasOther, NoneFrom, IsLeastFrom}
 use Rattle.rl_lanes.specs.internal.Words.{JoinsEach, SomePair, NoPair, and_not}
-use Rattle.rl_lanes.specs.Packed.{bit}
-use Rattle.rl_lanes.specs.internal.PackedWords.{words_of, NoBitFrom, IsLeastBitFrom}
+use Rattle.rl_lanes.specs.Packed.{bit, words_of}
+use Rattle.rl_lanes.specs.internal.PackedWords.{NoBitFrom, IsLeastBitFrom}
 use Rattle.rl_lanes.proofs.PackedLemmas.{AreWords, IsRow, IsRow-length, IsRow-words, IsRow-joined, IsRow-get_or, IsRow-set, IsRow-zeros, JoinsBits, JoinsBits-and, JoinsBits-and_not, place_from_pair, no_place_from_pairs}
 use Rattle.rl_lanes.proofs.RowLemmas.{place_within}
 use Rattle.rl_lanes.proofs.CountLemmas.{IsRow-words_of, AreWords-words_of}

@@ -2,8 +2,8 @@
 ghost use Rattle.std.specs.Prelude.{◌≡◌, ◌↔◌, ℕ, ◌+◌, ◌*◌, ◌/◌, ◌^◌, ◌<◌, ◌≤◌, Bool, false, length, replicate, count_by, slice_index_or, slice_set, IsTrue, IfOk, IfSome, IfNone};
 ghost use Rattle.std.specs.Bool.{OnFalse};
 ghost use Rattle.rl_lanes.specs.Rows.{list_or, list_and_not, Meets, AreApart, IsSubset, HasOther, NoneFrom, IsLeastFrom};
-ghost use Rattle.rl_lanes.specs.Packed.{truths, IsPacked};
-ghost use Rattle.rl_lanes.specs.internal.PackedWords.{words_of, IsLeastBitFrom, NoBitFrom};
+ghost use Rattle.rl_lanes.specs.Packed.{truths, IsPacked, words_of};
+ghost use Rattle.rl_lanes.specs.internal.PackedWords.{IsLeastBitFrom, NoBitFrom};
 
 use crate::bits::{from_bit, has_bit, lowest, with_bit};
 use crate::words::{any_both, any_outside, count_words, or_words, subtract_words};
@@ -201,7 +201,7 @@ impl Eq for BitRow {
 impl Hash for BitRow {
     ghost use Rattle.std.specs.Hash as fed;
     ghost use Rattle.std.specs.Hash.{same_Alike};
-    ghost use Rattle.rl_lanes.specs.internal.PackedWords.{words_of};
+    ghost use Rattle.rl_lanes.specs.Packed.{words_of};
     ghost use Rattle.rl_lanes.specs.Rows.{row_eq, row_eq_decides};
 
     ghost hash_input = { λ row. fed.slice fed.u64 (words_of row) };

@@ -68,6 +68,7 @@ pub fn relint_main<T: Tree, O: Sink, E: Sink>(
         (moment_of T.told T.fault_count tree.old) (moment_of T.told T.fault_count tree.new)
         (sink_change O.bytes O.fault_count out.old out.new)
         (sink_change E.bytes E.fault_count err.old err.new) result }
+    // The five clauses from here to `complete` follow from `run`; each says one cause of a status by itself.
     ensures invalid { given_by (map string_bytes words.now.items) ≡ None → (result ≡ 2) ⊎ (result ≡ 5) }
     ensures write_fault { result ≡ 4 → Rose (O.fault_count out.old) (O.fault_count out.new) }
     ensures read_fault { result ≡ 3 → Rose (T.fault_count tree.old) (T.fault_count tree.new) }

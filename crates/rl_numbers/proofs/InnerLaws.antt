@@ -51,8 +51,9 @@ row-passed g p s c end h ne old i lt same = by (cases_lt i end)
     by (inl b) = old i b same
     by (inr b) = let e : i ≡ end = omega arith in absurd (ne (rw e at same))
 
-pub inner-row : (g : Graph) (p : PartTable) (s c end : ℕ) (h : Graph) → length (edges_of g s c) ≤ end → IsInnerUpTo g p s c h → IsRowUpTo g p s c end h → IsInnerUpTo g p s (c + 1) h
-inner-row g p s c end h long i row = record {
+-- all kept moves of the state on the letter are there
+pub inner-full : (g : Graph) (p : PartTable) (s c : ℕ) (h : Graph) → ((m : ℕ) → IsKept g p s c m → Has m (edges_of h s c)) → IsInnerUpTo g p s c h → IsInnerUpTo g p s (c + 1) h
+inner-full g p s c h here i = record {
   same_states = i.same_states;
   same_letters = i.same_letters;
   kept = i.kept;
@@ -60,12 +61,6 @@ inner-row g p s c end h long i row = record {
   few = i.few;
 }
   where
-    here : (m : ℕ) → IsKept g p s c m → Has m (edges_of h s c)
-    here m kept =
-        let a = at-has m (edges_of g s c) kept.0 in
-        let e = at-get_or (edges_of g s c) a.0 m 0 a.1 in
-        subst (λ (x : ℕ). Has x (edges_of h s c)) e (row a.0 (omega (arith, at-short (edges_of g s c) a.0 m a.1)) (ap (number_of p) e ∙ kept.1))
-
     by : (q l m : ℕ) → Before s (c + 1) q l → IsKept g p q l m → (l < c) ⊎ (c ≤ l) → Has m (edges_of h q l)
     by q l m (inl b) kept d = i.all q l m (inl b) kept
     by q l m (inr b) kept (inl d) = i.all q l m (inr (b.0, d)) kept
@@ -73,6 +68,15 @@ inner-row g p s c end h long i row = record {
         let e : l ≡ c = omega (arith, b.1) in
         let f : q ≡ s = b.0 in
         rw (e, f) (here m (rw (e, f) at kept))
+
+pub inner-row : (g : Graph) (p : PartTable) (s c end : ℕ) (h : Graph) → length (edges_of g s c) ≤ end → IsInnerUpTo g p s c h → IsRowUpTo g p s c end h → IsInnerUpTo g p s (c + 1) h
+inner-row g p s c end h long i row = inner-full g p s c h here i
+  where
+    here : (m : ℕ) → IsKept g p s c m → Has m (edges_of h s c)
+    here m kept =
+        let a = at-has m (edges_of g s c) kept.0 in
+        let e = at-get_or (edges_of g s c) a.0 m 0 a.1 in
+        subst (λ (x : ℕ). Has x (edges_of h s c)) e (row a.0 (omega (arith, at-short (edges_of g s c) a.0 m a.1)) (ap (number_of p) e ∙ kept.1))
 
 pub inner-state : (g : Graph) (p : PartTable) (s c : ℕ) (h : Graph) → g.letters ≤ c → IsInnerUpTo g p s c h → IsInnerUpTo g p (s + 1) 0 h
 inner-state g p s c h long i = record {

@@ -17,3 +17,4 @@ pub mod FoundLaws
 pub mod InnerLaws
 pub mod DoubleList
 pub mod FoundTriples
+pub mod MarkLaws

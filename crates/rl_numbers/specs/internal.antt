@@ -1,7 +1,7 @@
 -- Definitions for the contracts of private functions. No public contract reaches them.
 pub mod Diagonal
 pub mod Inner
-pub mod ManyMoves
+pub mod Marks
 pub mod DoubledFalls
 pub mod NumberedFalls
 pub mod Spreading

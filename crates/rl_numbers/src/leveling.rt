@@ -1,7 +1,8 @@
 //! The moves of a graph that stay on the rank of their state.
 
-ghost use Rattle.std.specs.Prelude.{◌≡◌, ℕ, ◌<◌, ◌+◌, length, slice_index, IfOk, OnOk};
-ghost use Rattle.rl_numbers.specs.internal.Inner.{IsInnerUpTo};
+ghost use Rattle.std.specs.Prelude.{◌≡◌, ℕ, ◌<◌, ◌≤◌, ◌+◌, All, length, slice_index, IfOk, OnOk};
+ghost use Rattle.rl_numbers.specs.internal.Inner.{IsBareFrom, IsInnerUpTo};
+ghost use Rattle.rl_numbers.specs.internal.Marks.{AreMarks};
 ghost use Rattle.rl_graph.specs.Graph.{edges_of};
 ghost use Rattle.rl_numbers.specs.Level.{table_of, IsLevelOf};
 
@@ -9,12 +10,11 @@ use rl_graph::Multigraph;
 use rl_lists::OutOfMemory;
 use std::alloc::Global;
 
-/// A state has fewer moves on its rank than this on a letter. In a graph without a twin it has at most one to each state, so that
-/// a graph of fewer states has no more.
+/// So many moves of a state on a letter are kept one by one. Of more than that some lead to one state, and one of these is kept.
 const MOST_MOVES: usize = 65_535;
 
-/// Adds the moves on its rank of a state on a letter.
-fn add_level_on(
+/// Adds the moves on its rank of a state on a letter with few moves.
+fn add_few_on(
     inner: &mut Multigraph,
     g: &Multigraph,
     ranks: &[u32],
@@ -23,47 +23,124 @@ fn add_level_on(
 ) -> Result<(), OutOfMemory>
     requires state_in { state < g.now.states }
     requires letter_in { letter < g.now.letters }
+    requires few { length (edges_of g.now state letter) ≤ 65535 }
     requires size { length ranks.now ≡ g.now.states }
     requires so_far { IsInnerUpTo g.now (table_of ranks.now) state letter inner.old }
-    ensures { OnOk result (IsInnerUpTo g.now (table_of ranks.now) state (letter + 1) inner.new) }
+    requires bare { IsBareFrom state letter inner.old }
+    ensures so_far { OnOk result (IsInnerUpTo g.now (table_of ranks.now) state (letter + 1) inner.new) }
+    ensures bare { OnOk result (IsBareFrom state (letter + 1) inner.new) }
 {
     let own = ranks[state as usize];
     let row = g.edges(state, letter);
     for place in 0..row.len() {
         let target = row[place];
         if ranks[target as usize] == own {
-            if inner.edges(state, letter).len() >= MOST_MOVES {
-                return Err(OutOfMemory);
-            }
             inner.add(state, letter, target)?;
         }
     }
     Ok(())
 }
 
+/// For each state whether it is one of the targets and on a rank.
+fn marks_of(
+    alloc: Global,
+    ranks: &[u32],
+    targets: &[u32],
+    own: u32,
+) -> Result<Vec<bool>, OutOfMemory>
+    requires { All (λ target. target < length ranks.now) targets.now }
+    ensures { IfOk result (λ v. AreMarks ranks.now targets.now own v.items) }
+{
+    let mut marks = vec![in alloc; false; ranks.len()]?;
+    for place in 0..targets.len() {
+        let target = targets[place] as usize;
+        marks[target] = ranks[target] == own;
+    }
+    Ok(marks)
+}
+
+/// Adds a move of a state on a letter to each state that is marked.
+fn add_marked_on(
+    inner: &mut Multigraph,
+    g: &Multigraph,
+    ranks: &[u32],
+    marks: &[bool],
+    state: u32,
+    letter: u32,
+) -> Result<(), OutOfMemory>
+    requires few_states { g.now.states < 65536 }
+    requires state_in { state < g.now.states }
+    requires letter_in { letter < g.now.letters }
+    requires size { length ranks.now ≡ g.now.states }
+    requires marks { AreMarks ranks.now (edges_of g.now state letter) (slice_index ranks.now state) marks.now }
+    requires so_far { IsInnerUpTo g.now (table_of ranks.now) state letter inner.old }
+    requires bare { IsBareFrom state letter inner.old }
+    ensures so_far { OnOk result (IsInnerUpTo g.now (table_of ranks.now) state (letter + 1) inner.new) }
+    ensures bare { OnOk result (IsBareFrom state (letter + 1) inner.new) }
+{
+    for target in 0..g.states() {
+        if marks[target as usize] {
+            inner.add(state, letter, target)?;
+        }
+    }
+    Ok(())
+}
+
+/// Adds the moves on its rank of a state on a letter.
+fn add_level_on(
+    alloc: Global,
+    inner: &mut Multigraph,
+    g: &Multigraph,
+    ranks: &[u32],
+    state: u32,
+    letter: u32,
+) -> Result<(), OutOfMemory>
+    requires few_states { g.now.states < 65536 }
+    requires state_in { state < g.now.states }
+    requires letter_in { letter < g.now.letters }
+    requires size { length ranks.now ≡ g.now.states }
+    requires so_far { IsInnerUpTo g.now (table_of ranks.now) state letter inner.old }
+    requires bare { IsBareFrom state letter inner.old }
+    ensures so_far { OnOk result (IsInnerUpTo g.now (table_of ranks.now) state (letter + 1) inner.new) }
+    ensures bare { OnOk result (IsBareFrom state (letter + 1) inner.new) }
+{
+    let row = g.edges(state, letter);
+    if row.len() <= MOST_MOVES {
+        return add_few_on(inner, g, ranks, state, letter);
+    }
+    let marks = marks_of(alloc, ranks, row, ranks[state as usize])?;
+    add_marked_on(inner, g, ranks, &marks, state, letter)
+}
+
 /// Adds the moves on its rank of a state.
 fn add_level_from(
+    alloc: Global,
     inner: &mut Multigraph,
     g: &Multigraph,
     ranks: &[u32],
     state: u32,
 ) -> Result<(), OutOfMemory>
+    requires few_states { g.now.states < 65536 }
     requires state_in { state < g.now.states }
     requires size { length ranks.now ≡ g.now.states }
     requires so_far { IsInnerUpTo g.now (table_of ranks.now) state 0 inner.old }
-    ensures { OnOk result (IsInnerUpTo g.now (table_of ranks.now) (state + 1) 0 inner.new) }
+    requires bare { IsBareFrom state 0 inner.old }
+    ensures so_far { OnOk result (IsInnerUpTo g.now (table_of ranks.now) (state + 1) 0 inner.new) }
+    ensures bare { OnOk result (IsBareFrom (state + 1) 0 inner.new) }
 {
     for letter in 0..g.letters() {
-        add_level_on(inner, g, ranks, state, letter)?;
+        add_level_on(alloc, inner, g, ranks, state, letter)?;
     }
     Ok(())
 }
 
-/// The graph of the moves on its rank.
+/// The graph of the moves on its rank. Where a state has more than 65,535 moves on a letter, one of the moves to each state is
+/// kept.
 ///
 /// # Errors
 /// [`OutOfMemory`] where there was no memory for the graph.
 pub fn level_graph(alloc: Global, g: &Multigraph, ranks: &[u32]) -> Result<Multigraph, OutOfMemory>
+    requires few_states { g.now.states < 65536 }
     requires size { length ranks.now ≡ g.now.states }
     ensures level { IfOk result (λ h. IsLevelOf (edges_of g.now) g.now.states (slice_index ranks.now) h) }
     ensures letters { IfOk result (λ h. h.letters ≡ g.now.letters) }
@@ -71,7 +148,7 @@ pub fn level_graph(alloc: Global, g: &Multigraph, ranks: &[u32]) -> Result<Multi
 {
     let mut inner = Multigraph::new(alloc, g.states(), g.letters())?;
     for state in 0..g.states() {
-        add_level_from(&mut inner, g, ranks, state)?;
+        add_level_from(alloc, &mut inner, g, ranks, state)?;
     }
     Ok(inner)
 }

@@ -16,7 +16,7 @@ ghost use Rattle.rl_numbers.specs.Triples.{triple_moves};
 use crate::among::Among;
 use crate::diagonal::{diagonal, listed_doubles};
 use crate::double::Doubles;
-use crate::level::{Level, Thrice, level_of};
+use crate::level::{Level, Thrice};
 use crate::leveling::level_graph;
 use crate::listing::listed;
 use crate::reach::{ReachError, reached};
@@ -79,17 +79,15 @@ pub fn doubles_of(alloc: Global, g: &Multigraph) -> Result<Doubles, OutOfMemory>
     Ok(doubles)
 }
 
-/// The moves on its rank, unless they don't fit.
+/// The moves on its rank.
 fn level(alloc: Global, g: &Multigraph, ranks: &[u32]) -> Result<Level, OutOfMemory>
-    requires { length ranks.now ≡ g.now.states }
+    requires few_states { g.now.states < 65536 }
+    requires size { length ranks.now ≡ g.now.states }
     ensures level { IfOk result (λ h. IsLevelOf (edges_of g.now) g.now.states (slice_index ranks.now) h) }
     ensures letters { IfOk result (λ h. h.letters ≡ g.now.letters) }
 {
     let graph = level_graph(alloc, g, ranks)?;
-    match level_of(graph) {
-        Some(level) => Ok(level),
-        None => Err(OutOfMemory),
-    }
+    Ok(Level::of(graph))
 }
 
 /// The numbers of the triples that are reached, unless they are too many.
@@ -111,7 +109,7 @@ fn keys_of(alloc: Global, level: &Level, starts: &[u64]) -> Result<IndexSet<u64>
 ///
 /// # Errors
 /// [`TriplesError::TooMany`] where the least list has more than 1,000,000, and [`TriplesError::OutOfMemory`] where there was no
-/// memory for them, as for a state with 65,536 or more moves on one letter to states of its rank.
+/// memory for them.
 pub fn triples_of(alloc: Global, g: &Multigraph, ranks: &[u32]) -> Result<Triples, TriplesError>
     requires few_states { g.now.states < 65536 }
     requires size { length ranks.now ≡ g.now.states }

@@ -9,6 +9,7 @@ use rl_numbers::checking::triples_hold;
 use rl_numbers::columns::column;
 use rl_numbers::double::{Double, Doubles};
 use rl_numbers::doubling::doubles_hold;
+use rl_numbers::leveling::level_graph;
 use rl_numbers::triple::{Triple, Triples};
 use rl_numbers::{TriplesError, doubles_of, triples_of};
 use std::alloc::Global;
@@ -199,5 +200,32 @@ fn numbers_of_triples_fall(rt: HostRuntime) -> Result<(), OutOfMemory> {
     let g = loops_of_three(rt.alloc())?;
     assert!(rt; triples_hold(rt.alloc(), &g, &[0, 0, 0], &nine(1))?);
     assert!(rt; !triples_hold(rt.alloc(), &g, &[0, 0, 0], &nine(0))?);
+    Ok(())
+}
+
+/// The graph of two states with so many moves from the first one to the second one.
+fn parallel(alloc: Global, count: usize) -> Result<Multigraph, OutOfMemory>
+    ensures states { IfOk result (λ g. g.states ≡ 2) }
+    ensures letters { IfOk result (λ g. g.letters ≡ 1) }
+{
+    let mut graph = Multigraph::new(alloc, 2, 1)?;
+    for _move in 0..count {
+        if graph.edges(0, 0).len() < 100_000 {
+            graph.add(0, 0, 1)?;
+        }
+    }
+    Ok(graph)
+}
+
+/// Of more moves of a state on a letter than are kept one by one, one is kept for each state that they lead to.
+#[test]
+fn parallel_moves_on_a_rank(rt: HostRuntime) -> Result<(), OutOfMemory> {
+    let ranks = [0, 0];
+    let few = parallel(rt.alloc(), 3)?;
+    let level = level_graph(rt.alloc(), &few, &ranks)?;
+    assert_eq!(rt; level.edges(0, 0), [1, 1, 1].as_slice());
+    let many = parallel(rt.alloc(), 65_536)?;
+    let kept = level_graph(rt.alloc(), &many, &ranks)?;
+    assert_eq!(rt; kept.edges(0, 0), [1].as_slice());
     Ok(())
 }

@@ -15,7 +15,8 @@ use Rattle.rl_sets.specs.Walk.{Walk, set_at, set_of, IsMadeFor, IsListed, IsFull
 use Rattle.rl_pairs.specs.declared.pair.Pair.{Pair}
 use Rattle.rl_pairs.specs.LivePairs.{pairs_from, next_pairs, LivePair, first, move}
 use Rattle.rl_pairs.specs.Counted.{CountedSet, moved, imaged, MoreThan}
-use Rattle.rl_pairs.specs.internal.Errors.{sets_error, IsRightError}
+use Rattle.rl_pairs.specs.Errors.{sets_error}
+use Rattle.rl_pairs.specs.internal.Errors.{IsRightError}
 use Rattle.rl_pairs.specs.internal.Counting.{IsCounted, IsCounting, Keeps, IsOnward, IsNumberOf, HasImage, IsClosed}
 use Rattle.rl_pairs.proofs.SetLaws.{has-holds, holds-has}
 

@@ -3,5 +3,6 @@ pub mod PairGraph
 pub mod Counted
 pub mod Families
 pub mod RightVerdict
+pub mod Errors
 pub mod PairTable
 pub mod internal

@@ -77,9 +77,3 @@ abbrev pub RightVerdict : Question → Verdict → Type 0
 RightVerdict q (Degree d f) = HasDegree q d f × IsBounded q d
 RightVerdict q (Expo f) = IsExpo q f
 RightVerdict q (Undecided limit) = IsNamed q limit
-
--- the verdict is right, but for the bound from above
-abbrev pub RightFromBelow : Question → Verdict → Type 0
-RightFromBelow q (Degree d f) = HasDegree q d f
-RightFromBelow q (Expo f) = IsExpo q f
-RightFromBelow q (Undecided limit) = IsNamed q limit

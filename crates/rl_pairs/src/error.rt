@@ -19,7 +19,7 @@ pub enum PairsError {
 
 impl From<SetsError> for PairsError {
     ghost use Rattle.std.specs.Prelude.{◌≡◌};
-    ghost use Rattle.rl_pairs.specs.internal.Errors.{sets_error};
+    ghost use Rattle.rl_pairs.specs.Errors.{sets_error};
 
     ghost from_gives = { λ x e. e ≡ sets_error x };
 

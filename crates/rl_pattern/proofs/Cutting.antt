@@ -7,7 +7,8 @@ use Rattle.rl_pattern.specs.declared.flags.Flags.{Flags}
 use Rattle.rl_pattern.specs.Tree.{Span, span, Node, Branch, branch, branch_body, whole_body, Front, Whole}
 use Rattle.rl_pattern.specs.Grammar.{IsBranches, first_branch, next_branch, Fronts, outermost, spelled, Spells}
 use Rattle.rl_pattern.specs.Shape.{is_text, shape}
-use Rattle.rl_pattern.specs.Thinned.{MayMeet, Thinned, kept_from}
+use Rattle.rl_pattern.specs.Thinned.{kept_from}
+use Rattle.rl_pattern.specs.internal.Meeting.{MayMeet, Thinned}
 use Rattle.rl_pattern.proofs.Sifted.{Sifted, count_from}
 use Rattle.rl_pattern.specs.Cut.{gone}
 use Rattle.rl_pattern.specs.Found.{items_of, inner_of, inner}

@@ -30,7 +30,7 @@ use Rattle.rl_pattern.proofs.Seams.{own_out, Clean, AllClean}
 use Rattle.rl_pattern.proofs.Merging.{merged_same}
 use Rattle.rl_pattern.proofs.Cutting.{stays, Free}
 use Rattle.rl_pattern.specs.Reread.{IsLeft, IsReread}
-use Rattle.rl_pattern.proofs.Rereading.{cut_reads}
+use Rattle.rl_pattern.proofs.Rereading.{cut_found, cut_reads}
 use Rattle.rl_pattern.proofs.Conditions.{good_of}
 use Rattle.rl_pattern.proofs.Premises.{AllOf, all_back, good_outer, outer_holes, whole_bare}
 use Rattle.rl_pattern.proofs.Marks.{Placed, placed_le, left_placed, placed_more, rule_merges, left_twice}
@@ -192,6 +192,12 @@ module _ (flags : Flags) (u : Universe) (w : List ℕ) (found : Pattern) (whole 
       let holes : (t : ℕ) → gone D O (body_of found) t ≡ gone D O (shape u whole.body) t = λ t. ap (λ p. gone D O p t) sp.pattern.body ∙ outer_holes u D O whole.place whole.place whole.body (items_of whole.body) refl (one_body (is_text u) w flags whole sp.read.spelled) t in
       λ i. kept_from (λ t. not (holes t i)) 0 w
 
+  -- there is a pattern that the text is read as
+  pub suggested_found : (new : Pattern) × IsParsed flags u (text_of (body_of found) dropped merged w) (Ok new) × IsLeft D O found new
+  suggested_found =
+      let h : (new : Pattern) × IsParsed flags u (kept_from (stays u D O whole.body) 0 w) (Ok new) × IsLeft D O found new = cut_found u flags D O w found whole sp good clean free in
+      (h.0, subst (λ v. IsParsed flags u v (Ok h.0)) (sym same_codes) h.1, h.2)
+
   -- whatever the reader answers of the text
   pub suggested_reads : (r : Result Pattern PatError) → IsParsed flags u (text_of (body_of found) dropped merged w) r → (r ≡ Err error.OutOfMemory) ⊎ ((new : Pattern) × (r ≡ Ok new) × IsLeft D O found new)
   suggested_reads r h = cut_reads u flags D O w found whole sp good clean free r (subst (λ v. IsParsed flags u v r) same_codes h)
@@ -201,6 +207,9 @@ module _ (flags : Flags) (u : Universe) (w : List ℕ) (found : Pattern) (whole 
   merged_spans = subst (λ t. SameSpans (lowered t) (lowered kept)) (left_twice D O (body_of found)) (merged_same O kept merges)
 
 -- the same, of what the reader answered of the codes
+pub right_text_found : (flags : Flags) (u : Universe) (w : List ℕ) (found : Pattern) (dropped : List Span) → IsParsed flags u w (Ok found) → may_go (among dropped) (body_of found) ≡ true → (holds_guard (body_of found) ≡ true → dropped ≡ []) → (new : Pattern) × IsParsed flags u (text_of (body_of found) dropped (merged_in (left (among dropped) no_span (body_of found))) w) (Ok new) × IsLeft (among dropped) (among (merged_in (left (among dropped) no_span (body_of found)))) found new
+right_text_found flags u w found dropped (whole, sp) may guarded = suggested_found flags u w found whole sp dropped may guarded
+
 pub right_text_reads : (flags : Flags) (u : Universe) (w : List ℕ) (found : Pattern) (dropped : List Span) → IsParsed flags u w (Ok found) → may_go (among dropped) (body_of found) ≡ true → (holds_guard (body_of found) ≡ true → dropped ≡ []) → (r : Result Pattern PatError) → IsParsed flags u (text_of (body_of found) dropped (merged_in (left (among dropped) no_span (body_of found))) w) r → IsReread (among dropped) (among (merged_in (left (among dropped) no_span (body_of found)))) found r
 right_text_reads flags u w found dropped (whole, sp) may guarded r h = suggested_reads flags u w found whole sp dropped may guarded r h
 

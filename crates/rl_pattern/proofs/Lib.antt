@@ -32,6 +32,7 @@ pub mod Merging
 mod SuggestedRows
 pub mod Nesting
 pub mod Prefixes
+pub mod Bodies
 pub mod Rereading
 pub mod Conditions
 pub mod Premises

@@ -9,7 +9,7 @@ use Rattle.rl_pattern.specs.Codes.{splits, on_letter, Headed, headed, sharps, lo
 use Rattle.rl_pattern.specs.Grammar.{At, Quest, Letters, first_letter, next_letter, Opening, captures, captures_named, groups, groups_on, groups_both, groups_off, looks_ahead, looks_behind, cuts, asks_number, asks_name, Atom, literal, literal_brace, dotted, escaped, refers, bracketed, grouped, Item, once, repeated, edge_code, edge_escape, Items, no_items, pass_over, one_item, IsBranches, first_branch, next_branch, Fronts, spelled, Spells}
 use Rattle.rl_pattern.specs.Viable.{Part, part_first, part_next, Open, none_open, one_open}
 use Rattle.rl_pattern.specs.Answers.{Shallow}
-use Rattle.rl_pattern.specs.Thinned.{Thinned}
+use Rattle.rl_pattern.specs.internal.Meeting.{Thinned}
 use Rattle.rl_pattern.specs.internal.Left.{AllKept, AllGone, moved_front, LeftAtom, left_leaf, left_group, LeftItem, left_once, left_repeat, left_mark, LeftItems, left_none, left_passed, left_item, LeftBranches, left_first, left_next}
 use Rattle.rl_pattern.proofs.Steps.{same_code}
 use Rattle.rl_pattern.proofs.Tokens.{blanks_le, quantifier_lt, passed_lt, opening_lt, some_at, opening_moves, fronts_moves}

@@ -5,19 +5,22 @@ use mathlib.Core.Logic.{inl, inr}
 use Rattle.rl_ranges.specs.declared.universe.Universe.{Universe}
 use Rattle.rl_syntax.specs.declared.pattern.Pattern.{Pattern}
 use Rattle.rl_syntax.specs.Lowering.{lowered}
+use Rattle.rl_syntax.specs.IsPattern.{IsPattern}
 use Rattle.rl_pattern.specs.declared.flags.Flags.{Flags}
 use Rattle.rl_pattern.specs.declared.parsing.PatError.{PatError}
 use Rattle.rl_pattern.specs.declared.parsing.PatError.TheVariants as error
 use Rattle.rl_pattern.specs.Tree.{Span, Whole}
 use Rattle.rl_pattern.specs.Grammar.{Spells}
-use Rattle.rl_pattern.specs.Found.{refused}
-use Rattle.rl_pattern.specs.Shape.{is_text}
+use Rattle.rl_pattern.specs.Found.{refused, inner}
+use Rattle.rl_pattern.specs.Shape.{is_text, shape}
 use Rattle.rl_pattern.specs.Answers.{Shallow}
 use Rattle.rl_pattern.specs.Parsed.{IsSpelled, IsParsed}
 use Rattle.rl_pattern.specs.Thinned.{kept_from}
 use Rattle.rl_pattern.specs.Cut.{left}
 use Rattle.rl_pattern.specs.Reread.{IsLeft}
 use Rattle.rl_pattern.proofs.Reading.{one_is_spelled}
+use Rattle.rl_pattern.proofs.InnerBare.{inner_pattern}
+use Rattle.rl_pattern.proofs.Bodies.{pattern_from, body_of-from, others-from}
 use Rattle.rl_pattern.proofs.OuterAnchors.{left_allowed}
 use Rattle.rl_pattern.proofs.Linking.{Good}
 use Rattle.rl_pattern.proofs.Seams.{Clean}
@@ -59,6 +62,30 @@ module _ (u : Universe) (flags : Flags) (drop out : Span → Bool) (w : List ℕ
         trailing = h.pattern.trailing ∙ cuts.anchors.trail ∙ sym sp.pattern.trailing;
         universe = h.pattern.universe ∙ sym sp.pattern.universe;
       }
+
+  is_short : length the_codes ≤ 10000
+  is_short = omega (arith, shorter (stays u drop out whole.body) 0 w, sp.read.asked.short)
+
+  is_body : IsPattern u (shape u (inner cuts.what).body)
+  is_body = inner_pattern u flags the_codes cuts.what cuts.is_spelled is_allowed
+
+  -- the pattern of what the codes that are left spell
+  the_new : Pattern
+  the_new = pattern_from u (shape u (inner cuts.what).body) (inner cuts.what).leading (inner cuts.what).trail is_body
+
+  new_spelled : IsSpelled flags u the_codes the_new cuts.what
+  unfolding the_new
+  new_spelled =
+      let others = others-from u (shape u (inner cuts.what).body) (inner cuts.what).leading (inner cuts.what).trail is_body in
+      record {
+        read = record { asked = record { short = is_short; allowed = sp.read.asked.allowed }; spelled = cuts.is_spelled; shallow = is_shallow };
+        allowed = is_allowed;
+        pattern = record { body = body_of-from u (shape u (inner cuts.what).body) (inner cuts.what).leading (inner cuts.what).trail is_body; leading = others.0; trailing = others.1; universe = others.2 };
+      }
+
+  -- there is a pattern that the codes that are left are read as
+  pub cut_found : (new : Pattern) × IsParsed flags u the_codes (Ok new) × IsLeft drop out found new
+  cut_found = (the_new, (cuts.what, new_spelled), is_left the_new new_spelled)
 
   -- whatever the reader answers of the codes that are left
   pub cut_reads : (r : Result Pattern PatError) → IsParsed flags u the_codes r → (r ≡ Err error.OutOfMemory) ⊎ ((new : Pattern) × (r ≡ Ok new) × IsLeft drop out found new)

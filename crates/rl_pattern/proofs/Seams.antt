@@ -9,7 +9,7 @@ use Rattle.rl_pattern.specs.Tree.{Span, span, Count, Greed, Kind, Node, leaf, ma
 use Rattle.rl_pattern.specs.Codes.{sign, Sign, left, right, bar, brace, slash, dot, bracket, times, edge, blank, sharp, plain, is_blank, is_digit, Numeral, numeral, low_digit, high_digit, no_digit, is_some_digit}
 use Rattle.rl_pattern.specs.Grammar.{At, Opening, captures, captures_named, groups, groups_on, groups_both, groups_off, looks_ahead, looks_behind, cuts, asks_number, asks_name, Quantifier, Passed, pass_blank, pass_line, pass_last_line, pass_remark, Blanks, SetHead, upright, inverted, Atom, literal, literal_brace, dotted, escaped, refers, bracketed, grouped, Item, once, repeated, edge_code, edge_escape, Items, no_items, pass_over, one_item, IsBranches, first_branch, next_branch, flag_group, Fronts, no_fronts, one_front}
 use Rattle.rl_pattern.specs.Shape.{is_text, shape}
-use Rattle.rl_pattern.specs.Thinned.{is_open, goes_on, MayMeet}
+use Rattle.rl_pattern.specs.internal.Meeting.{is_open, goes_on, MayMeet}
 use Rattle.rl_pattern.proofs.Sifted.{Sifted}
 use Rattle.rl_pattern.specs.Cut.{lies_in, in_dropped}
 use Rattle.rl_pattern.proofs.Steps.{same_code}

@@ -3,6 +3,7 @@ pub mod Judged
 pub mod LeafSets
 pub mod Machine
 pub mod Views
+pub mod Meeting
 pub mod Left
 pub mod Answering
 pub mod Signs

@@ -13,11 +13,11 @@ ghost use Rattle.rl_pattern.specs.declared.parsing.PatError.TheVariants as error
 ghost use Rattle.rl_pattern.specs.Tree.{Whole};
 ghost use Rattle.rl_pattern.specs.Grammar.{Spells};
 ghost use Rattle.rl_pattern.specs.Parsed.{IsParsed};
-ghost use Rattle.rl_pattern.specs.Thinned.{Thinned};
+ghost use Rattle.rl_pattern.specs.internal.Meeting.{Thinned};
 ghost use Rattle.rl_pattern.specs.internal.Left.{LeftWhole};
 ghost use Rattle.rl_pattern.specs.Cut.{left};
 ghost use Rattle.rl_pattern.specs.Suggested.{among, no_span, may_go, holds_guard, branches_in, merged_in, text_of, without};
-ghost use Rattle.rl_pattern.specs.Reread.{IsReread};
+ghost use Rattle.rl_pattern.specs.Reread.{IsLeft, IsReread};
 ghost use Rattle.rl_pattern.specs.Placed.{ArePlaced};
 ghost use Rattle.rl_pattern.specs.SameAnswer.{IsSameAnswer};
 
@@ -43,14 +43,19 @@ pub fn spans_lie_in_the_codes()
 
 /// Locality of spelling: where codes are taken out of spelled ones so that what comes to stand side by side may do so, those
 /// that are kept spell what is left of the tree, under the same flags.
-pub fn left_is_spelled()
+pub(crate) fn left_is_spelled()
     ensures { (call : Flags) (text : Bool) (w v : List ℕ) (kept : ℕ → Bool) (g : ℕ → ℕ) (p : Whole) → Thinned w v kept g
         → LeftWhole text w kept g call p → Spells call text v p }
 {}
 
-/// The text of a suggestion is read as the pattern without the branches that were dropped and the quantifiers that the rule
-/// takes out, and taking these out changes no span.
+/// The text of a suggestion is read as a pattern: the one without the branches that were dropped and the quantifiers that the
+/// rule takes out. Every answer of the reader is such a pattern, unless it is out of memory, and taking the quantifiers out
+/// changes no span.
 pub fn right_texts_are_read()
+    ensures pattern { (flags : Flags) (u : Universe) (w : List ℕ) (found : Pattern) (dropped : List Span) → IsParsed flags u w (Ok found)
+        → may_go (among dropped) (body_of found) ≡ true → (holds_guard (body_of found) ≡ true → dropped ≡ [])
+        → (new : Pattern) × IsParsed flags u (text_of (body_of found) dropped (merged_in (left (among dropped) no_span (body_of found))) w) (Ok new)
+        × IsLeft (among dropped) (among (merged_in (left (among dropped) no_span (body_of found)))) found new }
     ensures reads { (flags : Flags) (u : Universe) (w : List ℕ) (found : Pattern) (dropped : List Span) → IsParsed flags u w (Ok found)
         → may_go (among dropped) (body_of found) ≡ true → (holds_guard (body_of found) ≡ true → dropped ≡ [])
         → (r : Result Pattern PatError) → IsParsed flags u (text_of (body_of found) dropped (merged_in (left (among dropped) no_span (body_of found))) w) r

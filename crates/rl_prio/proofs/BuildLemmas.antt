@@ -30,7 +30,8 @@ use Rattle.rl_ranges.specs.declared.letters.LettersError.TheVariants.{TooMany, O
 use Rattle.rl_prio.specs.declared.build.attempts.ListError.{ListError}
 use Rattle.rl_prio.specs.declared.build.attempts.ListError.TheVariants.{TooLong, OutOfMemory as NoRoom}
 use Rattle.rl_prio.specs.declared.error.PrioError.TheVariants.{Letters, Moves}
-use Rattle.rl_prio.specs.internal.Errors.{letters_error, list_error}
+use Rattle.rl_prio.specs.Errors.{letters_error}
+use Rattle.rl_prio.specs.internal.Errors.{list_error}
 use Rattle.rl_prio.proofs.AutomatonLemmas.{automaton_of, moves_at-inside}
 use Rattle.rl_prio.proofs.LikenessLemmas.{Finer, Finer-itself, Finer-left, Finer-right, Like, Like-finer, all_hold-like, ItemsKnown, first-known, after-known, set_of-alike}
 use Rattle.rl_prio.proofs.KindLemmas.{few_kinds}

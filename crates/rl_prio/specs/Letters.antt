@@ -12,10 +12,6 @@ all_sets t = sets_in t ++ guard_sets t
 abbrev pub letters : Tree → ℕ → List ℕ
 letters t n = classes (all_sets t) n
 
--- the number of the letter of a code
-abbrev pub letter_of : Tree → ℕ → ℕ → ℕ
-letter_of t n code = class_of (all_sets t) n code
-
 -- the least code of each kind, of the codes below `n`
 abbrev pub kinds : Tree → ℕ → List ℕ
 kinds t n = classes (guard_sets t) n

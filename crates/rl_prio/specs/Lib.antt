@@ -4,4 +4,5 @@ pub mod States
 pub mod Automaton
 pub mod Walk
 pub mod StandsFor
+pub mod Errors
 pub mod internal

@@ -28,7 +28,7 @@ use std::alloc::Global;
 
 impl From<LettersError> for PrioError {
     ghost use Rattle.std.specs.Prelude.{◌≡◌};
-    ghost use Rattle.rl_prio.specs.internal.Errors.{letters_error};
+    ghost use Rattle.rl_prio.specs.Errors.{letters_error};
 
     ghost from_gives = { λ x e. e ≡ letters_error x };
 

@@ -18,7 +18,7 @@ use Rattle.rl_pattern.specs.Placed.{ArePlaced}
 use Rattle.rl_pattern.specs.Reread.{IsLeft, IsReread}
 use Rattle.rl_pattern.specs.Suggested.{Verdict, among, no_span, may_go, holds_guard, branches_in, merged_in, text_of, text_if, without, Tried, none_tried, left_alone, dropped_one, kept_one, passed_one, IsRight}
 use Rattle.rl_pattern.specs.Thinned.{kept_from}
-use Rattle.rl_pattern.proofs.Final.{right_text_reads}
+use Rattle.rl_pattern.proofs.Final.{right_text_found, right_text_reads}
 use Rattle.rl_pattern.proofs.ListedSpans.{branches_are_placed, merged_are_placed}
 use Rattle.rl_pattern.proofs.Rising.{Fewer, none_fewer, left_out, taken, fewer_placed}
 use Rattle.rl_rewrite.specs.RightSuggestion.{MatchesAlike, IsRightSuggestion}
@@ -81,16 +81,26 @@ module _ (flags : Flags) (found : Pattern) (codes : List ℕ) (limit : ℕ) (par
     matched_texts = texts_stay flags (universe_of found) codes found dropped parsed goes (λ e. (guarded e).0) (λ e. (tried e).language) new (subst (λ m. IsLeft (among dropped) (among m) found new) quantifiers h);
   }
 
+  spelling_is : (spelling : List ℕ) → text ≡ Some spelling → spelling ≡ text_of (body_of found) dropped (merged_in (left (among dropped) no_span (body_of found))) codes
+  spelling_is spelling e =
+      some_text (body_of found) dropped merged codes spelling (sym spelled ∙ e) ∙ ap (λ m. text_of (body_of found) dropped m codes) quantifiers
+
+  read_as : (spelling : List ℕ) → text ≡ Some spelling → (new : Pattern) × IsParsed flags (universe_of found) spelling (Ok new) × IsLeft (among dropped) (among merged) found new
+  read_as spelling e =
+      let h = right_text_found flags (universe_of found) codes found dropped parsed goes (λ x. (guarded x).0) in
+      (h.0, subst (λ w. IsParsed flags (universe_of found) w (Ok h.0)) (sym (spelling_is spelling e)) h.1, subst (λ m. IsLeft (among dropped) (among m) found h.0) (sym quantifiers) h.2)
+
   reread : (spelling : List ℕ) → text ≡ Some spelling → (r : Result Pattern PatError) → IsParsed flags (universe_of found) spelling r → IsReread (among dropped) (among merged) found r
   reread spelling e r h =
-      let s : spelling ≡ text_of (body_of found) dropped merged codes = some_text (body_of found) dropped merged codes spelling (sym spelled ∙ e) in
-      let t : spelling ≡ text_of (body_of found) dropped (merged_in (left (among dropped) no_span (body_of found))) codes = s ∙ ap (λ m. text_of (body_of found) dropped m codes) quantifiers in
-      subst (λ m. IsReread (among dropped) (among m) found r) (sym quantifiers) (right_text_reads flags (universe_of found) codes found dropped parsed goes (λ x. (guarded x).0) r (subst (λ w. IsParsed flags (universe_of found) w r) t h))
+      subst (λ m. IsReread (among dropped) (among m) found r) (sym quantifiers) (right_text_reads flags (universe_of found) codes found dropped parsed goes (λ x. (guarded x).0) r (subst (λ w. IsParsed flags (universe_of found) w r) (spelling_is spelling e) h))
 
   pub right_suggestion : IsRightSuggestion flags found codes limit (record { text = text; dropped = dropped; merged = merged; passed = passed })
   right_suggestion = record {
     right = record { guarded = guarded; tried = λ e. (tried e).tried; quantifiers = quantifiers; spelled = spelled };
-    keeps = λ spelling e r h. ⊎_elim (λ x. inl x) (λ x. inr (x.0, x.1, x.2, alike x.0 x.2)) (reread spelling e r h);
+    keeps = λ spelling e. record {
+      pattern = let x = read_as spelling e in (x.0, x.1, x.2, alike x.0 x.2);
+      answers = λ r h. ⊎_elim (λ x. inl x) (λ x. inr (x.0, x.1, x.2, alike x.0 x.2)) (reread spelling e r h);
+    };
   }
 
   nothing_placed : ArePlaced (length codes) []

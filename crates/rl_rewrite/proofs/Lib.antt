@@ -6,9 +6,11 @@ pub mod PartTrees
 pub mod Within
 pub mod GoneCodes
 pub mod Joining
+pub mod Settling
 pub mod TriedOne
 pub mod PlainParts
 pub mod EachPlace
 pub mod EmptyParts
 pub mod KeptParts
 pub mod NoGuards
+pub mod JudgedOne

@@ -1,4 +1,5 @@
 pub mod Verdicts
 pub mod RightSuggestion
+pub mod Settled
 pub mod Plain
 pub mod internal

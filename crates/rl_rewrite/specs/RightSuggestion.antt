@@ -23,15 +23,15 @@ pub record MatchesAlike (found new : Pattern) : Type 0 where
   pub universe : universe_of new ≡ universe_of found
   pub matched_texts : (mode : Mode) (w : List ℕ) → IsText (universe_of found) w → matched (pattern_tree new mode) (pattern_ending new mode) w ≡ matched (pattern_tree found mode) (pattern_ending found mode) w
 
--- what the reader answers of the text: the pattern without what was dropped and taken out, which matches alike, unless memory
--- was refused
-abbrev pub ReadsAlike : Flags → Pattern → List Span → List Span → List ℕ → Type 0
-ReadsAlike flags found dropped merged text =
-    (r : Result Pattern PatError) → IsParsed flags (universe_of found) text r
-    → (r ≡ Err error.OutOfMemory) ⊎ ((new : Pattern) × (r ≡ Ok new) × IsLeft (among dropped) (among merged) found new × MatchesAlike found new)
+-- the text is read as a pattern, the one without what was dropped and taken out, which matches alike; and every answer of the
+-- reader is such a pattern, unless memory was refused
+pub record ReadsAlike (flags : Flags) (found : Pattern) (dropped merged : List Span) (text : List ℕ) : Type 0 where
+  pub pattern : (new : Pattern) × IsParsed flags (universe_of found) text (Ok new) × IsLeft (among dropped) (among merged) found new × MatchesAlike found new
+  pub answers : (r : Result Pattern PatError) → IsParsed flags (universe_of found) text r
+      → (r ≡ Err error.OutOfMemory) ⊎ ((new : Pattern) × (r ≡ Ok new) × IsLeft (among dropped) (among merged) found new × MatchesAlike found new)
 
 pub record IsRightSuggestion (flags : Flags) (found : Pattern) (codes : List ℕ) (limit : ℕ) (s : Suggestion) : Type 0 where
   -- it is what the rules give
   pub right : IsRight (IsVerdict (universe_of found) limit) (body_of found) codes s.dropped s.merged s.passed s.text
-  -- and what its text spells matches alike
+  -- and its text is read as a pattern that matches alike
   pub keeps : (text : List ℕ) → s.text ≡ Some text → ReadsAlike flags found s.dropped s.merged text

@@ -1,6 +1,6 @@
 //! Laws of suggestions. The functions do nothing: what they ensure is what is proved.
 
-ghost use Rattle.std.specs.Prelude.{◌≡◌, ◌≤◌, ℕ, Bool, true, false, List, [], Result, Ok};
+ghost use Rattle.std.specs.Prelude.{◌≡◌, ◌≤◌, ℕ, Bool, true, false, List, [], All, Option, Result, Ok};
 ghost use Rattle.rl_ranges.specs.Text.{IsText};
 ghost use Rattle.rl_syntax.specs.declared.pattern.Pattern.{Pattern};
 ghost use Rattle.rl_syntax.specs.declared.re.Mode.{Mode};
@@ -21,7 +21,9 @@ ghost use Rattle.rl_syntax.specs.Lowering.{lowered};
 ghost use Rattle.rl_syntax.specs.PatTree.{PatTree};
 ghost use Rattle.rl_prio.specs.Items.{longest};
 ghost use Rattle.rl_pattern.specs.Cut.{left};
-ghost use Rattle.rl_pattern.specs.Suggested.{may_go, among, no_span, holds_guard, merged_in, without};
+ghost use Rattle.rl_pattern.specs.Suggested.{may_go, among, no_span, holds_guard, branches_in, merged_in, without, IsRight};
+ghost use Rattle.rl_rewrite.specs.Settled.{IsSettled};
+ghost use Rattle.rl_rewrite.specs.Verdicts.{IsVerdict};
 
 /// What is left where more branches are dropped has no more nodes and no longer lists of items.
 pub fn fewer_branches_pass_no_limit()
@@ -41,4 +43,12 @@ pub fn matched_texts_stay()
         → (holds_guard (body_of found) ≡ false → OneLanguage u (without [] (body_of found)) (without dropped (body_of found)))
         → (new : Pattern) → IsLeft (among dropped) (among (merged_in (left (among dropped) no_span (body_of found)))) found new
         → (mode : Mode) (w : List ℕ) → IsText u w → matched (pattern_tree new mode) (pattern_ending new mode) w ≡ matched (pattern_tree found mode) (pattern_ending found mode) w }
+{}
+
+/// Of a right suggestion for a body without a guard, each branch is dropped, or listed as passed, or left alone, or changes the
+/// language: a text is in that of the body with it, or in that of the body without it, and not in both.
+pub fn every_branch_is_settled()
+    ensures { (u : Universe) (limit : ℕ) (body : PatTree) (codes : List ℕ) (dropped merged passed : List Span) (text : Option (List ℕ))
+        → IsRight (IsVerdict u limit) body codes dropped merged passed text → holds_guard body ≡ false
+        → All (IsSettled u body dropped passed) (branches_in body) }
 {}

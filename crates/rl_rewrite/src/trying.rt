@@ -5,11 +5,11 @@ ghost use Rattle.rl_syntax.specs.declared.span.Span.{Span as AnySpan};
 ghost use Rattle.rl_syntax.specs.Pattern.{body_of, universe_of};
 ghost use Rattle.rl_syntax.specs.Lowering.{lowered};
 ghost use Rattle.rl_syntax.specs.Tree.{tree_of};
-ghost use Rattle.rl_pattern.specs.Suggested.{among, may_go as goes, holds_guard as guard_in, branches_in, without, apart};
+ghost use Rattle.rl_pattern.specs.Suggested.{among, may_go as goes, holds_guard as guard_in, branches_in, without};
 ghost use Rattle.rl_equiv.specs.Bases.{IsBase};
 ghost use Rattle.rl_equiv.specs.Limits.{IsWithin};
 ghost use Rattle.rl_rewrite.specs.Verdicts.{IsVerdict};
-ghost use Rattle.rl_rewrite.specs.internal.Trials.{AreTried};
+ghost use Rattle.rl_rewrite.specs.internal.Trials.{verdict_of, trial_told, IsTold, AreTried};
 
 use crate::going::{may_go, with_branches};
 use crate::keeping::kept_places;
@@ -19,7 +19,7 @@ use crate::trial::{Trial, next_baseline, run_trial};
 use rl_equiv::Baseline;
 use rl_lists::OutOfMemory;
 use rl_syntax::{Pattern, Span, Spans};
-use rl_trim::Trimmer;
+use rl_trim::{Judgement, Trimmer};
 use std::alloc::Global;
 
 /// Of so many branches or more each is tried on one automaton first. It is for speed alone: one automaton more pays where there
@@ -67,58 +67,123 @@ fn with_first(alloc: Global, first: Span, others: &[Span]) -> Result<Spans, OutO
     Ok(Spans::from_vec(all))
 }
 
-/// Whether a trial on the automaton of what is left tells that the languages with and without one more branch differ.
-fn is_told_apart(
+/// What a trial tells, as a judgement on one automaton.
+fn told(found: Judgement) -> Trial
+    ensures { result ≡ trial_told found }
+{
+    match found {
+        Judgement::Equal => Trial::Equal,
+        Judgement::Apart => Trial::Apart,
+        Judgement::Passed => Trial::Passed,
+    }
+}
+
+/// What a trial of one more branch on the automaton of what is left tells, if it tells something.
+fn judge_branch(
     alloc: Global,
     p: &Pattern,
     branch: Span,
     dropped: &[Span],
     trimmer: &mut Option<Trimmer>,
     limit: u32,
-) -> Result<bool, OutOfMemory>
+) -> Result<Option<Trial>, OutOfMemory>
     requires guardless { guard_in (body_of p.now) ≡ false }
     requires may { goes (among (branch ∷ dropped.now)) (body_of p.now) ≡ true }
     requires base { IfSome trimmer.old (IsBase (universe_of p.now) (without dropped.now (body_of p.now))) }
-    requires some { 1 ≤ limit }
-    requires low { limit ≤ 20000 }
-    ensures apart { IfOk result (λ told. told ≡ true
-        → IsVerdict (universe_of p.now) limit (without dropped.now (body_of p.now)) (without (branch ∷ dropped.now) (body_of p.now)) apart) }
+    ensures verdict { IfOk result (λ o. IfSome o (λ t. IsVerdict (universe_of p.now) limit (without dropped.now (body_of p.now)) (without (branch ∷ dropped.now) (body_of p.now)) (verdict_of t))) }
+    ensures told { IfOk result (λ o. IfSome o (IsTold (universe_of p.now) (without dropped.now (body_of p.now)) (without (branch ∷ dropped.now) (body_of p.now)))) }
     ensures unchanged { trimmer.new ≡ trimmer.old }
 {
     let Some(trimmer) = trimmer else {
-        return Ok(false);
+        return Ok(None);
     };
     let Some(keep) = kept_places(alloc, p.body(), dropped, branch)? else {
-        return Ok(false);
+        return Ok(None);
     };
-    let told = trimmer.is_apart(alloc, keep.as_slice(), limit)?;
-    Ok(told)
+    let Some(found) = trimmer.judge(alloc, keep.as_slice(), limit)? else {
+        return Ok(None);
+    };
+    Ok(Some(told(found)))
 }
 
-/// Whether a trial on the automaton of what is left, where there is one, tells that a branch before those that were tried may go
-/// but is kept.
-fn is_kept(
+/// What a trial of both trees tells of one more branch.
+fn compare_branch(
     alloc: Global,
     p: &Pattern,
     branch: Span,
     dropped: &[Span],
-    trimmer: &mut Option<Trimmer>,
+    base: &mut Baseline,
     limit: u32,
-) -> Result<bool, OutOfMemory>
+) -> Result<Trial, OutOfMemory>
     requires guardless { guard_in (body_of p.now) ≡ false }
-    requires base { IfSome trimmer.old (IsBase (universe_of p.now) (without dropped.now (body_of p.now))) }
+    requires within { IsWithin (universe_of p.now) (lowered (body_of p.now)) }
+    requires before { goes (among dropped.now) (body_of p.now) ≡ true }
+    requires may { goes (among (branch ∷ dropped.now)) (body_of p.now) ≡ true }
+    requires tree { tree_of base.old.tree ≡ without dropped.now (body_of p.now) }
+    requires universe { base.old.universe ≡ universe_of p.now }
     requires some { 1 ≤ limit }
     requires low { limit ≤ 20000 }
-    ensures tried { IfOk result (λ told. told ≡ true → (bs passed : List AnySpan) → AreTried (universe_of p.now) limit (body_of p.now) bs dropped.now passed
-        → AreTried (universe_of p.now) limit (body_of p.now) (branch ∷ bs) dropped.now passed) }
-    ensures unchanged { trimmer.new ≡ trimmer.old }
+    ensures verdict { IfOk result (λ t. IsVerdict (universe_of p.now) limit (without dropped.now (body_of p.now)) (without (branch ∷ dropped.now) (body_of p.now)) (verdict_of t)) }
+    ensures told { IfOk result (IsTold (universe_of p.now) (without dropped.now (body_of p.now)) (without (branch ∷ dropped.now) (body_of p.now))) }
+    ensures unchanged { base.new ≡ base.old }
 {
     let more = with_first(alloc, branch, dropped)?;
-    if !may_go(p.body(), more.as_slice()) {
-        return Ok(false);
+    let after = tree_without(alloc, p, more.as_slice())?;
+    let trial = run_trial(alloc, base, &after, limit)?;
+    Ok(trial)
+}
+
+/// The tree of a body without some of its branches, as the one to compare with.
+fn baseline_without(alloc: Global, p: &Pattern, dropped: &[Span]) -> Result<Baseline, OutOfMemory>
+    requires guardless { guard_in (body_of p.now) ≡ false }
+    requires within { IsWithin (universe_of p.now) (lowered (body_of p.now)) }
+    requires may { goes (among dropped.now) (body_of p.now) ≡ true }
+    ensures tree { IfOk result (λ b. tree_of b.tree ≡ without dropped.now (body_of p.now)) }
+    ensures universe { IfOk result (λ b. b.universe ≡ universe_of p.now) }
+{
+    let after = tree_without(alloc, p, dropped)?;
+    let base = next_baseline(alloc, after, p.universe())?;
+    Ok(base)
+}
+
+/// What a trial of one more branch tells: on the automaton of what is left, if there is one, or else of both trees.
+fn trial_of(
+    alloc: Global,
+    p: &Pattern,
+    branch: Span,
+    tries: &mut Tries,
+    trimmer: &mut Option<Trimmer>,
+    limit: u32,
+) -> Result<Trial, OutOfMemory>
+    requires guardless { guard_in (body_of p.now) ≡ false }
+    requires within { IsWithin (universe_of p.now) (lowered (body_of p.now)) }
+    requires before { goes (among tries.old.dropped) (body_of p.now) ≡ true }
+    requires may { goes (among (branch ∷ tries.old.dropped)) (body_of p.now) ≡ true }
+    requires tree { tree_of tries.old.base.tree ≡ without tries.old.dropped (body_of p.now) }
+    requires universe { tries.old.base.universe ≡ universe_of p.now }
+    requires base { IfSome trimmer.old (IsBase (universe_of p.now) (without tries.old.dropped (body_of p.now))) }
+    requires some { 1 ≤ limit }
+    requires low { limit ≤ 20000 }
+    ensures verdict { IfOk result (λ t. IsVerdict (universe_of p.now) limit (without tries.old.dropped (body_of p.now)) (without (branch ∷ tries.old.dropped) (body_of p.now)) (verdict_of t)) }
+    ensures told { IfOk result (IsTold (universe_of p.now) (without tries.old.dropped (body_of p.now)) (without (branch ∷ tries.old.dropped) (body_of p.now))) }
+    ensures dropped { tries.new.dropped ≡ tries.old.dropped }
+    ensures passed { tries.new.passed ≡ tries.old.passed }
+    ensures same { tries.new.base ≡ tries.old.base }
+    ensures unchanged { trimmer.new ≡ trimmer.old }
+{
+    let judged = judge_branch(alloc, p, branch, tries.dropped.as_slice(), trimmer, limit)?;
+    if let Some(found) = judged {
+        return Ok(found);
     }
-    let told = is_told_apart(alloc, p, branch, dropped, trimmer, limit)?;
-    Ok(told)
+    let trial = compare_branch(
+        alloc,
+        p,
+        branch,
+        tries.dropped.as_slice(),
+        &mut tries.base,
+        limit,
+    )?;
+    Ok(trial)
 }
 
 /// What trials give with the branch before those that were tried.
@@ -127,6 +192,7 @@ fn try_branch(
     p: &Pattern,
     branch: Span,
     mut tries: Tries,
+    trimmer: &mut Option<Trimmer>,
     limit: u32,
 ) -> Result<Tries, OutOfMemory>
     requires guardless { guard_in (body_of p.now) ≡ false }
@@ -134,6 +200,7 @@ fn try_branch(
     requires before { goes (among tries.dropped) (body_of p.now) ≡ true }
     requires tree { tree_of tries.base.tree ≡ without tries.dropped (body_of p.now) }
     requires universe { tries.base.universe ≡ universe_of p.now }
+    requires base { IfSome trimmer.old (IsBase (universe_of p.now) (without tries.dropped (body_of p.now))) }
     requires some { 1 ≤ limit }
     requires low { limit ≤ 20000 }
     ensures tried { IfOk result (λ all. (bs : List AnySpan) → AreTried (universe_of p.now) limit (body_of p.now) bs tries.dropped tries.passed
@@ -142,15 +209,15 @@ fn try_branch(
     ensures universe { IfOk result (λ all. all.base.universe ≡ universe_of p.now) }
     ensures may { IfOk result (λ all. goes (among all.dropped) (body_of p.now) ≡ true) }
     ensures same { IfOk result (λ all. length all.dropped ≡ length tries.dropped → all.dropped ≡ tries.dropped) }
+    ensures unchanged { trimmer.new ≡ trimmer.old }
 {
     let more = with_first(alloc, branch, tries.dropped.as_slice())?;
     if !may_go(p.body(), more.as_slice()) {
         return Ok(tries);
     }
-    let after = tree_without(alloc, p, more.as_slice())?;
-    match run_trial(alloc, &mut tries.base, &after, limit)? {
+    match trial_of(alloc, p, branch, &mut tries, trimmer, limit)? {
         Trial::Equal => {
-            let base = next_baseline(alloc, after, p.universe())?;
+            let base = baseline_without(alloc, p, more.as_slice())?;
             Ok(Tries {
                 dropped: more,
                 passed: tries.passed,
@@ -169,8 +236,7 @@ fn try_branch(
     }
 }
 
-/// What trials give with the branch before those that were tried, where it is tried on the automaton of what is left first, if
-/// there is one.
+/// The same, and the automaton of what is left then, if others are to be tried on it.
 fn try_next(
     alloc: Global,
     p: &Pattern,
@@ -193,11 +259,8 @@ fn try_next(
     ensures universe { IfOk result (λ all. all.base.universe ≡ universe_of p.now) }
     ensures base { IfOk result (λ all. IfSome trimmer.new (IsBase (universe_of p.now) (without all.dropped (body_of p.now)))) }
 {
-    if is_kept(alloc, p, branch, tries.dropped.as_slice(), trimmer, limit)? {
-        return Ok(tries);
-    }
     let before = tries.dropped.len();
-    let all = try_branch(alloc, p, branch, tries, limit)?;
+    let all = try_branch(alloc, p, branch, tries, trimmer, limit)?;
     if all.dropped.len() == before {
         return Ok(all);
     }

@@ -53,6 +53,16 @@ closed-stays a v w done count g c = closed-grown a v w done count count g (omega
 pub closed-longer : (a : Automaton) (v w : Walk) (done : ℕ) → IsGrown a v w → IsClosedTo a v done (length v.sets) → IsClosedTo a w done (length w.sets)
 closed-longer a v w done g c = closed-grown a v w done (length v.sets) (length w.sets) g g.longer (omega arith) c
 
+pub stored-begun : (a : Automaton) (w : Walk) (done count : ℕ) → IsClosedTo a w done count → IsClosedTo a w 0 (length w.sets)
+stored-begun a w done count c = record {
+  made = c.made;
+  some = omega (arith, c.some, c.few);
+  reached = omega arith;
+  few = omega arith;
+  start = c.start;
+  images = λ k letter lt small. absurd (omega arith);
+}
+
 -- the image of a set that a walk was given
 pub image-found : (a : Automaton) (v w : Walk) (k letter n : ℕ) → k < length v.sets → IsNumbered a v w (image a (set_at v k) letter) n → HasImage a w (length w.sets) k letter
 image-found a v w k letter n lt is = record {

@@ -6,7 +6,7 @@ use Rattle.std.specs.List.{list_any}
 use Rattle.std.specs.Str.{bytes_eq}
 use Rattle.std.proofs.lemmas.Bool.{both_ways, cases_lt, and_parts, and_from, or_cases, false≢true, false_from_ne_true}
 use Rattle.std.proofs.lemmas.List.{length_push, get_or_append_left, get_or_push, take_all}
-use Rattle.std.proofs.lemmas.List.Elements.{All-nil, All-cons, All-head, All-tail, All-push, All-contains}
+use Rattle.std.proofs.lemmas.List.Elements.{All-nil, All-cons, All-head, All-tail, All-push, All-contains, All-take, All-weaker}
 use Rattle.std.proofs.lemmas.List.Folds.{Any-from_list_any, list_any_at}
 use Rattle.std.proofs.lemmas.Option.{slice_get_within, get_or_from_slice_get}
 use Rattle.std.proofs.lemmas.Slice.Eq.{bytes_eq-Decides}
@@ -17,6 +17,9 @@ use Rattle.rl_equiv.specs.SetPairs.{first_pair, SetPairs, differs}
 use Rattle.rl_equiv.specs.Numbering.{same_pair, with_one, with_more, looked_at, found_after, first_ones, NoneDiffers, Reads}
 use Rattle.rl_equiv.proofs.RunLaws.{found-zero, found-extends, get-taken}
 use Rattle.rl_equiv.proofs.WordLaws.{all-found}
+use Rattle.rl_trim.specs.declared.judgement.Judgement.TheVariants.{Equal}
+use Rattle.rl_trim.specs.Judged.{IsFound}
+use Rattle.rl_trim.proofs.OrderLaws.{found-fit}
 
 -- ---- a set pair is the same as itself alone
 
@@ -156,3 +159,14 @@ cover_apart d limit cover few first_in covered q word reads apart = by (list_any
         let firsts = first_ones d limit in
         let none : NoneDiffers d limit = λ k x lt. false_from_ne_true (differs d (get_or firsts k x)) (λ h. both_ways (list_any (differs d) firsts) e (list_any_at (differs d) firsts k x lt h)) in
         absurd (both_ways (differs d q) (cover-same d limit cover few first_in covered none q word reads) apart)
+
+-- where the list holds the next ones of each, and none shows a difference, the first ones are all
+pub cover_equal : (d : SetPairs) (limit : ℕ) (cover : List SetPair) → length cover ≤ limit → Contains cover first_pair
+    → All (λ p. (differs d p ≡ false) × All (Contains cover) (d.nexts p)) cover → IsFound d limit Equal
+cover_equal d limit cover few first_in calm =
+    let kept : (p : SetPair) → Contains cover p → (differs d p ≡ false) × All (Contains cover) (d.nexts p) =
+    λ p. All-contains (λ q. (differs d q ≡ false) × All (Contains cover) (d.nexts q)) cover p calm in
+    let each : All (Contains cover) (found_after d limit) = found-fit d (Contains cover) first_in (λ p c. (kept p c).1) limit in (
+      omega (arith, few, few-apart cover (found_after d limit) (found-apart d limit) each),
+      All-take (λ p. differs d p ≡ false) limit (found_after d limit) (All-weaker (Contains cover) (λ p. differs d p ≡ false) (λ p c. (kept p c).0) (found_after d limit) each),
+    )

@@ -1,9 +1,15 @@
 pub mod WithoutItems
 pub mod WithoutMoves
-pub mod CoverLaws
 pub mod LiftLaws
+pub mod OrderLaws
+pub mod TrimOrder
+pub mod LookLaws
 pub mod SetLaws
 pub mod ClosingLaws
+pub mod HolderLaws
 pub mod PairLaws
-pub mod TrialLaws
+pub mod KeyOrder
+pub mod CoverLaws
 pub mod ApartLaws
+pub mod QuickLaws
+pub mod BesideLaws

@@ -1,13 +1,12 @@
 -- Pairs of sets of one automaton's states are, with the kept states numbered anew, the set pairs of the whole tree and of the tree
 -- without some branches; so a cover of the former and a word that leads apart show that the latter differ.
-use Rattle.std.proofs.Common.{◌≡◌, ◌∙◌, ℕ, zero, suc, ◌+◌, ◌<◌, ◌≤◌, ◌⊎◌, inl, inr, List, [], ◌∷◌, ◌++◌, length, map, filter, slice_get, slice_index_or, Some, All, Any, Contains, Bool, true, false, cond, not, ◌&&◌, ◌||◌, eqb, refl, sym, ap, ap₂, subst, arith}
+use Rattle.std.proofs.Common.{◌≡◌, ◌∙◌, ℕ, zero, suc, ◌+◌, ◌<◌, ◌≤◌, inl, inr, List, [], ◌∷◌, ◌++◌, length, map, filter, slice_index_or, Contains, Bool, true, false, cond, not, ◌&&◌, ◌||◌, eqb, refl, sym, ap, ap₂, subst, arith}
 use Rattle.std.specs.List.{list_any, list_all}
 use Rattle.std.proofs.Math.Bool.{beq}
 use Rattle.std.proofs.lemmas.Bool.{cases_lt, cases_eq, eq-eqb, ne_eqb, and_parts, and_left}
 use Rattle.std.proofs.lemmas.List.{append-nil, length-map, map-append, get_or-map, get_or_past}
-use Rattle.std.proofs.lemmas.List.Elements.{All-head, All-tail, All-map, All-weaker, filter-append, filter_passes}
+use Rattle.std.proofs.lemmas.List.Elements.{filter-append, filter_passes}
 use Rattle.std.proofs.lemmas.List.Sums.{list_all-from_AllPass}
-use Rattle.std.proofs.lemmas.Option.{slice_get-get_or}
 use Rattle.rl_ranges.specs.declared.universe.Universe.{Universe}
 use Rattle.rl_ranges.specs.Letters.{alike, classes}
 use Rattle.rl_ranges.specs.Text.{code_count}
@@ -21,14 +20,12 @@ use Rattle.rl_prio.specs.States.{accepting, dead, state_count, moves_over}
 use Rattle.rl_sets.specs.Live.{below, holds, image}
 use Rattle.rl_sets.proofs.SetLemmas.{filter-below_suc, holds-filter}
 use Rattle.rl_equiv.specs.declared.pair.SetPair.{SetPair}
-use Rattle.rl_equiv.specs.SetPairs.{joint_sets, image_over, first_pair, differs, set_pairs}
-use Rattle.rl_equiv.specs.Numbering.{first_ones, Reads, stay, onward}
+use Rattle.rl_equiv.specs.SetPairs.{joint_sets, image_over, differs, set_pairs}
 use Rattle.rl_equiv.specs.Bases.{TellsNoMore, IsBase}
 use Rattle.rl_equiv.proofs.BaseLaws.{same-stands}
-use Rattle.rl_equiv.proofs.ImageLaws.{length-below, map-below, get_or-below, image-over}
+use Rattle.rl_equiv.proofs.ImageLaws.{map-below, image-over}
 use Rattle.rl_trim.specs.internal.Sunk.{kept_before, is_kept, sunk, AreSunk}
-use Rattle.rl_trim.specs.internal.Trims.{trimmed, trim_on, trim_nexts, trim_run, trim_differs, IsCovered, IsCover, LeadsApart}
-use Rattle.rl_trim.proofs.CoverLaws.{cover_apart}
+use Rattle.rl_trim.specs.internal.Trims.{trimmed, trim_on, trim_nexts, trim_differs}
 
 -- ---- lists
 
@@ -62,10 +59,10 @@ sunk-suc : (keep : List Bool) (q : ℕ) → sunk keep (suc q) ≡ cond (is_kept 
 sunk-suc keep zero = refl
 sunk-suc keep (suc p) = suc-one (slice_index_or keep p true) (kept_before keep p) (kept_before keep (suc p)) (kept-suc keep p)
 
-sunk-next : (keep : List Bool) (q : ℕ) → is_kept keep q ≡ true → sunk keep (suc q) ≡ suc (sunk keep q)
+pub sunk-next : (keep : List Bool) (q : ℕ) → is_kept keep q ≡ true → sunk keep (suc q) ≡ suc (sunk keep q)
 sunk-next keep q kept = sunk-suc keep q ∙ ap (λ b. cond b (suc (sunk keep q)) (sunk keep q)) kept
 
-sunk-rises : (keep : List Bool) (q r : ℕ) → q ≤ r → sunk keep q ≤ sunk keep r
+pub sunk-rises : (keep : List Bool) (q r : ℕ) → q ≤ r → sunk keep q ≤ sunk keep r
 sunk-rises keep q zero le = let e : q ≡ zero = omega arith in subst (λ n. n ≤ 0) (sym (ap (sunk keep) e)) (omega arith)
 sunk-rises keep q (suc r) le =
     elim (cases_lt r q) [
@@ -122,13 +119,13 @@ module _ (sets : List (ℕ → Bool)) (n : ℕ) (keep : List Bool) (s t : Tree) 
   accepting-place : accepting t n ≡ suc (places t)
   accepting-place = omega (arith, are.second_states)
 
-  accepting-kept : is_kept keep (accepting t n) ≡ true
+  pub accepting-kept : is_kept keep (accepting t n) ≡ true
   accepting-kept = ap (is_kept keep) accepting-place ∙ past-kept (places t) (omega arith)
 
   dead-kept : is_kept keep (dead t n) ≡ true
   dead-kept = past-kept (accepting t n) (omega (arith, accepting-place))
 
-  accepting-sunk : sunk keep (accepting t n) ≡ accepting s n
+  pub accepting-sunk : sunk keep (accepting t n) ≡ accepting s n
   accepting-sunk = ap (sunk keep) accepting-place ∙ omega (arith, are.kept, are.first_states)
 
   dead-sunk : sunk keep (dead t n) ≡ dead s n
@@ -183,7 +180,7 @@ module _ (sets : List (ℕ → Bool)) (n : ℕ) (keep : List Bool) (s t : Tree) 
 -- ---- pairs of the automaton and set pairs of both trees
 
 -- the pair with the new numbers in its second set
-abbrev lifted : List Bool → SetPair → SetPair
+abbrev pub lifted : List Bool → SetPair → SetPair
 lifted keep p = record { first = p.first; second = map (sunk keep) p.second }
 
 -- the next pair in both trees
@@ -198,13 +195,13 @@ module _ (u : Universe) (a : Automaton) (s t : Tree) (keep : List Bool) (base : 
       by true e = ap (λ x. x && alike (all_sets s) c d) e ∙ fewer c d e ∙ sym e
       by false e = ap (λ x. x && alike (all_sets s) c d) e ∙ sym e
 
-  stands-joint : StandsOver a t AtEnd (joint_sets t s)
+  pub stands-joint : StandsOver a t AtEnd (joint_sets t s)
   stands-joint = same-stands (all_sets t) (joint_sets t s) alike-joint a t AtEnd base.stands
 
   count-joint : letters_count a ≡ length (classes (joint_sets t s) (code_count u))
   count-joint = stands-joint.same_letters.same_count ∙ ap (λ (n : ℕ). length (classes (joint_sets t s) n)) base.codes
 
-  accepting-joint : accepting_state a ≡ accepting t (code_count u)
+  pub accepting-joint : accepting_state a ≡ accepting t (code_count u)
   accepting-joint =
       let e : accepting_state a ≡ accepting t a.table.codes = omega (arith, stands-joint.same_states) in
       e ∙ ap (accepting t) base.codes
@@ -225,7 +222,7 @@ module _ (u : Universe) (a : Automaton) (s t : Tree) (keep : List Bool) (base : 
       let y = image-kept p.second all letter (omega arith) in
       λ i. record { first = x i; second = y i }
 
-  nexts-lifted : (p : SetPair) → list_all (is_kept keep) p.second ≡ true → map (lifted keep) (trim_nexts a keep p) ≡ (set_pairs u t s).nexts (lifted keep p)
+  pub nexts-lifted : (p : SetPair) → list_all (is_kept keep) p.second ≡ true → map (lifted keep) (trim_nexts a keep p) ≡ (set_pairs u t s).nexts (lifted keep p)
   unfolding set_pairs
   nexts-lifted p all =
       let next = next_over (joint_sets t s) (code_count u) t s (lifted keep p) in
@@ -233,7 +230,7 @@ module _ (u : Universe) (a : Automaton) (s t : Tree) (keep : List Bool) (base : 
       ∙ map-below (λ letter. lifted keep (trim_on a keep p letter)) next (letters_count a) (next-lifted p all)
       ∙ ap (λ (k : ℕ). map next (below k)) count-joint
 
-  differs-lifted : (p : SetPair) → list_all (is_kept keep) p.second ≡ true → trim_differs a p ≡ differs (set_pairs u t s) (lifted keep p)
+  pub differs-lifted : (p : SetPair) → list_all (is_kept keep) p.second ≡ true → trim_differs a p ≡ differs (set_pairs u t s) (lifted keep p)
   unfolding set_pairs
   differs-lifted p all =
       let sets = joint_sets t s in
@@ -242,49 +239,3 @@ module _ (u : Universe) (a : Automaton) (s t : Tree) (keep : List Bool) (base : 
       let ends : (set : List ℕ) → holds (image a set (letters_count a)) (accepting_state a) ≡ holds (image_over sets t n set end) (accepting t n) =
       λ set. ap₂ holds (image-joint set (letters_count a) (omega arith) ∙ ap (image_over sets t n set) count-joint) accepting-joint in
       ap₂ (λ x y. not (beq x y)) (ends p.first) (ends p.second ∙ ends-sunk sets n keep s t are p.second all end)
-
-  cover-lifted : (cover : List SetPair) → All (IsCovered a keep cover) cover
-      → All (λ p. (differs (set_pairs u t s) p ≡ true) ⊎ All (Contains (map (lifted keep) cover)) ((set_pairs u t s).nexts p)) (map (lifted keep) cover)
-  cover-lifted cover covered =
-      let more = map (lifted keep) cover in
-      let d = set_pairs u t s in
-      All-map (λ p. (differs d p ≡ true) ⊎ All (Contains more) (d.nexts p)) (lifted keep) cover
-      (All-weaker (IsCovered a keep cover) (λ p. (differs d (lifted keep p) ≡ true) ⊎ All (Contains more) (d.nexts (lifted keep p))) (λ p c. by p c.second_kept c.nexts_in) cover covered)
-    where
-      by : (p : SetPair) → list_all (is_kept keep) p.second ≡ true → (trim_differs a p ≡ true) ⊎ All (Contains cover) (trim_nexts a keep p)
-          → (differs (set_pairs u t s) (lifted keep p) ≡ true) ⊎ All (Contains (map (lifted keep) cover)) ((set_pairs u t s).nexts (lifted keep p))
-      by p all (inl apart) = inl (sym (differs-lifted p all) ∙ apart)
-      by p all (inr each) = inr (subst (All (Contains (map (lifted keep) cover))) (nexts-lifted p all)
-          (All-map (Contains (map (lifted keep) cover)) (lifted keep) (trim_nexts a keep p)
-          (All-weaker (Contains cover) (λ q. Contains (map (lifted keep) cover) (lifted keep q)) (Contains-map (lifted keep) cover) (trim_nexts a keep p) each)))
-
-  next-get : (p : SetPair) → list_all (is_kept keep) p.second ≡ true → (letter : ℕ) → letter < letters_count a
-      → slice_get ((set_pairs u t s).nexts (lifted keep p)) letter ≡ Some (lifted keep (trim_on a keep p letter))
-  next-get p all letter lt =
-      let f = trim_on a keep p in
-      let long : letter < length (trim_nexts a keep p) = omega (arith, lt, length-map (below (letters_count a)) f, length-below (letters_count a)) in
-      ap (λ (l : List SetPair). slice_get l letter) (sym (nexts-lifted p all))
-      ∙ slice_get-get_or (map (lifted keep) (trim_nexts a keep p)) letter first_pair (omega (arith, long, length-map (trim_nexts a keep p) (lifted keep)))
-      ∙ ap (λ (q : SetPair). Some q) (get_or-map (lifted keep) (trim_nexts a keep p) letter first_pair first_pair long ∙ ap (lifted keep) (get_or-below f (letters_count a) letter first_pair lt))
-
-  kept-run : (word : List ℕ) (p : SetPair) → list_all (is_kept keep) p.second ≡ true → list_all (is_kept keep) (trim_run a keep p word).second ≡ true
-  kept-run [] p all = all
-  kept-run (letter ∷ word) p all = kept-run word (trim_on a keep p letter) (trimmed-kept keep (image a p.second letter))
-
-  reads-lifted : (word : List ℕ) (p : SetPair) → list_all (is_kept keep) p.second ≡ true → All (λ letter. letter < letters_count a) word
-      → Reads (set_pairs u t s) (lifted keep p) word (lifted keep (trim_run a keep p word))
-  reads-lifted [] p all small = stay
-  reads-lifted (letter ∷ word) p all small =
-      onward {q = lifted keep (trim_on a keep p letter)} (next-get p all letter (All-head (λ l. l < letters_count a) letter word small))
-      (reads-lifted word (trim_on a keep p letter) (trimmed-kept keep (image a p.second letter)) (All-tail (λ l. l < letters_count a) letter word small))
-
-pub trims_apart : (u : Universe) (a : Automaton) (s t : Tree) (keep : List Bool) (limit : ℕ) (cover : List SetPair) (word : List ℕ)
-    → IsBase u t a → TellsNoMore t s → AreSunk (joint_sets t s) (code_count u) keep s t
-    → IsCover a keep limit cover → LeadsApart a keep word
-    → Any (λ p. differs (set_pairs u t s) p ≡ true) (first_ones (set_pairs u t s) limit)
-trims_apart u a s t keep limit cover word base fewer are covers leads =
-    let p = trim_run a keep first_pair word in
-    cover_apart (set_pairs u t s) limit (map (lifted keep) cover) (omega (arith, covers.few, length-map cover (lifted keep))) (Contains-map (lifted keep) cover first_pair covers.first_in)
-    (cover-lifted u a s t keep base fewer are cover covers.covered)
-    (lifted keep p) word (reads-lifted u a s t keep base fewer are word first_pair refl leads.small)
-    (sym (differs-lifted u a s t keep base fewer are p (kept-run u a s t keep base fewer are word first_pair refl)) ∙ leads.apart)

@@ -5,6 +5,7 @@ use Rattle.std.proofs.lemmas.Bool.{cases_Bool, cases_lt, both_ways, and_from, or
 use Rattle.std.proofs.lemmas.List.{get_or_append_left}
 use Rattle.std.proofs.lemmas.List.Elements.{All-filter, All-head, All-tail, All-push, All-weaker}
 use Rattle.std.proofs.lemmas.List.Folds.{list_any_at, list_any-append}
+use Rattle.std.proofs.lemmas.List.Sums.{AllPass-from_list_all}
 use Rattle.std.proofs.lemmas.Option.{get_or_from_slice_get}
 use Rattle.rl_prio.specs.Automaton.{Automaton, dead_state}
 use Rattle.rl_sets.specs.Live.{below, holds}
@@ -118,6 +119,10 @@ set-trimmed a keep set is =
     filter_same (holds (trimmed keep set)) (λ q. is_kept keep q && holds set q) a.states (λ q lt. holds-trimmed (is_kept keep) set q)
     ∙ filter-both (is_kept keep) (holds set) (below a.states)
     ∙ ap (filter (is_kept keep)) (sym is.rising)
+
+-- without them once more it is the same
+pub trimmed-twice : (keep : List Bool) (set : List ℕ) → trimmed keep (trimmed keep set) ≡ trimmed keep set
+trimmed-twice keep set = filter-all (is_kept keep) (trimmed keep set) (AllPass-from_list_all (is_kept keep) (trimmed keep set) (filter-passes (is_kept keep) set))
 
 -- a set that holds none of them is the same without them
 pub untouched : (a : Automaton) (keep : List Bool) (set gone : List ℕ) → IsSetOf a set → AreGone keep a.states gone → list_any (holds set) gone ≡ false → trimmed keep set ≡ set

@@ -1,3 +1,4 @@
 pub mod Without
 pub mod Reached
 pub mod internal
+pub mod Judged

@@ -29,7 +29,7 @@ pub(crate) struct Branch<'a> {
 }
 
 /// Whether a state is kept.
-fn is_kept(keep: &[bool], state: u32) -> bool
+pub(crate) fn is_kept(keep: &[bool], state: u32) -> bool
     ensures { result ≡ is_kept_in keep.now state }
 {
     if state == 0 {
@@ -142,10 +142,14 @@ impl<'a> Branch<'a> {
         requires made { IsMadeFor walk.old self.now.automaton.now }
         requires inside { IsInside walk.old key }
         requires letter_in { letter < letters_count self.now.automaton.now }
-        ensures { IfOk result (IsKeyOf self.now.automaton.now self.now.keep.now walk.old walk.new
+        ensures { IfOk result (IsKeyOf self.now.automaton.now walk.old walk.new
             (trim_on self.now.automaton.now self.now.keep.now (pair_of walk.old key) letter)) }
     {
         let first = step(walk, self.automaton, key.first, letter)?;
+        if key.second == key.first {
+            let second = self.trim(walk, first)?;
+            return Ok(Key { first, second });
+        }
         let whole = step(walk, self.automaton, key.second, letter)?;
         let second = self.trim(walk, whole)?;
         Ok(Key { first, second })
@@ -158,6 +162,9 @@ impl<'a> Branch<'a> {
         ensures differs { IfOk result (λ told. told ≡ trim_differs self.now.automaton.now (pair_of walk.old key)) }
         ensures grown { OnOk result (IsGrown self.now.automaton.now walk.old walk.new) }
     {
+        if key.first == key.second {
+            return Ok(false);
+        }
         let first = ends(walk, self.automaton, key.first)?;
         let second = ends(walk, self.automaton, key.second)?;
         Ok(first != second)

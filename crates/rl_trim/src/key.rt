@@ -15,7 +15,8 @@ pub(crate) struct Key {
     pub second: u32,
 }
 
-/// How a set or a pair of sets was found: the place of the one whose next it is, and the letter.
+/// How a set or a pair of sets was found: the place of the one whose next it is, and the letter. One that wasn't found so has its
+/// own place.
 #[derive(Clone, Copy)]
 pub(crate) struct Way {
     /// The place.

@@ -3,10 +3,15 @@
 #![tactic(auto)]
 
 mod branch;
-mod closed;
+mod holders;
+mod judgement;
 mod key;
+mod order;
 mod pairs;
+mod quick;
+mod store;
 mod trimmer;
 mod word;
 
+pub use judgement::Judgement;
 pub use trimmer::Trimmer;

@@ -1,24 +1,26 @@
-//! Whether a tree without some of its branches spans other texts.
+//! What a tree without some of its branches spans.
 
-ghost use Rattle.std.specs.Prelude.{◌≡◌, ◌≤◌, Any, true, [], IfOk, OnOk};
+ghost use Rattle.std.specs.Prelude.{◌≡◌, length, [], IfOk, OnOk, IfSome};
 ghost use Rattle.rl_ranges.specs.declared.universe.Universe.{Universe as AnyUniverse};
 ghost use Rattle.rl_syntax.specs.Tree.{Tree, tree_of, IsOver, guards_in};
 ghost use Rattle.rl_equiv.specs.Bases.{IsBase};
 ghost use Rattle.rl_equiv.specs.Limits.{IsWithin};
-ghost use Rattle.rl_equiv.specs.Numbering.{first_ones};
-ghost use Rattle.rl_equiv.specs.SetPairs.{set_pairs, differs};
+ghost use Rattle.rl_equiv.specs.SetPairs.{set_pairs};
 ghost use Rattle.rl_trim.specs.Without.{Without};
-ghost use Rattle.rl_trim.specs.Reached.{IsClosed, IsReady};
-ghost use Rattle.rl_trim.specs.internal.Quick.{IsToldApart};
+ghost use Rattle.rl_trim.specs.Judged.{IsJudged, IsFound, IsTold};
+ghost use Rattle.rl_trim.specs.Reached.{IsClosedTo, IsStore, IsStoreIf};
+ghost use Rattle.rl_trim.specs.internal.Trims.{trim_pairs};
+ghost use Rattle.rl_trim.specs.internal.Quick.{IsGrown};
 
 use crate::branch::Branch;
-use crate::closed::Closed;
-use crate::pairs::Pairs;
-use crate::word::{leads_apart, word_to};
+use crate::judgement::Judgement;
+use crate::order::Order;
+use crate::quick::quick_trial;
+use crate::store::Store;
 use rl_lists::OutOfMemory;
 use rl_prio::{Prio, PrioError};
 use rl_ranges::Universe;
-use rl_sets::SetsError;
+use rl_sets::{SetWalk, SetsError};
 use rl_syntax::{Ending, Re};
 use std::alloc::Global;
 use std::marker::Model;
@@ -27,59 +29,130 @@ use std::marker::Model;
 #[derive(Drop)]
 pub struct Trimmer {
     automaton: Prio,
-    /// The sets that are reached from the start, unless there are too many.
-    closed: Option<Closed>,
+    /// The sets that trials have made, unless there was no room for them.
+    store: Option<Store>,
 }
 
 impl Model for Trimmer {
     ghost use Rattle.rl_prio.specs.Automaton.{Automaton};
-    ghost use Rattle.rl_trim.specs.Reached.{IsReady};
+    ghost use Rattle.rl_trim.specs.Reached.{IsStoreIf};
 
     ghost Value = { Automaton };
 
     ghost view = { λ t. t.automaton };
 
-    ghost invariant = { λ t. IsReady t.automaton t.closed };
+    ghost invariant = { λ t. IsStoreIf t.automaton t.store };
 }
 
-/// The sets of an automaton that are reached from the start, unless there are too many.
-fn close(alloc: Global, a: &Prio) -> Result<Option<Closed>, OutOfMemory>
-    ensures { IfOk result (IsReady a.now) }
+/// The sets of an automaton that are reached from the start, if there is room for them.
+fn close(alloc: Global, a: &Prio) -> Result<Option<Store>, OutOfMemory>
+    ensures { IfOk result (IsStoreIf a.now) }
 {
-    match Closed::new(alloc, a) {
-        Ok(closed) => Ok(Some(closed)),
+    match Store::closed(alloc, a) {
+        Ok(store) => Ok(Some(store)),
         Err(SetsError::Sets) => Ok(None),
         Err(SetsError::OutOfMemory) => Err(OutOfMemory),
     }
 }
 
-/// Whether a quick trial shows that an automaton without the states of the places that aren't kept spans other texts.
-fn try_without(
+/// What the pairs in their order tell.
+fn trial_in_order(
     alloc: Global,
-    closed: &mut Closed,
+    branch: &Branch,
+    walk: &mut SetWalk,
+    limit: u32,
+) -> Result<Judgement, SetsError>
+    requires { IsClosedTo branch.now.automaton.now walk.old 0 (length walk.old.sets) }
+    ensures found { IfOk result (IsFound (trim_pairs branch.now.automaton.now branch.now.keep.now) limit) }
+    ensures grown { OnOk result (IsGrown branch.now.automaton.now walk.old walk.new) }
+{
+    let mut order = Order::new(alloc)?;
+    let found = order.judge(branch, walk, limit as usize)?;
+    Ok(found)
+}
+
+/// What a trial tells: a quick one, or else one in order.
+fn trial_of(
+    alloc: Global,
+    branch: &Branch,
+    store: &mut Store,
+    limit: u32,
+) -> Result<Judgement, SetsError>
+    requires { IsStore branch.now.automaton.now store.old }
+    ensures found { IfOk result (IsFound (trim_pairs branch.now.automaton.now branch.now.keep.now) limit) }
+    ensures store { OnOk result (IsStore branch.now.automaton.now store.new) }
+{
+    let Some(reached) = &store.reached else {
+        let found = trial_in_order(alloc, branch, &mut store.walk, limit)?;
+        return Ok(found);
+    };
+    let told = quick_trial(alloc, branch, &mut store.walk, reached, limit)?;
+    if let Some(found) = told {
+        return Ok(found);
+    }
+    let found = trial_in_order(alloc, branch, &mut store.walk, limit)?;
+    Ok(found)
+}
+
+/// What a trial tells of an automaton without the states of the places that aren't kept, and the sets with those that it has made.
+fn judge_on(
+    alloc: Global,
+    mut store: Store,
     a: &Prio,
     keep: &[bool],
     limit: u32,
-) -> Result<bool, SetsError>
-    requires { IsClosed a.now closed.old }
-    ensures told { IfOk result (λ told. told ≡ true → IsToldApart a.now keep.now limit) }
-    ensures closed { OnOk result (IsClosed a.now closed.new) }
+) -> Result<(Judgement, Store), SetsError>
+    requires { IsStore a.now store }
+    ensures found { IfOk result (λ r. IsFound (trim_pairs a.now keep.now) limit r.0) }
+    ensures store { IfOk result (λ r. IsStore a.now r.1) }
 {
     let branch = Branch::new(alloc, a, keep)?;
-    let mut pairs = Pairs::new(alloc, &branch, &mut closed.walk, closed.count)?;
-    let all = pairs.grow(&branch, &mut closed.walk)?;
-    if !all {
-        return Ok(false);
+    let found = trial_of(alloc, &branch, &mut store, limit)?;
+    Ok((found, store))
+}
+
+/// The same over sets of its own.
+fn judge_afresh(
+    alloc: Global,
+    a: &Prio,
+    keep: &[bool],
+    limit: u32,
+) -> Result<Option<(Judgement, Store)>, OutOfMemory>
+    ensures found { IfOk result (λ o. IfSome o (λ r. IsFound (trim_pairs a.now keep.now) limit r.0)) }
+    ensures store { IfOk result (λ o. IfSome o (λ r. IsStore a.now r.1)) }
+{
+    let begun = Store::begun(alloc, a);
+    match begun {
+        Ok(store) => match judge_on(alloc, store, a, keep, limit) {
+            Ok(found) => Ok(Some(found)),
+            Err(SetsError::Sets) => Ok(None),
+            Err(SetsError::OutOfMemory) => Err(OutOfMemory),
+        },
+        Err(SetsError::Sets) => Ok(None),
+        Err(SetsError::OutOfMemory) => Err(OutOfMemory),
     }
-    if pairs.keys.len() > limit as usize {
-        return Ok(false);
-    }
-    let Some(place) = pairs.apart else {
-        return Ok(false);
+}
+
+/// The same over the sets of earlier trials, or where there is no room for more of them over sets of its own.
+fn judge_if_room(
+    alloc: Global,
+    store: Option<Store>,
+    a: &Prio,
+    keep: &[bool],
+    limit: u32,
+) -> Result<Option<(Judgement, Store)>, OutOfMemory>
+    requires { IsStoreIf a.now store }
+    ensures found { IfOk result (λ o. IfSome o (λ r. IsFound (trim_pairs a.now keep.now) limit r.0)) }
+    ensures store { IfOk result (λ o. IfSome o (λ r. IsStore a.now r.1)) }
+{
+    let Some(store) = store else {
+        return judge_afresh(alloc, a, keep, limit);
     };
-    let word = word_to(alloc, &closed.ways, &pairs.ways, place)?;
-    let told = leads_apart(&branch, &mut closed.walk, word.as_slice())?;
-    Ok(told)
+    match judge_on(alloc, store, a, keep, limit) {
+        Ok(found) => Ok(Some(found)),
+        Err(SetsError::Sets) => judge_afresh(alloc, a, keep, limit),
+        Err(SetsError::OutOfMemory) => Err(OutOfMemory),
+    }
 }
 
 impl Trimmer {
@@ -96,42 +169,38 @@ impl Trimmer {
             Ok(automaton) => {
                 // Reading the number of states shows that it is a whole automaton.
                 let _states = automaton.states();
-                let closed = close(alloc, &automaton)?;
-                Ok(Trimmer { automaton, closed })
+                let store = close(alloc, &automaton)?;
+                Ok(Trimmer { automaton, store })
             }
             Err(PrioError::OutOfMemory) => Err(OutOfMemory),
             Err(PrioError::Letters | PrioError::Moves) => unreachable!(),
         }
     }
 
-    /// Whether the tree without the branches whose places aren't kept spans other texts, as far as a quick trial tells: where it
-    /// answers true, one of the first set pairs of both trees, `limit` at most, shows a difference. It may answer false where one
-    /// does; a trial of both trees tells then.
+    /// What a trial tells of the languages of the tree and of the tree without the branches whose places aren't kept: the very
+    /// answer of a trial of both trees. It answers `None` where the automaton has more sets than a trial has room for.
     ///
     /// # Errors
     /// [`OutOfMemory`] where there was no memory for the trial.
-    pub fn is_apart(
+    pub fn judge(
         &mut self,
         alloc: Global,
         keep: &[bool],
         limit: u32,
-    ) -> Result<bool, OutOfMemory>
-        requires some { 1 ≤ limit }
-        requires low { limit ≤ 20000 }
-        ensures apart { IfOk result (λ told. told ≡ true → (u : AnyUniverse) (s t : Tree) → IsBase u t self.old → guards_in t ≡ []
-            → Without keep.now s t → Any (λ p. differs (set_pairs u t s) p ≡ true) (first_ones (set_pairs u t s) limit)) }
+    ) -> Result<Option<Judgement>, OutOfMemory>
+        ensures judged { IfOk result (λ o. IfSome o (λ j. (u : AnyUniverse) (s t : Tree) → IsBase u t self.old → guards_in t ≡ []
+            → Without keep.now s t → IsJudged (set_pairs u t s) limit j)) }
+        ensures told { IfOk result (λ o. IfSome o (λ j. (u : AnyUniverse) (s t : Tree) → IsBase u t self.old → guards_in t ≡ []
+            → Without keep.now s t → IsTold u t s j)) }
         ensures unchanged { self.new ≡ self.old }
     {
-        let Some(mut closed) = self.closed.take() else {
-            return Ok(false);
-        };
-        match try_without(alloc, &mut closed, &self.automaton, keep, limit) {
-            Ok(told) => {
-                self.closed = Some(closed);
-                Ok(told)
+        let kept = self.store.take();
+        match judge_if_room(alloc, kept, &self.automaton, keep, limit)? {
+            Some((found, store)) => {
+                self.store = Some(store);
+                Ok(Some(found))
             }
-            Err(SetsError::Sets) => Ok(false),
-            Err(SetsError::OutOfMemory) => Err(OutOfMemory),
+            None => Ok(None),
         }
     }
 }

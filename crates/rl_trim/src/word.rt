@@ -7,37 +7,34 @@ ghost use Rattle.rl_trim.specs.internal.Quick.{IsGrown};
 
 use crate::branch::Branch;
 use crate::key::{Key, Way};
+use indexmap::IndexSet;
 use rl_lists::OutOfMemory;
 use rl_sets::{SetWalk, SetsError};
 use std::alloc::Global;
 
-/// How the pair at a place was found. The first pairs are found as their sets are.
-fn way_of(sets: &[Way], pairs: &[Way], place: usize) -> Option<Way> {
-    if place < sets.len() {
-        return Some(sets[place]);
+/// Appends the letters by which the one at a place was found, the last one first, and answers the place of the one that they begin
+/// at.
+fn trace(back: &mut Vec<u32>, ways: &[Way], place: usize) -> Result<usize, OutOfMemory> {
+    let mut at = place;
+    while at < ways.len() && ways[at].parent < at {
+        back.push(ways[at].letter)?;
+        at = ways[at].parent;
     }
-    let other = place - sets.len();
-    if other < pairs.len() {
-        return Some(pairs[other]);
-    }
-    None
+    Ok(at)
 }
 
-/// The word by which the pair at a place was found.
+/// The word by which the pair at a place was found: that of the set which its pairs begin at, and theirs.
 pub(crate) fn word_to(
     alloc: Global,
     sets: &[Way],
     pairs: &[Way],
+    keys: &IndexSet<Key>,
     place: usize,
 ) -> Result<Vec<u32>, OutOfMemory> {
     let mut back = Vec::new(alloc);
-    let mut at = place;
-    while at > 0 {
-        let Some(way) = way_of(sets, pairs, at) else {
-            return Ok(back);
-        };
-        back.push(way.letter)?;
-        at = way.parent.min(at - 1);
+    let root = trace(&mut back, pairs, place)?;
+    if root < keys.len() {
+        trace(&mut back, sets, keys[root].first as usize)?;
     }
     back.reverse();
     Ok(back)

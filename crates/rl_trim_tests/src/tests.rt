@@ -6,7 +6,7 @@ use rl_equiv::{SameError, same};
 use rl_lists::OutOfMemory;
 use rl_ranges::{CodeSet, Universe};
 use rl_syntax::Re;
-use rl_trim::Trimmer;
+use rl_trim::{Judgement, Trimmer};
 use std::alloc::Global;
 
 /// The tree of an ASCII code.
@@ -38,17 +38,16 @@ fn trimmer_of(alloc: Global, tree: &Re) -> Result<Trimmer, SameError>
     Ok(trimmer)
 }
 
-/// Which places are kept, the limit, and whether the trial tells the trees apart.
-type Trial = (&'static [bool], u32, bool);
+/// Which places are kept, the limit, and what the trial tells.
+type Trial = (&'static [bool], u32, Judgement);
 
-/// Whether trials of the tree, one after the other, answer so.
+/// Whether trials of the tree, one after the other, tell so.
 fn are_told(alloc: Global, tree: &Re, trials: &[Trial]) -> Result<bool, SameError>
     requires { IsOver Universe.Bytes (tree_of tree.now) }
 {
     let mut trimmer = trimmer_of(alloc, tree)?;
-    for (keep, limit, apart) in trials {
-        let is_limit = 1 <= *limit && *limit <= 20000;
-        if !is_limit || trimmer.is_apart(alloc, keep, *limit)? != *apart {
+    for (keep, limit, wanted) in trials {
+        if trimmer.judge(alloc, keep, *limit)? != Some(*wanted) {
             return Ok(false);
         }
     }
@@ -68,22 +67,55 @@ fn three_words(alloc: Global) -> Result<Re, OutOfMemory>
 
 /// A branch of its own tells apart.
 static OWN_BRANCHES: [Trial; 3] = [
-    (&[false, false, true, true, true, true], 100, true),
-    (&[true, true, false, false, true, true], 100, true),
-    (&[true, true, true, true, false, false], 100, true),
+    (
+        &[false, false, true, true, true, true],
+        100,
+        Judgement::Apart,
+    ),
+    (
+        &[true, true, false, false, true, true],
+        100,
+        Judgement::Apart,
+    ),
+    (
+        &[true, true, true, true, false, false],
+        100,
+        Judgement::Apart,
+    ),
 ];
 
-/// No branch tells nothing, nor does a low limit.
-static NOTHING_TOLD: [Trial; 2] = [
-    (&[true, true, true, true, true, true], 100, false),
-    (&[false, false, true, true, true, true], 3, false),
+/// No branch tells nothing apart.
+static NO_BRANCH: [Trial; 1] = [(&[true, true, true, true, true, true], 100, Judgement::Equal)];
+
+/// Without `ab` the pairs are, in order: the starts, no state, `a` alone, both `c`, both `e`, and the sixth one, `ab` alone,
+/// shows the difference.
+static AT_LIMITS: [Trial; 4] = [
+    (
+        &[false, false, true, true, true, true],
+        1,
+        Judgement::Passed,
+    ),
+    (
+        &[false, false, true, true, true, true],
+        5,
+        Judgement::Passed,
+    ),
+    (&[false, false, true, true, true, true], 6, Judgement::Apart),
+    (&[false, false, true, true, true, true], 7, Judgement::Apart),
 ];
 
 #[test]
 fn a_branch_of_its_own_alone_tells_apart(rt: HostRuntime) -> Result<(), SameError> {
     let tree = three_words(rt.alloc())?;
     assert!(rt; are_told(rt.alloc(), &tree, &OWN_BRANCHES)?);
-    assert!(rt; are_told(rt.alloc(), &tree, &NOTHING_TOLD)?);
+    assert!(rt; are_told(rt.alloc(), &tree, &NO_BRANCH)?);
+    Ok(())
+}
+
+#[test]
+fn the_first_pairs_decide_up_to_the_limit(rt: HostRuntime) -> Result<(), SameError> {
+    let tree = three_words(rt.alloc())?;
+    assert!(rt; are_told(rt.alloc(), &tree, &AT_LIMITS)?);
     Ok(())
 }
 
@@ -96,10 +128,17 @@ fn one_twice(alloc: Global) -> Result<Re, OutOfMemory>
     Re::either(alloc, first, second)
 }
 
-static TWICE_THERE: [Trial; 2] = [(&[false, true], 100, false), (&[true, false], 100, false)];
+/// There are three pairs: the starts, no state, and both `a` with the one that is left.
+static TWICE_THERE: [Trial; 5] = [
+    (&[false, true], 100, Judgement::Equal),
+    (&[true, false], 100, Judgement::Equal),
+    (&[true, false], 4, Judgement::Equal),
+    (&[true, false], 3, Judgement::Equal),
+    (&[true, false], 2, Judgement::Passed),
+];
 
 #[test]
-fn a_branch_that_is_there_twice_tells_nothing(rt: HostRuntime) -> Result<(), SameError> {
+fn a_branch_that_is_there_twice_goes(rt: HostRuntime) -> Result<(), SameError> {
     let tree = one_twice(rt.alloc())?;
     assert!(rt; are_told(rt.alloc(), &tree, &TWICE_THERE)?);
     Ok(())
@@ -118,8 +157,8 @@ fn in_loop(alloc: Global) -> Result<Re, OutOfMemory>
 }
 
 static LOOPED: [Trial; 2] = [
-    (&[false, false, true, true, true], 100, true),
-    (&[true, true, false, false, true], 100, true),
+    (&[false, false, true, true, true], 100, Judgement::Apart),
+    (&[true, true, false, false, true], 100, Judgement::Apart),
 ];
 
 #[test]
@@ -141,9 +180,21 @@ fn one_start(alloc: Global) -> Result<Re, OutOfMemory>
 }
 
 static OF_ONE_START: [Trial; 3] = [
-    (&[false, false, true, true, true, true], 100, false),
-    (&[true, true, false, false, true, true], 100, true),
-    (&[true, true, true, true, false, false], 100, false),
+    (
+        &[false, false, true, true, true, true],
+        100,
+        Judgement::Equal,
+    ),
+    (
+        &[true, true, false, false, true, true],
+        100,
+        Judgement::Apart,
+    ),
+    (
+        &[true, true, true, true, false, false],
+        100,
+        Judgement::Equal,
+    ),
 ];
 
 #[test]

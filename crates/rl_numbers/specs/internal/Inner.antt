@@ -1,5 +1,5 @@
 -- The moves of a graph that stay in a part, as their graph grows. For private clauses.
-use Rattle.std.specs.Prelude.{◌≡◌, ℕ, ◌<◌, ◌↔◌, ◌⊎◌, length}
+use Rattle.std.specs.Prelude.{◌≡◌, ℕ, ◌<◌, ◌≤◌, ◌↔◌, ◌⊎◌, [], length}
 use Rattle.rl_graph.specs.Paths.{Has}
 use Rattle.rl_graph.specs.Graph.{Graph, edges_of}
 use Rattle.rl_graph.specs.Parts.{PartTable, number_of}
@@ -26,3 +26,7 @@ pub record IsInnerUpTo (g : Graph) (p : PartTable) (state letter : ℕ) (h : Gra
   pub kept : (q l m : ℕ) → Has m (edges_of h q l) → IsKept g p q l m
   pub all : (q l m : ℕ) → Before state letter q l → IsKept g p q l m → Has m (edges_of h q l)
   pub few : (q l : ℕ) → length (edges_of h q l) < 65536
+
+-- no move of the letters from `letter` on of the state `state`, or of a state behind it
+abbrev pub IsBareFrom : ℕ → ℕ → Graph → Type 0
+IsBareFrom state letter h = (q l : ℕ) → (state < q) ⊎ ((q ≡ state) × (letter ≤ l)) → edges_of h q l ≡ []

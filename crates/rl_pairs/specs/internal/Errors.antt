@@ -1,17 +1,10 @@
 -- What the errors of a search for live pairs say.
 use Rattle.std.specs.Prelude.{ℕ}
 use Rattle.rl_prio.specs.Automaton.{Automaton}
-use Rattle.rl_sets.specs.declared.error.SetsError.{SetsError}
-use Rattle.rl_sets.specs.declared.error.SetsError.TheVariants.{Sets as TooManySets, OutOfMemory as NoRoom}
 use Rattle.rl_pairs.specs.declared.error.PairsError.{PairsError}
 use Rattle.rl_pairs.specs.declared.error.PairsError.TheVariants.{Sets, Pairs, OutOfMemory}
 use Rattle.rl_pairs.specs.LivePairs.{LivePair}
 use Rattle.rl_pairs.specs.Counted.{CountedSet, MoreThan}
-
--- errors of sets as errors of pairs
-abbrev pub sets_error : SetsError → PairsError
-sets_error TooManySets = Sets
-sets_error NoRoom = OutOfMemory
 
 -- a limit that is named is passed: there are more than 20,000 counted sets, or more live pairs than there may be
 abbrev pub IsRightError : Automaton → ℕ → PairsError → Type 0

@@ -6,6 +6,8 @@ use Rattle.rl_syntax.specs.PatTree.{PatTree}
 use Rattle.rl_syntax.specs.SameSpans.{OneLanguage}
 use Rattle.rl_syntax.specs.Tree.{Tree}
 use Rattle.rl_pattern.specs.Suggested.{Verdict, equal, apart, passed_by, Tried, among, may_go, without}
+use Rattle.rl_trim.specs.declared.judgement.Judgement.{Judgement}
+use Rattle.rl_trim.specs.declared.judgement.Judgement.TheVariants as judgement
 use Rattle.rl_rewrite.specs.declared.trial.Trial.{Trial}
 use Rattle.rl_rewrite.specs.declared.trial.Trial.TheVariants.{Equal, Apart, Passed}
 use Rattle.rl_rewrite.specs.Verdicts.{IsVerdict}
@@ -14,6 +16,12 @@ abbrev pub verdict_of : Trial → Verdict
 verdict_of Equal = equal
 verdict_of Apart = apart
 verdict_of Passed = passed_by
+
+-- the trial of a judgement on one automaton
+abbrev pub trial_told : Judgement → Trial
+trial_told judgement.Equal = Equal
+trial_told judgement.Apart = Apart
+trial_told judgement.Passed = Passed
 
 -- what a trial tells of two languages
 abbrev pub IsTold : Universe → Tree → Tree → Trial → Type 0

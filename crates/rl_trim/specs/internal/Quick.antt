@@ -1,6 +1,6 @@
--- For the functions of a quick trial. Sets have numbers in a walk that grows, and pairs are found by the numbers of their sets.
+-- For the functions that find pairs. Sets have numbers in a walk that grows, and pairs are found by the numbers of their sets; those
+-- of a quick trial in any order.
 use Rattle.std.specs.Prelude.{◌≡◌, ℕ, ◌<◌, ◌≤◌, ◌⊎◌, Bool, true, false, List, length, slice_index_or, All}
-use Rattle.std.specs.List.{list_all}
 use Rattle.rl_prio.specs.Automaton.{Automaton, letters_count}
 use Rattle.rl_sets.specs.Live.{holds}
 use Rattle.rl_sets.specs.Walk.{Walk, set_at, IsMadeFor}
@@ -8,7 +8,7 @@ use Rattle.rl_equiv.specs.declared.pair.SetPair.{SetPair}
 use Rattle.rl_trim.specs.declared.key.Key.{Key}
 use Rattle.rl_trim.specs.Reached.{IsClosedTo}
 use Rattle.rl_trim.specs.internal.Sunk.{is_kept}
-use Rattle.rl_trim.specs.internal.Trims.{trimmed, trim_on, trim_differs, IsCover, LeadsApart}
+use Rattle.rl_trim.specs.internal.Trims.{trimmed, trim_on, trim_differs}
 
 -- the walk has grown: its sets keep their numbers
 pub record IsGrown (a : Automaton) (old new : Walk) : Type 0 where
@@ -44,15 +44,10 @@ pub record IsInside (w : Walk) (key : Key) : Type 0 where
   pub first_in : key.first < length w.sets
   pub second_in : key.second < length w.sets
 
--- the same, and its second set holds kept states alone
-pub record IsKey (w : Walk) (keep : List Bool) (key : Key) : Type 0 where
-  pub inside : IsInside w key
-  pub kept : list_all (is_kept keep) (set_at w key.second) ≡ true
-
 -- the walk has grown, and the key is that of the pair
-pub record IsKeyOf (a : Automaton) (keep : List Bool) (old new : Walk) (p : SetPair) (key : Key) : Type 0 where
+pub record IsKeyOf (a : Automaton) (old new : Walk) (p : SetPair) (key : Key) : Type 0 where
   pub grown : IsGrown a old new
-  pub keyed : IsKey new keep key
+  pub inside : IsInside new key
   pub is : pair_of new key ≡ p
 
 -- a key was appended unless it was there
@@ -74,15 +69,25 @@ pub record HasPair (w : Walk) (keys : List Key) (p : SetPair) : Type 0 where
 abbrev pub root : List Bool → Walk → ℕ → SetPair
 root keep w k = record { first = set_at w k; second = trimmed keep (set_at w k) }
 
--- each of the first `done` sets is there with itself without the states that aren't kept
-pub record AreRooted (a : Automaton) (keep : List Bool) (w : Walk) (done : ℕ) (keys : List Key) : Type 0 where
-  pub each : (i : ℕ) → i < length keys → IsKey w keep (key_at keys i)
-  pub roots : (k : ℕ) → k < done → HasPair w keys (root keep w k)
+-- the pair is one of the first sets with itself without the states that aren't kept
+pub record IsRoot (keep : List Bool) (w : Walk) (count : ℕ) (p : SetPair) : Type 0 where
+  pub number : ℕ
+  pub inside : number < count
+  pub is : root keep w number ≡ p
+
+-- the pair is such a one or among those that are found
+abbrev pub IsThere : List Bool → Walk → ℕ → List Key → SetPair → Type 0
+IsThere keep w count keys p = IsRoot keep w count p ⊎ HasPair w keys p
+
+-- each of the first `done` sets holds kept states alone, or is among the pairs that are found with itself without the others
+pub record AreRooted (keep : List Bool) (w : Walk) (done : ℕ) (keys : List Key) : Type 0 where
+  pub each : (i : ℕ) → i < length keys → IsInside w (key_at keys i)
+  pub roots : (k : ℕ) → k < done → (trimmed keep (set_at w k) ≡ set_at w k) ⊎ HasPair w keys (root keep w k)
 
 -- the pairs that are found, over the sets that are reached from the start
 pub record ArePairs (a : Automaton) (keep : List Bool) (w : Walk) (count : ℕ) (keys : List Key) : Type 0 where
   pub closed : IsClosedTo a w count count
-  pub rooted : AreRooted a keep w count keys
+  pub rooted : AreRooted keep w count keys
 
 -- what was found stays
 pub record IsOnward (a : Automaton) (old new : Walk) (keys more : List Key) : Type 0 where
@@ -91,20 +96,17 @@ pub record IsOnward (a : Automaton) (old new : Walk) (keys more : List Key) : Ty
   pub same : (i : ℕ) → i < length keys → key_at more i ≡ key_at keys i
 
 -- the next pair of a pair on each of the first letters is there
-abbrev pub HasNexts : Automaton → List Bool → Walk → List Key → SetPair → ℕ → Type 0
-HasNexts a keep w keys p letters = (letter : ℕ) → letter < letters → HasPair w keys (trim_on a keep p letter)
+abbrev pub HasNexts : Automaton → List Bool → Walk → ℕ → List Key → SetPair → ℕ → Type 0
+HasNexts a keep w count keys p letters = (letter : ℕ) → letter < letters → IsThere keep w count keys (trim_on a keep p letter)
 
 -- the pair at a place shows a difference, or its next ones are there
-abbrev pub IsDone : Automaton → List Bool → Walk → List Key → ℕ → Type 0
-IsDone a keep w keys i = (trim_differs a (pair_at w keys i) ≡ true) ⊎ HasNexts a keep w keys (pair_at w keys i) (letters_count a)
+abbrev pub IsDone : Automaton → List Bool → Walk → ℕ → List Key → ℕ → Type 0
+IsDone a keep w count keys i = (trim_differs a (pair_at w keys i) ≡ true) ⊎ HasNexts a keep w count keys (pair_at w keys i) (letters_count a)
 
 -- the pairs at all places do
-abbrev pub AreDone : Automaton → List Bool → Walk → List Key → ℕ → Type 0
-AreDone a keep w keys places = (i : ℕ) → i < places → IsDone a keep w keys i
+abbrev pub AreDone : Automaton → List Bool → Walk → ℕ → List Key → ℕ → Type 0
+AreDone a keep w count keys places = (i : ℕ) → i < places → IsDone a keep w count keys i
 
--- a cover within the limit, and a word that leads apart
-pub record IsToldApart (a : Automaton) (keep : List Bool) (limit : ℕ) : Type 0 where
-  pub cover : List SetPair
-  pub word : List ℕ
-  pub covers : IsCover a keep limit cover
-  pub leads : LeadsApart a keep word
+-- none of the first pairs shows a difference
+abbrev pub NoneApart : Automaton → Walk → List Key → ℕ → Type 0
+NoneApart a w keys places = (i : ℕ) → i < places → trim_differs a (pair_at w keys i) ≡ false

@@ -1,12 +1,11 @@
 -- For trials on one automaton: pairs of sets of its states. The first set is that of the whole tree, the second one that of the
 -- tree without some branches, of which the automaton leaves out the states.
-use Rattle.std.specs.Prelude.{◌≡◌, ℕ, ◌<◌, ◌≤◌, ◌⊎◌, Bool, true, not, List, [], ◌∷◌, length, map, filter, All, Contains}
-use Rattle.std.specs.List.{list_all}
+use Rattle.std.specs.Prelude.{◌≡◌, ℕ, ◌<◌, Bool, true, not, List, [], ◌∷◌, map, filter, All}
 use Rattle.std.proofs.Math.Bool.{beq}
 use Rattle.rl_prio.specs.Automaton.{Automaton, letters_count, accepting_state}
 use Rattle.rl_sets.specs.Live.{below, holds, image}
 use Rattle.rl_equiv.specs.declared.pair.SetPair.{SetPair}
-use Rattle.rl_equiv.specs.SetPairs.{first_pair}
+use Rattle.rl_equiv.specs.SetPairs.{first_pair, SetPairs}
 use Rattle.rl_trim.specs.internal.Sunk.{is_kept}
 
 -- a set without the states that aren't kept
@@ -34,18 +33,17 @@ set_ends a set = holds (image a set (letters_count a)) (accepting_state a)
 abbrev pub trim_differs : Automaton → SetPair → Bool
 trim_differs a p = not (beq (set_ends a p.first) (set_ends a p.second))
 
--- the second set holds kept states alone, and the pair shows a difference or has its next ones among the pairs
-pub record IsCovered (a : Automaton) (keep : List Bool) (cover : List SetPair) (p : SetPair) : Type 0 where
-  pub second_kept : list_all (is_kept keep) p.second ≡ true
-  pub nexts_in : (trim_differs a p ≡ true) ⊎ All (Contains cover) (trim_nexts a keep p)
-
--- the pairs are no more than the limit, and cover all that is reached before a pair that shows a difference
-pub record IsCover (a : Automaton) (keep : List Bool) (limit : ℕ) (cover : List SetPair) : Type 0 where
-  pub few : length cover ≤ limit
-  pub first_in : Contains cover first_pair
-  pub covered : All (IsCovered a keep cover) cover
-
 -- a word of letters leads to a pair that shows a difference
 pub record LeadsApart (a : Automaton) (keep : List Bool) (word : List ℕ) : Type 0 where
   pub small : All (λ letter. letter < letters_count a) word
   pub apart : trim_differs a (trim_run a keep first_pair word) ≡ true
+
+-- the pairs of a trial as a search knows them: the next ones, and which sets are led to the accepting state. Whether they are proper
+-- is not asked of them
+unfoldable pub trim_pairs : Automaton → List Bool → SetPairs
+trim_pairs a keep = record {
+  nexts = λ p. trim_nexts a keep p;
+  ends_first = λ p. set_ends a p.first;
+  ends_second = λ p. set_ends a p.second;
+  proper = λ p. true;
+}

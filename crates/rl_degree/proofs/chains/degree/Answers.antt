@@ -1,9 +1,10 @@
 use Rattle.std.proofs.Common.{◌≡◌, ◌<◌, ◌≤◌, ℕ, List, length, get_or, sym, ◌∙◌, ap, subst, arith}
 use Rattle.std.proofs.lemmas.Bool.{eqb-true}
+use Rattle.rl_graph.specs.Graph.{edges_of}
 use Rattle.rl_graph.specs.Parts.{number_of}
 use Rattle.rl_degree.specs.internal.Ranks.{best_at}
 use Rattle.rl_degree.specs.declared.ranks.Best.{Best}
-use Rattle.rl_degree.proofs.ChainLaws.{longest-there}
+use Rattle.rl_degree.proofs.ChainLaws.{chain-is, longest-there}
 use Rattle.rl_degree.proofs.chains.degree.Goals as goal
 use Rattle.rl_degree.proofs.chains.degree.Goals.{then-is_empty, else-is_empty+in_ok-links}
 
@@ -26,6 +27,14 @@ returns-clause-longest c =
           subst (λ (l : List ℕ). get_or l q 0 ≤ get_or l top 0) r (w.top_place.ensures.greatest q (omega (arith, h, ap length r, size))) in
           let d : length c.if-is_empty.links ≡ (best_at bests (number_of p top)).rank =
           rw w.links-is (w.in_ok-links.ensures.long ∙ ap (λ (l : List Best). (best_at l (number_of p top)).rank) w.deref-else-is_empty.ensures.value) in
-          longest-there g p bests ranks top (length c.if-is_empty.links) c.states.ensures.whole c.in_ok-table.ensures.components
+          longest-there g p bests ranks top (length c.if-is_empty.links) c.states-states.ensures.whole c.in_ok-table.ensures.components
           c.in_ok-bests.ensures c.in_ok-ranks.ensures ht most d
+    ]
+
+pub returns-clause-links : goal.returns-clause-links
+returns-clause-links c =
+    let next = edges_of c.args.g.now in
+    elim c.if-is_empty.branch [
+      | then-is_empty w ↦ rw (w.links-is, w.new-links.ensures) tt
+      | else-is_empty+in_ok-links w ↦ chain-is next w.top_place.result c.if-is_empty.links (rw w.links-is w.in_ok-links.ensures.chain)
     ]

@@ -6,4 +6,4 @@ pub returns-clause-alone : goal.returns-clause-alone
 returns-clause-alone c = one_path_inside
 
 pub returns-clause-cross : goal.returns-clause-cross
-returns-clause-cross c = λ next n k level within falls s lt w leavers later many. (five_times next n k level within falls s lt w leavers later many).0
+returns-clause-cross c = λ next n k within s t a b lt apart w passages later many. five_times next n k within s t a b lt apart w passages later many

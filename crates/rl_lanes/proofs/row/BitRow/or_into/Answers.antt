@@ -1,6 +1,6 @@
 use Rattle.std.proofs.Common.{◌||◌, ap, sym, ◌∙◌, length, bit_or, subst}
 use Rattle.rl_lanes.specs.Rows.{list_or}
-use Rattle.rl_lanes.specs.internal.PackedWords.{words_of}
+use Rattle.rl_lanes.specs.Packed.{words_of}
 use Rattle.rl_lanes.proofs.PackedLemmas.{AreWords, IsRow-words, JoinsBits-or}
 use Rattle.rl_lanes.proofs.CountLemmas.{IsRow-words_of, AreWords-words_of}
 use Rattle.rl_lanes.proofs.RowLemmas.{length-list_or}

@@ -1,6 +1,6 @@
 use Rattle.std.proofs.Common.{◌&&◌, not, ap, sym, ◌∙◌, length, subst}
 use Rattle.rl_lanes.specs.Rows.{list_and_not}
-use Rattle.rl_lanes.specs.internal.PackedWords.{words_of}
+use Rattle.rl_lanes.specs.Packed.{words_of}
 use Rattle.rl_lanes.specs.internal.Words.{and_not}
 use Rattle.rl_lanes.proofs.PackedLemmas.{AreWords, IsRow-words, JoinsBits-and_not}
 use Rattle.rl_lanes.proofs.CountLemmas.{IsRow-words_of, AreWords-words_of}

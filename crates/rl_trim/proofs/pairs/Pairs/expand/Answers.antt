@@ -8,7 +8,7 @@ pub loop-letter-preserved : goal.loop-letter-preserved
 loop-letter-preserved c = record {
   expanding =
       expanding-more c.args.branch.now.automaton.now c.args.branch.now.keep.now c.args.walk.now c.loop-letter.walk c.visit.new.walk c.args.self.now.count c.loop-letter.self.count c.visit.new.self.count
-      c.args.self.now.keys.keys c.loop-letter.self.keys.keys c.visit.new.self.keys.keys c.args.place c.loop-letter.letter c.requires.place_in c.requires.pairs c.loop-letter.invariant.expanding
+      c.args.self.now.keys.keys c.loop-letter.self.keys.keys c.visit.new.self.keys.keys c.args.place c.loop-letter.letter c.requires.place_in c.requires.pairs c.in_ok-visit.ensures.count c.loop-letter.invariant.expanding
       c.in_ok-visit.ensures.pairs c.in_ok-visit.ensures.onward c.in_ok-visit.ensures.there;
   count = c.in_ok-visit.ensures.count ∙ c.loop-letter.invariant.count;
 }

@@ -1,18 +1,12 @@
 use Rattle.std.proofs.Common.{◌∙◌, sym, subst}
 use Rattle.rl_trim.specs.internal.Quick.{IsInside}
-use Rattle.rl_trim.proofs.PairLaws.{key-read, same-done, differing-done, pairs-grown, look-onward}
+use Rattle.rl_trim.proofs.PairLaws.{key-read, differing-done, pairs-grown, look-onward}
 use Rattle.rl_trim.proofs.pairs.Pairs.look.Goals as goal
-
-pub returns-then-key-self-clause-done : goal.returns-then-key-self-clause-done
-returns-then-key-self-clause-done c =
-    let keys = c.args.self.now.keys.keys in
-    let key = c.index-key.result.now in
-    same-done c.args.branch.now.automaton.now c.args.branch.now.keep.now c.args.walk.now c.args.self.now.count keys c.args.place key c.requires.pairs (key-read keys c.args.place key c.index-key.ensures) c.if-key.true c.if-key-self.true
 
 pub differs-requires-clause-inside : goal.differs-requires-clause-inside
 differs-requires-clause-inside c =
     let keys = c.args.self.now.keys.keys in
-    subst (IsInside c.args.walk.now) (key-read keys c.args.place c.index-key.result.now c.index-key.ensures) (c.requires.pairs.rooted.each c.args.place c.requires.place_in).inside
+    subst (IsInside c.args.walk.now) (key-read keys c.args.place c.index-key.result.now c.index-key.ensures) (c.requires.pairs.rooted.each c.args.place c.requires.place_in)
 
 pub returns-then-apart-clause-pairs : goal.returns-then-apart-clause-pairs
 returns-then-apart-clause-pairs c =

@@ -1,4 +1,0 @@
-use Rattle.rl_trim.proofs.word.word_to.Given as goal
-
-abbrev pub decreases-loop-at : goal.decreases-loop-at
-decreases-loop-at l = l.at

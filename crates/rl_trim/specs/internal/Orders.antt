@@ -1,0 +1,25 @@
+-- For the functions that judge a trial: its pairs in the order in which they are found, by the numbers of their sets.
+use Rattle.std.specs.Prelude.{ℕ, ◌<◌, Bool, ◌&&◌, ◌==◌, List, [], ◌∷◌, ◌++◌, length, map, if◌then◌else◌}
+use Rattle.std.specs.List.{list_any}
+use Rattle.rl_prio.specs.Automaton.{Automaton}
+use Rattle.rl_sets.specs.Walk.{Walk, IsMadeFor}
+use Rattle.rl_equiv.specs.declared.pair.SetPair.{SetPair}
+use Rattle.rl_trim.specs.declared.key.Key.{Key}
+use Rattle.rl_trim.specs.internal.Quick.{key_at, pair_of, IsInside}
+
+-- whether two keys are one
+abbrev pub key_is : Key → Key → Bool
+key_is x y = x.first == y.first && x.second == y.second
+
+-- keys with one more behind them, unless it is there
+abbrev pub with_key : List Key → Key → List Key
+with_key keys key = if list_any (key_is key) keys then keys else keys ++ key ∷ []
+
+-- the pairs of keys
+abbrev pub pairs_in : Walk → List Key → List SetPair
+pairs_in w keys = map (pair_of w) keys
+
+-- the keys are of sets of the walk
+pub record AreKeys (a : Automaton) (w : Walk) (keys : List Key) : Type 0 where
+  pub made : IsMadeFor w a
+  pub inside : (i : ℕ) → i < length keys → IsInside w (key_at keys i)

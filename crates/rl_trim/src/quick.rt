@@ -1,0 +1,46 @@
+//! Trials whose pairs are found in any order, which takes fewer of them. Where they and the sets that are reached from the start
+//! are no more than the limit, they tell what those in order tell.
+
+ghost use Rattle.std.specs.Prelude.{IfOk, OnOk, IfSome};
+ghost use Rattle.rl_trim.specs.Judged.{IsFound};
+ghost use Rattle.rl_trim.specs.Reached.{AreReached};
+ghost use Rattle.rl_trim.specs.internal.Trims.{trim_pairs};
+ghost use Rattle.rl_trim.specs.internal.Quick.{IsGrown};
+
+use crate::branch::Branch;
+use crate::holders::touched_sets;
+use crate::judgement::Judgement;
+use crate::pairs::Pairs;
+use crate::store::Reached;
+use crate::word::{leads_apart, word_to};
+use rl_sets::{SetWalk, SetsError};
+use std::alloc::Global;
+
+/// What a quick trial tells, if it tells something.
+pub(crate) fn quick_trial(
+    alloc: Global,
+    branch: &Branch,
+    walk: &mut SetWalk,
+    reached: &Reached,
+    limit: u32,
+) -> Result<Option<Judgement>, SetsError>
+    requires { AreReached branch.now.automaton.now walk.old reached.now }
+    ensures found { IfOk result (λ o. IfSome o (IsFound (trim_pairs branch.now.automaton.now branch.now.keep.now) limit)) }
+    ensures grown { OnOk result (IsGrown branch.now.automaton.now walk.old walk.new) }
+{
+    let count = reached.count;
+    let touched = touched_sets(alloc, branch, &reached.holders, walk, count)?;
+    let mut pairs = Pairs::new(alloc, branch, walk, &touched, count)?;
+    let all = pairs.grow(branch, walk)?;
+    if !all || pairs.keys.len() + count as usize > limit as usize {
+        return Ok(None);
+    }
+    let Some(place) = pairs.apart(branch, walk)? else {
+        return Ok(Some(Judgement::Equal));
+    };
+    let word = word_to(alloc, &reached.ways, &pairs.ways, &pairs.keys, place)?;
+    if leads_apart(branch, walk, word.as_slice())? {
+        return Ok(Some(Judgement::Apart));
+    }
+    Ok(None)
+}

@@ -1,0 +1,135 @@
+//! The sets of states of an automaton that trials share.
+
+ghost use Rattle.std.specs.Prelude.{◌+◌, ◌<◌, length, IfOk, OnOk};
+ghost use Rattle.rl_prio.specs.Automaton.{letters_count};
+ghost use Rattle.rl_sets.specs.Walk.{IsMadeFor};
+ghost use Rattle.rl_trim.specs.Reached.{HasImage, IsClosedTo, IsStore};
+ghost use Rattle.rl_trim.specs.internal.Quick.{IsGrown};
+
+use crate::holders::holders_of;
+use crate::key::Way;
+use rl_lanes::BitTable;
+use rl_prio::Prio;
+use rl_sets::{SetWalk, SetsError};
+use std::alloc::Global;
+
+/// The most sets that a walk may have.
+const MOST_SETS: u32 = 60_000;
+
+/// The most sets that are reached from the start. Where there are more, quick trials don't pay.
+const MOST_REACHED: u32 = 10_000;
+
+/// The sets that are reached from the start, which are the first ones of a walk.
+#[derive(Drop)]
+pub(crate) struct Reached {
+    /// How many they are.
+    pub count: u32,
+    /// For each state, which of them hold it.
+    pub holders: BitTable,
+    /// How each of them was found.
+    pub ways: Vec<Way>,
+}
+
+/// The sets that trials have made.
+#[derive(Drop)]
+pub(crate) struct Store {
+    /// The walk that has them.
+    pub walk: SetWalk,
+    /// Those that are reached from the start, unless there are too many.
+    pub reached: Option<Reached>,
+}
+
+/// A walk that has the start alone.
+fn begin(alloc: Global, a: &Prio) -> Result<SetWalk, SetsError>
+    ensures { IfOk result (λ w. IsClosedTo a.now w 0 (length w.sets)) }
+{
+    let _states = a.states();
+    let mut walk = SetWalk::new(alloc, a, MOST_SETS)?;
+    let start = vec![in alloc; 0]?;
+    walk.intern(a, &start)?;
+    Ok(walk)
+}
+
+/// Appends the image of a set on a letter unless it is there, and keeps how it was found.
+fn step(
+    walk: &mut SetWalk,
+    ways: &mut Vec<Way>,
+    a: &Prio,
+    set: u32,
+    letter: u32,
+) -> Result<(), SetsError>
+    requires made { IsMadeFor walk.old a.now }
+    requires set_in { set < length walk.old.sets }
+    requires letter_in { letter < letters_count a.now }
+    ensures grown { OnOk result (IsGrown a.now walk.old walk.new) }
+    ensures image { OnOk result (HasImage a.now walk.new (length walk.new.sets) set letter) }
+{
+    let number = walk.step(a, set, letter)?;
+    if number as usize >= ways.len() {
+        ways.push(Way {
+            parent: set as usize,
+            letter,
+        })?;
+    }
+    Ok(())
+}
+
+/// Appends the images of a set, the letters in order.
+fn expand(walk: &mut SetWalk, ways: &mut Vec<Way>, a: &Prio, set: u32) -> Result<(), SetsError>
+    requires closed { IsClosedTo a.now walk.old set (length walk.old.sets) }
+    requires set_in { set < length walk.old.sets }
+    ensures { OnOk result (IsClosedTo a.now walk.new (set + 1) (length walk.new.sets)) }
+{
+    for letter in 0..a.letters().count() {
+        step(walk, ways, a, set, letter)?;
+    }
+    Ok(())
+}
+
+impl Store {
+    /// The start alone.
+    pub(crate) fn begun(alloc: Global, a: &Prio) -> Result<Store, SetsError>
+        ensures { IfOk result (IsStore a.now) }
+    {
+        let walk = begin(alloc, a)?;
+        Ok(Store {
+            walk,
+            reached: None,
+        })
+    }
+
+    /// The sets that are reached from the start, or the first of them where there are too many.
+    ///
+    /// # Errors
+    /// [`SetsError::Sets`] where there are more than a walk may have, and [`SetsError::OutOfMemory`] where there was no memory
+    /// for them.
+    pub(crate) fn closed(alloc: Global, a: &Prio) -> Result<Store, SetsError>
+        ensures { IfOk result (IsStore a.now) }
+    {
+        let mut walk = begin(alloc, a)?;
+        let mut ways = vec![in alloc;
+            Way {
+                parent: 0,
+                letter: 0
+            },
+        ]?;
+        for set in 0..MOST_REACHED {
+            if set == walk.len() {
+                let holders = holders_of(alloc, a, &walk, set)?;
+                return Ok(Store {
+                    walk,
+                    reached: Some(Reached {
+                        count: set,
+                        holders,
+                        ways,
+                    }),
+                });
+            }
+            expand(&mut walk, &mut ways, a, set)?;
+        }
+        Ok(Store {
+            walk,
+            reached: None,
+        })
+    }
+}
