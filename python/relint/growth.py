@@ -1,0 +1,179 @@
+"""How the steps of a match grow over the texts of a family, as `relint cost` counts them."""
+from __future__ import annotations
+
+import re
+import threading
+from dataclasses import dataclass
+from typing import Dict, List, Optional, Tuple
+
+from . import program
+from .reports import Family, Text, Verdict
+
+BILLION = 10**9
+LONGEST_TEXT = 1000
+USUAL_TEXT = 1000
+HANG_STEPS = 10**18
+SLOW_STEPS = 10**11
+LONGEST_SLOW_TEXT = 1_000_000
+COST = re.compile(r"steps (?:over )?(\d+) (matched|refused)\n")
+NUL = re.compile(r"\\(.)|\x00", re.S)
+FLAG_LETTERS = (("a", re.A), ("i", re.I), ("m", re.M), ("s", re.S), ("x", re.X))
+
+
+@dataclass(frozen=True)
+class Point:
+    """The steps of text k of a family, and that text's length."""
+
+    k: int
+    length: int
+    steps: int
+    matched: bool
+
+
+@dataclass(frozen=True)
+class Growth:
+    """Points by rising k, that one whose figure is told, and by how much the steps grow from it to the next k."""
+
+    points: Tuple[Point, ...]
+    told: Point
+    rate: Optional[float]
+    k_to_show: int
+
+
+def front_flags(flags: int, is_bytes: bool) -> str:
+    """Returns the flags of a call as a pattern's own front, as "(?im)"."""
+    letters = "".join(letter for letter, value in FLAG_LETTERS if flags & int(value) or (is_bytes and letter == "a"))
+    return f"(?{letters})" if letters else ""
+
+
+def as_word(pattern: Text, flags: int) -> Optional[str]:
+    """Returns the pattern word that has relint judge a pattern under flags, or None where no word can hold it.
+
+    A bytes pattern is read as text under ASCII, which has the same classes for all codes up to 255.
+    """
+    is_bytes = isinstance(pattern, bytes)
+    text = pattern.decode("latin-1") if isinstance(pattern, bytes) else pattern
+    text = NUL.sub(lambda it: it.group() if it.group(1) not in (None, "\x00") else "\\x00", text)
+    word = front_flags(flags, is_bytes) + text
+    return word if _is_word(word) else None
+
+
+def _is_word(word: str) -> bool:
+    try:
+        return "\x00" not in word and len(word.encode("utf-8")) < 100_000
+    except UnicodeEncodeError:
+        return False
+
+
+class Meter:
+    """Asks `relint cost` and `relint class`, each question once. It may be shared by threads."""
+
+    def __init__(self) -> None:
+        self._known: Dict[Tuple[str, ...], str] = {}
+        self._lock = threading.Lock()
+
+    def _asked(self, *words: str) -> str:
+        with self._lock:
+            known = self._known.get(words)
+        if known is None:
+            answer = program.run(words)
+            known = answer.out.decode("utf-8", "replace") if answer.status in (0, 1) else ""
+            with self._lock:
+                self._known[words] = known
+        return known
+
+    def cost(self, word: str, mode: str, text: Text) -> Optional[Tuple[int, bool]]:
+        """Returns the steps of a text and whether it is matched, or None where relint has no answer."""
+        given = text.decode("latin-1") if isinstance(text, bytes) else text
+        if not _is_word(given):
+            return None
+        found = COST.fullmatch(self._asked("cost", "--mode", mode, "--", word, given))
+        return (int(found.group(1)), found.group(2) == "matched") if found else None
+
+    def verdict(self, word: str, mode: str) -> str:
+        """Returns the verdict line of a pattern, or "" where relint refuses it."""
+        return self._asked("class", "--mode", mode, "--", word).partition("\n")[0]
+
+
+def _length(family: Family, k: int) -> int:
+    return sum(map(len, family.heads)) + k * sum(map(len, family.pumps))
+
+
+class _Measured:
+    """The points of one family so far, each measured once."""
+
+    def __init__(self, meter: Meter, word: str, mode: str, family: Family) -> None:
+        self.meter, self.word, self.mode, self.family = meter, word, mode, family
+        self.points: Dict[int, Point] = {}
+
+    def at(self, k: int) -> Optional[Point]:
+        if k not in self.points:
+            found = self.meter.cost(self.word, self.mode, self.family.text(k))
+            if found is None:
+                return None
+            self.points[k] = Point(k, _length(self.family, k), *found)
+        return self.points[k]
+
+    def doubled(self, enough: int) -> bool:
+        """Measures k = 1, 2, 4 and so on, until the steps are enough or the texts are long. Answers whether it could."""
+        k = 1
+        while k == 1 or _length(self.family, k) <= LONGEST_TEXT:
+            point = self.at(k)
+            if point is None:
+                return False
+            if point.steps >= enough:
+                break
+            k *= 2
+        return True
+
+    def least(self, enough: int) -> Point:
+        """Returns the point of the least k with so many steps, or the last one measured where none has so many."""
+        rising = sorted(self.points)
+        high = next((k for k in rising if self.points[k].steps >= enough), None)
+        if high is None:
+            return self.points[rising[-1]]
+        low = max((k for k in rising if k < high), default=high - 1)
+        while high - low > 1:
+            point = self.at((low + high) // 2)
+            if point is None:
+                break
+            low, high = (low, point.k) if point.steps >= enough else (point.k, high)
+        return self.points[high]
+
+
+def measure(meter: Meter, word: str, mode: str, family: Family, verdict: Verdict) -> Optional[Growth]:
+    """Returns how the steps grow over a family's texts in a mode, or None where relint doesn't count them."""
+    if not any(family.pumps):
+        return None
+    measured = _Measured(meter, word, mode, family)
+    if verdict.kind == "exponential":
+        return _exponential(measured)
+    return _polynomial(measured, verdict.degree or 0)
+
+
+def _exponential(measured: _Measured) -> Optional[Growth]:
+    if not measured.doubled(HANG_STEPS):
+        return None
+    told = measured.least(BILLION)
+    more = measured.at(told.k + 1)
+    rate = more.steps / told.steps if more else None
+    return Growth(_rising(measured), told, rate, measured.least(HANG_STEPS).k)
+
+
+def _polynomial(measured: _Measured, degree: int) -> Optional[Growth]:
+    family = measured.family
+    if not measured.doubled(HANG_STEPS):
+        return None
+    usual = max(1, (USUAL_TEXT - _length(family, 0)) // sum(map(len, family.pumps)))
+    told = measured.at(usual)
+    if told is None:
+        return None
+    last = measured.points[max(measured.points)]
+    longer = (SLOW_STEPS / last.steps) ** (1 / max(1, degree)) if last.steps < SLOW_STEPS else 1.0
+    longest = max(1, LONGEST_SLOW_TEXT // sum(map(len, family.pumps)))
+    return Growth(_rising(measured), told, None, min(longest, max(told.k, round(last.k * longer))))
+
+
+def _rising(measured: _Measured) -> Tuple[Point, ...]:
+    points: List[Point] = [measured.points[k] for k in sorted(measured.points)]
+    return tuple(points)

@@ -1,0 +1,114 @@
+"""Joins reports of parts into the bytes that one run of relint over all of them gives.
+
+The parts are spliced as they are: a report is a start, its entries and an end with the counts, in each of the four layouts.
+"""
+from __future__ import annotations
+
+import re
+from typing import List, NamedTuple, Optional, Sequence, Tuple
+
+# The order in which relint's statuses win over each other.
+STATUS_ORDER = (2, 5, 4, 3, 1, 0)
+COUNTS_LINE = re.compile(rb"(\d+) entries, (\d+) findings, (\d+) refused, (\d+) undecided(?:, (\d+) hidden)?\n\Z")
+JSON_START, JSON_END = b'{"entries":[', b'],"findings":'
+JSON_COUNTS = re.compile(rb'\],"findings":(\d+),"refused":(\d+),"undecided":(\d+),"version":([12])\}\n\Z')
+SARIF_START = re.compile(rb'\{"runs":\[\{(?:"columnKind":"[^"]*",)?"results":\[')
+SARIF_END = b'],"tool":'
+SARIF_FINDINGS = (b'"ruleId":"degree"', b'"ruleId":"exponential"')
+
+
+class JoinError(Exception):
+    """The bytes are no report of relint, or reports that don't go together; the message says why."""
+
+
+class Piece(NamedTuple):
+    """A report taken apart: its layout, its bytes without the frame, and what the frame says.
+
+    `counts` are those of the last line of a text, and findings, refused and undecided of a JSON report; `frame` is what all
+    parts of one report share; `findings` counts the findings; `unreadable` says whether an entry is.
+    """
+
+    layout: str
+    body: bytes
+    counts: Tuple[int, ...]
+    frame: Tuple[bytes, ...]
+    findings: int
+    unreadable: bool
+
+
+def take_apart(report: bytes) -> Piece:
+    """Returns the report's piece. Raises JoinError where it has none of the four layouts."""
+    piece = _json_piece(report) or _sarif_piece(report) or _text_piece(report)
+    if piece is None:
+        raise JoinError("these bytes are no whole report of relint check")
+    return piece
+
+
+def join(pieces: Sequence[Piece]) -> bytes:
+    """Returns the one report. Raises JoinError where the pieces have different layouts or none is there."""
+    if not pieces:
+        raise JoinError("there is no report to join")
+    first = pieces[0]
+    for piece in pieces:
+        if (piece.layout, piece.frame, len(piece.counts)) != (first.layout, first.frame, len(first.counts)):
+            raise JoinError("the reports differ in layout, report version or in whether a baseline was used")
+    counts = [sum(numbers) for numbers in zip(*(it.counts for it in pieces))]
+    if first.layout == "text":
+        return b"".join(it.body for it in pieces) + _counts_line(counts)
+    entries = b",".join(it.body for it in pieces if it.body)
+    if first.layout == "sarif":
+        return first.frame[0] + entries + first.frame[1]
+    numbers = b'"findings":%d,"refused":%d,"undecided":%d,"version":' % tuple(counts)
+    return JSON_START + entries + b"]," + numbers + first.frame[0] + b"}\n"
+
+
+def join_statuses(statuses: Sequence[int]) -> int:
+    """Returns the first of the statuses in relint's order; one that relint never has wins over all."""
+    for status in statuses:
+        if status not in STATUS_ORDER:
+            return status
+    return next((it for it in STATUS_ORDER if it in statuses), 0)
+
+
+def status_of(pieces: Sequence[Piece]) -> int:
+    """Returns the status of the run that gave these reports, as far as they show it: 3, 1 or 0."""
+    if any(it.unreadable for it in pieces):
+        return 3
+    return 1 if any(it.findings for it in pieces) else 0
+
+
+def _json_piece(report: bytes) -> Optional[Piece]:
+    if not report.startswith(JSON_START):
+        return None
+    end = report.rfind(JSON_END)
+    found = JSON_COUNTS.match(report, end) if end >= 0 else None
+    if found is None:
+        return None
+    body = report[len(JSON_START):end]
+    counts = tuple(int(it) for it in found.group(1, 2, 3))
+    return Piece("json", body, counts, (found.group(4),), counts[0], b'"kind":"unreadable"' in body)
+
+
+def _sarif_piece(report: bytes) -> Optional[Piece]:
+    start = SARIF_START.match(report)
+    end = report.rfind(SARIF_END)
+    if start is None or end < 0 or not report.endswith(b'"version":"2.1.0"}\n'):
+        return None
+    body = report[start.end():end]
+    findings = sum(body.count(it) for it in SARIF_FINDINGS)
+    return Piece("sarif", body, (), (start.group(), report[end:]), findings, b'"ruleId":"unreadable"' in body)
+
+
+def _text_piece(report: bytes) -> Optional[Piece]:
+    start = report.rfind(b"\n", 0, max(len(report) - 1, 0)) + 1
+    found = COUNTS_LINE.match(report, start)
+    if found is None:
+        return None
+    counts = tuple(int(it) for it in found.groups() if it is not None)
+    body = report[:start]
+    return Piece("text", body, counts, (), counts[1], b": unreadable\n" in body)
+
+
+def _counts_line(counts: List[int]) -> bytes:
+    line = b"%d entries, %d findings, %d refused, %d undecided" % tuple(counts[:4])
+    return line + (b", %d hidden" % counts[4] if len(counts) == 5 else b"") + b"\n"

@@ -1,0 +1,337 @@
+"""relint-many: runs `relint check` on all processors, and writes the bytes that one run writes.
+
+The files of the paths are listed by relint's own rules, and parts of the list are given to runs of relint that go on at the
+same time. Where the parts can't be joined to the same bytes, one run of relint judges the whole.
+"""
+from __future__ import annotations
+
+import os
+import signal
+import stat
+import subprocess
+import sys
+from pathlib import Path
+from types import FrameType
+from typing import Dict, Iterator, List, Optional, Sequence, Set
+
+from .joining import JoinError, Piece, join, status_of, take_apart
+from .parts import MORE_WITH_A_BASELINE, NotJoined, run_parts
+from .program import REFUSED, WRITE_FAULT, Answer, ProgramError, program
+from .walking import Named, TooDeep, walk
+
+USAGE = """\
+usage: relint-many [--jobs N] [OPTIONS] PATH..
+       relint-many [--jobs N] [OPTIONS] --from FILE
+       relint-many --list N [--into FOLDER] PATH..
+       relint-many --join REPORT..
+
+Writes the report of `relint check` on the paths, made by several runs at the same time. OPTIONS are those of relint check.
+
+  --jobs N       so many runs at a time (default: as many as there are processors)
+  --from FILE    take the paths from FILE, each ended by a byte 0; - is standard input
+  --list N       write the paths of the files to at most N lists of about the same work, and print the names of the lists
+  --into FOLDER  the folder that the lists are written to (default: relint-lists); it is made, or is empty
+  --join         join reports of relint check, in the order given, into the one report of all
+  --help         show this text
+"""
+RELINT_OPTIONS = ("--mode", "--format", "--max-degree", "--max-pairs", "--settings", "--report", "--baseline")
+OWN_OPTIONS = ("--jobs", "--list", "--into", "--from")
+# What a file costs besides its bytes, in bytes, where lists of the same work are made.
+COST_OF_A_FILE = 8192
+SIGNALS = ("SIGINT", "SIGTERM", "SIGHUP")
+
+
+class WordsError(Exception):
+    """The words aren't a valid call, or name a file that can't be used; the message says why."""
+
+
+class Stopped(BaseException):
+    """A signal asked for the end; its number is the argument."""
+
+
+class Given:
+    """What the words ask for: `relint` are the words without this tool's own options.
+
+    `plain` says that relint takes the words; where it doesn't, it says itself why.
+    """
+
+    def __init__(self) -> None:
+        self.paths: List[str] = []
+        self.relint: List[str] = []
+        self.own: Dict[str, str] = {}
+        self.options: Dict[str, str] = {}
+        self.joins = self.helps = False
+        self.plain = True
+
+    def number(self, option: str, default: int) -> int:
+        """Returns the number that an option of this tool was given. Raises WordsError where it is none from 1 on."""
+        text = self.own.get(option, str(default))
+        if not (text.isascii() and text.isdigit() and 1 <= int(text) <= 999_999):
+            raise WordsError(f"{option} takes a number from 1 to 999999, not {text!r}")
+        return int(text)
+
+
+def read_words(words: Sequence[str]) -> Given:
+    """Reads the words: this tool's options, and those of relint, which it takes as relint does."""
+    given = Given()
+    left = iter(words)
+    for word in left:
+        name, equals, value = word.partition("=")
+        if word == "--":
+            rest = list(left)
+            given.paths += rest
+            given.relint += ["--", *rest]
+        elif word in ("--join", "--help"):
+            given.joins, given.helps = given.joins or word == "--join", given.helps or word == "--help"
+        elif name in OWN_OPTIONS:
+            given.own[name] = value if equals else next(left, "")
+        elif name in RELINT_OPTIONS:
+            _take_option(given, word, left)
+        else:
+            given.paths.append(word)
+            given.relint.append(word)
+            given.plain = given.plain and (word == "-" or not word.startswith("-"))
+    given.plain = given.plain and all(given.paths) and all(_is_utf8(it) for it in given.relint)
+    return given
+
+
+def _take_option(given: Given, word: str, left: Iterator[str]) -> None:
+    name, equals, value = word.partition("=")
+    given.relint.append(word)
+    if not equals:
+        value = next(left, "--")
+        given.relint.append(value)
+        given.plain = given.plain and (value == "-" or not value.startswith("-"))
+    given.plain = given.plain and name not in given.options
+    given.options[name] = value
+
+
+def _is_utf8(word: str) -> bool:
+    try:
+        word.encode("utf-8")
+    except UnicodeEncodeError:
+        return False
+    return True
+
+
+def check(given: Given) -> int:
+    """Writes the report on the paths, and returns the status of one run."""
+    jobs = given.number("--jobs", len(os.sched_getaffinity(0)) if hasattr(os, "sched_getaffinity") else os.cpu_count() or 1)
+    named = _names(given)
+    ready = _ready_program()
+    options = [f"{name}={value}" for name, value in given.options.items()]
+    alone = jobs == 1 and "--from" not in given.own
+    if alone or not named or not given.plain or not _can_be_read_again(given):
+        return _one_run(ready, given, named, options)
+    more = MORE_WITH_A_BASELINE if "--baseline" in given.options else 1
+    try:
+        paths = _walked(walk(named), "--baseline" in given.options)
+        answer = run_parts([ready, "check", *options], paths, jobs, more)
+    except (NotJoined, TooDeep):
+        return _one_run(ready, given, named, options)
+    if not answer.out and not answer.err and answer.status == 0:
+        return _one_run(ready, given, named, options)
+    return _write(answer)
+
+
+def _names(given: Given) -> List[bytes]:
+    if "--from" not in given.own:
+        return [os.fsencode(it) for it in given.paths]
+    if given.paths:
+        raise WordsError("give either paths or --from")
+    return _read_names(given.own["--from"])
+
+
+def _read_names(source: str) -> List[bytes]:
+    try:
+        data = sys.stdin.buffer.read() if source == "-" else Path(source).read_bytes()
+    except OSError as error:
+        raise WordsError(f"{source} can't be read: {error.strerror or error}") from error
+    if data and not data.endswith(b"\0"):
+        raise WordsError(f"{source} doesn't end with a byte 0: each path in it must")
+    names = data.split(b"\0")[:-1]
+    if b"" in names:
+        raise WordsError(f"{source} holds an empty path")
+    return names
+
+
+def _can_be_read_again(given: Given) -> bool:
+    """Whether the settings and the baseline are plain files, which each run can read."""
+    for option in ("--settings", "--baseline"):
+        path = given.options.get(option)
+        try:
+            if path and not stat.S_ISREG(os.stat(path).st_mode):
+                return False
+        except OSError:
+            pass
+    return True
+
+
+def _walked(found: Iterator[Named], with_baseline: bool) -> Iterator[bytes]:
+    """The paths to name. A baseline counts by path, so with one no path may come in two parts."""
+    repeated: Set[bytes] = set()
+    for path, repeats in found:
+        if repeats and with_baseline:
+            if path in repeated:
+                raise NotJoined
+            repeated.add(path)
+        yield path
+
+
+def _ready_program() -> str:
+    """The built program: where relint is the script of a clone, it is run once, and so builds the program where need be."""
+    found = program()
+    built = Path(found).parent / "crates" / "relint" / "out" / "relint"
+    if not (Path(found).parent / "crates.txt").is_file():
+        return found
+    try:
+        subprocess.run([found, "cost", "", ""], stdin=subprocess.DEVNULL, stdout=subprocess.DEVNULL, check=False)
+    except OSError as error:
+        raise ProgramError(f"{found} can't be run: {error.strerror or error}") from error
+    return str(built) if built.is_file() else found
+
+
+def _one_run(ready: str, given: Given, named: Sequence[bytes], options: Sequence[str]) -> int:
+    if "--from" not in given.own:
+        return _run_through([ready, "check", *given.relint])
+    import tempfile  # (here, since it takes as long to import as all others together)
+
+    with tempfile.TemporaryDirectory() as empty:
+        paths = [os.fsdecode(it) for it in named] or [empty]
+        return _run_through([ready, "check", *options, "--", *paths])
+
+
+def _run_through(words: Sequence[str]) -> int:
+    """Runs the program with this tool's own input and outputs."""
+    try:
+        process = subprocess.Popen(words, close_fds=False)
+    except OSError as error:
+        raise ProgramError(f"{words[0]} can't be run: {error.strerror or error}") from error
+    try:
+        status = process.wait()
+    finally:
+        process.kill()
+        process.wait()
+    return status if status >= 0 else 128 - status
+
+
+def _write(answer: Answer) -> int:
+    if answer.err:
+        _write_to(2, answer.err)
+    if not _write_to(1, answer.out):
+        _write_to(2, b"relint: write fault\n")
+        return WRITE_FAULT
+    return answer.status
+
+
+def _write_to(output: int, data: bytes) -> bool:
+    left = memoryview(data)
+    try:
+        while left:
+            left = left[os.write(output, left):]
+    except OSError:
+        return False
+    return True
+
+
+def write_lists(given: Given) -> int:
+    """Writes the paths of the files to lists, and prints the names of the lists."""
+    if given.options or not given.paths or not given.plain:
+        raise WordsError("--list takes paths and no options of relint: give those where the lists are checked")
+    count = given.number("--list", 1)
+    folder = Path(given.own.get("--into", "relint-lists"))
+    try:
+        paths = [it.path for it in walk([os.fsencode(it) for it in given.paths])]
+    except TooDeep as error:
+        raise WordsError(f"{error} is more than 64 levels deep, which no list can say: run relint check instead") from error
+    try:
+        folder.mkdir(parents=True, exist_ok=True)
+        if any(folder.iterdir()):
+            raise WordsError(f"{folder} isn't empty: name another folder by --into")
+        for number, part in enumerate(_evenly(paths, count), 1):
+            name = folder / f"part-{number:06}.list"
+            name.write_bytes(b"".join(it + b"\0" for it in part))
+            print(name)
+    except OSError as error:
+        raise WordsError(f"{error.filename or folder} can't be written: {error.strerror or error}") from error
+    return 0
+
+
+def _evenly(paths: Sequence[bytes], count: int) -> Iterator[List[bytes]]:
+    costs = [_cost(it) for it in paths]
+    total, before = sum(costs), 0
+    part: List[bytes] = []
+    number = 1
+    for path, cost in zip(paths, costs):
+        part.append(path)
+        before += cost
+        if before * count >= number * total:
+            yield part
+            part, number = [], before * count // total + 1
+    if part:
+        yield part
+
+
+def _cost(path: bytes) -> int:
+    try:
+        found = os.lstat(path)
+    except OSError:
+        return COST_OF_A_FILE
+    return COST_OF_A_FILE + (found.st_size if stat.S_ISREG(found.st_mode) else 0)
+
+
+def join_reports(given: Given) -> int:
+    """Writes the one report that the reports join to, and returns its status as far as the reports show it."""
+    if given.options or given.own or not given.paths:
+        raise WordsError("--join takes reports and no options")
+    pieces = [_read_piece(it) for it in given.paths]
+    try:
+        return _write(Answer(status_of(pieces), join(pieces), b""))
+    except JoinError as error:
+        raise WordsError(str(error)) from error
+
+
+def _read_piece(path: str) -> Piece:
+    try:
+        return take_apart(Path(path).read_bytes())
+    except OSError as error:
+        raise WordsError(f"{path} can't be read: {error.strerror or error}") from error
+    except JoinError as error:
+        raise WordsError(f"{path}: {error}") from error
+
+
+def _stop(number: int, _: Optional[FrameType]) -> None:
+    raise Stopped(number)
+
+
+def _act(given: Given) -> int:
+    if given.helps:
+        sys.stdout.write(USAGE)
+        return 0
+    if given.joins:
+        return join_reports(given)
+    if "--list" in given.own:
+        return write_lists(given)
+    if "--into" in given.own:
+        raise WordsError("--into goes with --list")
+    return check(given)
+
+
+def main() -> int:
+    """Runs the tool on the words of the command line, and returns its status."""
+    for name in SIGNALS:
+        number = getattr(signal, name, None)
+        # (one that was to be passed over from the start, as by nohup, stays so)
+        if number is not None and signal.getsignal(number) != signal.SIG_IGN:
+            signal.signal(number, _stop)
+    try:
+        return _act(read_words(sys.argv[1:]))
+    except (WordsError, ProgramError) as error:
+        print(f"relint-many: {error}", file=sys.stderr)
+        return REFUSED
+    except Stopped as stopped:
+        return 128 + int(stopped.args[0])
+
+
+if __name__ == "__main__":
+    sys.exit(main())

@@ -1,0 +1,28 @@
+"""Cures for costly patterns: rules propose, relint proves that the texts are the same, and a check compares spans and groups.
+
+`cures` answers them for one pattern; `main` is the command relint-mend. docs/MEND.md tells what is proved and what is checked.
+"""
+from __future__ import annotations
+
+from typing import Optional, Sequence
+
+from .asking import Asker, Text
+from .command import main
+from .search import Cure, Limits, Outcome, Search
+
+__all__ = ["Cure", "Limits", "Outcome", "cures", "main", "mend"]
+
+
+def mend(pattern: Text, flags: int = 0, mode: str = "search", uses: Sequence[str] = ("compile",), limits: Limits = Limits(),
+         asker: Optional[Asker] = None) -> Outcome:
+    """Returns what a search for cures found, with what there is to say where it found none.
+
+    `flags` are those of the call; `mode` is the one whose class counts: fullmatch, match or search; `uses` are the names of
+    the calls of `re` that the pattern stands in. Raises ProgramError where relint can't be run.
+    """
+    return Search(pattern, flags, mode, uses, limits, asker or Asker()).run()
+
+
+def cures(pattern: Text, flags: int = 0, mode: str = "search", uses: Sequence[str] = ("compile",)) -> Sequence[Cure]:
+    """Returns the cures of a pattern, that of the best tier first; at most one for each tier. `mend` says more."""
+    return mend(pattern, flags, mode, uses).cures

@@ -1,0 +1,149 @@
+"""The classes of characters that a pattern, or two of them, tell apart, and how a set of these is written.
+
+The codes of all sets fall into *atoms*: two codes are in one atom where every set holds both or neither. A set that the atoms
+make up is a *mask*, a whole number with one bit for each of its atoms.
+"""
+from __future__ import annotations
+
+import re
+from itertools import combinations
+from typing import Callable, Dict, Iterable, List, Optional, Sequence, Tuple
+
+from . import codes
+from .codes import Ranges
+
+PLAIN_ESCAPES = {9: "\\t", 10: "\\n", 11: "\\v", 12: "\\f", 13: "\\r"}
+SPECIAL = frozenset(".^$*+?{}[]|()\\")
+SPECIAL_IN_CLASS = frozenset("\\]^-[&~|")
+CATEGORIES = "wWdDsS"
+MOST_WIDE_RANGES = 3
+
+
+class Alphabet:
+    """The atoms of some sets of codes, under the flags that hold for the whole pattern."""
+
+    def __init__(self, sets: Iterable[Ranges], flags: int, top: int, set_of: Callable[[str], Optional[Ranges]]) -> None:
+        """Takes the sets, the flags, the last code of the universe, and what reads the text of a class as a set."""
+        self.flags = flags
+        self.top = top
+        self._set_of = set_of
+        ascii_only = bool(flags & re.ASCII)
+        self._categories = {it: codes.up_to(codes.named(it, ascii_only), top) for it in CATEGORIES}
+        known = [*self._categories.values(), codes.NEWLINE, *sets]
+        self._masks: Dict[Ranges, int] = {}
+        self.atoms = self._split(sorted(set(known)))
+        self.full = (1 << len(self.atoms)) - 1
+        self.newline = self.mask(codes.NEWLINE)
+        self._shown: Dict[int, Optional[str]] = {}
+
+    def _split(self, sets: Sequence[Ranges]) -> Tuple[Ranges, ...]:
+        turns: Dict[int, int] = {0: 0}
+        for number, ranges in enumerate(sets):
+            for first, last in ranges:
+                turns[first] = turns.get(first, 0) ^ (1 << number)
+                turns[last + 1] = turns.get(last + 1, 0) ^ (1 << number)
+        parts: Dict[int, List[Tuple[int, int]]] = {}
+        sign, starts = 0, sorted(it for it in turns if it <= self.top)
+        for start, after in zip(starts, [*starts[1:], self.top + 1]):
+            sign ^= turns[start]
+            parts.setdefault(sign, []).append((start, after - 1))
+        signs = sorted(parts, key=lambda it: parts[it][0])
+        for number, ranges in enumerate(sets):
+            self._masks[ranges] = sum(1 << at for at, sign in enumerate(signs) if sign >> number & 1)
+        return tuple(codes.merged(parts[it]) for it in signs)
+
+    def mask(self, ranges: Ranges) -> int:
+        """Returns the mask of one of the sets that the alphabet was made of."""
+        return self._masks[ranges]
+
+    def category(self, letter: str) -> int:
+        r"""Returns the mask of `\d`, `\s`, `\w` or a complement of these."""
+        return self._masks[self._categories[letter]]
+
+    def word(self, ascii_only: bool) -> int:
+        """Returns the mask of the word characters that a word boundary looks for."""
+        return self._masks[codes.up_to(codes.named("w", ascii_only), self.top)]
+
+    def ranges(self, mask: int) -> Ranges:
+        """Returns the codes of a mask."""
+        return codes.merged(pair for at, atom in enumerate(self.atoms) if mask >> at & 1 for pair in atom)
+
+    def atom(self, code: int) -> int:
+        """Returns the mask of the one atom that holds the code."""
+        for at, ranges in enumerate(self.atoms):
+            if any(first <= code <= last for first, last in ranges):
+                return 1 << at
+        return 0
+
+    def code(self, mask: int) -> int:
+        """Returns one code of a mask that isn't empty: a printing one of ASCII where there is one, else the least."""
+        ranges = self.ranges(mask)
+        for wanted in (97, 48, 33):
+            for first, last in ranges:
+                if last >= wanted and first < 127:
+                    return max(first, wanted)
+        return ranges[0][0]
+
+    def show(self, mask: int) -> Optional[str]:
+        """Returns a text of one character or one class that matches exactly the mask, or None where none was found."""
+        if mask not in self._shown:
+            wanted = self.ranges(mask)
+            fitting = [it for it in self._texts(mask, wanted) if self._set_of(it) == wanted]
+            self._shown[mask] = min(fitting, key=len) if fitting else None
+        return self._shown[mask]
+
+    def _texts(self, mask: int, wanted: Ranges) -> Iterable[str]:
+        if mask == self.full:
+            yield "." if self.flags & re.DOTALL else "[\\s\\S]"
+            return
+        if mask == 0:
+            yield "[^\\s\\S]"
+            return
+        if mask == self.full & ~self.newline:
+            yield "[^\\n]" if self.flags & re.DOTALL else "."
+        for it in CATEGORIES:
+            if self.category(it) == mask:
+                yield "\\" + it
+        if len(wanted) == 1 and wanted[0][0] == wanted[0][1]:
+            yield self.escape(wanted[0][0], False)
+        for sign, part in (("", mask), ("^", self.full & ~mask)):
+            for inside in self._insides(part):
+                yield f"[{sign}{inside}]"
+                if self.flags & re.IGNORECASE:
+                    yield f"(?-i:[{sign}{inside}])"
+
+    def _insides(self, mask: int) -> Iterable[str]:
+        inner = [it for it in CATEGORIES if self.category(it) & ~mask == 0]
+        for count in range(3):
+            for taken in combinations(inner, count):
+                rest = mask
+                for it in taken:
+                    rest &= ~self.category(it)
+                yield from self._written("".join("\\" + it for it in taken), self.ranges(rest))
+
+    def _written(self, front: str, rest: Ranges) -> Iterable[str]:
+        narrow = [(first, min(last, 127)) for first, last in rest if first < 128]
+        wide = [(max(first, 128), last) for first, last in rest if last >= 128]
+        text = front + "".join(self._range(*it) for it in narrow)
+        if wide and self.flags & re.IGNORECASE and text:
+            yield text
+        if len(wide) <= MOST_WIDE_RANGES and (text or wide):
+            yield text + "".join(self._range(*it) for it in wide)
+
+    def _range(self, first: int, last: int) -> str:
+        if last - first < 2:
+            return "".join(self.escape(it, True) for it in range(first, last + 1))
+        return self.escape(first, True) + "-" + self.escape(last, True)
+
+    def escape(self, code: int, in_class: bool) -> str:
+        """Returns the text of one code, alone or inside a class."""
+        if code in PLAIN_ESCAPES:
+            return PLAIN_ESCAPES[code]
+        letter = chr(code)
+        if self.top == codes.TOP_BYTE and code > 126 or code < 32 or 127 <= code <= 160:
+            return f"\\x{code:02x}"
+        if not letter.isprintable():
+            return f"\\u{code:04x}" if code <= 0xFFFF else f"\\U{code:08x}"
+        special = SPECIAL_IN_CLASS if in_class else SPECIAL
+        verbose = self.flags & re.VERBOSE and not in_class and letter in " #"
+        return "\\" + letter if letter in special or verbose else letter

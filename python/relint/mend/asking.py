@@ -1,0 +1,164 @@
+"""Asks relint about patterns, with few processes.
+
+Classes are asked for many patterns at once: `relint check` reads a source that is made up of calls with these patterns.
+`relint compare` takes two patterns as words, one run for each question. Answers are kept, so nothing is asked twice.
+"""
+from __future__ import annotations
+
+import os
+import re
+import subprocess
+import tempfile
+import time
+from typing import Dict, List, NamedTuple, Optional, Sequence, Tuple, Union
+
+from ..program import NO_MEMORY, ProgramError, program
+from ..reports import ReportError, Verdict, read_report, read_text
+
+Text = Union[str, bytes]
+
+MODES = ("fullmatch", "match", "search")
+SECONDS, LEAST_SECONDS = 20.0, 1.0
+FLAG_WORDS = (
+    (re.ASCII, "a", "re.ASCII"),
+    (re.IGNORECASE, "i", "re.IGNORECASE"),
+    (re.MULTILINE, "m", "re.MULTILINE"),
+    (re.DOTALL, "s", "re.DOTALL"),
+    (re.VERBOSE, "x", "re.VERBOSE"),
+)
+
+
+def front_of(flags: int) -> str:
+    """Returns the group of letters that sets these flags at the front of a pattern, or "" for none."""
+    letters = "".join(letter for flag, letter, _ in FLAG_WORDS if flags & flag)
+    return f"(?{letters})" if letters else ""
+
+
+def _call(pattern: Text, flags: int, mode: str) -> str:
+    names = " | ".join(name for flag, _, name in FLAG_WORDS if flags & flag)
+    return f"re.{mode}({ascii(pattern)}, s{', ' + names if names else ''})\n"
+
+
+class Comparison(NamedTuple):
+    """What `relint compare` said: its relation line, and texts that the first or the second pattern alone matches."""
+
+    relation: str
+    first: Optional[Text] = None
+    second: Optional[Text] = None
+
+
+class Asker:
+    """Asks relint, and keeps the answers. `runs` counts the processes and `compared` the questions to `compare`.
+
+    A question ends after `seconds`, and near `deadline` where that is set, a value of `time.monotonic`.
+    """
+
+    def __init__(self, seconds: float = SECONDS) -> None:
+        self.seconds = seconds
+        self.deadline: Optional[float] = None
+        self.runs = 0
+        self.compared = 0
+        self._classes: Dict[Tuple[Text, int, str], Optional[Verdict]] = {}
+        self._comparisons: Dict[Tuple[str, str, str], Comparison] = {}
+
+    def forget(self) -> None:
+        """Forgets the answers; the counts stay."""
+        self._classes.clear()
+        self._comparisons.clear()
+
+    def _run(self, words: Sequence[str]) -> Optional["subprocess.CompletedProcess[bytes]"]:
+        self.runs += 1
+        whole = [program(), *words]
+        seconds = self.seconds
+        if self.deadline is not None:
+            seconds = min(seconds, max(LEAST_SECONDS, self.deadline - time.monotonic()))
+        try:
+            return subprocess.run(whole, stdin=subprocess.DEVNULL, stdout=subprocess.PIPE, stderr=subprocess.PIPE,
+                                  timeout=seconds)
+        except subprocess.TimeoutExpired:
+            return None
+        except (OSError, ValueError) as error:
+            raise ProgramError(f"{whole[0]} can't be run: {error}") from error
+
+    def classes(self, patterns: Sequence[Text], flags: int, mode: str) -> List[Optional[Verdict]]:
+        """Returns the class of each pattern in the mode; None where relint refuses it or took too long."""
+        new = [it for it in dict.fromkeys(patterns) if (it, flags, mode) not in self._classes]
+        if new:
+            for pattern, verdict in zip(new, self._judged(new, flags, mode)):
+                self._classes[pattern, flags, mode] = verdict
+        return [self._classes[it, flags, mode] for it in patterns]
+
+    def _judged(self, patterns: List[Text], flags: int, mode: str) -> List[Optional[Verdict]]:
+        answers = self._checked(patterns, flags, mode)
+        if answers is not None:
+            return answers
+        if len(patterns) == 1:
+            return [None]
+        # (one pattern that takes long shall not hide the others)
+        half = len(patterns) // 2
+        return self._judged(patterns[:half], flags, mode) + self._judged(patterns[half:], flags, mode)
+
+    def _checked(self, patterns: List[Text], flags: int, mode: str) -> Optional[List[Optional[Verdict]]]:
+        source = "import re\n" + "".join(_call(it, flags, mode) for it in patterns)
+        with tempfile.TemporaryDirectory(prefix="relint-mend-") as folder:
+            path = os.path.join(folder, "asked.py")
+            with open(path, "w", encoding="ascii") as out:
+                out.write(source)
+            done = self._run(["check", "--format", "json", "--report", "1", path])
+        if done is None or done.returncode == NO_MEMORY or done.returncode < 0:
+            return None
+        if done.returncode not in (0, 1):
+            said = done.stderr.decode("utf-8", "replace").strip()
+            raise ProgramError(f"relint check ended with status {done.returncode}: {said}")
+        try:
+            report = read_report(done.stdout)
+        except ReportError as error:
+            raise ProgramError(f"relint check gave no report: {error}") from error
+        found: Dict[int, Optional[Verdict]] = {it.place.line: it.verdict() for it in report.entries if it.place}
+        return [found.get(at + 2) for at in range(len(patterns))]
+
+    def compare(self, left: Text, right: Text, flags: int, mode: str) -> Comparison:
+        """Returns what `relint compare` says, or "not asked" where a pattern can't be a word or took too long."""
+        key = (_word(left, flags), _word(right, flags), mode)
+        if key not in self._comparisons:
+            self._comparisons[key] = self._compared(*key)
+        return self._comparisons[key]
+
+    def _compared(self, one: str, other: str, mode: str) -> Comparison:
+        if one == other:
+            return Comparison("equal")
+        try:
+            os.fsencode(one + other)
+        except UnicodeEncodeError:
+            return Comparison("not asked")
+        if "\0" in one + other:
+            return Comparison("not asked")
+        self.compared += 1
+        done = self._run(["compare", "--mode", mode, "--", one, other])
+        if done is None:
+            return Comparison("not asked")
+        if done.returncode not in (0, 1):
+            return Comparison("refused")
+        lines = done.stdout.decode("utf-8", "replace").splitlines()
+        texts = dict(it.split(None, 1) for it in lines[1:])
+        quoted = [texts.get(it) for it in ("first", "second")]
+        first, second = (read_text(it) if it is not None else None for it in quoted)
+        return Comparison(lines[0] if lines else "refused", first, second)
+
+    def equal(self, left: Text, right: Text, flags: int, modes: Sequence[str]) -> bool:
+        """Returns whether the two match the same texts in each of the modes, proved."""
+        return all(self.compare(left, right, flags, it).relation == "equal" for it in modes)
+
+
+def _word(pattern: Text, flags: int) -> str:
+    if isinstance(pattern, bytes):
+        # (a pattern of bytes is one of text under ASCII, seen on the codes below 256 alone)
+        return front_of(flags | re.ASCII) + pattern.decode("latin-1")
+    return front_of(flags) + pattern
+
+
+def rank(verdict: Optional[Verdict]) -> int:
+    """Returns a number that is greater for a worse class: the degree, then exponential, then what isn't known."""
+    if verdict is None or verdict.kind == "undecided":
+        return 1000
+    return 100 if verdict.kind == "exponential" else verdict.degree or 0

@@ -1,0 +1,280 @@
+"""Puts cures into sources: as a unified diff, or into the files.
+
+The literals of a pattern are changed at their place, each in its own spelling. A file counts as changed since the report where
+`relint check` no longer gives the entries that the report has for it; such a file is refused.
+"""
+from __future__ import annotations
+
+import ast
+import difflib
+import os
+import re
+import shutil
+import tempfile
+import tokenize
+from dataclasses import dataclass
+from io import BytesIO
+from pathlib import Path
+from typing import Iterator, List, Optional, Sequence, Tuple
+
+from ..program import run
+from ..reports import Entry, ReportError, Text, Verdict, read_report
+from ..sites import Literal, Site, Source, SourceError
+
+LITERAL = re.compile(r"([rRbBuU]*)('''|\"\"\"|'|\")")
+ESCAPE = re.compile(r"\\(?:\r\n|[0-7]{1,3}|x[0-9a-fA-F]{2}|u[0-9a-fA-F]{4}|U[0-9a-fA-F]{8}|N\{[^}]*\}|[\s\S])|\r\n|[\s\S]")
+LINES = re.compile(r"[^\n]*\n|[^\n]+")
+
+
+class Unchangeable(Exception):
+    """A file or a literal can't be changed; the message says why."""
+
+
+@dataclass(frozen=True)
+class Edit:
+    """A piece of a source's text, by offsets, and what stands there instead."""
+
+    start: int
+    end: int
+    text: str
+
+
+@dataclass(frozen=True)
+class Unit:
+    """What one character of a literal's value is written as, by offsets in the source."""
+
+    start: int
+    end: int
+
+
+class Spelled:
+    """One literal of a source: where each character of its value is, and how new ones are written in it."""
+
+    def __init__(self, literal: Literal) -> None:
+        found = LITERAL.match(literal.text)
+        if found is None:
+            raise Unchangeable("a literal that can't be read")
+        self.prefix, self.quote = found[1].lower(), found[2]
+        self.raw = "r" in self.prefix
+        self.is_bytes = "b" in self.prefix
+        self.start = literal.start + found.end()
+        self.end = literal.end - len(self.quote)
+        self.units = list(self._units(literal.text[found.end():len(literal.text) - len(self.quote)]))
+        value = ast.literal_eval(literal.text)
+        self.value = value if isinstance(value, str) else value.decode("latin-1")
+        if len(self.units) != len(self.value):
+            raise Unchangeable("a literal whose escapes can't be told apart")
+
+    def _units(self, content: str) -> Iterator[Unit]:
+        pieces = re.compile(r"\r\n|[\s\S]") if self.raw else ESCAPE
+        for it in pieces.finditer(content):
+            start, end, text = self.start + it.start(), self.start + it.end(), it[0]
+            if self.raw or text[0] != "\\":
+                yield Unit(start, end)
+            elif text in ("\\\n", "\\\r\n", "\\\r"):
+                continue
+            elif self._known(text):
+                yield Unit(start, end)
+            else:
+                # (an escape that Python doesn't know stays as it is, backslash and all)
+                for at in range(start, end):
+                    yield Unit(at, at + 1)
+
+    def _known(self, text: str) -> bool:
+        return text[1] in "\\'\"abfnrtv01234567x" or not self.is_bytes and text[1] in "NuU"
+
+    def written(self, text: str) -> str:
+        """Returns new characters as they are written in this literal. Raises Unchangeable where they can't be."""
+        if self.raw:
+            if self.quote[0] in text or "\n" in text and len(self.quote) == 1 or "\r" in text:
+                raise Unchangeable("characters that a raw literal can't hold")
+            return text
+        return "".join(self._escaped(it) for it in text)
+
+    def _escaped(self, letter: str) -> str:
+        if letter in ("\\", self.quote[0]):
+            return "\\" + letter
+        if letter == "\n":
+            return letter if len(self.quote) == 3 else "\\n"
+        if letter.isprintable() and (ord(letter) < 127 or not self.is_bytes):
+            return letter
+        if ord(letter) < 256:
+            return f"\\x{ord(letter):02x}"
+        return f"\\u{ord(letter):04x}" if ord(letter) < 0x10000 else f"\\U{ord(letter):08x}"
+
+
+def _changes(old: str, new: str, borders: Sequence[int]) -> List[Tuple[int, int, str]]:
+    """Returns what changes from the old value to the new one, as pieces of the old one with what stands there instead."""
+    start = len(os.path.commonprefix([old, new]))
+    most = min(len(old), len(new)) - start
+    same = len(os.path.commonprefix([old[start:][::-1], new[start:][::-1]]))
+    same = min(same, most)
+    end = len(old) - same
+    middle = new[start:len(new) - same]
+    if "\n" not in old[start:end] and not any(start < it < end for it in borders):
+        return [(start, end, middle)]
+    matcher = difflib.SequenceMatcher(None, old[start:end], middle, autojunk=False)
+    return [(start + a, start + b, middle[c:d]) for tag, a, b, c, d in matcher.get_opcodes() if tag != "equal"]
+
+
+def edits(site: Site, new: Text) -> List[Edit]:
+    """Returns the edits that make the site's value the new pattern. Raises Unchangeable."""
+    value, wanted = (it if isinstance(it, str) else it.decode("latin-1") for it in (site.value, new))
+    try:
+        spelled = [Spelled(it) for it in site.literals]
+        found = _in_place(spelled, value, wanted)
+        if _value_after(site, found) == new:
+            return found
+    except Unchangeable:
+        pass
+    found = _anew(site, new)
+    if _value_after(site, found) != new:
+        raise Unchangeable("the cure can't be spelled in the place of its literals")
+    return found
+
+
+def _in_place(spelled: List[Spelled], value: str, wanted: str) -> List[Edit]:
+    borders = [0]
+    for it in spelled:
+        borders.append(borders[-1] + len(it.units))
+    found: List[Edit] = []
+    for start, end, text in _changes(value, wanted, borders):
+        for at, literal in enumerate(spelled):
+            low, high = max(start, borders[at]), min(end, borders[at + 1])
+            last = start == borders[at + 1] and (start == end or start == len(value))
+            holds = last or borders[at] <= start < borders[at + 1]
+            if low < high or holds and text:
+                inner = literal.written(text) if holds else ""
+                found.append(_edit(literal, low - borders[at], max(high, low) - borders[at], inner))
+                text = "" if holds else text
+    return found
+
+
+def _edit(literal: Spelled, low: int, high: int, text: str) -> Edit:
+    units = literal.units
+    start = units[low].start if low < len(units) else literal.end
+    end = units[high - 1].end if high > low else start
+    return Edit(start, end, text)
+
+
+def _anew(site: Site, new: Text) -> List[Edit]:
+    """Returns the edits that spell the whole pattern in the first literal, and leave the others empty."""
+    found = LITERAL.match(site.literals[0].text)
+    quote = found[2] if found else "'"
+    text = new if isinstance(new, str) else new.decode("latin-1")
+    prefix = "b" if isinstance(new, bytes) else ""
+    plain = quote[0] not in text and "\r" not in text and (len(quote) == 3 or "\n" not in text) and text.isprintable()
+    whole = f"{prefix}r{quote}{text}{quote}" if plain and not text.endswith("\\") else ascii(new)
+    empty = f"{prefix}''"
+    return [Edit(it.start, it.end, whole if at == 0 else empty) for at, it in enumerate(site.literals)]
+
+
+def _value_after(site: Site, changed: Sequence[Edit]) -> Optional[Text]:
+    texts: List[str] = []
+    for it in site.literals:
+        own = [one for one in changed if it.start <= one.start < it.end]
+        inside = [Edit(one.start - it.start, one.end - it.start, one.text) for one in own]
+        texts.append(applied(it.text, inside))
+    try:
+        value = ast.literal_eval("(" + "\n".join(texts) + ")")
+    except (ValueError, SyntaxError):
+        return None
+    return value if isinstance(value, (str, bytes)) else None
+
+
+def applied(text: str, changed: Sequence[Edit]) -> str:
+    """Returns the text with the edits done; they don't overlap."""
+    for it in sorted(changed, key=lambda one: (one.start, one.end), reverse=True):
+        text = text[:it.start] + it.text + text[it.end:]
+    return text
+
+
+class Change:
+    """A file with the cures that were put into it, in memory."""
+
+    def __init__(self, path: str, entries: Sequence[Entry], options: Sequence[str]) -> None:
+        """Takes the report's entries of the file and the options of `relint check`. Raises Unchangeable."""
+        self.path = path
+        self.options = list(options)
+        try:
+            self.data = Path(path).read_bytes()
+            self.source = Source(self.data)
+        except (OSError, SourceError) as error:
+            raise Unchangeable(f"{path} can't be read: {error}") from error
+        self.coding, _ = tokenize.detect_encoding(BytesIO(self.data).readline)
+        self.edits: List[Edit] = []
+        self.expected: List[Tuple[Entry, Verdict]] = []
+        if [_key(it) for it in entries] != [_key(it) for it in checked(path, self.options)]:
+            raise Unchangeable(f"{path} isn't what the report was made of: make the report anew")
+
+    def put(self, entry: Entry, site: Site, new: Text, verdict: Verdict) -> None:
+        """Puts a cure in the place of the entry's pattern. Raises Unchangeable."""
+        self.edits += edits(site, new)
+        self.expected.append((entry, verdict))
+
+    def text(self) -> str:
+        """Returns the file's text with the cures in it."""
+        return applied(self.source.text, self.edits)
+
+    def content(self) -> bytes:
+        """Returns the file's bytes with the cures in it."""
+        front = "\ufeff" if self.coding != "utf-8-sig" and self.data.decode(self.coding).startswith("\ufeff") else ""
+        return (front + self.text()).encode(self.coding)
+
+    def verify(self) -> None:
+        """Checks the changed file with relint: each changed pattern has its new class. Raises Unchangeable."""
+        with tempfile.TemporaryDirectory(prefix="relint-mend-") as folder:
+            copy = os.path.join(folder, "changed.py")
+            Path(copy).write_bytes(self.content())
+            after = {(it.call, number): it for number, it in enumerate(checked(copy, self.options))}
+        before = checked(self.path, self.options)
+        for entry, verdict in self.expected:
+            number = [_key(it) for it in before].index(_key(entry))
+            found = after.get((entry.call, number))
+            if found is None or found.verdict() != verdict:
+                raise Unchangeable(f"{self.path}: relint doesn't give the changed file the class that the cure has")
+
+    def diff(self) -> bytes:
+        """Returns the unified diff, in the file's own coding."""
+        old, new = LINES.findall(self.source.text), LINES.findall(self.text())
+        name = self.path.lstrip("/")
+        lines: List[str] = []
+        for it in difflib.unified_diff(old, new, f"a/{name}", f"b/{name}"):
+            lines.append(it if it.endswith("\n") else it + "\n\\ No newline at end of file\n")
+        return "".join(lines).encode("utf-8" if self.coding == "utf-8-sig" else self.coding, "surrogateescape")
+
+    def write(self) -> None:
+        """Writes the file, whole or not at all. Raises Unchangeable where it changed meanwhile or can't be written."""
+        folder = os.path.dirname(os.path.realpath(self.path))
+        try:
+            handle, name = tempfile.mkstemp(prefix=".relint-mend-", dir=folder)
+        except OSError as error:
+            raise Unchangeable(f"{self.path} can't be written: {error.strerror}") from error
+        try:
+            with os.fdopen(handle, "wb") as out:
+                out.write(self.content())
+                out.flush()
+                os.fsync(out.fileno())
+            shutil.copymode(self.path, name)
+            if Path(self.path).read_bytes() != self.data:
+                raise Unchangeable(f"{self.path} changed while it was being mended")
+            os.replace(name, os.path.realpath(self.path))
+        except OSError as error:
+            raise Unchangeable(f"{self.path} can't be written: {error.strerror}") from error
+        finally:
+            if os.path.exists(name):
+                os.unlink(name)
+
+
+def _key(entry: Entry) -> Tuple[object, ...]:
+    return entry.place, entry.call, entry.kind, entry.degree, entry.limit, entry.cause
+
+
+def checked(path: str, options: Sequence[str]) -> List[Entry]:
+    """Returns the entries that relint gives for a file. Raises Unchangeable where it gives none."""
+    done = run(["check", "--format", "json", *options, "--", path])
+    try:
+        return list(read_report(done.out).entries)
+    except ReportError:
+        said = done.err.decode("utf-8", "replace").strip()
+        raise Unchangeable(f"relint check can't judge {path}: {said or 'no report'}") from None

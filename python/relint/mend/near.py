@@ -1,0 +1,47 @@
+"""What can be said where no cure came: the loop at fault, and the near miss with a text on which it differs."""
+from __future__ import annotations
+
+from typing import List, Optional, Tuple
+
+from .asking import Text
+from .search import Miss, Outcome
+
+
+def nearest(outcome: Outcome) -> Optional[Miss]:
+    """Returns the proposal that came nearest, or None where none did."""
+    if not outcome.misses:
+        return None
+    return min(outcome.misses, key=_distance)
+
+
+def _distance(miss: Miss) -> Tuple[bool, int, int]:
+    """Returns what is less for a nearer miss: one that differs on one side alone, and on longer texts."""
+    texts = [it for it in (miss.left, miss.right) if it is not None]
+    return len(texts) > 1, -min(len(it) for it in texts), len(miss.pattern)
+
+
+def _shown(text: Text) -> str:
+    return repr(text if isinstance(text, bytes) or len(text) < 80 else text[:77] + "...")
+
+
+def advice(outcome: Outcome) -> List[str]:
+    """Returns lines that say what is at fault, which proposal came near, and what a person could do."""
+    if outcome.before is not None and outcome.before.kind == "degree" and (outcome.before.degree or 0) < 2:
+        return [f"{outcome.before.words()}    nothing to mend"]
+    before = f"{outcome.before.words()}, " if outcome.before else ""
+    lines = [f"{before}no cure: {outcome.why}"]
+    for it in outcome.faults:
+        lines.append(f"  at fault: {it}    this loop can take the same text in more ways than one")
+    if outcome.before is not None and outcome.before.kind == "degree":
+        lines.append("  at fault: runs that share characters, or a search that may begin at each of them")
+    miss = nearest(outcome)
+    if miss is None:
+        return lines
+    text = miss.pattern if isinstance(miss.pattern, str) else miss.pattern.decode("latin-1")
+    lines.append(f"  near: {text}    {miss.verdict.words()}, but other texts")
+    if miss.left is not None:
+        lines.append(f"    your pattern alone matches {_shown(miss.left)}")
+    if miss.right is not None:
+        lines.append(f"    this one alone matches {_shown(miss.right)}")
+    lines.append("    if texts as these never come, or should be judged that way, take it")
+    return lines

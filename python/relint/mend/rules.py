@@ -1,0 +1,617 @@
+r"""Rules of thumb that propose a pattern in another one's place.
+
+No rule is trusted: what it proposes counts only after relint and the check of spans have judged it. A rule takes a node and
+the alphabet of its pattern, and yields nodes that might stand in the node's place. Each has an example, which its test tries.
+"""
+from __future__ import annotations
+
+import re
+from dataclasses import dataclass
+from typing import Callable, Iterator, List, Optional, Tuple
+
+from .alphabet import Alphabet
+from .tree import (
+    Chars, Choice, Concat, EMPTY, Group, Guard, NO_BOUND, Node, Repeat, children, choice, concat, optional, repeat, star,
+    with_child,
+)
+
+Rewrite = Callable[[Node, Alphabet], Iterator[Node]]
+
+
+@dataclass(frozen=True)
+class Rule:
+    """A rule by name; `cost` orders the proposals. `example` is a pattern, and one that the rule proposes for it."""
+
+    name: str
+    cost: float
+    rewrite: Rewrite
+    example: Tuple[str, str]
+
+
+@dataclass(frozen=True)
+class Run:
+    """A repeat of one class of characters."""
+
+    least: int
+    most: int
+    mask: int
+    greedy: bool
+
+    @property
+    def endless(self) -> bool:
+        """Whether the count has no bound."""
+        return self.most == NO_BOUND
+
+
+# What rules are made of
+
+
+def core(node: Node) -> Node:
+    """Returns the node without the capturing groups around it."""
+    while isinstance(node, Group):
+        node = node.body
+    return node
+
+
+def recored(node: Node, new: Node) -> Node:
+    """Returns the node with another core, the groups around it kept."""
+    if isinstance(node, Group):
+        return Group(node.number, node.name, recored(node.body, new))
+    return new
+
+
+def run_of(node: Node) -> Optional[Run]:
+    """Returns the run that the node is, perhaps in groups, or None; one character is a run of one."""
+    found = core(node)
+    if isinstance(found, Chars):
+        return Run(1, 1, found.mask, True)
+    if isinstance(found, Repeat) and isinstance(found.body, Chars):
+        return Run(found.least, found.most, found.body.mask, found.greedy)
+    return None
+
+
+def chars(mask: int) -> Chars:
+    """Returns one character of the mask."""
+    return Chars(mask)
+
+
+def with_run(node: Node, least: int, most: int, mask: int) -> Node:
+    """Returns a run with other bounds and another class, the groups around it kept."""
+    found = core(node)
+    greedy = found.greedy if isinstance(found, Repeat) else True
+    leaf = found.body if isinstance(found, Repeat) else found
+    body = leaf if isinstance(leaf, Chars) and leaf.mask == mask else chars(mask)
+    return recored(node, repeat(least, most, greedy, body))
+
+
+def stripped(node: Node) -> Node:
+    """Returns the node without capturing groups."""
+    if isinstance(node, Group):
+        return stripped(node.body)
+    if isinstance(node, Concat):
+        return concat(stripped(it) for it in node.items)
+    if isinstance(node, Choice):
+        return choice(stripped(it) for it in node.branches)
+    if isinstance(node, Repeat):
+        return repeat(node.least, node.most, node.greedy, stripped(node.body))
+    return node
+
+
+def dead_groups(node: Node) -> List[Node]:
+    """Returns groups that never match, to keep the numbers and names of the node's groups."""
+    return [optional(Group(number, name, chars(0))) for number, name in node.facts.groups]
+
+
+def items_of(node: Node) -> Tuple[Node, ...]:
+    """Returns the parts of a concatenation, or the node alone."""
+    return node.items if isinstance(node, Concat) else (node,)
+
+
+def edge(node: Node, at: int) -> Optional[Repeat]:
+    """Returns the run of characters that the node begins with (`at` 0) or ends with (`at` -1), or None."""
+    if isinstance(node, Group):
+        return edge(node.body, at)
+    if isinstance(node, Concat) and node.items:
+        return edge(node.items[at], at)
+    return node if isinstance(node, Repeat) and isinstance(node.body, Chars) else None
+
+
+def with_edge(node: Node, at: int, new: Node) -> Node:
+    """Returns the node with another node in the place of the run that it begins or ends with."""
+    if isinstance(node, Group):
+        return Group(node.number, node.name, with_edge(node.body, at, new))
+    if isinstance(node, Concat) and node.items:
+        place = at % len(node.items)
+        return concat([*node.items[:place], with_edge(node.items[place], at, new), *node.items[place + 1:]])
+    return new
+
+
+# Loops
+
+
+def close(node: Node, alphabet: Alphabet) -> Iterator[Node]:
+    """A loop that what is in it repeats already: one round is enough."""
+    if isinstance(node, Repeat) and node.endless and not isinstance(node.body, Chars):
+        yield repeat(min(node.least, 1), 1, node.greedy, node.body)
+        if node.least > 1:
+            yield repeat(node.least, node.least, node.greedy, node.body)
+
+
+def nest(node: Node, alphabet: Alphabet) -> Iterator[Node]:
+    """A loop of a loop: one of the two is enough."""
+    if not isinstance(node, Repeat) or not node.endless:
+        return
+    inner = core(node.body)
+    if not isinstance(inner, Repeat):
+        return
+    least = node.least * inner.least
+    yield recored(node.body, repeat(least, NO_BOUND, node.greedy and inner.greedy, inner.body))
+    yield repeat(least, NO_BOUND, node.greedy, recored(node.body, inner.body))
+    if least == 0 and node.least == 0:
+        yield repeat(0, NO_BOUND, node.greedy, recored(node.body, repeat(1, inner.most, inner.greedy, inner.body)))
+
+
+def nest_choice(node: Node, alphabet: Alphabet) -> Iterator[Node]:
+    """A loop over branches that are loops themselves: one piece at a time."""
+    if not isinstance(node, Repeat) or not node.endless:
+        return
+    inner = core(node.body)
+    if not isinstance(inner, Choice):
+        return
+    pieces: List[Node] = []
+    for it in inner.branches:
+        branch = core(it)
+        pieces.append(recored(it, branch.body) if isinstance(branch, Repeat) and branch.endless else it)
+    if tuple(pieces) != inner.branches:
+        least = 0 if inner.facts.nullable else node.least
+        yield repeat(least, NO_BOUND, node.greedy, recored(node.body, choice(pieces)))
+
+
+def shuffle(node: Node, alphabet: Alphabet) -> Iterator[Node]:
+    """A loop over parts that may all be missing: any of them at a time."""
+    if not isinstance(node, Repeat) or not node.endless:
+        return
+    inner = core(node.body)
+    if not isinstance(inner, Concat) or inner.facts.guarded or not inner.facts.nullable:
+        return
+    pieces: List[Node] = []
+    for it in inner.items:
+        found = core(it)
+        pieces.append(recored(it, found.body) if isinstance(found, Repeat) else it)
+    yield star(recored(node.body, choice(pieces)), node.greedy)
+
+
+def hoist(node: Node, alphabet: Alphabet) -> Iterator[Node]:
+    """A part that may be missing at an end of a loop's body: once beside the loop instead of in every round."""
+    if not isinstance(node, Repeat) or not node.endless:
+        return
+    parts = items_of(core(node.body))
+    if len(parts) < 2:
+        return
+    for end, rest, front in ((parts[0], parts[1:], True), (parts[-1], parts[:-1], False)):
+        if not end.facts.nullable or end.facts.groups:
+            continue
+        body = recored(node.body, concat(rest))
+        for least in (node.least, max(node.least, 1)):
+            loop = repeat(least, NO_BOUND, node.greedy, body)
+            whole = concat([end, loop] if front else [loop, end])
+            yield whole if least == node.least else optional(whole, node.greedy)
+
+
+def unroll(node: Node, alphabet: Alphabet) -> Iterator[Node]:
+    """A loop over a part and one that may be missing: the second part between two of the first."""
+    if not isinstance(node, Repeat) or not node.endless or node.least > 1 or node.facts.groups:
+        return
+    parts = items_of(node.body)
+    if len(parts) < 2:
+        return
+    middle = core(parts[-1])
+    if isinstance(middle, Repeat) and (middle.least, middle.most) == (0, 1):
+        head = concat(parts[:-1])
+        whole = concat([head, star(concat([middle.body, head])), optional(middle.body)])
+        yield optional(whole, node.greedy) if node.least == 0 else whole
+
+
+def one_piece(node: Node, alphabet: Alphabet) -> Iterator[Node]:
+    """A loop inside a loop's body: one piece of it in each round."""
+    if not isinstance(node, Repeat) or not node.endless:
+        return
+    inner = core(node.body)
+    if not isinstance(inner, Concat):
+        return
+    for at, it in enumerate(inner.items):
+        found = core(it)
+        if isinstance(found, Repeat) and found.endless:
+            single = recored(it, repeat(min(found.least, 1), 1, found.greedy, found.body))
+            changed = recored(node.body, with_child(inner, at, single))
+            yield repeat(node.least, node.most, node.greedy, changed)
+
+
+def fill(node: Node, alphabet: Alphabet) -> Iterator[Node]:
+    """A part that may be missing as a whole: what is in it needn't be able to be missing too."""
+    if isinstance(node, Repeat) and node.least == 0 and isinstance(node.body, Chars):
+        yield repeat(1, node.most, node.greedy, node.body)
+
+
+def rotate(node: Node, alphabet: Alphabet) -> Iterator[Node]:
+    """A loop whose body begins and ends with runs of one class: the seam between two rounds as one run."""
+    if not isinstance(node, Repeat) or not node.endless or node.least > 1:
+        return
+    parts = [stripped(it) for it in items_of(core(node.body))]
+    if len(parts) < 2:
+        return
+    first, last = run_of(parts[0]), run_of(parts[-1])
+    if first is None or last is None or first.mask != last.mask or len(parts) == 2:
+        return
+    most = NO_BOUND if NO_BOUND in (first.most, last.most) else first.most + last.most
+    seam = repeat(first.least + last.least, most, True, chars(first.mask))
+    whole = concat([parts[0], *parts[1:-1], star(concat([seam, *parts[1:-1]]), node.greedy), parts[-1]])
+    if not node.facts.groups:
+        yield optional(whole, node.greedy) if node.least == 0 else whole
+        return
+    # (the groups hold what the last round took, so it stays a round of its own)
+    rounds = concat([optional(whole), node.body])
+    yield optional(rounds, node.greedy) if node.least == 0 else rounds
+    rest = concat([optional(whole, node.greedy) if node.least == 0 else whole, *dead_groups(node)])
+    yield rest
+
+
+def last_round(node: Node, alphabet: Alphabet) -> Iterator[Node]:
+    """A loop with groups in it: rounds without groups, and then the last one with them."""
+    if not isinstance(node, Repeat) or not node.endless or node.least > 1 or not node.facts.groups:
+        return
+    bodies = [stripped(node.body)]
+    parts = items_of(bodies[0])
+    for at, it in enumerate(parts):
+        if len(parts) > 1 and isinstance(it, Repeat) and it.least == 0:
+            # (what may be missing in the last round parts the rounds before it)
+            bodies.append(_put(bodies[0], at, at + 1, [repeat(1, it.most, it.greedy, it.body)]))
+    for body in bodies:
+        rounds = concat([star(body, node.greedy), node.body])
+        yield optional(rounds, node.greedy) if node.least == 0 else rounds
+
+
+def fallback(node: Node, alphabet: Alphabet) -> Iterator[Node]:
+    r"""A loop over escaped characters and others, where the escaping one may stand alone: it does so at the end only."""
+    if not isinstance(node, Repeat) or not node.endless or not node.greedy:
+        return
+    inner = core(node.body)
+    if not isinstance(inner, Choice):
+        return
+    for sign, pairs, others, rest in _escapes(inner):
+        alone = others & ~sign
+        second = pairs | alone
+        tail = optional(chars(sign)) if pairs & sign else star(chars(sign))
+        head: Node = chars(sign) if pairs & sign else repeat(1, NO_BOUND, True, chars(sign))
+        body = choice([concat([head, chars(second)]), *rest, chars(alone)])
+        if alone:
+            yield concat([star(recored(node.body, body)), tail])
+        # (or it may stand alone anywhere, and takes with it what nothing else takes)
+        odd = pairs & ~others
+        loose = choice([concat([chars(sign), optional(chars(odd))]), *rest, *([chars(alone)] if alone else [])])
+        if odd and alone:
+            yield repeat(node.least, NO_BOUND, True, recored(node.body, loose))
+
+
+def _escapes(node: Choice) -> Iterator[Tuple[int, int, int, List[Node]]]:
+    """Yields the escaping character, what is escaped, the class of the others, and the branches besides."""
+    heads = [it.items[0] for it in node.branches if isinstance(it, Concat) and it.items]
+    firsts = {it.mask for it in heads if isinstance(it, Chars)}
+    others = [it for it in node.branches if isinstance(it, Chars)]
+    if len(others) != 1:
+        return
+    for sign in sorted(firsts):
+        pairs, rest = 0, []
+        for it in node.branches:
+            if isinstance(it, Concat) and len(it.items) == 2 and it.items[0] == Chars(sign) and isinstance(it.items[1], Chars):
+                pairs |= it.items[1].mask
+            elif it is not others[0]:
+                rest.append(it)
+        if pairs and others[0].mask & sign == sign:
+            yield sign, pairs, others[0].mask, rest
+
+
+# Choices
+
+
+def disjoint(node: Node, alphabet: Alphabet) -> Iterator[Node]:
+    """A class in a choice without the characters that another branch begins with."""
+    if not isinstance(node, Choice):
+        return
+    for at, it in enumerate(node.branches):
+        run = run_of(it)
+        if run is None:
+            continue
+        for other in node.branches:
+            first = other.facts.first
+            if other is not it and first & run.mask and run.mask & ~first:
+                yield with_child(node, at, with_run(it, run.least, run.most, run.mask & ~first))
+
+
+def prefix(node: Node, alphabet: Alphabet) -> Iterator[Node]:
+    """A branch that another one begins with: the rest of that one as a part that may be missing."""
+    if not isinstance(node, Choice):
+        return
+    for short in node.branches:
+        head = items_of(short)
+        for long in node.branches:
+            parts = items_of(long)
+            if long is short or short.facts.groups or len(head) >= len(parts) or parts[:len(head)] != head:
+                continue
+            eager = node.branches.index(long) < node.branches.index(short)
+            joined = concat([*head, optional(concat(parts[len(head):]), eager)])
+            yield choice([joined if it is long else it for it in node.branches if it is not short])
+
+
+def drop_branch(node: Node, alphabet: Alphabet) -> Iterator[Node]:
+    """A loop over branches one of which the others make up together: without it."""
+    if not isinstance(node, Repeat) or not node.endless:
+        return
+    inner = core(node.body)
+    if not isinstance(inner, Choice):
+        return
+    for at, it in enumerate(inner.branches):
+        if not it.facts.groups:
+            rest = choice([*inner.branches[:at], *inner.branches[at + 1:]])
+            yield repeat(node.least, node.most, node.greedy, recored(node.body, rest))
+
+
+# Parts one after another
+
+
+def _pairs(node: Node) -> Iterator[Tuple[int, Node, Node]]:
+    if isinstance(node, Concat):
+        for at in range(len(node.items) - 1):
+            yield at, node.items[at], node.items[at + 1]
+
+
+def _put(node: Node, start: int, end: int, new: List[Node]) -> Node:
+    items = items_of(node)
+    return concat([*items[:start], *new, *items[end:]])
+
+
+def absorb(node: Node, alphabet: Alphabet) -> Iterator[Node]:
+    """Two runs in a row where one class holds the other: the wide one takes what the narrow one repeats."""
+    for at, left, right in _pairs(node):
+        one, other = run_of(left), run_of(right)
+        if one is None or other is None or not one.endless or not other.endless:
+            continue
+        if other.mask & ~one.mask == 0:
+            new = with_run(right, other.least, other.least, other.mask)
+            yield _put(node, at + 1, at + 2, dead_groups(right) if other.least == 0 else [new])
+        if one.mask & ~other.mask == 0:
+            new = with_run(left, one.least, one.least, one.mask)
+            yield _put(node, at, at + 1, dead_groups(left) if one.least == 0 else [new])
+
+
+def cede(node: Node, alphabet: Alphabet) -> Iterator[Node]:
+    """A run behind a greedy one: it begins with what the first couldn't take, or is one character."""
+    for at, left, right in _pairs(node):
+        last, first = edge(left, -1), edge(right, 0)
+        if last is None or first is None or not last.endless or not last.greedy:
+            continue
+        new = _ceded(first, last.body.facts.mask)
+        if new is not None:
+            yield _put(node, at + 1, at + 2, [with_edge(right, 0, new)])
+
+
+def _ceded(found: Repeat, taken: int) -> Optional[Node]:
+    mask = found.body.facts.mask
+    if not found.endless or found.least > 1 or not mask & taken:
+        return None
+    own, common = mask & ~taken, mask & taken
+    begun = concat([chars(own), star(found.body, found.greedy)]) if own else None
+    if found.least == 0:
+        return optional(begun, found.greedy) if begun else EMPTY
+    return choice([begun, chars(common)]) if begun else chars(common)
+
+
+def cede_lazy(node: Node, alphabet: Alphabet) -> Iterator[Node]:
+    """A lazy run before another one: it doesn't end with what the second can take."""
+    for at, left, right in _pairs(node):
+        last, first = edge(left, -1), edge(right, 0)
+        if last is None or first is None or last.greedy or not last.endless or last.least > 1 or not first.endless:
+            continue
+        if last.body.facts.mask & first.body.facts.mask:
+            yield _put(node, at, at + 1, [with_edge(left, -1, _ended(last, first.body.facts.mask))])
+
+
+def _ended(found: Repeat, taken: int) -> Node:
+    own = found.body.facts.mask & ~taken
+    ended = optional(concat([star(found.body, False), chars(own)]), False) if own else EMPTY
+    return ended if found.least == 0 else concat([found.body, ended])
+
+
+def split_runs(node: Node, alphabet: Alphabet) -> Iterator[Node]:
+    """Two runs in a row that share characters: what one can take alone decides which it is."""
+    for at, left, right in _pairs(node):
+        one, other = run_of(left), run_of(right)
+        if one is None or other is None or not one.endless or not other.endless or not one.mask & other.mask:
+            continue
+        own = one.mask & ~other.mask
+        if not left.facts.groups and own and one.least == 0:
+            yield _put(node, at, at + 1, [optional(concat([with_run(left, 0, NO_BOUND, one.mask), chars(own)]))])
+        own = other.mask & ~one.mask
+        if not right.facts.groups and own and other.least == 1:
+            rest = optional(concat([chars(own), with_run(right, 0, NO_BOUND, other.mask)]))
+            yield _put(node, at + 1, at + 2, [optional(chars(one.mask & other.mask)), rest])
+
+
+def exclude(node: Node, alphabet: Alphabet) -> Iterator[Node]:
+    """Neighbours that share characters: one of them without those of the other."""
+    for at, left, right in _pairs(node):
+        one, other = run_of(left), run_of(right)
+        if one is None or other is None or not one.mask & other.mask:
+            continue
+        if one.endless and one.mask & ~other.mask:
+            yield _put(node, at, at + 1, [with_run(left, one.least, one.most, one.mask & ~other.mask)])
+        if other.endless and other.mask & ~one.mask:
+            yield _put(node, at + 1, at + 2, [with_run(right, other.least, other.most, other.mask & ~one.mask)])
+
+
+def exclude_next(node: Node, alphabet: Alphabet) -> Iterator[Node]:
+    """A run before a part that begins with some of its characters: the run without these."""
+    for at, left, right in _pairs(node):
+        last, first = edge(left, -1), right.facts.first
+        if last is None or not last.endless or run_of(right) is not None:
+            continue
+        mask = last.body.facts.mask
+        if mask & first and mask & ~first:
+            new = repeat(last.least, last.most, last.greedy, chars(mask & ~first))
+            yield _put(node, at, at + 1, [with_edge(left, -1, new)])
+
+
+def after_last(node: Node, alphabet: Alphabet) -> Iterator[Node]:
+    """A greedy run, one of its characters, another run: that character was the last one, so the second run is without it."""
+    if not isinstance(node, Concat):
+        return
+    for at in range(len(node.items) - 2):
+        before, sign, run = edge(node.items[at], -1), run_of(node.items[at + 1]), edge(node.items[at + 2], 0)
+        if before is None or run is None or sign is None or not before.greedy or not before.endless or not run.endless:
+            continue
+        common = sign.mask & run.body.facts.mask
+        if (sign.least, sign.most) != (1, 1) or not common or sign.mask & ~before.body.facts.mask or run.least > 1:
+            continue
+        own = run.body.facts.mask & ~common
+        plain = repeat(run.least, NO_BOUND, run.greedy, chars(own))
+        ended = choice([concat([repeat(1, NO_BOUND, run.greedy, chars(own)), optional(chars(common))]), chars(common)])
+        for new in (plain, ended) if own else ():
+            yield _put(node, at + 2, at + 3, [with_edge(node.items[at + 2], 0, new)])
+
+
+def option_pairs(node: Node, alphabet: Alphabet) -> Iterator[Node]:
+    """Blanks, a part that may be missing, blanks: the second blanks go with the part. All along a row at once."""
+    if not isinstance(node, Concat):
+        return
+    items = list(node.items)
+    found: List[Node] = []
+    at = changes = 0
+    while at < len(items):
+        paired = _option_pair(found[-1] if found else None, items[at:at + 2])
+        if paired is not None:
+            changes += 1
+            found.append(paired)
+            at += 2
+        else:
+            found.append(items[at])
+            at += 1
+    if changes > 1:
+        yield concat(found)
+
+
+def _blanks(node: Optional[Node]) -> Optional[Run]:
+    """Returns the run that the part ends with, also where the part is an option that ends so."""
+    if node is None:
+        return None
+    run = run_of(node)
+    if run is None and isinstance(node, Repeat) and (node.least, node.most) == (0, 1):
+        run = run_of((items_of(node.body) or (EMPTY,))[-1])
+    return run
+
+
+def _option_pair(before: Optional[Node], pair: List[Node]) -> Optional[Node]:
+    blanks = _blanks(before)
+    if blanks is None or len(pair) < 2 or not blanks.endless or not isinstance(pair[0], Repeat):
+        return None
+    part, run = pair[0], run_of(pair[1])
+    if run is None or pair[1].facts.groups or run.least != 0 or not run.endless or run.mask & ~blanks.mask:
+        return None
+    if part.least != 0:
+        return None
+    return optional(concat([repeat(1, part.most, part.greedy, part.body), pair[1]]))
+
+
+def option_pair(node: Node, alphabet: Alphabet) -> Iterator[Node]:
+    """Blanks, a part that may be missing, blanks: one of the blanks goes with the part."""
+    if not isinstance(node, Concat):
+        return
+    for at in range(len(node.items) - 2):
+        left, part, right = node.items[at:at + 3]
+        one, other = run_of(left), run_of(right)
+        if one is None or other is None or not part.facts.nullable or not isinstance(part, Repeat) or part.least:
+            continue
+        filled = repeat(1, part.most, part.greedy, part.body)
+        if not right.facts.groups and other.least == 0 and other.endless and other.mask & ~one.mask == 0:
+            yield _put(node, at + 1, at + 3, [optional(concat([filled, right]))])
+        if not left.facts.groups and one.least == 0 and one.endless and one.mask & ~other.mask == 0:
+            yield _put(node, at, at + 2, [optional(concat([left, filled]))])
+
+
+def with_blanks(node: Node, alphabet: Alphabet) -> Iterator[Node]:
+    """Blanks before a part that may be missing: they go with the part."""
+    for at, left, right in _pairs(node):
+        run = run_of(left)
+        if run is None or run.least != 0 or left.facts.groups or not isinstance(right, Repeat) or right.least != 0:
+            continue
+        if isinstance(right.body, Chars):
+            continue
+        yield _put(node, at, at + 2, [repeat(0, right.most, True, concat([left, right.body]))])
+        yield _put(node, at, at + 2, [optional(concat([left, repeat(1, right.most, right.greedy, right.body)]))])
+        yield _put(node, at, at + 2, [optional(concat([with_run(left, 1, run.most, run.mask), right]))])
+
+
+def greedy(node: Node, alphabet: Alphabet) -> Iterator[Node]:
+    """A lazy repeat made greedy."""
+    if isinstance(node, Repeat) and not node.greedy:
+        yield repeat(node.least, node.most, True, node.body)
+
+
+RULES: Tuple[Rule, ...] = (
+    Rule("close", 0, close, (r"(a+)*", r"(a+)?")),
+    Rule("option-pairs", 0.6, option_pairs, (r"\s*(a)?\s*(b)?\s*c", r"\s*(?:(a)\s*)?(?:(b)\s*)?c")),
+    Rule("cede", 0.8, cede, (r"\s+(.+)", r"\s+(\S.*|[^\S\n])")),
+    Rule("cede-lazy", 0.8, cede_lazy, (r"(.*?)\s*x", r"((?:.*?\S)??)\s*x")),
+    Rule("option-pair", 1, option_pair, (r"\s*(a)?\s*b", r"\s*(?:(a)\s*)?b")),
+    Rule("nest", 1, nest, (r"(?:a*)*", r"a*")),
+    Rule("absorb", 1, absorb, (r"=+[ =]*", r"=[ =]*")),
+    Rule("split-runs", 1.5, split_runs, (r"[ab]*a*", r"(?:[ab]*b)?a*")),
+    Rule("nest-choice", 2, nest_choice, (r"(?:[^\"]+|\"\")*", r"(?:[^\"]|\"\")*")),
+    Rule("shuffle", 2, shuffle, (r"(?:;?\d*)*", r"[;\d]*")),
+    Rule("hoist", 2, hoist, (r"(?:\s*a\s*)*", r"\s*(?:a\s*)*")),
+    Rule("unroll", 2, unroll, (r"(?:\w+,?)*", r"(?:\w+(?:,\w+)*,?)?")),
+    Rule("one-piece", 2, one_piece, (r"(?:,?\d+)*", r"(?:,?\d)*")),
+    Rule("disjoint", 2, disjoint, (r"(?:\\.|[^\"])*", r"(?:\\.|[^\"\\])*")),
+    Rule("fallback", 2.5, fallback, (r"(?:\\.|[^\"])*", r"(?:\\[\s\S]|[^\"\\])*\\?")),
+    Rule("prefix", 3, prefix, (r"ab|a", r"ab?")),
+    Rule("fill", 3, fill, (r"(?:a*)?", r"(?:a+)?")),
+    Rule("rotate", 3, rotate, (r"(?:\w+-\w+)+", r"\w+-(?:\w{2,}-)*\w+")),
+    Rule("last-round", 3.5, last_round, (r"(a|b)*", r"(?:[ab]*(a|b))?")),
+    Rule("drop-branch", 3.5, drop_branch, (r"(?:a|aa|b)*", r"[ab]*")),
+    Rule("exclude", 4, exclude, (r".*\s+", r"\S*\s+")),
+    Rule("after-last", 4, after_last, (r"(.*)/(.*)$", r"(.*)/([^/\n]*)$")),
+    Rule("exclude-next", 4.5, exclude_next, (r"\w*(?:ab|c)", r"[^\Wac]*(?:ab|c)")),
+    Rule("with-blanks", 5, with_blanks, (r"\s*(a)?", r"(?:\s*(a))?")),
+    Rule("greedy", 9, greedy, (r"[^,]*?,", r"[^,]*,")),
+)
+
+
+def line_anchor(tree: Node, alphabet: Alphabet) -> Iterator[Node]:
+    """A search for a pattern that begins with what runs to a line's end: it needs to begin at a line's start alone."""
+    mask = _lead(tree)
+    if mask == alphabet.full & ~alphabet.newline:
+        yield concat([Guard("line-start", False, "(?m:^)"), tree])
+    elif mask == alphabet.full:
+        yield concat([Guard("start", False, "\\A"), tree])
+    elif mask == alphabet.category("w"):
+        yield concat([Guard("word", bool(alphabet.flags & re.ASCII), "\\b"), tree])
+
+
+def _lead(node: Node) -> Optional[int]:
+    if isinstance(node, Concat) and node.items:
+        return _lead(node.items[0])
+    if isinstance(node, Group):
+        return _lead(node.body)
+    if isinstance(node, Repeat) and node.endless and isinstance(node.body, Chars):
+        return node.body.mask
+    return None
+
+
+LINE_ANCHOR = Rule("line-anchor", 0.5, line_anchor, (r".*x", r"(?m:^).*x"))
+
+
+def places(node: Node, change: Callable[[Node], Iterator[Node]]) -> Iterator[Node]:
+    """Yields the whole tree with what `change` gives at each of its nodes, the outer ones first."""
+    yield from change(node)
+    for at, it in enumerate(children(node)):
+        for new in places(it, change):
+            yield with_child(node, at, new)

@@ -1,0 +1,387 @@
+"""The search for a cure: rules propose, relint and the check of spans judge."""
+from __future__ import annotations
+
+import heapq
+import re
+import time
+from dataclasses import dataclass, field
+from typing import Dict, Iterator, List, Optional, Sequence, Set, Tuple
+
+from ..reports import Verdict
+from .asking import Asker, Text, front_of, rank
+from .judge import Judge, Judgement, TIERS, modes_of
+from .rules import LINE_ANCHOR, RULES, Rule
+from .samples import Sampler
+from .tree import Chars, Node, Pattern, Repeat, Unreadable, children, normal, read, read_both, with_child
+from .trial import Trial, tried
+from .write import Unwritable, body, kept, plain
+
+Path = Tuple[int, ...]
+
+LONGEST = 4000
+BATCH = 30
+MOST_PROPOSALS = 240
+GOOD_DEGREE, FAIR_DEGREE = 1, 2
+MORE_TRIES, MOST_EVEN = 10, 8
+EXPONENTIAL = 100
+
+
+@dataclass(frozen=True)
+class Limits:
+    """How far a search goes: `tries` comparisons, `steps` of rules one after another, and `seconds` in all.
+
+    Each cure is tried on `texts` texts with the running Python in the end.
+    """
+
+    tries: int = 50
+    steps: int = 3
+    seconds: float = 30.0
+    texts: int = 1000
+
+
+@dataclass(frozen=True)
+class Cure:
+    """A pattern that matches the same texts and costs less in the mode. `steps` are the rules that led to it."""
+
+    pattern: Text
+    verdict: Verdict
+    tier: str
+    before: Verdict
+    steps: Tuple[str, ...] = ()
+    judgement: Judgement = Judgement("a")
+    mode: str = "search"
+
+    def words(self) -> str:
+        """Returns what is known of the cure, in words."""
+        judged = self.judgement
+        if self.tier == "a":
+            said = "same texts (proved), same spans and groups (checked)"
+            return said if judged.position else said + ", where no position is given to a call"
+        if self.tier == "b":
+            said = f"same texts (proved), same spans (checked), {judged.why}"
+        else:
+            said = f"same texts (proved), {judged.why}: advice alone"
+        if judged.text is None:
+            return said
+        return f"{said} on {judged.text!r}" + (f" from position {judged.start}" if judged.start else "")
+
+
+@dataclass(frozen=True)
+class Miss:
+    """A proposal of a lower class that matches other texts: `left` is matched by the original alone, `right` by it."""
+
+    pattern: Text
+    verdict: Verdict
+    left: Optional[Text]
+    right: Optional[Text]
+
+
+@dataclass
+class Outcome:
+    """What a search found. `why` says why there is no cure, where there is none; `faults` are the loops that are at fault."""
+
+    before: Optional[Verdict]
+    mode: str = "search"
+    cures: List[Cure] = field(default_factory=list)
+    why: str = ""
+    tries: int = 0
+    runs: int = 0
+    seconds: float = 0.0
+    misses: List[Miss] = field(default_factory=list)
+    faults: List[str] = field(default_factory=list)
+    trials: Dict[str, Trial] = field(default_factory=dict)
+
+    def best(self) -> Optional[Cure]:
+        """Returns the cure of the best tier, and of the least class in it."""
+        return self.cures[0] if self.cures else None
+
+
+@dataclass(frozen=True)
+class Proposal:
+    """A tree that a rule put in place of another one."""
+
+    cost: float
+    rule: str
+    tree: Node
+    text: str
+
+
+def positions(node: Node, path: Path = ()) -> Iterator[Tuple[Path, Node]]:
+    """Yields each node with the way to it, the outer ones first."""
+    yield path, node
+    for at, it in enumerate(children(node)):
+        yield from positions(it, (*path, at))
+
+
+def put(tree: Node, path: Path, new: Node) -> Node:
+    """Returns the tree with another node at the end of the way."""
+    if not path:
+        return new
+    return with_child(tree, path[0], put(children(tree)[path[0]], path[1:], new))
+
+
+class Search:
+    """One search. The trees are those of one pattern, over its alphabet."""
+
+    def __init__(self, pattern: Text, flags: int, mode: str, uses: Sequence[str], limits: Limits, asker: Asker,
+                 rules: Sequence[Rule] = RULES) -> None:
+        self.original = pattern
+        self.flags = flags
+        self.mode = mode
+        self.modes = modes_of(uses, mode)
+        self.limits = limits
+        self.asker = asker
+        self.rules = rules
+        self.judge = Judge(pattern, flags, uses)
+        self.deadline = time.monotonic() + limits.seconds
+        self.judge.deadline = asker.deadline = self.deadline
+        self.tries = 0
+        self.kept_at = 0
+        self.steps: Tuple[str, ...] = ()
+        self.best: Dict[str, Cure] = {}
+        self.misses: List[Miss] = []
+        self.faults: List[str] = []
+        self.trials: Dict[str, Trial] = {}
+        self.seen: Set[str] = set()
+        self.read: Pattern
+
+    def run(self) -> Outcome:
+        """Searches, and returns what was found."""
+        start, runs = time.monotonic(), self.asker.runs
+        before = self.asker.classes([self.original], self.flags, self.mode)[0]
+        outcome = Outcome(before, self.mode)
+        if before is None:
+            outcome.why = "relint refuses the pattern or took too long"
+        elif before.kind == "undecided":
+            outcome.why = "relint doesn't know the class of the pattern"
+        else:
+            outcome.why = self.found(before)
+            self.try_out(outcome)
+        outcome.cures = sorted(self.best.values(), key=lambda it: TIERS.index(it.tier))
+        self.asker.deadline = None
+        outcome.misses, outcome.trials, outcome.faults = self.misses, self.trials, self.faults
+        outcome.tries, outcome.runs, outcome.seconds = self.tries, self.asker.runs - runs, time.monotonic() - start
+        return outcome
+
+    def try_out(self, outcome: Outcome) -> None:
+        """Tries each cure with the running Python; one that differs there from what its tier says is dropped."""
+        if not self.best or not self.limits.texts:
+            return
+        texts = Sampler(self.read).texts(self.limits.texts)
+        for tier, cure in list(self.best.items()):
+            trial = tried(self.original, cure.pattern, self.flags, self.judge.views(cure.judgement), texts, tier)
+            self.trials[tier] = trial
+            if trial.differs is not None:
+                del self.best[tier]
+        if not self.best:
+            outcome.why = "what was found differs from the pattern where this Python runs both"
+
+    def found(self, before: Verdict) -> str:
+        """Searches from a pattern of that class; returns why there is no cure, or ""."""
+        self.before = before
+        try:
+            self.read = read(self.original, self.flags)
+            text = plain(self.read.tree, self.read)
+        except Unreadable as error:
+            return f"the reader of patterns doesn't take it: {error}"
+        except Unwritable as error:
+            return str(error)
+        if not self.asker.equal(self.original, self.encoded(text), self.flags, self.modes):
+            return "the pattern couldn't be written again"
+        self.walk(text)
+        if self.best:
+            return ""
+        self.faults = self.loops_at_fault()
+        return "no proposal was the same and better within the limits"
+
+    def encoded(self, text: str) -> Text:
+        """Returns the text as the original is, text or bytes."""
+        return text if isinstance(self.original, str) else text.encode("latin-1")
+
+    def left(self) -> bool:
+        """Returns whether tries and time are left."""
+        return self.tries < self.limits.tries and time.monotonic() < self.deadline and not self.enough()
+
+    def walk(self, text: str) -> None:
+        """Goes from the original to better patterns, the best ones first."""
+        tree = self.read.tree
+        self.seen.add(text)
+        queue: List[Tuple[Tuple[int, int, int, int], int, Node, Tuple[str, ...]]] = []
+        count = 0
+        heapq.heappush(queue, ((rank(self.before), len(self.guilty(tree)), 0, len(text)), count, tree, ()))
+        while queue and self.left():
+            badness, _, tree, steps = heapq.heappop(queue)
+            self.steps = steps
+            for proposal, worth, tier in self.followers(tree, badness[:2]):
+                taken = (*steps, proposal.rule)
+                count += 1
+                key = (worth[0], worth[1], TIERS.index(tier), len(proposal.text))
+                if len(taken) < self.limits.steps + self.extra():
+                    heapq.heappush(queue, (key, count, proposal.tree, taken))
+            if self.enough():
+                return
+
+    def loops_at_fault(self) -> List[str]:
+        """Returns the texts of the innermost loops that are exponential by themselves, as the original has them."""
+        found: List[str] = []
+        for path in self.guilty(self.read.tree):
+            node = self.read.tree
+            for at in path:
+                node = children(node)[at]
+            if node.span is not None:
+                found.append(self.read.text[node.span[0]:node.span[1]])
+        return found
+
+    def enough(self) -> bool:
+        """Returns whether the best cure is good enough, or is no finding and has been tried long enough to better."""
+        done = self.best.get("a")
+        if done is None:
+            return False
+        worth = rank(done.verdict)
+        return worth <= GOOD_DEGREE or worth <= FAIR_DEGREE and self.tries >= self.kept_at + MORE_TRIES
+
+    def extra(self) -> int:
+        """Returns how many steps more are allowed: one for each loop that is exponential by itself beyond the first."""
+        return max(0, len(self.guilty(self.read.tree)) - 1)
+
+    # What is proposed
+
+    def loops(self, tree: Node) -> Tuple[List[Path], List[Text]]:
+        """Returns the ways to the loops that can be judged by themselves, and their texts as patterns."""
+        paths: List[Path] = []
+        texts: List[Text] = []
+        front = front_of(self.read.flags & ~re.VERBOSE)
+        for path, it in positions(tree):
+            if isinstance(it, Repeat) and not isinstance(it.body, Chars) and not it.facts.guarded:
+                try:
+                    texts.append(self.encoded(front + body(it, self.read.alphabet)))
+                    paths.append(path)
+                except Unwritable:
+                    continue
+        return paths, texts
+
+    def guilty(self, tree: Node) -> List[Path]:
+        """Returns the ways to the loops that are exponential by themselves and hold no smaller one that is."""
+        if rank(self.before) != EXPONENTIAL:
+            return []
+        paths, texts = self.loops(tree)
+        verdicts = self.asker.classes(texts, 0, "fullmatch")
+        found = [path for path, verdict in zip(paths, verdicts) if verdict and verdict.kind == "exponential"]
+        return [it for it in found if not any(other != it and other[:len(it)] == it for other in found)]
+
+    def ask_ahead(self, trees: Sequence[Node]) -> None:
+        """Asks of the loops of all these trees in one run, so that `guilty` finds the answers there."""
+        if rank(self.before) == EXPONENTIAL:
+            self.asker.classes([text for it in trees for text in self.loops(it)[1]], 0, "fullmatch")
+
+    def proposals(self, tree: Node) -> List[Proposal]:
+        """Returns what the rules give for the tree, each text once, the cheapest first."""
+        guilty = self.guilty(tree)
+        found: List[Proposal] = []
+        for rule in self.rules:
+            for path, node in positions(tree):
+                if time.monotonic() > self.deadline:
+                    break
+                near = any(path[:len(it)] == it for it in guilty)
+                for new in rule.rewrite(node, self.read.alphabet):
+                    found += self.proposal(rule, rule.cost - (1 if near else 0), put(tree, path, new))
+        if "search" in self.modes and self.rules is RULES:
+            for new in LINE_ANCHOR.rewrite(tree, self.read.alphabet):
+                found += self.proposal(LINE_ANCHOR, LINE_ANCHOR.cost, new)
+        return sorted(found, key=lambda it: it.cost)[:MOST_PROPOSALS]
+
+    def proposal(self, rule: Rule, cost: float, tree: Node) -> List[Proposal]:
+        """Returns the proposal where its text is new and has the groups of the original, else nothing."""
+        if tree.facts.groups != self.read.tree.facts.groups:
+            return []
+        try:
+            text = plain(tree, self.read)
+        except Unwritable:
+            return []
+        if text in self.seen or len(text) > LONGEST:
+            return []
+        self.seen.add(text)
+        return [Proposal(cost, rule.name, tree, text)]
+
+    # What is judged
+
+    def followers(self, tree: Node, badness: Tuple[int, ...]) -> List[Tuple[Proposal, Tuple[int, int], str]]:
+        """Returns the proposals for a tree that are the same and better; where none has tier a, some that are no worse too."""
+        found: List[Tuple[Proposal, Tuple[int, int], str]] = []
+        even: List[Tuple[Proposal, Tuple[int, int]]] = []
+        every = self.proposals(tree)
+        for at in range(0, len(every), BATCH):
+            if not self.left():
+                break
+            part = every[at:at + BATCH]
+            verdicts = self.asker.classes([self.encoded(it.text) for it in part], self.flags, self.mode)
+            fitting = [(it, verdict) for it, verdict in zip(part, verdicts) if verdict and rank(verdict) <= badness[0]]
+            self.ask_ahead([it.tree for it, _ in fitting])
+            judged = [(it, (rank(verdict), len(self.guilty(it.tree))), verdict) for it, verdict in fitting]
+            for it, worth, verdict in sorted(judged, key=lambda one: (one[1], one[0].cost)):
+                if worth < badness:
+                    tier = self.judged(it, verdict)
+                    found += [(it, worth, tier)] if tier else []
+                elif worth == badness:
+                    even.append((it, worth))
+            if any(tier == "a" for _, _, tier in found):
+                return found
+        for it, worth in even[:MOST_EVEN]:
+            tier = self.judged(it, None)
+            found += [(it, worth, tier)] if tier else []
+        return found
+
+    def judged(self, proposal: Proposal, verdict: Optional[Verdict]) -> str:
+        """Compares a proposal with the original; returns its tier, or "" where it isn't the same. Keeps it as a cure."""
+        if not self.left():
+            return ""
+        self.tries += 1
+        text = self.encoded(proposal.text)
+        if not self.asker.equal(self.original, text, self.flags, self.modes):
+            self.miss(text, verdict)
+            return ""
+        judged = self.judge.judge(text)
+        if verdict is not None and rank(verdict) < rank(self.before) and self.no_worse(text):
+            self.keep(proposal, verdict, judged)
+        return judged.tier
+
+    def miss(self, text: Text, verdict: Optional[Verdict]) -> None:
+        """Keeps a proposal that is better and not the same, with the texts that show it."""
+        if verdict is None or rank(verdict) >= rank(self.before):
+            return
+        for mode in self.modes:
+            found = self.asker.compare(self.original, text, self.flags, mode)
+            if found.first is not None or found.second is not None:
+                self.misses.append(Miss(text, verdict, found.first, found.second))
+                return
+
+    def no_worse(self, text: Text) -> bool:
+        """Returns whether the class is no worse than the original's in the other modes that count."""
+        for mode in self.modes:
+            one, other = self.asker.classes([self.original, text], self.flags, mode)
+            if rank(other) > rank(one):
+                return False
+        return True
+
+    def keep(self, proposal: Proposal, verdict: Verdict, judged: Judgement) -> None:
+        """Keeps a cure where it is the best one of its tier so far."""
+        old = self.best.get(judged.tier)
+        if old is not None and rank(old.verdict) <= rank(verdict):
+            return
+        self.kept_at = self.tries
+        text, judged = self.as_written(proposal, judged)
+        self.best[judged.tier] = Cure(text, verdict, judged.tier, self.before, (*self.steps, proposal.rule), judged, self.mode)
+
+    def as_written(self, proposal: Proposal, judged: Judgement) -> Tuple[Text, Judgement]:
+        """Returns the proposal with all that didn't change as the original has it, where that is the same pattern."""
+        written = self.encoded(kept(proposal.tree, self.read))
+        if written == self.encoded(proposal.text):
+            return written, judged
+        try:
+            left, right = read_both([written, self.encoded(proposal.text)], self.flags)
+        except Unreadable:
+            return self.encoded(proposal.text), judged
+        if normal(left.tree) != normal(right.tree) or not self.asker.equal(self.original, written, self.flags, self.modes):
+            return self.encoded(proposal.text), judged
+        again = self.judge.judge(written)
+        return (written, again) if again.tier == judged.tier else (self.encoded(proposal.text), judged)

@@ -1,0 +1,113 @@
+"""Tries two patterns on texts with the running Python's `re`, each match under a limit of time.
+
+`tried` does it in a process of its own: this file is its script, so it imports nothing of the package.
+"""
+from __future__ import annotations
+
+import json
+import re
+import signal
+import subprocess
+import sys
+import time
+from typing import Any, Callable, Dict, List, NamedTuple, Optional, Sequence, Union
+
+MATCH_SECONDS = 0.05
+WHOLE_SECONDS = 20.0
+
+
+class Trial(NamedTuple):
+    """A text on which the two didn't do the same, if any, and on how many texts nothing took too long before."""
+
+    differs: Optional[str]
+    compared: int
+
+
+class TookLong(Exception):
+    """A match passed its limit of time."""
+
+
+def _stop(*_: Any) -> None:
+    raise TookLong
+
+
+def _limited(call: Callable[[], Any]) -> Any:
+    """Calls under the limit of time, where the system has timers; None stands for too long."""
+    timer = getattr(signal, "setitimer", None)
+    if timer is None:
+        return call()
+    try:
+        timer(signal.ITIMER_REAL, MATCH_SECONDS)
+        try:
+            return call()
+        finally:
+            timer(signal.ITIMER_REAL, 0)
+    except TookLong:
+        return None
+
+
+def _seen(match: Any, tier: str) -> Any:
+    if match is None:
+        return []
+    if tier == "a":
+        return [list(match.regs), match.lastindex]
+    return [match.span()] if tier == "b" else [True]
+
+
+def _views(pattern: Any, text: Any, calls: Sequence[str], tier: str) -> List[Callable[[], Any]]:
+    views: Dict[str, Callable[[], Any]] = {
+        "match": lambda: _seen(pattern.match(text), tier),
+        "fullmatch": lambda: _seen(pattern.fullmatch(text), tier),
+        "search": lambda: _seen(pattern.search(text), tier),
+        "finditer": lambda: [_seen(it, tier) for it in pattern.finditer(text)] if tier != "c" else [],
+        "position": lambda: _seen(pattern.search(text, len(text) // 2), tier),
+    }
+    return [views[it] for it in calls]
+
+
+def _coded(text: str, is_bytes: bool) -> Any:
+    return text.encode("latin-1") if is_bytes else text
+
+
+def _run(asked: Dict[str, Any]) -> Dict[str, Any]:
+    left, right = (re.compile(_coded(it, asked["bytes"]), asked["flags"]) for it in asked["patterns"])
+    compared = 0
+    deadline = time.monotonic() + WHOLE_SECONDS
+    for text in sorted(asked["texts"], key=len):
+        if time.monotonic() > deadline:
+            break
+        value = _coded(text, asked["bytes"])
+        slow = False
+        for one, other in zip(*(_views(it, value, asked["calls"], asked["tier"]) for it in (left, right))):
+            first = _limited(one)
+            second = None if first is None else _limited(other)
+            if second is None:
+                slow = True
+                break
+            if first != second:
+                return {"differs": text, "compared": compared}
+        compared += not slow
+    return {"differs": None, "compared": compared}
+
+
+def tried(left: Union[str, bytes], right: Union[str, bytes], flags: int, calls: Sequence[str], texts: Sequence[str], tier: str
+          ) -> Trial:
+    """Tries both on the texts, and compares as much as the tier promises."""
+    is_bytes = isinstance(left, bytes)
+    patterns = [it.decode("latin-1") if isinstance(it, bytes) else it for it in (left, right)]
+    if is_bytes:
+        texts = [it for it in texts if all(ord(letter) < 256 for letter in it)]
+    asked = {"patterns": patterns, "bytes": is_bytes, "flags": flags, "calls": list(calls), "texts": list(texts), "tier": tier}
+    try:
+        done = subprocess.run([sys.executable, __file__], input=json.dumps(asked).encode("ascii"), stdout=subprocess.PIPE,
+                              stderr=subprocess.PIPE, timeout=3 * WHOLE_SECONDS)
+        answer: Dict[str, Any] = json.loads(done.stdout)
+    except (subprocess.TimeoutExpired, ValueError):
+        return Trial(None, 0)
+    return Trial(answer["differs"], int(answer["compared"]))
+
+
+if __name__ == "__main__":
+    if hasattr(signal, "SIGALRM"):
+        signal.signal(signal.SIGALRM, _stop)
+    json.dump(_run(json.loads(sys.stdin.buffer.read())), sys.stdout)

@@ -1,0 +1,107 @@
+"""Writes a tree as a pattern again: plainly, or with every part that didn't change as it was written."""
+from __future__ import annotations
+
+from typing import List, Optional, Set
+
+from .alphabet import Alphabet
+from .tree import Chars, Choice, Concat, Group, Guard, NO_BOUND, Node, Pattern, Repeat
+
+
+class Unwritable(Exception):
+    """A class of the tree has no text that was found."""
+
+
+def quantifier(node: Repeat) -> str:
+    """Returns the text of a repeat's quantifier."""
+    bounds = (node.least, node.most)
+    known = {(0, 1): "?", (0, NO_BOUND): "*", (1, NO_BOUND): "+"}
+    if bounds in known:
+        text = known[bounds]
+    elif node.least == node.most:
+        text = f"{{{node.least}}}"
+    else:
+        text = f"{{{node.least},{'' if node.endless else node.most}}}"
+    return text if node.greedy else text + "?"
+
+
+def _head(node: Group) -> str:
+    return f"(?P<{node.name}>" if node.name else "("
+
+
+def _chars(node: Chars, alphabet: Alphabet) -> str:
+    text = node.text
+    if text is None or text == "{" or text[:1] == "\\" and text[1:2].isdigit():
+        text = alphabet.show(node.mask)
+    if text is None:
+        raise Unwritable("a class that has no short text")
+    return text
+
+
+class _Writer:
+    """Writes nodes; where it has a source, a node with a span is written as it stands there."""
+
+    def __init__(self, alphabet: Alphabet, source: Optional[Pattern] = None) -> None:
+        self.alphabet = alphabet
+        self.source = source
+        self.used: Set[int] = set()
+
+    def gap(self, at: int) -> str:
+        """Returns the layout at that place of the source, the first time that it is asked for."""
+        if self.source is None or at in self.used:
+            return ""
+        self.used.add(at)
+        return self.source.gaps.get(at, "")
+
+    def node(self, node: Node) -> str:
+        if self.source is not None and node.span is not None:
+            text = self.source.text[node.span[0]:node.span[1]]
+            return self.gap(node.span[0]) + text
+        if isinstance(node, Chars):
+            return _chars(node, self.alphabet)
+        if isinstance(node, Guard):
+            return node.text
+        if isinstance(node, Concat):
+            return "".join(self.item(it) for it in node.items) + self.after(node)
+        if isinstance(node, Choice):
+            return "|".join(self.node(it) + self.after(it) for it in node.branches)
+        if isinstance(node, Group):
+            return _head(node) + self.node(node.body) + self.after(node.body) + ")"
+        return self.body(node.body) + self.inner_gap(node.body) + quantifier(node)
+
+    def inner_gap(self, node: Node) -> str:
+        """Returns the layout that stood between a repeat's body and its quantifier."""
+        if self.source is None or node.span is None or not isinstance(node, (Chars, Group)):
+            return ""
+        return self.source.inner_gaps.get(node.span[1], "")
+
+    def after(self, node: Node) -> str:
+        """Returns the layout that stood behind the last part of the node."""
+        last: Node = node
+        while isinstance(last, Concat) and last.span is None and last.items:
+            last = last.items[-1]
+        return self.gap(-1 - last.span[1]) if last.span else ""
+
+    def item(self, node: Node) -> str:
+        return f"(?:{self.node(node)})" if isinstance(node, Choice) else self.node(node)
+
+    def body(self, node: Node) -> str:
+        if isinstance(node, (Chars, Group)):
+            return self.node(node)
+        return f"(?:{self.node(node)})"
+
+
+def plain(tree: Node, pattern: Pattern) -> str:
+    """Returns the whole pattern with that tree as its body, without any layout. Raises Unwritable."""
+    return pattern.text[:pattern.front] + _Writer(pattern.alphabet).node(tree)
+
+
+def body(tree: Node, alphabet: Alphabet) -> str:
+    """Returns the tree's text without a front. Raises Unwritable."""
+    return _Writer(alphabet).node(tree)
+
+
+def kept(tree: Node, pattern: Pattern) -> str:
+    """Returns the whole pattern with that tree as its body; what stood in the pattern before is written as there."""
+    writer = _Writer(pattern.alphabet, pattern)
+    texts: List[str] = [pattern.text[:pattern.front], writer.node(tree), writer.after(tree)]
+    return "".join(texts)

@@ -1,0 +1,424 @@
+"""relint-page: a report of relint as one HTML file that needs nothing else."""
+from __future__ import annotations
+
+import argparse
+import base64
+import difflib
+import hashlib
+import json
+import os
+import re
+import sys
+from html import escape
+from typing import Dict, Iterator, List, Optional, Sequence, Tuple
+from urllib.parse import quote
+
+from . import gather, plain, program
+from .facts import Finding, Sources, findings
+from .page_chart import chart
+from .page_script import SCRIPT
+from .page_style import STYLE
+from .reports import Entry, Place, Text
+from .sites import Source
+
+LINES_AROUND = 2
+MOST_LINES = 16
+MOST_PLACES = 50
+MOST_CARDS = 300
+MOST_CODES_OF_A_LINE = 400
+WRITE_FAULT = 4
+INTERRUPTED = 130
+LINK = re.compile(r"(?!(?:javascript|data|vbscript):)[a-z][a-z0-9+.-]*:[^\s\x00-\x1f]+", re.I)
+
+
+def shown(text: str) -> str:
+    """Returns a text as markup that shows it: what can't be seen, or turns the direction of writing, is an escape."""
+    seen = "".join(
+        it if it in "\n\t" or it.isprintable() else it.encode("unicode_escape", "surrogatepass").decode("ascii") for it in text
+    )
+    return escape(seen, quote=True)
+
+
+def _pinned(text: str) -> str:
+    """The name by which the page's own rules allow a script or style: its hash."""
+    return "'sha256-" + base64.b64encode(hashlib.sha256(text.encode("utf-8")).digest()).decode("ascii") + "'"
+
+
+def _json(value: object) -> str:
+    """JSON that no browser reads as markup or as the end of a script."""
+    text = json.dumps(value, separators=(",", ":"), ensure_ascii=True)
+    return text.replace("&", "\\u0026").replace("<", "\\u003c").replace(">", "\\u003e")
+
+
+class Link:
+    """The address that opens a place in an editor, where the user named one."""
+
+    def __init__(self, form: Optional[str]) -> None:
+        """Takes a form such as vscode://file/{path}:{line}:{column}. Raises GatherError where it is none."""
+        if form is not None and not LINK.fullmatch(form):
+            raise gather.GatherError("--link wants an address with a scheme, such as 'vscode://file/{path}:{line}:{column}'")
+        self.form = form
+
+    def __call__(self, entry: Entry, words: str) -> str:
+        """Returns markup for the words, as a link where there is a form."""
+        if self.form is None or entry.place is None:
+            return f'<span class="mono">{shown(words)}</span>'
+        path = quote(os.path.abspath(entry.path).encode("utf-8", "surrogateescape"))
+        if "/{path}" in self.form:
+            path = path.lstrip("/")
+        values = {"path": path, "line": str(entry.place.line), "column": str(entry.place.column)}
+        address = re.sub(r"\{(path|line|column)\}", lambda it: values[it.group(1)], self.form)
+        return f'<a class="mono" href="{escape(address)}">{shown(words)}</a>'
+
+
+def place_words(entry: Entry) -> str:
+    """Returns an entry's path with its line and column."""
+    return f"{entry.path}:{entry.place.line}:{entry.place.column}" if entry.place else entry.path
+
+
+def _inside(text: str, start: int, spans: Sequence[Tuple[int, int]], tag: str) -> str:
+    """A piece of a source, which begins at an offset, with the parts of it that spans cover in a tag."""
+    parts, at = [], 0
+    for first, last in sorted(spans):
+        low, high = max(first - start, at), min(last - start, len(text))
+        if low < high:
+            parts += [shown(text[at:low]), f"<{tag}>", shown(text[low:high]), f"</{tag}>"]
+            at = high
+    return "".join(parts) + shown(text[at:])
+
+
+def _marked(source: Source, number: int, literals: Sequence[Tuple[int, int]], faults: Sequence[Tuple[int, int]]) -> str:
+    """A line of a source with its literals marked, and the parts at fault inside them."""
+    start = source.offset(Place(number, 1))
+    text = source.line(number)
+    parts, at = [], 0
+    for first, last in literals:
+        low, high = max(first - start, at), min(last - start, len(text))
+        if low < high:
+            parts += [_cut(text[at:low]), "<mark>", _inside(text[low:high], start + low, faults, "b"), "</mark>"]
+            at = high
+    return "".join(parts) + _cut(text[at:])
+
+
+def _cut(text: str) -> str:
+    """A piece of a line beside a literal, without what would make the line endless."""
+    if len(text) <= MOST_CODES_OF_A_LINE:
+        return shown(text)
+    return shown(text[:MOST_CODES_OF_A_LINE // 2]) + " .. " + shown(text[-MOST_CODES_OF_A_LINE // 2:])
+
+
+def _source(found: Finding) -> str:
+    source, site = found.source, found.site
+    if source is None or site is None:
+        return '<p class="muted">The source isn\'t there, or has changed since the report was made.</p>'
+    literals = [(it.start, it.end) for it in site.literals]
+    faults = found.spans_at_fault()
+    first = source.place(literals[0][0]).line
+    last = source.place(literals[-1][1] - 1).line
+    end = min(last, first + MOST_LINES - 1)
+    numbers = _around(source, first, end)
+    size = len(str(numbers[-1]))
+    lines = [
+        f'<span class="number">{number:>{size}}  </span>{_marked(source, number, literals, faults)}' for number in numbers
+    ]
+    if end < last:
+        lines.append(f'<span class="number">.. {plain.counted(last - end, "line")} more of the pattern</span>')
+    return (f'<pre tabindex="0" role="region" aria-label="Source around line {first}"><code>'
+            + "\n".join(lines) + "</code></pre>")
+
+
+def _around(source: Source, first: int, last: int) -> Sequence[int]:
+    """The numbers of some lines with those around them, without blank ones at the ends."""
+    low, high = max(1, first - LINES_AROUND), min(last + LINES_AROUND, len(source.starts))
+    while low < first and not source.line(low).strip():
+        low += 1
+    while high > last and not source.line(high).strip():
+        high -= 1
+    return range(low, high + 1)
+
+
+def _difference(old: Text, new: Text) -> Tuple[str, str]:
+    """Two patterns as markup, with what only one of them has in a tag of its own."""
+    first, second = plain.quoted(old), plain.quoted(new)
+    left, right = [], []
+    for kind, a, b, c, d in difflib.SequenceMatcher(None, first, second, autojunk=False).get_opcodes():
+        same = kind == "equal"
+        left.append(shown(first[a:b]) if same or a == b else f"<del>{shown(first[a:b])}</del>")
+        right.append(shown(second[c:d]) if same or c == d else f"<ins>{shown(second[c:d])}</ins>")
+    return "".join(left), "".join(right)
+
+
+def _instead(found: Finding, new: Text, title: str, becomes: str) -> Iterator[str]:
+    """A pattern in place of a finding's, as a difference, with its class."""
+    yield f"<h4>{shown(title)}</h4>"
+    if found.site:
+        old, other = _difference(found.site.value, new)
+        yield f'<div class="diff"><code><span class="muted">now </span>{old}</code>'
+        yield f'<code><span class="muted">new </span>{other}</code></div>'
+    else:
+        yield f"<code>{shown(plain.quoted(new))}</code>"
+    if becomes:
+        yield f'<p>It becomes <span class="better">{shown(becomes)}</span>.</p>'
+
+
+def _suggestion(found: Finding) -> Iterator[str]:
+    entry, cure = found.entry, found.cure
+    if entry.suggest is not None:
+        becomes = plain.class_word(entry.becomes) if entry.becomes else ""
+        yield from _instead(found, entry.suggest, "Suggestion: it matches the same texts (proved)", becomes)
+    if cure:
+        yield from _instead(found, cure.pattern, f"Cure: {cure.promise}", cure.becomes)
+    if entry.suggest is None and not cure:
+        yield '<p class="muted">The page docs/MENDING.md shows how such patterns are rewritten.</p>'
+
+
+def _texts(found: Finding, number: int) -> Iterator[str]:
+    if found.entry.family is None:
+        return
+    yield f"<h4>Texts that show it, for k = 1, 2, 3 ..</h4><code>{shown(plain.family_words(found.entry.family))}</code>"
+    snippet = found.snippet()
+    if snippet:
+        yield f'<div class="row"><button type="button" hidden data-copies="s{number}">Copy Python snippet</button>'
+        yield '<span class="muted">It prints the seconds for longer and longer texts; stop it with Ctrl-C.</span></div>'
+        yield f'<details class="snippet"><summary>Show the snippet</summary><pre id="s{number}" tabindex="0" role="region" '
+        yield f'aria-label="Python snippet">{shown(snippet)}</pre></details>'
+
+
+def _sentence(words: str) -> str:
+    return words[:1].upper() + words[1:] + "."
+
+
+def card(found: Finding, number: int, link: Link) -> str:
+    """Returns the card of a finding."""
+    entry, verdict = found.entry, found.entry.verdict()
+    kind = "exponential" if entry.kind == "exponential" else "degree"
+    parts = [
+        f'<article class="card {kind}" aria-labelledby="f{number}"><div class="head"><h3 id="f{number}">',
+        link(entry, place_words(entry)), "</h3>",
+        f'<code>{shown(entry.call or "")}</code>',
+        f'<span class="badge">{shown(plain.class_word(verdict)) if verdict else ""}</span></div>',
+        f'<p class="words">{shown(_sentence(found.words()))}</p><div class="columns"><div>', _source(found),
+    ]
+    fault = found.fault_words()
+    if fault:
+        parts.append(f'<p class="muted kept">Part at fault: {shown(fault)}.</p>')
+    parts += [*_texts(found, number), *_suggestion(found), "</div>"]
+    if found.growth and verdict:
+        parts.append(f"<figure>{chart(found.growth, verdict, number)}<figcaption>Steps, as relint cost counts them, against "
+                     "length; both logarithmic</figcaption></figure>")
+    return "".join([*parts, "</div></article>\n"])
+
+
+def _count(number: int, name: str, target: str, kind: str) -> str:
+    return f'<li class="{kind}"><a href="#{target}"><b>{number:,}</b> {name}</a></li>'
+
+
+def _counts(given: gather.Gathered) -> str:
+    found = given.findings
+    exponential = sum(it.kind == "exponential" for it in found)
+    undecided = sum(it.kind == "undecided" for it in given.report.entries)
+    lost = sum(not it.is_judged() for it in given.report.entries)
+    rest = len(given.report.entries) - len(found) - undecided - lost
+    return '<ul class="counts">' + "".join((
+        _count(exponential, "exponential", "findings", "bad" if exponential else ""),
+        _count(len(found) - exponential, "of a high degree", "findings", "warn" if len(found) > exponential else ""),
+        _count(lost, "not analysed", "refused", ""),
+        _count(undecided, "undecided", "undecided", ""),
+        _count(rest, "without a finding", "all", ""),
+    )) + "</ul>"
+
+
+def _places(entries: Sequence[Entry], link: Link) -> str:
+    items = [f"<li>{link(it, place_words(it))}</li>" for it in entries[:MOST_PLACES]]
+    if len(entries) > MOST_PLACES:
+        items.append(f"<li>and {len(entries) - MOST_PLACES:,} more, in the table below</li>")
+    return "<ul>" + "".join(items) + "</ul>"
+
+
+def _group(name: str, words: str, page: str, entries: Sequence[Entry], link: Link) -> str:
+    helps = f' <span class="muted">See {escape(page)}.</span>' if page else ""
+    return (f'<details class="cause"><summary><b>{len(entries):,}</b> {shown(name)}: {shown(words)}.{helps}</summary>'
+            f"{_places(entries, link)}</details>")
+
+
+def _folded(name: str, title: str, body: str) -> str:
+    return f'<details class="folded" id="{name}"><summary><h2>{title}</h2></summary><div>{body}</div></details>\n'
+
+
+def _refused(entries: Sequence[Entry], link: Link) -> str:
+    by_cause: Dict[str, List[Entry]] = {}
+    for entry in entries:
+        cause = plain.not_analysed(entry)
+        if cause:
+            by_cause.setdefault(cause, []).append(entry)
+    groups = []
+    for cause, _ in plain.causes(tuple(entries)):
+        words, helps = plain.CAUSES.get(cause, ("a cause that this page has no words for", "docs/USAGE.md"))
+        groups.append(_group(cause, words, helps, by_cause[cause], link))
+    title = f"Not analysed, by cause: {sum(map(len, by_cause.values())):,}"
+    return _folded("refused", title, "".join(groups) or "<p>Every pattern was analysed.</p>")
+
+
+def _undecided(entries: Sequence[Entry], link: Link) -> str:
+    by_limit: Dict[str, List[Entry]] = {}
+    for entry in entries:
+        if entry.kind == "undecided":
+            by_limit.setdefault(f"{entry.limit} over {entry.over}", []).append(entry)
+    page = "docs/VERDICTS.md"
+    groups = [_group(name, plain.LIMITS.get(name.split()[0], ""), page, its, link) for name, its in by_limit.items()]
+    title = f"Undecided, by limit: {sum(map(len, by_limit.values())):,}"
+    return _folded("undecided", title, "".join(groups) or "<p>No pattern passed a limit.</p>")
+
+
+class _Names:
+    """Names that are written once, and stood for by their numbers."""
+
+    def __init__(self) -> None:
+        self.numbers: Dict[str, int] = {}
+
+    def __call__(self, name: str) -> int:
+        return self.numbers.setdefault(name, len(self.numbers))
+
+
+def table_data(entries: Sequence[Entry]) -> Dict[str, object]:
+    """Returns what the page's table is drawn from: names once, and for each entry the numbers of its own."""
+    paths, calls, kinds = _Names(), _Names(), _Names()
+    for kind in sorted({_kind(it) for it in entries}):
+        kinds(kind)
+    for call in sorted({it.call or "" for it in entries}):
+        calls(call)
+    rows = [
+        [
+            paths(plain.visible(it.path)), it.place.line if it.place else 0, it.place.column if it.place else 0,
+            calls(it.call or ""), kinds(_kind(it)),
+        ]
+        for it in entries
+    ]
+    return {"calls": list(calls.numbers), "kinds": list(kinds.numbers), "paths": list(paths.numbers), "rows": rows}
+
+
+def _kind(entry: Entry) -> str:
+    verdict = entry.verdict()
+    if verdict:
+        return plain.class_word(verdict)
+    return f"not analysed: {plain.not_analysed(entry)}"
+
+
+TABLE = """
+<form class="filters" id="filters" role="search" aria-label="Entries of the table" hidden>
+<label>Path holds <input id="path" type="search" autocomplete="off" spellcheck="false"></label>
+<label>Call <select id="call"><option value="">all</option></select></label>
+<label>Class <select id="kind"><option value="">all</option></select></label>
+<button type="reset">Show all</button>
+</form>
+<noscript><p>The table is drawn by a script, which this browser doesn't run.</p></noscript>
+<p id="shown" role="status"></p>
+<div class="scroll" id="scroll" tabindex="0" role="region" aria-label="Table of all entries">
+<table><thead><tr><th scope="col">Place</th><th scope="col">Call</th><th scope="col">Class</th></tr></thead>
+<tbody id="rows"></tbody></table><div id="end"></div></div>
+"""
+
+
+def _cards(found: Sequence[Finding], all_found: int, link: Link) -> str:
+    if not all_found:
+        return "<p>No finding: no pattern that was analysed is above the limit.</p>"
+    cards = [card(it, number, link) for number, it in enumerate(found, 1)]
+    if len(found) < all_found:
+        cards.append(f"<p>The first {plain.counted(len(found), 'finding')} are shown with a card, which --cards sets; all "
+                     f"{all_found:,} are in the table below.</p>")
+    return "".join(cards)
+
+
+def _head(title: str, findings_counted: str) -> str:
+    allowed = f"style-src {_pinned(STYLE)}; script-src {_pinned(SCRIPT)}"
+    rules = f"default-src 'none'; {allowed}; base-uri 'none'; form-action 'none'"
+    return (
+        '<!DOCTYPE html>\n<html lang="en"><head><meta charset="utf-8">\n'
+        f'<meta http-equiv="Content-Security-Policy" content="{rules}">\n'
+        '<meta name="viewport" content="width=device-width, initial-scale=1">\n'
+        '<meta name="color-scheme" content="light dark">\n'
+        f"<title>{shown(title)}: {findings_counted}</title>\n<style>{STYLE}</style></head>\n"
+    )
+
+
+def page(given: gather.Gathered, found: Sequence[Finding], link: Link, title: str) -> str:
+    """Returns the page for a report; `found` are the findings that get a card."""
+    entries = given.report.entries
+    counted = plain.counted(len(given.findings), "finding")
+    return "".join((
+        _head(title, counted),
+        f'<body>\n<a class="skip" href="#findings">Go to the findings</a>\n<header><h1>{shown(title)}</h1>\n',
+        f'<p class="muted">{plain.counted(len(entries), "entry", "entries")}, {counted}. A finding is a pattern that a ',
+        f"chosen text can make extremely slow (ReDoS, CWE-1333).</p>{_counts(given)}</header>\n<main>\n",
+        '<section id="findings" aria-labelledby="findings-h"><h2 id="findings-h">Findings</h2>\n',
+        _cards(found, len(given.findings), link), "</section>\n",
+        '<section aria-label="Other entries">\n', _refused(entries, link), _undecided(entries, link),
+        _folded("all", f"All entries: {len(entries):,}", TABLE), "</section>\n</main>\n",
+        "<footer><p>Classes and steps are those of relint's defined machine, which backtracks as CPython's re does. ",
+        "They are no measured times.</p></footer>\n",
+        '<p id="status" role="status" class="unseen"></p>\n',
+        f'<script type="application/json" id="data">{_json(table_data(entries))}</script>\n',
+        f"<script>{SCRIPT}</script>\n</body></html>\n",
+    ))
+
+
+def _parser() -> argparse.ArgumentParser:
+    parser = gather.OneLineParser(
+        prog="relint-page",
+        description="Writes the report of relint check as one HTML page, which needs nothing else.",
+        epilog="The exit status is 0 where the page was written, also where it shows findings; else 2 to 6.",
+        allow_abbrev=False,
+    )
+    gather.add_options(parser)
+    parser.add_argument("--output", "-o", metavar="FILE", help="the file to write, in place of standard output")
+    parser.add_argument("--title", default="relint report", help="the page's heading")
+    parser.add_argument("--link", metavar="ADDRESS",
+                        help="what a place leads to, as 'vscode://file/{path}:{line}:{column}'")
+    parser.add_argument("--cards", type=gather.number(0, 999999), default=MOST_CARDS, metavar="N",
+                        help=f"how many findings get a card with source and chart ({MOST_CARDS})")
+    parser.add_argument("--mend", action="store_true", help="also show a cure that relint-mend finds")
+    return parser
+
+
+def _made(words: argparse.Namespace) -> str:
+    link = Link(words.link)
+    given = gather.gathered(words)
+    worst = sorted(given.findings, key=lambda it: (it.kind != "exponential", -(it.degree or 0)))[:words.cards]
+    found = findings(given, worst, Sources(), words.mend)
+    return page(given, found, link, words.title)
+
+
+def _written(text: str, output: Optional[str]) -> int:
+    data = text.encode("utf-8", "backslashreplace")
+    try:
+        if output:
+            with open(output, "wb") as file:
+                file.write(data)
+        else:
+            sys.stdout.buffer.write(data)
+            sys.stdout.buffer.flush()
+        return 0
+    except OSError as error:
+        print(f"relint-page: {output or 'standard output'} can't be written: {error.strerror}", file=sys.stderr)
+        if not output:
+            os.dup2(os.open(os.devnull, os.O_WRONLY), sys.stdout.fileno())
+        return WRITE_FAULT
+
+
+def main(words: Optional[Sequence[str]] = None) -> int:
+    """Runs the tool with the words of the command line, and answers the exit status."""
+    given = gather.parsed(_parser(), words)
+    try:
+        return _written(_made(given), given.output)
+    except gather.GatherError as error:
+        print(f"relint-page: {error}", file=sys.stderr)
+        return error.status
+    except program.ProgramError as error:
+        print(f"relint-page: {error}", file=sys.stderr)
+        return program.REFUSED
+    except KeyboardInterrupt:
+        return INTERRUPTED
+
+
+if __name__ == "__main__":
+    sys.exit(main())

@@ -1,0 +1,224 @@
+"""Classes, causes and figures in plain words, and the Python code that shows a slow match."""
+from __future__ import annotations
+
+import re
+import shlex
+from typing import Dict, List, Optional, Tuple
+
+from .reports import Entry, Family, Text, Verdict
+
+NAMES_OF_DEGREES = {0: "bounded", 1: "linear", 2: "quadratic", 3: "cubic"}
+SCALES = ((10**12, "trillion"), (10**9, "billion"), (10**6, "million"))
+FLAG_LETTERS = (("A", re.A), ("I", re.I), ("M", re.M), ("S", re.S), ("X", re.X))
+LAST_WITH_WORDS = 10**15
+PATTERN = "docs/USAGE.md, Refused patterns"
+SOURCE = "docs/USAGE.md, Entries that aren't verdicts"
+
+# What each cause means, and the page that helps.
+CAUSES: Dict[str, Tuple[str, str]] = {
+    "not-utf8": ("the file isn't UTF-8: save it as UTF-8", SOURCE),
+    "coding": ("the file names a coding other than UTF-8: save it as UTF-8", SOURCE),
+    "unterminated": ("a string has no end by relint's rules, as with the same quotes nested in an f-string", SOURCE),
+    "file-too-long": ("the file has more than 4,194,304 bytes: split it", SOURCE),
+    "stray-code": ("a character that stands for nothing in Python", SOURCE),
+    "not-whole": ("the pattern is only partly a literal, as in \"a\" + b: write it out in the call", SOURCE),
+    "flags-unknown": ("the flags aren't written out in the call: write them there", SOURCE),
+    "f-string": ("the pattern is an f-string: write it as a plain literal", SOURCE),
+    "mixed": ("bytes and text joined in one literal", SOURCE),
+    "bad-escape": ("a string escape that relint doesn't read: write a raw literal", SOURCE),
+    "named-escape": ("a character given by its name: write the character itself", SOURCE),
+    "not-ascii": ("a character beyond ASCII in a bytes literal", SOURCE),
+    "syntax": ("no valid pattern of re by relint's rules", PATTERN),
+    "too-deep": ("more than 100 groups inside one another", PATTERN),
+    "too-long": ("the pattern has more than 10,000 characters", PATTERN),
+    "locale": ("the flag LOCALE", PATTERN),
+    "flag-clash": ("flags that can't stand together; re refuses them too", PATTERN),
+    "duplicate-name": ("two groups of one name; re refuses them too", PATTERN),
+    "code-too-large": ("an escape above the last character; re refuses it too", PATTERN),
+    "reversed-range": ("a range that runs backward; re refuses it too", PATTERN),
+    "repeat-too-large": ("a repeat count that is too large", PATTERN),
+    "repeat-order": ("a repeat whose least count is above its greatest; re refuses it too", PATTERN),
+    "possessive": ("a possessive quantifier, as a*+", PATTERN),
+    "backreference": ("a backreference, as \\1", PATTERN),
+    "lookaround": ("a lookahead or lookbehind, as (?=a)", PATTERN),
+    "conditional": ("a conditional group, as (?(1)a|b)", PATTERN),
+    "atomic": ("an atomic group, as (?>a)", PATTERN),
+    "inner-anchor": ("a $ before the end of the pattern, without MULTILINE", PATTERN),
+    "unreadable": ("the file or folder can't be read", SOURCE),
+    "too-deep-folder": ("a folder more than 64 levels below the named path", SOURCE),
+    "not-plain": ("neither a file nor a folder, as a symbolic link: name what it points to", SOURCE),
+}
+LIMITS = {
+    "size": "the pattern is too large",
+    "letters": "the pattern tells too many kinds of characters apart",
+    "moves": "too many ways on from one place of the pattern",
+    "sets": "too many sets of places were tried in vain",
+    "pairs": "too many pairs of places: a higher --max-pairs, up to 1000, may decide it",
+}
+
+
+def counted(number: int, one: str, many: str = "") -> str:
+    """Returns the number with its word, as "1 finding" or "2,000 findings"."""
+    return f"{number:,} {one if number == 1 else many or one + 's'}"
+
+
+def big(number: int) -> str:
+    """Returns a number as people say it, with two leading digits: 1,234 as it is, then "12 million", "over 10^18"."""
+    if number < 10_000:
+        return f"{number:,}"
+    if number >= LAST_WITH_WORDS:
+        return f"over 10^{len(str(number)) - 1}"
+    digits = len(str(number))
+    rounded = round(number, 2 - digits)
+    for scale, name in SCALES:
+        if rounded >= scale:
+            return f"{rounded / scale:.2g} {name}" if rounded < 100 * scale else f"{rounded // scale} {name}"
+    return f"{rounded:,}"
+
+
+def times(rate: float) -> str:
+    """Returns by how much something grows, as "4 times" or "2.4 times"."""
+    near = round(rate)
+    return f"{near:,} times" if abs(rate - near) < 0.05 or rate >= 10 else f"{rate:.1f} times"
+
+
+def class_word(verdict: Verdict) -> str:
+    """Returns the class in a word or two, as "cubic (degree 3)"."""
+    if verdict.kind != "degree" or verdict.degree is None:
+        return verdict.words()
+    name = NAMES_OF_DEGREES.get(verdict.degree)
+    return f"{name} (degree {verdict.degree})" if name else f"degree {verdict.degree}"
+
+
+def codes(count: int, value: Optional[Text]) -> str:
+    """Returns a count of characters, or of bytes for a bytes pattern."""
+    return counted(count, "byte" if isinstance(value, bytes) else "character")
+
+
+def growth_words(verdict: Verdict) -> str:
+    """Returns what a class says of growth, where no figure is at hand."""
+    if verdict.kind == "exponential":
+        return "every few characters more double the steps"
+    if verdict.kind == "degree" and verdict.degree is not None:
+        if verdict.degree == 0:
+            return "the steps have a bound, whatever the text"
+        if verdict.degree == 1:
+            return "the steps grow with the length of the text"
+        return f"twice the length costs up to {2 ** verdict.degree:,} times the steps"
+    return LIMITS.get(verdict.limit or "", "relint can't tell")
+
+
+def not_analysed(entry: Entry) -> Optional[str]:
+    """Returns the cause for which an entry has no class, or None where it has one or is undecided."""
+    if entry.is_judged():
+        return None
+    return entry.cause if entry.kind == "refused" else entry.kind
+
+
+def outcome_words(entry: Entry) -> str:
+    """Returns an entry's outcome in plain words."""
+    verdict = entry.verdict()
+    if verdict and verdict.kind == "undecided":
+        return f"undecided ({verdict.limit} over {verdict.over}): {growth_words(verdict)}"
+    if verdict:
+        return f"{class_word(verdict)}: {growth_words(verdict)}"
+    cause = not_analysed(entry) or ""
+    words = CAUSES.get(cause, (cause, ""))[0]
+    at = f", at {entry.fault.line}:{entry.fault.column}" if entry.fault else ""
+    return f"not analysed ({cause}{at}): {words}"
+
+
+def causes(entries: Tuple[Entry, ...]) -> List[Tuple[str, int]]:
+    """Returns the causes for which entries have no class, each with its count, the most frequent first."""
+    found: Dict[str, int] = {}
+    for entry in entries:
+        cause = not_analysed(entry)
+        if cause:
+            found[cause] = found.get(cause, 0) + 1
+    return sorted(found.items(), key=lambda it: (-it[1], it[0]))
+
+
+def limits(entries: Tuple[Entry, ...]) -> List[Tuple[str, int]]:
+    """Returns the limits over which entries are undecided, as "pairs over 600", each with its count."""
+    found: Dict[str, int] = {}
+    for entry in entries:
+        if entry.kind == "undecided":
+            name = f"{entry.limit} over {entry.over}"
+            found[name] = found.get(name, 0) + 1
+    return sorted(found.items(), key=lambda it: (-it[1], it[0]))
+
+
+def _escaped(code: int, is_bytes: bool) -> str:
+    named = {0x5C: "\\\\", 0x22: '\\"', 0x0A: "\\n", 0x0D: "\\r", 0x09: "\\t"}
+    if code in named:
+        return named[code]
+    if 0x20 <= code <= 0x7E:
+        return chr(code)
+    if is_bytes or code < 0x80:
+        return f"\\x{code:02x}"
+    return f"\\u{code:04x}" if code <= 0xFFFF else f"\\U{code:08x}"
+
+
+def quoted(text: Text) -> str:
+    """Returns a Python literal of the text, in ASCII on one line: raw where it has a backslash and needs no escape."""
+    is_bytes = isinstance(text, bytes)
+    found = [it if isinstance(it, int) else ord(it) for it in text]
+    mark = "b" if is_bytes else ""
+    if all(0x20 <= it <= 0x7E and it != 0x22 for it in found) and (not found or found[-1] != 0x5C):
+        return f'{mark}{"r" if 0x5C in found else ""}"{"".join(map(chr, found))}"'
+    return f'{mark}"{"".join(_escaped(it, is_bytes) for it in found)}"'
+
+
+def family_code(family: Family, k: int) -> str:
+    """Returns Python code for text k of a family, as "00" + "00" * 30 + "!"."""
+    parts = [quoted(family.heads[0])] if family.heads[0] else []
+    for pump, head in zip(family.pumps, family.heads[1:]):
+        parts.append(f"{quoted(pump)} * {k}")
+        if head:
+            parts.append(quoted(head))
+    return " + ".join(parts) or quoted(family.heads[0])
+
+
+def family_words(family: Family) -> str:
+    """Returns a family as a reader writes it, with k for the number of repeats."""
+    parts = [quoted(family.heads[0])] if family.heads[0] else []
+    for pump, head in zip(family.pumps, family.heads[1:]):
+        parts.append(f"{quoted(pump)} * k")
+        if head:
+            parts.append(quoted(head))
+    return " + ".join(parts) or quoted(family.heads[0])
+
+
+def flags_code(flags: int) -> str:
+    """Returns the flags of a call as code, as ", re.I | re.M", or nothing where none are set."""
+    names = [f"re.{name}" for name, value in FLAG_LETTERS if flags & int(value)]
+    return ", " + " | ".join(names) if names else ""
+
+
+def python_code(pattern: Text, flags: int, mode: str, family: Family, k: int) -> str:
+    """Returns Python code that matches a pattern against text k of its family, in one line."""
+    return f"import re; re.{mode}({quoted(pattern)}, {family_code(family, k)}{flags_code(flags)})"
+
+
+def snippet(pattern: Text, flags: int, mode: str, family: Family, counts: str) -> str:
+    """Returns Python code that prints, for the numbers k of `counts`, a text's length and the seconds that its match takes."""
+    return "\n".join((
+        "import re, time",
+        f"pattern = re.compile({quoted(pattern)}{flags_code(flags)})",
+        f"for k in {counts}:",
+        f"    text = {family_words(family)}",
+        "    start = time.perf_counter()",
+        f"    pattern.{mode}(text)",
+        "    print(len(text), \"long:\", round(time.perf_counter() - start, 3), \"seconds\", flush=True)",
+        "",
+    ))
+
+
+def shell_line(code: str) -> str:
+    """Returns a line for a shell that runs the Python code."""
+    return f"python3 -c {shlex.quote(code)}"
+
+
+def visible(text: str) -> str:
+    """Returns a text with everything that a terminal could take as a command written as an escape."""
+    return "".join(it if it.isprintable() else it.encode("unicode_escape").decode("ascii") for it in text)

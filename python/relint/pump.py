@@ -1,0 +1,182 @@
+"""The part of a pattern where a family's repeated text lies, as far as relint itself can tell."""
+from __future__ import annotations
+
+import re
+from dataclasses import dataclass
+from typing import List, Optional, Sequence, Tuple
+
+from .growth import Meter, as_word
+from .reports import Family, Text, Verdict
+
+QUANTIFIER = re.compile(r"(?:[*+?]|\{\d+\}|\{\d*,\d*\})\??")
+UNBOUNDED = re.compile(r"(?:[*+]|\{\d*,\})\??")
+ESCAPE = re.compile(r"\\(?:x[0-9a-fA-F]{2}|u[0-9a-fA-F]{4}|U[0-9a-fA-F]{8}|0[0-7]{0,2}|[1-7][0-7]{2}|.)", re.S)
+CLASS = re.compile(r"\[\^?\]?(?:\\.|[^\]\\])*\]", re.S)
+FRONT = re.compile(r"\(\?([aiLmsux]+)\)")
+OPENED = re.compile(r"\((?:\?(?:P<[^>]*>|[aimsux]*(?:-[imsx]+)?:))?")
+PASSED = re.compile(r"\(\?#[^)]*\)")
+BLANKS = re.compile(r"(?:[ \t\n\r\v\f]|#[^\n]*)+")
+LONGEST_ROTATED = 12
+MOST_PARTS = 40
+
+
+@dataclass(frozen=True)
+class Part:
+    """A part of a pattern repeated without a bound: its ends, its quantifier's beginning, and the groups with flags around."""
+
+    start: int
+    end: int
+    quantifier: int
+    around: Tuple[str, ...]
+
+
+class _Scan:
+    """Reads a pattern that relint has judged, and collects its repeated parts."""
+
+    def __init__(self, pattern: str, verbose: bool) -> None:
+        self.pattern, self.at = pattern, 0
+        self.parts: List[Part] = []
+        self.front = ""
+        found = FRONT.match(pattern)
+        while found:
+            self.front += found.group(1)
+            self.at = found.end()
+            verbose = verbose or "x" in found.group(1)
+            self._pass(verbose)
+            found = FRONT.match(pattern, self.at)
+        self._body(verbose, ())
+
+    def _pass(self, verbose: bool) -> None:
+        while True:
+            found = PASSED.match(self.pattern, self.at) or (BLANKS.match(self.pattern, self.at) if verbose else None)
+            if not found:
+                return
+            self.at = found.end()
+
+    def _body(self, verbose: bool, around: Tuple[str, ...]) -> None:
+        while True:
+            self._pass(verbose)
+            if self.at >= len(self.pattern) or self.pattern[self.at] == ")":
+                return
+            start = self.at
+            self._atom(verbose, around)
+            end = self.at
+            self._pass(verbose)
+            quantifier = QUANTIFIER.match(self.pattern, self.at) if self.pattern[start] != "|" else None
+            if quantifier is None:
+                self.at = max(end, self.at)
+                continue
+            self.at = quantifier.end()
+            if UNBOUNDED.fullmatch(quantifier.group()):
+                self.parts.append(Part(start, self.at, quantifier.start(), around))
+
+    def _atom(self, verbose: bool, around: Tuple[str, ...]) -> None:
+        first = self.pattern[self.at]
+        found = ESCAPE.match(self.pattern, self.at) if first == "\\" else CLASS.match(self.pattern, self.at)
+        if first in "\\[" and found:
+            self.at = found.end()
+        elif first == "(":
+            self._group(verbose, around)
+        else:
+            self.at += 1
+
+    def _group(self, verbose: bool, around: Tuple[str, ...]) -> None:
+        opened = OPENED.match(self.pattern, self.at)
+        head = opened.group() if opened else "("
+        self.at += len(head)
+        if head.startswith("(?") and not head.startswith("(?P") and head != "(?:":
+            on, _, off = head[2:-1].partition("-")
+            verbose = (verbose or "x" in on) and "x" not in off
+            around = (*around, head)
+        self._body(verbose, around)
+        self.at += 1
+
+
+def repeated_parts(pattern: str, verbose: bool) -> Tuple[str, Sequence[Part]]:
+    """Returns the letters of a judged pattern's front flags, and its parts that repeat without a bound, shortest first."""
+    scan = _Scan(pattern, verbose)
+    return scan.front, sorted(scan.parts, key=lambda it: (it.end - it.start, it.start))
+
+
+def _rotated(pump: Text) -> List[Text]:
+    if len(pump) > LONGEST_ROTATED:
+        return [pump]
+    twice = pump * 2
+    return [twice[it:it + len(pump)] for it in range(len(pump))]
+
+
+class _Asked:
+    """Questions on parts of one pattern."""
+
+    def __init__(self, meter: Meter, pattern: Text, flags: int) -> None:
+        self.meter, self.flags, self.is_bytes = meter, flags, isinstance(pattern, bytes)
+        self.text = pattern.decode("latin-1") if isinstance(pattern, bytes) else pattern
+        self.front, parts = repeated_parts(self.text, bool(flags & int(re.X)))
+        self.parts = parts[:MOST_PARTS]
+
+    def word(self, part: Part) -> Optional[str]:
+        front = f"(?{self.front})" if self.front else ""
+        text = front + "".join(part.around) + self.text[part.start:part.end] + ")" * len(part.around)
+        return as_word(text.encode("latin-1") if self.is_bytes else text, self.flags)
+
+    def bounded(self, part: Part) -> Optional[str]:
+        """The whole pattern with a bound on this part's repeats."""
+        quantifier = self.text[part.quantifier:part.end]
+        least = quantifier[1:quantifier.index(",")] if quantifier[0] == "{" else "1" if quantifier[0] == "+" else "0"
+        bound = "?" if least in ("", "0") else f"{{{least}}}"
+        text = self.text[:part.quantifier] + bound + self.text[part.end:]
+        return as_word(text.encode("latin-1") if self.is_bytes else text, self.flags)
+
+    def takes(self, word: str, texts: Sequence[Text]) -> bool:
+        """Whether the part matches one of the texts, each twice in a row."""
+        for text in texts:
+            found = self.meter.cost(word, "fullmatch", text * 2)
+            if found and found[1]:
+                return True
+        return False
+
+
+def culprits(
+    meter: Meter, pattern: Text, flags: int, mode: str, verdict: Verdict, family: Family,
+) -> Tuple[Tuple[int, int], ...]:
+    """Returns the parts of a pattern where the family's repeated texts lie, as positions in the pattern, or none.
+
+    For an exponential pattern it is the shortest repeated part that is exponential by itself and takes the repeated text.
+    For a degree these are the parts that take one of the repeated texts, and without whose repeats the degree is lower.
+    Each of this is asked of relint, so nothing is guessed; where the answers don't tell, there is no part.
+    """
+    try:
+        asked = _Asked(meter, pattern, flags)
+    except (IndexError, RecursionError):
+        return ()
+    if verdict.kind == "exponential":
+        return _exponential(asked, family)
+    return _overlapping(asked, mode, verdict.degree or 0, family) if (verdict.degree or 0) > 1 else ()
+
+
+def _exponential(asked: _Asked, family: Family) -> Tuple[Tuple[int, int], ...]:
+    for part in asked.parts:
+        word = asked.word(part)
+        if word is None or asked.meter.verdict(word, "fullmatch") != "exponential":
+            continue
+        if any(asked.takes(word, _rotated(pump)) for pump in family.pumps if pump):
+            return ((part.start, part.end),)
+    return ()
+
+
+def _overlapping(asked: _Asked, mode: str, degree: int, family: Family) -> Tuple[Tuple[int, int], ...]:
+    found: List[Part] = []
+    for part in asked.parts:
+        if any(part.start <= it.start and it.end <= part.end for it in found):
+            continue
+        word = asked.word(part)
+        if word is None or not any(asked.takes(word, [pump]) for pump in family.pumps if pump):
+            continue
+        if _is_lower(asked.meter.verdict(asked.bounded(part) or "", mode), degree):
+            found.append(part)
+    return tuple(sorted((it.start, it.end) for it in found))
+
+
+def _is_lower(line: str, degree: int) -> bool:
+    found = re.fullmatch(r"degree (\d+)", line)
+    return found is not None and int(found.group(1)) < degree

@@ -1,0 +1,255 @@
+"""The pattern behind an entry: its literals in the source, its value, and the flags of its call.
+
+A report names the place of a pattern's first literal. `Source.site` finds what is there, as Python reads it.
+"""
+from __future__ import annotations
+
+import ast
+import io
+import re
+import tokenize
+import warnings
+from dataclasses import dataclass
+from typing import Dict, Iterator, List, Optional, Tuple
+
+from .reports import Place, Text
+
+LINE_END = re.compile(r"\r\n|\r|\n")
+FLAG_LETTERS = {"A": re.A, "I": re.I, "M": re.M, "S": re.S, "U": re.U, "X": re.X}
+FLAG_WORDS = {"ASCII": re.A, "IGNORECASE": re.I, "MULTILINE": re.M, "DOTALL": re.S, "UNICODE": re.U, "VERBOSE": re.X}
+FLAG_NAMES: Dict[str, int] = {
+    **{name: int(value) for name, value in {**FLAG_LETTERS, **FLAG_WORDS}.items()},
+    "DEBUG": int(re.DEBUG),
+    "NOFLAG": 0,
+}
+ESCAPE = re.compile(r"\\(?:\r\n|[0-7]{1,3}|x[0-9a-fA-F]{2}|u[0-9a-fA-F]{4}|U[0-9a-fA-F]{8}|N\{[^}]*\}|.)|\r\n|.", re.S)
+BYTES_ESCAPE = re.compile(r"\\(?:\r\n|[0-7]{1,3}|x[0-9a-fA-F]{2}|.)|\r\n|.", re.S)
+RAW_CODE = re.compile(r"\r\n|.", re.S)
+LITERAL = re.compile(r"([A-Za-z]*)(\"\"\"|'''|\"|')")
+# The position of the argument flags of each call, where it may stand without its name.
+FLAGS_AT = {
+    "compile": 1, "match": 2, "search": 2, "fullmatch": 2, "findall": 2, "finditer": 2, "split": 3, "sub": 4, "subn": 4,
+}
+
+
+class SourceError(Exception):
+    """The source can't be read; the message says why."""
+
+
+@dataclass(frozen=True)
+class Literal:
+    """One string literal of a pattern: its text as it is written, and the offsets of its ends in the source's text."""
+
+    text: str
+    start: int
+    end: int
+
+
+@dataclass(frozen=True)
+class Site:
+    """A pattern in a source. `flags` is None where they aren't written with names of re alone."""
+
+    literals: Tuple[Literal, ...]
+    value: Text
+    flags: Optional[int]
+
+
+class Source:
+    """The text of a Python file, with what is asked of it by place."""
+
+    def __init__(self, data: bytes) -> None:
+        """Takes the file's bytes. Raises SourceError where no coding that Python knows reads them."""
+        try:
+            coding, _ = tokenize.detect_encoding(io.BytesIO(data).readline)
+            text = data.decode(coding)
+        except (SyntaxError, UnicodeDecodeError, LookupError) as error:
+            raise SourceError(str(error)) from error
+        self.text = text[1:] if text.startswith("\ufeff") else text
+        self.starts = [0] + [it.end() for it in LINE_END.finditer(self.text)]
+        self._calls: Optional[Dict[Tuple[int, int], ast.Call]] = None
+
+    def offset(self, place: Place) -> int:
+        """Returns the offset in `text` of a place of a report."""
+        return self.starts[min(place.line, len(self.starts)) - 1] + place.column - 1
+
+    def place(self, offset: int) -> Place:
+        """Returns the place of an offset in `text`."""
+        low, high = 0, len(self.starts)
+        while high - low > 1:
+            middle = (low + high) // 2
+            low, high = (middle, high) if self.starts[middle] <= offset else (low, middle)
+        return Place(low + 1, offset - self.starts[low] + 1)
+
+    def line(self, number: int) -> str:
+        """Returns a line without its end; lines count from 1. Answers "" past the last one."""
+        if not 1 <= number <= len(self.starts):
+            return ""
+        end = self.starts[number] if number < len(self.starts) else len(self.text)
+        return self.text[self.starts[number - 1]:end].rstrip("\r\n")
+
+    def literals(self, place: Place) -> Tuple[Literal, ...]:
+        """Returns the run of string literals that begins at the place, as tokens of the running Python, or none."""
+        start = self.offset(place)
+        found: List[Literal] = []
+        offsets = _Offsets(self, start)
+        lines = self._lines_from(start)
+        try:
+            for token in tokenize.generate_tokens(lambda: next(lines, "")):
+                if token.type == tokenize.OP and token.string == "(" and token.start == (1, 0):
+                    continue
+                if token.type in (tokenize.NL, tokenize.COMMENT):
+                    continue
+                if token.type != tokenize.STRING:
+                    break
+                begin, end = offsets(token.start), offsets(token.end)
+                found.append(Literal(self.text[begin:end], begin, end))
+        except (tokenize.TokenError, SyntaxError, IndentationError):
+            pass
+        return tuple(found)
+
+    def _lines_from(self, start: int) -> Iterator[str]:
+        """The lines from an offset on, as the tokenizer takes them."""
+        first = self.place(start)
+        # ("(" in front, so that line ends between the literals are none, and no indentation counts)
+        yield "(" + self.line(first.line)[first.column - 1:] + "\n"
+        for number in range(first.line + 1, len(self.starts) + 1):
+            yield self.line(number) + "\n"
+
+    def site(self, place: Place, call: Optional[str]) -> Optional[Site]:
+        """Returns the pattern whose first literal is at the place, or None where none is there."""
+        literals = self.literals(place)
+        if not literals:
+            return None
+        try:
+            with warnings.catch_warnings():
+                warnings.simplefilter("ignore")
+                value = ast.literal_eval("(" + "\n".join(it.text for it in literals) + ")")
+        except (ValueError, SyntaxError):
+            return None
+        if not isinstance(value, (str, bytes)):
+            return None
+        flags = self._flags(place, call)
+        if flags is None and call is not None and not self._calls:
+            flags = self._flags_behind(literals[-1].end, call)
+        return Site(literals, value, flags)
+
+    def _flags(self, place: Place, call: Optional[str]) -> Optional[int]:
+        found = self._call_at(place)
+        if found is None or call is None:
+            return None
+        named = [it.value for it in found.keywords if it.arg == "flags"]
+        at = FLAGS_AT.get(call, 1)
+        given = named or found.args[at:at + 1]
+        return _flags_of(given[0]) if given else 0
+
+    def _flags_behind(self, end: int, call: str) -> Optional[int]:
+        """The flags by tokens alone, for a source that the running Python can't read whole, as one of Python 2."""
+        arguments: List[List[str]] = [[]]
+        depth = 1
+        lines = self._lines_from(end)
+        try:
+            for number, token in enumerate(tokenize.generate_tokens(lambda: next(lines, ""))):
+                if number == 0 or token.type in (tokenize.NL, tokenize.COMMENT):
+                    continue
+                depth += (token.string in ("(", "[", "{")) - (token.string in (")", "]", "}"))
+                if depth == 0:
+                    break
+                if token.string == "," and depth == 1:
+                    arguments.append([])
+                else:
+                    arguments[-1].append(token.string)
+        except (tokenize.TokenError, SyntaxError, IndentationError):
+            return None
+        return None if arguments[0] else _flags_in(arguments, FLAGS_AT.get(call, 1))
+
+    def _call_at(self, place: Place) -> Optional[ast.Call]:
+        if self._calls is None:
+            self._calls = {}
+            try:
+                with warnings.catch_warnings():
+                    warnings.simplefilter("ignore")
+                    tree = ast.parse(self.text)
+            except (SyntaxError, ValueError, RecursionError, MemoryError):
+                return None
+            for node in ast.walk(tree):
+                if isinstance(node, ast.Call):
+                    first = [*node.args[:1], *(it.value for it in node.keywords if it.arg == "pattern")]
+                    for it in first:
+                        self._calls[it.lineno, it.col_offset] = node
+        line = self.line(place.line)
+        return self._calls.get((place.line, len(line[: place.column - 1].encode("utf-8", "surrogatepass"))))
+
+
+class _Offsets:
+    """Turns a place of the tokens of the rest of a source into an offset of the source's text."""
+
+    def __init__(self, source: Source, start: int) -> None:
+        self.first = source.place(start)
+        self.source = source
+
+    def __call__(self, found: Tuple[int, int]) -> int:
+        line, column = found
+        if line == 1:
+            return self.source.offset(Place(self.first.line, self.first.column + column - 1))
+        return self.source.offset(Place(self.first.line + line - 1, column + 1))
+
+
+def inner_span(literal: Literal) -> Tuple[int, int]:
+    """Returns the offsets between a literal's quotes."""
+    found = LITERAL.match(literal.text)
+    quote = len(found.group(2)) if found else 0
+    return literal.start + (found.end() if found else 0), literal.end - quote
+
+
+def code_offsets(site: Site) -> Optional[Tuple[int, ...]]:
+    """Returns where each code of a pattern's value begins in its source's text, and behind them where the last literal's
+    closing quote does; None where the literals don't give the value code by code."""
+    offsets: List[int] = []
+    closing = 0
+    for literal in site.literals:
+        found = LITERAL.match(literal.text)
+        if found is None:
+            return None
+        closing = literal.end - len(found.group(2))
+        offsets += _offsets_in(literal, found.end(), closing - literal.start, "r" in found.group(1).lower(), site.value)
+    return (*offsets, closing) if len(offsets) == len(site.value) else None
+
+
+def _offsets_in(literal: Literal, first: int, last: int, raw: bool, value: Text) -> Iterator[int]:
+    form = RAW_CODE if raw else ESCAPE if isinstance(value, str) else BYTES_ESCAPE
+    for piece in form.finditer(literal.text, first, last):
+        at = literal.start + piece.start()
+        text = piece.group()
+        if raw or text[0] != "\\" or text[1] in "\\'\"abfnrtvxuUN01234567" and _is_known(text, value):
+            yield at
+        elif text[1] not in "\r\n":
+            yield at
+            yield at + 1
+
+
+def _is_known(escape: str, value: Text) -> bool:
+    """Whether the escape stands for one code: uUN do so in text alone, and with their digits or name."""
+    return escape[1] not in "uUN" or (isinstance(value, str) and len(escape) > 2)
+
+
+def _flags_in(arguments: List[List[str]], at: int) -> Optional[int]:
+    """The flags that the tokens of a call's arguments give, the first of which is the pattern."""
+    if any(it[:1] in (["*"], ["**"]) or "lambda" in it for it in arguments):
+        return None
+    named = [it[2:] for it in arguments if it[:2] == ["flags", "="]]
+    placed = [it for it in arguments[at:at + 1] if it and it[1:2] != ["="]]
+    given = (named or placed or [["0"]])[0]
+    try:
+        return _flags_of(ast.parse("".join(given), mode="eval").body)
+    except (SyntaxError, ValueError):
+        return None
+
+
+def _flags_of(node: ast.AST) -> Optional[int]:
+    if isinstance(node, ast.BinOp) and isinstance(node.op, ast.BitOr):
+        left, right = _flags_of(node.left), _flags_of(node.right)
+        return None if left is None or right is None else left | right
+    if isinstance(node, ast.Constant) and node.value == 0:
+        return 0
+    name = node.attr if isinstance(node, ast.Attribute) else node.id if isinstance(node, ast.Name) else ""
+    return FLAG_NAMES.get(name)

@@ -1,0 +1,116 @@
+"""Run by relint-confirm in a process of its own: matches the texts of one family, each longer than the one before.
+
+Reads a job as JSON on standard input. Writes a line `K LENGTH` before each match and a line `took SECONDS` after it; the last
+line is `end`, or `refused MESSAGE` or `memory`. A match that takes the job's seconds of processor time ends the process.
+"""
+from __future__ import annotations
+
+import json
+import math
+import re
+import resource
+import signal
+import sys
+import time
+from typing import Any, Callable, Dict, List, Tuple, Union
+
+Text = Union[str, bytes]
+Measured = List[Tuple[int, float]]
+# Below this part of the limit k grows by half; above it the next k is where the limit would be reached by the last two times.
+QUICK, STEEPEST = 0.02, 1.5
+
+
+def next_k(measured: Measured, seconds: float, exponential: bool) -> int:
+    """Returns the next k, after those that were measured with the seconds that each took."""
+    k, took = measured[-1]
+    most = max(k + 1, int(k * STEEPEST))
+    if took < seconds * QUICK or len(measured) < 2:
+        return most
+    earlier, took_before = measured[-2]
+    growth = math.log(took / took_before) if took_before > 0 and took > took_before else 0.0
+    if growth <= 0:
+        return most
+    if exponential:
+        wanted = k + math.log(seconds / took) * (k - earlier) / growth
+    else:
+        wanted = k * math.exp(math.log(seconds / took) * math.log(k / earlier) / growth)
+    return min(most, max(k + 1, math.ceil(wanted * 1.01)))
+
+
+def say(line: str) -> None:
+    """Writes a line at once, since the process may end in the next match."""
+    sys.stdout.write(line + "\n")
+    sys.stdout.flush()
+
+
+def text_of(heads: List[Text], pumps: List[Text], k: int) -> Text:
+    """Returns text k of the family."""
+    joined: Any = heads[0]
+    for pump, head in zip(pumps, heads[1:]):
+        joined = joined + pump * k + head
+    text: Text = joined
+    return text
+
+
+def longest_k(heads: List[Text], pumps: List[Text], longest: int) -> int:
+    """Returns the greatest k whose text has at most so many characters; 0 where text 1 has more."""
+    left = longest - sum(len(it) for it in heads)
+    grows = sum(len(it) for it in pumps)
+    return max(left, 0) // grows if grows else 1
+
+
+def timed(match: Callable[[Any], object], text: Text, seconds: float) -> float:
+    """Matches the text, and returns the processor time; where that reaches the limit, the process ends by SIGPROF."""
+    signal.setitimer(signal.ITIMER_PROF, seconds)
+    began = time.process_time()
+    match(text)
+    took = time.process_time() - began
+    signal.setitimer(signal.ITIMER_PROF, 0)
+    return took
+
+
+def grow(job: Dict[str, Any], match: Callable[[Any], object], heads: List[Text], pumps: List[Text]) -> None:
+    """Tries growing k until a match takes too long or the longest text is reached."""
+    measured: Measured = []
+    last = longest_k(heads, pumps, job["longest"])
+    k = min(1, last)
+    while k and (not measured or measured[-1][0] < last):
+        text = text_of(heads, pumps, k)
+        say(f"{k} {len(text)}")
+        took = timed(match, text, job["seconds"])
+        say(f"took {took:.6f}")
+        if took >= job["seconds"]:
+            break
+        measured.append((k, took))
+        k = min(last, next_k(measured, job["seconds"], job["exponential"]))
+    say("end")
+
+
+def limit(memory: int, seconds: float) -> None:
+    """Limits the process: bytes of memory, and processor time of all matches together."""
+    resource.setrlimit(resource.RLIMIT_AS, (memory, memory))
+    resource.setrlimit(resource.RLIMIT_CORE, (0, 0))
+    most = math.ceil(seconds * 40) + 60
+    resource.setrlimit(resource.RLIMIT_CPU, (most, most))
+
+
+def main() -> None:
+    """Reads the job, and does it."""
+    job = json.loads(sys.stdin.read())
+    limit(job["memory"], job["seconds"])
+
+    def decoded(text: str) -> Text:
+        return text.encode("latin-1") if job["bytes"] else text
+
+    try:
+        pattern = re.compile(decoded(job["pattern"]), job["flags"] & ~int(re.DEBUG))
+        match = getattr(pattern, job["mode"])
+        grow(job, match, [decoded(it) for it in job["heads"]], [decoded(it) for it in job["pumps"]])
+    except (re.error, ValueError, OverflowError, RecursionError) as error:
+        say("refused " + " ".join(str(error).split()))
+    except MemoryError:
+        say("memory")
+
+
+if __name__ == "__main__":
+    main()
