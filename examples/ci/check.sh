@@ -1,10 +1,10 @@
 #!/bin/sh
-# Judges the files and folders that are named. Shows the report where a pattern is a finding (status 1) or something couldn't be
-# read (status 3), and ends with the status of relint.
+# Judges the files and folders that are named. Shows findings and what isn't analysed, without the patterns that are no finding,
+# where there is something to see: a finding (status 1), or something that couldn't be read (status 3). Ends with relint's status.
 set -eu
 status=0
-relint check -- "$@" >relint.txt || status=$?
+report=$(relint check --format brief -- "$@") || status=$?
 case $status in
-    1 | 3) cat relint.txt ;;
+    1 | 3) printf '%s\n' "$report" | grep -v ': degree [012]$' ;;
 esac
 exit "$status"

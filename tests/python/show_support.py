@@ -1,0 +1,69 @@
+"""What tests of the tools share: whether there is a program to run, folders with sources, and runs of a tool."""
+from __future__ import annotations
+
+import contextlib
+import io
+import os
+import subprocess
+import sys
+import tempfile
+from pathlib import Path
+from typing import Dict, Iterator, Mapping, NamedTuple, Optional
+
+from relint import program
+
+TOP = Path(__file__).resolve().parents[2]
+
+
+class Ran(NamedTuple):
+    """What a run of a tool gave."""
+
+    status: int
+    out: str
+    err: str
+
+
+def no_program() -> str:
+    """Returns why there is no program to run, or nothing where there is one."""
+    try:
+        program.program()
+    except program.ProgramError as error:
+        return str(error)
+    return ""
+
+
+@contextlib.contextmanager
+def folder(files: Mapping[str, object]) -> Iterator[Path]:
+    """Makes a folder with these files (text or bytes), steps into it, and takes it away afterwards."""
+    before = os.getcwd()
+    with tempfile.TemporaryDirectory(prefix="relint tools ") as name:
+        for path, data in files.items():
+            file = Path(name, path)
+            file.parent.mkdir(parents=True, exist_ok=True)
+            file.write_bytes(data if isinstance(data, bytes) else str(data).encode("utf-8"))
+        os.chdir(name)
+        try:
+            yield Path(name)
+        finally:
+            os.chdir(before)
+
+
+def tool(name: str, *words: str, given: Optional[bytes] = None, environment: Optional[Dict[str, str]] = None) -> Ran:
+    """Runs a tool of tools/ in a process of its own."""
+    ran = subprocess.run(
+        [sys.executable, str(TOP / "tools" / name), *words],
+        input=given if given is not None else b"",
+        stdout=subprocess.PIPE,
+        stderr=subprocess.PIPE,
+        env={**os.environ, "PYTHONIOENCODING": "utf-8", **(environment or {})},
+        timeout=120,
+    )
+    return Ran(ran.returncode, ran.stdout.decode("utf-8"), ran.stderr.decode("utf-8"))
+
+
+@contextlib.contextmanager
+def silent() -> Iterator[io.StringIO]:
+    """Keeps what is written to standard error."""
+    kept = io.StringIO()
+    with contextlib.redirect_stderr(kept):
+        yield kept

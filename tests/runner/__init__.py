@@ -1,0 +1,1 @@
+"""The runner of `./test`: one module for each part, and what they share."""

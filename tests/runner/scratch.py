@@ -1,0 +1,98 @@
+"""Scratch copies of the repository, in which pages and hooks are run."""
+from __future__ import annotations
+
+import os
+import shlex
+import shutil
+import subprocess
+from pathlib import Path
+from typing import Dict, List
+
+from runner.programs import TREE, Program, clean_environment, run_command
+from runner.results import Failed, Skipped
+
+_LEFT_OUT = {".git", "out", "__pycache__", ".mypy_cache", "node_modules", ".venv"}
+
+
+def files_of_tree() -> List[Path]:
+    """The files that git tracks or would add, relative to the top; without git, all but what is built."""
+    listed = subprocess.run(["git", "ls-files", "-z", "--cached", "--others", "--exclude-standard"], cwd=str(TREE),
+                            stdout=subprocess.PIPE, stderr=subprocess.DEVNULL, check=False) if shutil.which("git") else None
+    if listed is not None and listed.returncode == 0 and (TREE / ".git").exists():
+        paths = [Path(os.fsdecode(name)) for name in sorted(set(listed.stdout.split(b"\0"))) if name]
+        return [path for path in paths if os.path.lexists(str(TREE / path))]
+    return _walked()
+
+
+def _walked() -> List[Path]:
+    paths = []
+    for folder, folders, names in os.walk(str(TREE)):
+        folders[:] = sorted(name for name in folders if name not in _LEFT_OUT)
+        paths += [Path(folder, name).relative_to(TREE) for name in sorted(names)]
+    return paths
+
+
+def copy_tree(target: Path) -> None:
+    """Copies the files of the repository but those of `crates/` to a folder, which is made."""
+    made = set()
+    for path in files_of_tree():
+        if path.parts[0] == "crates":
+            continue
+        place = target / path
+        if place.parent not in made:
+            place.parent.mkdir(parents=True, exist_ok=True)
+            made.add(place.parent)
+        shutil.copy2(str(TREE / path), str(place), follow_symlinks=False)
+
+
+def write_script(path: Path, text: str) -> None:
+    """Writes a program that can be run."""
+    path.parent.mkdir(parents=True, exist_ok=True)
+    if os.path.lexists(str(path)):
+        path.unlink()
+    path.write_text(text, encoding="utf-8")
+    path.chmod(0o755)
+
+
+def _forward(program: Path) -> str:
+    return "#!/bin/sh\nexec %s \"$@\"\n" % shlex.quote(str(program))
+
+
+def put_programs(folder: Path, copy: Path, program: Program) -> None:
+    """Puts `relint` and the programs `relint-..` of a copy into a folder for the PATH, and `./relint` into the copy."""
+    write_script(folder / "relint", _forward(program.path))
+    write_script(copy / "relint", _forward(program.path))
+    for path in files_of_tree():
+        place = copy / path
+        if path.name.startswith("relint-") and path.parts[0] != "crates" and os.access(str(place), os.X_OK):
+            write_script(folder / path.name, _forward(place))
+
+
+def environment_of(scratch: Path) -> Dict[str, str]:
+    """The environment of commands in a scratch folder, whose home is empty and whose programs come first."""
+    home = scratch / "home"
+    home.mkdir(parents=True, exist_ok=True)
+    path = os.pathsep.join([str(scratch / "bin"), os.environ.get("PATH", os.defpath)])
+    person = {"GIT_AUTHOR_NAME": "A Reader", "GIT_AUTHOR_EMAIL": "reader@example.org",
+              "GIT_COMMITTER_NAME": "A Reader", "GIT_COMMITTER_EMAIL": "reader@example.org",
+              "GIT_CONFIG_NOSYSTEM": "1"}
+    return clean_environment(HOME=str(home), PATH=path, XDG_CACHE_HOME=str(home / ".cache"),
+                             PRE_COMMIT_HOME=str(home / ".cache" / "pre-commit"), **person)
+
+
+def git(folder: Path, environment: Dict[str, str], *words: str) -> str:
+    """What git writes for these words. Raises `Skipped` without git, `Failed` where git fails."""
+    if not shutil.which("git"):
+        raise Skipped("git isn't installed")
+    answer = run_command(["git", "-c", "init.defaultBranch=main"] + list(words), folder, environment)
+    if answer.status != 0:
+        raise Failed("git %s: %s" % (" ".join(words), answer.stderr))
+    return answer.stdout
+
+
+def commit_all(folder: Path, environment: Dict[str, str]) -> str:
+    """Makes a repository of a folder with all in one commit, and answers the commit's name."""
+    git(folder, environment, "init", "-q")
+    git(folder, environment, "add", "-A")
+    git(folder, environment, "-c", "commit.gpgsign=false", "commit", "-q", "--no-verify", "-m", "A copy")
+    return git(folder, environment, "rev-parse", "HEAD").strip()
