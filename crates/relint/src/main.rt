@@ -1,7 +1,24 @@
 //! The command `relint`: the real file system and the real outputs, handed to the top call.
 //!
-//! It ends with the top call's status. Where the system didn't give the words it writes nothing and ends with status 6,
-//! or with status 5 where memory for them was refused.
+//! `main` makes a [`DiskTree`] over the file system and a [`StdSink`] over each of the two outputs, and calls [`relint_main`]
+//! with the words after the program's name. It ends with the status that this returns. Where the system doesn't give the
+//! words, for example because one isn't UTF-8, it writes nothing and ends with status 6, or with status 5 where memory for
+//! them was refused.
+//!
+//! # What is proved
+//!
+//! All that [`relint_main`] promises holds here too, as far as the traits promise it of a real disk and real outputs. `main`
+//! itself has no contract: its handful of lines is all that you have to read to believe that the real outside is passed on as
+//! it is.
+//!
+//! # Example
+//!
+//! ```
+//! $ relint cost 'a*' aa
+//! steps 5 matched
+//! ```
+//!
+//! Read the contract of [`relint_main`] next, in `rl_lint`.
 #![tactic(auto)]
 
 use rl_lint::relint_main;

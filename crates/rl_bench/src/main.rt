@@ -6,11 +6,12 @@
 //! | `named TIMES` | the word class of text is made |
 //! | `closed TIMES` | the word class of text is closed under case |
 //! | `image SIZE TIMES` | the image of a full row over a square table is taken, so many times |
-//! | `parts STATES` | the parts of the product of two copies of a ring are found |
+//! | `parts STATES` | the strongly connected components of the product of two copies of a ring are found |
 //! | `degree GRAPH STATES` | a longest chain of splits is found in a `chain` of loops, in `stars`, `two-rings`, `three-rings`, `slow-rings` or a component with a `tail` |
 //!
 //! It prints one number that depends on the work. With other words, or where a file isn't read, it prints nothing and ends
-//! with status 2, and when out of memory with status 5.
+//! with status 2, and when out of memory with status 5. It has no contract: what it times is proved in the crates that it
+//! calls.
 #![tactic(auto)]
 
 mod graphs;

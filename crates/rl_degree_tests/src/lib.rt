@@ -1,4 +1,5 @@
-//! Tests of `rl_degree`: the longest chains of small graphs that were worked out by hand.
+//! Tests of `rl_degree`: the longest chains and the ranks of small graphs. The graphs and their answers were worked out by
+//! hand.
 #![tactic(auto)]
 
 #[cfg(test)]

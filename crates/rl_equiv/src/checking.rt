@@ -79,8 +79,8 @@ fn is_closed(alloc: Global, a: &Prio, b: &Prio, relation: &[SetPair]) -> Result<
 }
 
 /// Whether two trees, each as fullmatch, are within the limits of their sizes, letters and moves, and a relation of their set
-/// pairs is closed: it holds the pair of their starts, the next pair of each of its members on each letter, and no member that
-/// shows a difference. Then both trees span the same texts of the universe.
+/// pairs is closed, as a bisimulation is: it holds the pair of their starts, the next pair of each of its members on each
+/// letter, and no member that shows a difference. Then both trees span the same texts of the universe.
 ///
 /// # Errors
 /// [`OutOfMemory`] where there was no memory for the automata or the sets.

@@ -15,7 +15,8 @@ use rl_ranges::Universe;
 use rl_syntax::Re;
 use std::alloc::Global;
 
-/// Whether two trees, each as fullmatch, span the same texts of the universe, by their first set pairs, `limit` at most.
+/// Whether two trees, each as fullmatch, span the same texts of the universe, by their first set pairs, `limit` at most: a
+/// breadth-first search of the product of the powerset constructions of both.
 ///
 /// [`Sameness::Equal`] has all their set pairs; [`check`](crate::check) accepts them. [`Sameness::Apart`] has a text that one of
 /// the trees alone spans. [`Sameness::Passed`] comes where more set pairs are reached than the limit and none of the first ones

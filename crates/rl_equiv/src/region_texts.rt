@@ -50,8 +50,9 @@ fn text_of(
     Ok(None)
 }
 
-/// The texts of the regions of two trees, each as fullmatch, by their first set pairs, `limit` at most: one that the first tree
-/// alone matches, one that the second alone does and one that both do, and whether more set pairs are reached.
+/// The texts of the regions of two trees, each as fullmatch, by their first set pairs in breadth-first order, `limit` at
+/// most: one that the first tree alone matches, one that the second alone does and one that both do, and whether more set
+/// pairs are reached.
 ///
 /// # Errors
 /// Those of [`same`](crate::same).

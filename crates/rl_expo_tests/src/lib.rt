@@ -1,4 +1,5 @@
-//! Tests of `rl_expo`: the twins of small graphs that were worked out by hand.
+//! Tests of `rl_expo`: the twins of small graphs, and graphs without one. The graphs and their answers were worked out by
+//! hand.
 #![tactic(auto)]
 
 #[cfg(test)]

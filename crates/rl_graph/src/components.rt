@@ -9,7 +9,7 @@ use crate::parts::{Parts, parts_of};
 use rl_lists::OutOfMemory;
 use std::marker::Model;
 
-/// The components of a multigraph: two states have one component exactly where each reaches the other.
+/// The strongly connected components of a multigraph: two states have one component exactly where each reaches the other.
 #[derive(Drop)]
 pub struct Components {
     parts: Parts,
@@ -46,7 +46,7 @@ impl Components {
 }
 
 impl Multigraph {
-    /// The components of the graph, in time and memory linear in its states and moves.
+    /// The strongly connected components of the graph, in time and memory linear in its states and moves.
     ///
     /// # Errors
     /// [`OutOfMemory`] where there was no memory for the search or the components.

@@ -85,9 +85,9 @@ impl NextStates for Multigraph {
     }
 }
 
-/// Two copies of a multigraph that go side by side on the same letters. The pair of the states `p` and `q` of a graph
-/// with `n` states is the state `p * n + q`; where `q` has `k` moves on a letter, the move `i` of `p` with the move `j`
-/// of `q` is the move `i * k + j`.
+/// Two copies of a multigraph that go side by side on the same letters: its product with itself. The pair of the states `p`
+/// and `q` of a graph with `n` states is the state `p * n + q`; where `q` has `k` moves on a letter, the move `i` of `p` with
+/// the move `j` of `q` is the move `i * k + j`.
 #[derive(Clone, Copy)]
 pub struct Twice<'a> {
     /// The graph.

@@ -348,7 +348,7 @@ fn inner_marks<M: NextStates>(
     Ok(marks)
 }
 
-/// The parts of a graph: two states have one part exactly where each reaches the other.
+/// The parts of a graph, its strongly connected components: two states have one part exactly where each reaches the other.
 #[derive(Drop)]
 pub struct Parts {
     numbers: Vec<u64>,
@@ -393,7 +393,7 @@ impl Parts {
     }
 }
 
-/// The parts of a graph, in time and memory linear in its states and moves.
+/// The parts of a graph, by the path-based search of Gabow (2000), in time and memory linear in its states and moves.
 ///
 /// # Errors
 /// [`OutOfMemory`] where there was no memory for the search or the parts.

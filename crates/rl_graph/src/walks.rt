@@ -164,7 +164,7 @@ fn shortest<M: NextStates>(
     Ok(None)
 }
 
-/// A shortest word from a state to a state, the empty one where they are one, and a path along it.
+/// A shortest word from a state to a state, the empty one where they are one, and a path along it, by breadth-first search.
 ///
 /// # Errors
 /// [`OutOfMemory`] where there was no memory for the search or the word.
@@ -182,7 +182,7 @@ pub fn path_between<M: NextStates>(
     shortest(alloc, m, from, to, 0)
 }
 
-/// A shortest word of at least one letter from a state back to it, and a path along it.
+/// A shortest word of at least one letter from a state back to it, and a path along it, by breadth-first search.
 ///
 /// # Errors
 /// [`OutOfMemory`] where there was no memory for the search or the word.
@@ -199,8 +199,8 @@ pub fn cycle_through<M: NextStates>(
 }
 
 impl Multigraph {
-    /// A shortest word from a state to a state, the empty one where they are one; `None` exactly where no word leads
-    /// there.
+    /// A shortest word from a state to a state, the empty one where they are one, by breadth-first search; `None` exactly
+    /// where no word leads there.
     ///
     /// # Errors
     /// [`OutOfMemory`] where there was no memory for the search or the word.

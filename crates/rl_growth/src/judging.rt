@@ -119,7 +119,7 @@ fn judged_small(
 }
 
 /// How the cost of a lowered pattern grows with the length of a text of the universe, where at most `max_pairs` live pairs are
-/// looked at.
+/// looked at: by the EDA and IDA criteria of Weber and Seidl (1991) on the graph of live pairs.
 ///
 /// The degree is exact: the family's texts cost at least this power of the family's number, and no text costs more than this
 /// power of its length and one, up to a factor that the tree's size gives. It is 0 where no live pair lies on a cycle, else one

@@ -1,4 +1,21 @@
-//! JSON values as lines, and the laws by which a line is read back.
+//! JSON values as lines of text.
+//!
+//! [`line_of`] writes a value of `serde_json` as its compact text and a line end. Reports, SARIF documents and certificates
+//! are written by it. The lemmas of this crate say how such a line is read back, and the crates that read their own documents
+//! build on them.
+//!
+//! # What is proved
+//!
+//! The bytes are the compact text of the value and one line feed. The value must hold no number with a fraction.
+//!
+//! # Example
+//!
+//! ```
+//! let value = json!(in alloc; {"b": 1, "a": [true, "x\n", null]})?;
+//! line_of(alloc, &value)?; // {"a":[true,"x\n",null],"b":1} and a line feed
+//! ```
+//!
+//! This crate has no definitions of its own: the compact text of a value is defined in `serde_json`.
 #![tactic(auto)]
 
 ghost use Rattle.std.specs.Prelude.{◌≡◌, ◌++◌, IfOk, codes, false};

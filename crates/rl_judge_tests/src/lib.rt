@@ -1,4 +1,4 @@
-//! Tests of `rl_judge`: the entries of small sources, with outcomes and places worked out by hand.
+//! Tests of `rl_judge`: the entries of small sources. Their outcomes and places were worked out by hand.
 #![tactic(auto)]
 
 #[cfg(test)]

@@ -76,7 +76,8 @@ fn add_inner_from(
     Ok(())
 }
 
-/// The graph of the inner moves: its states are the places of the kernel, and its letters those of the graph.
+/// The graph of the inner moves, those inside a strongly connected component: its states are the places of the kernel, and its
+/// letters those of the graph.
 ///
 /// # Errors
 /// [`OutOfMemory`] where there was no memory for the graph.

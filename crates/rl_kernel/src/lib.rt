@@ -1,4 +1,25 @@
-//! The part of a graph over some of its states: the states with their places, and the moves between them that stay in a component.
+//! The moves of a graph that stay in a strongly connected component: what the searches for twins and for splits start from.
+//!
+//! A [`Kernel`] is a list of states of a multigraph, each with the number of its component and its place in the list. You
+//! fill it by [`Kernel::put`]. [`inner_graph`] then makes the graph of the moves that lead from a state of the list to one of
+//! the list in the same component. The states of the new graph are the places of the list. A cycle never leaves its
+//! component, so no other move can be part of one, and the products that the crates above build are smaller.
+//!
+//! # What is proved
+//!
+//! The new graph has a move from one place to another on a letter exactly where the old one has such a move between the
+//! states at these places, and both states lie in one component.
+//!
+//! # Example
+//!
+//! ```
+//! // moves from 0 to 1 on letter 0, from 1 to 0 on letter 1, and from 1 to 2 on letter 0; the kernel has all three states
+//! let inner = inner_graph(alloc, &g, &components, &kernel)?;
+//! inner.edges(1, 1); // [0]
+//! inner.edges(1, 0); // []: that move leaves its component
+//! ```
+//!
+//! Read `specs/Seats.antt` first, then `specs/Inner.antt`.
 #![tactic(auto)]
 
 mod inner;

@@ -1,7 +1,30 @@
-//! Rows of truth values and tables of such rows, packed into words of 64 bits.
+//! Sets of small numbers as rows of bits, and tables of such rows.
 //!
-//! A row stands for a set of places, and contracts see it as the list of its truth values. The kernels go over eight
-//! words at a time, and over the rest word by word.
+//! A [`BitRow`] has a truth value for each place, and so it stands for the set of the places that hold true. A [`BitTable`]
+//! is a list of rows of one length. [`BitTable::image`] is the union of the rows that a set chooses. Where a table holds the
+//! moves of an automaton on one letter, this is one step of the powerset construction. The values are packed into words of 64
+//! bits, and the kernels go over eight words at a time by `std::simd`. Rows can be compared and hashed, so they can be the
+//! keys of an `IndexMap`.
+//!
+//! # What is proved
+//!
+//! Contracts see a row as the list of its values, and a table as the list of its rows. Each call equals the plain operation
+//! on these lists, for every length.
+//!
+//! # Example
+//!
+//! ```
+//! let mut table = BitTable::zeros(alloc, 3, 70)?;
+//! table.set(0, 69, true);
+//! table.set(1, 0, true);
+//! table.set(2, 64, true);
+//! // with `chosen` the row of 3 places that holds the places 0 and 2, and `into` a row of 70 places
+//! table.image(&chosen, &mut into);
+//! into.next_from(0); // Some(64)
+//! into.next_from(65); // Some(69)
+//! ```
+//!
+//! Read `specs/Rows.antt` first, then `specs/Tables.antt`; `specs/Packed.antt` says how words hold the values.
 #![tactic(auto)]
 
 mod bits;

@@ -1,4 +1,26 @@
-//! The top call: what the words ask for is done, its answer is written and its status given.
+//! The whole program as one function, for any tree of files and any outputs.
+//!
+//! [`relint_main`] does what the words of the command line ask for and returns the exit status. It works out the whole run
+//! first: it reads the words, the settings file if one is named, and the files that the action needs, and it builds all that
+//! is to be written. Only then does it write. The actions are `check`, `cost`, `class`, `compare`, `prove`, `verify` and
+//! `sample`, each in a module of its own, over the crates below. The other functions here serve programs that judge one
+//! source or read settings by themselves.
+//!
+//! # What is proved
+//!
+//! This is the headline of the repository. What a run writes to both outputs and how it ends follows from the words, the
+//! settings, and what the tree of files answered: the clause `run` says so for all actions. A status comes only for its
+//! cause, and a run that isn't refused and meets no fault ends with status 0 or 1, or out of memory.
+//!
+//! # Example
+//!
+//! ```
+//! // with the words `cost`, `a*` and `aa`
+//! relint_main(alloc, &words, &mut tree, &mut out, &mut err); // 0, and `out` has gained `steps 5 matched` and a line feed
+//! ```
+//!
+//! Read `specs/Runs.antt` and `specs/Endings.antt` first, then `specs/RunEnding.antt`, and of each action its own file, such
+//! as `specs/CheckEnding.antt`.
 #![tactic(auto)]
 
 mod baseline;

@@ -1,4 +1,24 @@
-//! The one list type that every other crate's list types are names of, and the error of refused memory.
+//! One list type for all crates above, and one error for running out of memory.
+//!
+//! [`Items`] is a growing list. [`Items::push`] may run out of memory: it then returns [`OutOfMemory`] and leaves the list as
+//! it was. [`Codes`], [`Word`], [`Path`], [`Ranks`], [`Places`], [`Members`] and [`Bytes`] are names for it that say what the
+//! items mean. [`Items::from_vec`] makes a list of a vector, and [`Items::into_vec`] gives the vector back.
+//!
+//! # What is proved
+//!
+//! Contracts see an `Items` as the list of its items, and each call does to that list what its name says. A list that
+//! couldn't grow is unchanged.
+//!
+//! # Example
+//!
+//! ```
+//! let mut list: Items<u32> = Items::new(alloc);
+//! list.push(7)?;
+//! list.push(9)?;
+//! list.as_slice(); // [7, 9]
+//! ```
+//!
+//! You need no definition to read the contracts: they use the lists of the standard library.
 #![tactic(auto)]
 
 pub mod items;

@@ -15,7 +15,7 @@ use std::alloc::Global;
 
 /// How many steps the automaton's walk takes on a text up to and with the first hit, or in all where there is none, and
 /// whether there is a hit: one, and each test that a backtracking matcher makes. For a tree that the automaton stands for this
-/// is the cost of the text. It keeps two columns and goes over the text once, from its end.
+/// is the cost of the text. It goes over the text once, from its end, by dynamic programming over two columns.
 ///
 /// # Errors
 /// [`OutOfMemory`] where there was no memory for two columns.

@@ -128,7 +128,8 @@ fn built(
     })
 }
 
-/// The graph of the live pairs of an automaton.
+/// The graph of the live pairs of an automaton: the product of the automaton with the powerset construction of earlier tries,
+/// as far as breadth-first search over live sets reaches it.
 ///
 /// # Errors
 /// [`PairsError::Pairs`] where there are more than `max_pairs` live pairs, [`PairsError::Sets`] where there are more than

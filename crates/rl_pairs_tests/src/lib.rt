@@ -1,4 +1,5 @@
-//! Tests of `rl_pairs` and `rl_sets`: graphs of live pairs that were worked out by hand.
+//! Tests of `rl_pairs` and `rl_sets`: the live pairs of `(a|a)*`, and the sets of states of one letter. The answers were
+//! worked out by hand.
 #![tactic(auto)]
 
 #[cfg(test)]

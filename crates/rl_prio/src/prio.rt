@@ -9,7 +9,8 @@ use rl_ranges::Letters;
 use std::marker::Model;
 use std::rc::Rc;
 
-/// An ordered automaton: for each state and letter the states that are moved to, in the order in which they are tried.
+/// An ordered automaton, or prioritized NFA (Weideman and others 2016): for each state and letter the states that are moved
+/// to, in the order in which they are tried.
 /// State 0 is the start, the last but one is the accepting state, and the last one is the dead state.
 #[derive(Drop)]
 pub struct Prio {

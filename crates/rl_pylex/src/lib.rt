@@ -1,7 +1,7 @@
 //! The tokens of Python sources, read from bytes by a table of ten rules.
 //!
-//! A source is at most 4,194,304 bytes of UTF-8, with or without a byte order mark, whose coding line, if it has
-//! one, names UTF-8 or ASCII. [`tokens`] cuts it into pieces; at each place the first rule that fits is taken:
+//! A source is at most 4,194,304 bytes of UTF-8, with or without a byte order mark, whose coding line, if it has one, names
+//! UTF-8 or ASCII. [`tokens`] cuts it into pieces; at each place the first rule that fits is taken:
 //!
 //! 1. a space, a tab or a form feed: no token
 //! 2. a backslash and a line end: no token
@@ -14,10 +14,25 @@
 //! 9. one of ``( ) [ ] { } . , : ; = + - * / % & | ^ ~ < > @ !``: `Op`
 //! 10. anything else is a stray code
 //!
-//! These are simpler and more lenient than Python's own rules: brackets needn't agree, an f-string is one literal
-//! with its fields included, and an operator of two characters is two tokens.
+//! These are simpler and more lenient than Python's own rules: brackets needn't agree, an f-string is one literal with its
+//! fields included, and an operator of two characters is two tokens. [`lacks_name`] is a prefilter: it tells without a list
+//! that a source has tokens, none of them a certain name.
 //!
-//! [`lacks_name`] tells without a list that a source has tokens, none of them a certain name.
+//! # What is proved
+//!
+//! [`tokens`] returns the token list that the table gives, or the first fault with its place, each exactly. By the law
+//! [`one_answer`] a source has one list or one fault. Tokens stand in order, and by [`token_texts`] the text of a literal
+//! token is a literal by itself. Where [`lacks_name`] returns true, the source has tokens and lacks the name.
+//!
+//! # Example
+//!
+//! ```
+//! tokens(alloc, b"x = 'a'  # b\n")?; // Name 0 to 1, Op 2 to 3, Literal 4 to 7, Comment 9 to 12, LineEnd 12 to 13
+//! tokens(alloc, b"x = $\n"); // Err(LexError::StrayCode(4))
+//! ```
+//!
+//! Read `specs/Rules.antt` first, with `specs/Bytes.antt` and `specs/Literals.antt`, then `specs/Source.antt` and
+//! `specs/Coding.antt`.
 #![tactic(auto)]
 
 mod absence;

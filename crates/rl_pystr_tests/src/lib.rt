@@ -1,4 +1,5 @@
-//! Tests of `rl_pystr`: the values of literals, and quoting.
+//! Tests of `rl_pystr`: the values of literals, each refusal, and quoted texts, which are read back. Codes and places were
+//! worked out by hand.
 #![tactic(auto)]
 
 #[cfg(test)]

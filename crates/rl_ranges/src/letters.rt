@@ -57,8 +57,8 @@ impl<T: Drop> From<AllocFailed<T>> for LettersError {
     }
 }
 
-/// The letters of a list of sets. Two codes are one letter where every set holds both or neither. Letters are numbered from 0
-/// by their least code.
+/// The letters of a list of sets: alphabet classes. Two codes are one letter where every set holds both or neither. Letters
+/// are numbered from 0 by their least code.
 #[derive(Drop)]
 pub struct Letters {
     codes: u32,

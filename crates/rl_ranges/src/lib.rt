@@ -1,4 +1,28 @@
-//! Sets of codes, the named classes and case folding of Python's `re`, and the letters of a list of sets.
+//! Sets of characters as Python's `re` has them, and the alphabet that a list of such sets needs.
+//!
+//! A [`CodeSet`] is a set of code points, kept as sorted ranges, and a [`Universe`] says which code points there are: those
+//! of `str` or of `bytes`. [`CodeSet::named`] is `\d`, `\s` or `\w`, and [`CodeSet::case_closed`] is what IGNORECASE makes of
+//! a set. [`Letters::of`] takes the sets of a pattern and finds its alphabet classes: code points that no set tells apart are
+//! one letter. So the automata above read at most 128 letters in place of 1,114,112 code points. [`Letters::sample`] gives
+//! one code point for a letter, a printable one of ASCII where it has one.
+//!
+//! # What is proved
+//!
+//! Each operation is that of the sets, code point by code point. The named classes and case are those of the definitions, by
+//! ASCII or by Unicode. Letters are exactly the classes, numbered by their least code point, and [`LettersError::TooMany`]
+//! comes exactly where there are more than the limit.
+//!
+//! # Example
+//!
+//! ```
+//! let sets = vec![in alloc; CodeSet::range(alloc, 97, 99)?, CodeSet::range(alloc, 98, 122)?]?; // [a-c] and [b-z]
+//! let letters = Letters::of(alloc, &sets, Universe::Bytes)?;
+//! letters.count(); // 4: what neither holds, `a`, `b` and `c`, `d` to `z`
+//! letters.letter_of(99); // 2
+//! letters.sample(2); // 98
+//! ```
+//!
+//! Read `specs/Text.antt` and `specs/Codes.antt` first, then `specs/Letters.antt`, `specs/Named.antt` and `specs/Case.antt`.
 #![tactic(auto)]
 
 mod case;

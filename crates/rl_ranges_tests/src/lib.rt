@@ -1,4 +1,5 @@
-//! Tests of `rl_ranges`: named classes and case folding against values of CPython, and each call once.
+//! Tests of `rl_ranges`: each call once, and the named classes and case folding on rows of code points. CPython's
+//! `unicodedata` and `re` gave the answers of these rows.
 #![tactic(auto)]
 
 #[cfg(test)]

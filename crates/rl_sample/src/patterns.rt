@@ -2,7 +2,7 @@
 ghost use Rattle.std.specs.Prelude.{◌≡◌, ◌<◌, ◌^◌};
 ghost use Rattle.rl_sample.specs.Generator.{next_value, pattern_of};
 
-/// The number that follows a number of the generator.
+/// The number that follows a number of the generator, which is a linear congruential one.
 pub fn next_value(value: u32) -> u32
     requires { value < 2 ^ 31 }
     ensures follows { result ≡ next_value value }

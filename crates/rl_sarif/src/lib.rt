@@ -1,4 +1,26 @@
-//! A report in SARIF, and baselines: reports whose entries are known.
+//! Reports in SARIF 2.1.0, which code scanners read, and baselines, which hide the entries that you know already.
+//!
+//! [`sarif`] writes a list of entries as a SARIF document. [`baseline`] reads an earlier report in JSON as [`KnownKeys`], and
+//! [`unknown`] gives the positions of the entries that it doesn't know. The key of an entry is its path with its call, its
+//! kind, and its degree, limit or cause. Line numbers don't count, so an entry stays known when code above it changes.
+//! Entries with one key are matched one to one.
+//!
+//! # What is proved
+//!
+//! The bytes of the document are exactly those of its definition. A baseline gives exactly the keys that its bytes hold, and
+//! exactly the bytes that are no such report are refused. The positions are exactly those of the unknown entries. By the laws
+//! [`reports_are_baselines`] and [`entries_know_themselves`] a report in JSON of at most 67,108,864 bytes is a baseline that
+//! hides all of its own entries.
+//!
+//! # Example
+//!
+//! ```
+//! // the baseline holds one entry of `my s.py`, with the call fullmatch and the kind unreadable
+//! // the entries of `my s.py`, all with that call: one undecided, and then two unreadable ones
+//! unknown(alloc, &entries, &known)?; // [0, 2]
+//! ```
+//!
+//! Read `specs/Keys.antt` and `specs/Known.antt` first, then `specs/Baseline.antt` and `specs/Sarif.antt`.
 #![tactic(auto)]
 
 mod document;

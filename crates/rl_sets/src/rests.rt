@@ -59,7 +59,7 @@ impl Search {
 impl SetWalk {
     /// A rest that no member of a set accepts, or `None` where there is none.
     ///
-    /// What is found out of a set is kept, so it is looked for once.
+    /// It is looked for by breadth-first search over images. What is found out of a set is kept, so it is looked for once.
     ///
     /// # Errors
     /// [`SetsError::Sets`] where the sets of the walk and those that images give from the set would be more than the walk

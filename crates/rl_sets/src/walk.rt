@@ -21,7 +21,8 @@ use rl_prio::Prio;
 use std::alloc::Global;
 use std::marker::Model;
 
-/// A walk over sets of states of one automaton. Each set has one number, its place in the walk's list.
+/// A walk over sets of states of one automaton: its powerset construction, as far as it was asked for. Each set has one
+/// number, its place in the walk's list.
 ///
 /// A row whose set was there already is kept as the spare one, so that a set that is known takes no memory.
 #[derive(Drop)]

@@ -1,8 +1,28 @@
 //! The sites of a Python source: its calls of the module `re` whose first argument is a run of literals.
 //!
-//! Names are read by the imports of the source alone. A site is an alias of the module, `.`, one of nine names and
-//! `(`, or an alias of one of the nine and `(`, then perhaps `pattern=`, then the literals. It has the flags that its
-//! other arguments give, where they are spelled by the names of the module's flags.
+//! [`sites`] takes a source with its tokens and returns a [`SiteList`]. A [`Site`] has the call, the tokens of the literals,
+//! whether these are the whole argument, and the flags of the call. Names are read by the imports of the source alone. A site
+//! is an alias of the module, `.`, one of nine names and `(`, or an alias of one of the nine and `(`, then perhaps
+//! `pattern=`, then the literals. It has the flags that its other arguments give, where they are spelled by the names of the
+//! module's flags. [`has_no_sites`] is a prefilter: it tells from the bytes alone, without a token list, that a source has no
+//! sites.
+//!
+//! # What is proved
+//!
+//! The sites are exactly those that the rules on imports, calls and flags give for the tokens, in order. Each run begins and
+//! ends with a literal, holds only literals and comments, and ends before the next site's begins. Where [`has_no_sites`]
+//! returns true, the source has tokens and no sites; where it returns false, nothing is said.
+//!
+//! # Example
+//!
+//! ```
+//! let source = b"import re as r\nr.match(\"ab\" 'c*')\n";
+//! sites(alloc, source, &tokens)?; // one site: call Match, first 9, count 2, whole, no flags
+//! has_no_sites(b"import os\nos.walk('a')\n"); // true
+//! ```
+//!
+//! Read `specs/Sites.antt` first, then `specs/Imports.antt`, `specs/Names.antt`, `specs/Arguments.antt` and
+//! `specs/Flags.antt`.
 #![tactic(auto)]
 
 mod absence;

@@ -1,4 +1,5 @@
-//! Tests of `rl_sites`: the sites of small sources, with the numbers of their tokens counted by hand.
+//! Tests of `rl_sites`: the sites of small sources, and sources that have none at a quick look. The numbers of the tokens
+//! were counted by hand.
 #![tactic(auto)]
 
 #[cfg(test)]

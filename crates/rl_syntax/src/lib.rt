@@ -1,4 +1,29 @@
-//! Patterns as parsed, the trees that they are lowered to, and the verdicts on them.
+//! Patterns as they are written, the trees that they are lowered to, and what both mean: languages, runs and costs.
+//!
+//! A [`Pattern`] has the parts of a pattern with their places; its outer anchors are taken off and noted apart. [`lower`]
+//! makes of it, in a [`Mode`] such as `search`, a [`Lowered`]: a [`Re`], which is a tree of six forms, and an [`Ending`],
+//! which says where a match may end. [`size_after`] counts the nodes beforehand. [`Verdict`], [`Family`] and [`Suggestion`]
+//! are what the crates above find out about a pattern.
+//!
+//! # What is proved
+//!
+//! The tree is the one that the definition gives, and [`LowerError::TooLarge`] comes exactly where it would have more than
+//! 4,000 nodes, before any of it is built. Above all this crate defines what every promise on patterns speaks of: which
+//! places of a text a tree spans, the run of the backtracking matcher of Weideman and others (2016), and the cost, which
+//! counts the tests of that run up to the first hit. The module [`laws`] has the rule of repetition and the equations of
+//! stars.
+//!
+//! # Example
+//!
+//! ```
+//! // `pattern` is `a{2,3}`
+//! size_after(&pattern, Mode::Fullmatch); // 7: two `a` in a row, then `a` or nothing
+//! size_after(&pattern, Mode::Search); // 10: and any number of characters before them
+//! lower(alloc, &pattern, Mode::Fullmatch)?.tree.nodes(); // 7
+//! ```
+//!
+//! Read `specs/Tree.antt`, `specs/Language.antt`, `specs/Run.antt` and `specs/Cost.antt` in this order, then
+//! `specs/Modes.antt` and `specs/Lowering.antt`, and `specs/Family.antt` for attack strings.
 #![tactic(auto)]
 
 pub mod anchors;

@@ -169,7 +169,7 @@ fn take_named<T: Tree, V: Visitor>(
     }
 }
 
-/// Walks over a tree from each of the paths in turn, and tells the visitor of each visit.
+/// Walks over a tree, depth first, from each of the paths in turn, and tells the visitor of each visit.
 ///
 /// A path that is a file is read, whatever its name. A path that is a folder is entered. The children of a folder are taken
 /// in the order of the bytes of their names: files whose names end in `.py` are read, folders are entered in their place,
