@@ -1,5 +1,6 @@
--- The grammar of patterns, in the notation of the Python manual. (Which codes are a blank, a digit or a letter of flags says
--- Codes.antt; what a rule wants of the codes behind it, as "no quantifier's text follows", stands at its case below.)
+-- The grammar of patterns, in the notation of the Python manual. What a rule wants beside that, as that no "?" stands behind
+-- the "(" of a capturing group, is said at its case below. Codes.antt says which codes are a literal, a blank, a digit or of a
+-- name, and what a code is behind a backslash.
 --
 --     pattern:     [flag_group (passed* flag_group)*] branches
 --     flag_group:  "(?" flag+ ")"
@@ -17,7 +18,8 @@
 --     class:       "[" ["^"] member+ "]"
 --     member:      side | side "-" side
 --     side:        any code but "\" | escape
---     escape:      "\" sign | "\" ("a" | "f" | "n" | "r" | "t" | "v") | "\" ("d" | "D" | "s" | "S" | "w" | "W")
+--     escape:      "\" (any code but an ASCII letter or digit) | "\" ("a" | "f" | "n" | "r" | "t" | "v")
+--                  | "\" ("d" | "D" | "s" | "S" | "w" | "W")
 --                  | "\x" hex{2} | "\u" hex{4} | "\U" hex{8} | "\N{" (any code but "}")+ "}"
 --                  | "\0" octal{0,2} | "\" (1 to 7) octal{2} | "\" (1 to 9) [digit]
 --                  (in a class "\b" too, and "\" octal{1,3} for the last three)
@@ -25,8 +27,8 @@
 --     flag:        "a" | "i" | "L" | "m" | "s" | "u" | "x"
 --     off_flag:    "i" | "m" | "s" | "x"
 --
--- Below this is a relation over the places of one list of codes: `Atom fl i j p` says that the codes from i up to j are an
--- atom under the flags fl, and that it is p.
+-- What follows says the same as a relation over the places of one list of codes: `Atom fl i j p` says that the codes from i up
+-- to j are an atom under the flags fl, and that it is p.
 use Prim.Native.String.{String}
 use Rattle.std.specs.Prelude.{◌≡◌, ◌≢◌, ◌⊎◌, ℕ, suc, ◌<◌, Bool, true, false, List, [], ◌∷◌, ◌++◌, length, Some, slice_get, codes}
 use Rattle.rl_pattern.specs.declared.flags.Flags.{Flags}
@@ -114,7 +116,7 @@ module _ (text : Bool) (w : List ℕ) where
 
   -- escape, in a class or not
   pub data Escape (in_class : Bool) : ℕ → ℕ → Escaped → Type 0 where
-    -- "\" sign, "\" ("a" | "f" | "n" | "r" | "t" | "v"), and in a class "\b"
+    -- "\" (any code but an ASCII letter or digit), "\" ("a" | "f" | "n" | "r" | "t" | "v"), and in a class "\b"
     escape_single : {i c : ℕ} → Slash in_class i (single c) → Escape in_class i (suc (suc i)) (code c)
     -- "\" ("d" | "D" | "s" | "S" | "w" | "W")
     escape_kind : {i : ℕ} {k : Named} {n : Bool} → Slash in_class i (kinds k n) → Escape in_class i (suc (suc i)) (kind k n)

@@ -161,7 +161,10 @@ pub(crate) fn slashed(text: bool, in_class: bool, code: u32) -> Slashed
 pub(crate) fn on_letter(code: u32) -> bool
     ensures { result ≡ on_letter code }
 {
-    matches!(char::from_u32(code), Some('a' | 'i' | 'L' | 'm' | 's' | 'u' | 'x'))
+    matches!(
+        char::from_u32(code),
+        Some('a' | 'i' | 'L' | 'm' | 's' | 'u' | 'x')
+    )
 }
 
 /// Whether the code is a letter that may stand after a `-`.

@@ -2,10 +2,6 @@
 use Rattle.std.specs.Prelude.{◌≡◌, ℕ, true}
 use Rattle.rl_pattern.specs.declared.lex.Sign.{Sign}
 use Rattle.rl_pattern.specs.declared.lex.Sign.TheVariants.{Left as left, Right as right, Bar as bar, Brace as brace, Slash as slash, Dot as dot, Bracket as bracket, Times as times, Edge as edge, Blank as blank, Sharp as sharp, Plain as plain}
-use Rattle.rl_pattern.specs.declared.lex.Numeral.{Numeral}
-use Rattle.rl_pattern.specs.declared.lex.Numeral.TheVariants.{LowDigit as low_digit, HighDigit as high_digit, NoDigit as no_digit}
-use Rattle.rl_pattern.specs.declared.lex.Slashed.{Slashed}
-use Rattle.rl_pattern.specs.declared.lex.Slashed.TheVariants.{Single as single, Kinds as kinds, Hexes as hexes, Naming as naming, Octal as octal, Low as low, High as high, Edges as edges, NoEscape as no_escape}
 use Rattle.rl_pattern.specs.declared.lex.Headed.{Headed}
 use Rattle.rl_pattern.specs.declared.lex.Headed.TheVariants.{Letter as letter, Colon as colon, Minus as minus, LetterP as letter_p, Sharps as sharps, Less as less, Greater as greater, Condition as condition, Looks as looks, NoHead as no_head}
 use Rattle.rl_pattern.specs.Codes.{code_of, on_letter}
