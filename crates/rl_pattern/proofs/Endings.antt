@@ -9,7 +9,7 @@ use Rattle.std.proofs.lemmas.List.Sums.{AllPass-from_list_all}
 use Rattle.rl_ranges.specs.Text.{code_count, IsText}
 use Rattle.rl_pattern.specs.Viable.{universe_if}
 use Rattle.rl_pattern.specs.Tree.{span, Escaped, code, too_large, by_name, reference, Member, range, glyph, members, Whole, greedy, Kind, named, scoped, lookaround, conditional}
-use Rattle.rl_pattern.specs.Codes.{with_digit, sign, numeral, is_digit, hex, slashed, begins_name, goes_in_name, on_letter, off_letter, headed, no_flags, with_letter, counts, octal_code, hex_code, code_of, is_kind}
+use Rattle.rl_pattern.specs.Codes.{with_digit, sign, numeral, is_digit, hex, slashed, begins_name, goes_in_name, on_letter, off_letter, headed, no_flags, with_letter, counts, octal_code, hex_code, code_up_to, is_kind}
 use Rattle.rl_pattern.specs.internal.Machine.{stops, goes, ends, InEscape, in_hex, name_brace, name_begins, name_goes, in_octal, after_low, after_high, after_two, escape_next, escape_rest, InSet, set_first, set_next, set_slash, set_escape, set_side, set_dash, dash_slash, dash_escape, in_set, escape_set_next, escape_dash_next, set_answer, InHead, paren, quest, after_p, after_less, group_name, group_name_goes, reference_name, reference_name_goes, asks, asks_digits, asks_name_goes, letters_on, letters_dash, letters_off, Frame, Base, Lex, between, line, remark, in_braces, counted, at_slash, in_escape, in_head, set_open, in_class, State, at, put_leaf, put_code, put_codes, no_count, put_repeat, open_group, close, escape_step, step_at, observe, finish_below, finish_escape, finish_at}
 
 -- how an escape ends that was begun
@@ -165,7 +165,7 @@ data Feeds (e : Escaped) : InEscape → List ℕ → Type 0 where
   at_last : {x : InEscape} {c : ℕ} → escape_next x c ≡ ends e → Feeds e x (c ∷ [])
   feeds_on : {x y : InEscape} {c : ℕ} {r : List ℕ} → escape_next x c ≡ goes y → Feeds e y r → Feeds e x (c ∷ r)
 
-no_kind : (m n : ℕ) → is_kind (code_of m n) ≡ false
+no_kind : (m n : ℕ) → is_kind (code_up_to m n) ≡ false
 no_kind m n = cond_both (nat_le n m) (code n) too_large (λ e. is_kind e ≡ false) (λ z. refl) (λ z. refl)
 
 record Fed (x : InEscape) (r : List ℕ) : Type 0 where

@@ -5,7 +5,7 @@ use Rattle.std.proofs.lemmas.Bool.Decides.{nat_tests}
 use Rattle.rl_pattern.specs.declared.flags.Flags.{Flags}
 use Rattle.rl_pattern.specs.Tree.{Kind, capturing, named, scoped, lookaround, atomic, conditional, glyph, reference}
 use Rattle.rl_pattern.specs.Codes.{numeral, is_digit, begins_name, goes_in_name, Headed, headed, letter, colon, minus, letter_p, sharps, less, greater, condition, looks, on_letter, off_letter, no_flags, with_letter}
-use Rattle.rl_pattern.specs.Grammar.{At, Name, first_code, next_code, Digits, one_digit, next_digit, Letters, first_letter, next_letter, Quest, Opening, captures, captures_named, groups, groups_on, groups_both, groups_off, looks_ahead, looks_behind, cuts, asks_number, asks_name, FlagGroup, flag_group, Without, no_code, one_code}
+use Rattle.rl_pattern.specs.Grammar.{At, Name, first_code, next_code, Digits, one_digit, next_digit, Letters, first_letter, next_letter, Stands, Opening, captures, captures_named, groups, groups_on, groups_both, groups_off, looks_ahead, looks_behind, cuts, asks_number, asks_name, FlagGroup, flag_group, Without, no_code, one_code}
 use Rattle.rl_pattern.specs.internal.Machine.{State, Base, at, between, remark, stops, goes, ends, InHead, paren, quest, after_p, after_less, group_name, group_name_goes, reference_name, reference_name_goes, asks, asks_digits, asks_name_goes, letters_on, letters_dash, letters_off, Begun, begins_group, begins_remark, is_reference, is_front, quest_next, behind_next, head_step, head_answer, in_head, begin, open_group, put_leaf, put_front}
 use Rattle.rl_pattern.proofs.Steps.{reads_from, goes_to, same_step, differs}
 
@@ -92,43 +92,43 @@ module _ (text : Bool) (w : List ℕ) {X : Type 0} (ask : ℕ → State → Opti
   by_head_ends : (i c : ℕ) (g : Headed) (o : Begun) (s : State) → At text w i c → headed c ≡ g → quest_next g c ≡ ends o → begin b a (suc i) o ≡ Some s → From i (In quest) ≡ From (suc i) s
   by_head_ends i c g o s at_c e st be = off i c quest o s at_c (ap (λ h. quest_next h c) e ∙ st) be
 
-  asked : Quest text w a → From (suc a) (In paren) ≡ From (suc (suc a)) (In quest)
-  asked q = on (suc a) 63 paren quest q.1 refl
+  asked : At text w (suc a) 63 → From (suc a) (In paren) ≡ From (suc (suc a)) (In quest)
+  asked at_q = on (suc a) 63 paren quest at_q refl
 
   pub opening_goes : {j : ℕ} {k : Kind} → Opening text w a j k → reads_from text w ask (suc a) (at b (in_head a paren)) ≡ reads_from text w ask j (at (open_group b a j k) between)
   opening_goes (captures {c = c} at_a at_c ne) =
       same_step text w ask (suc a) c (In paren) (at (open_group b a (suc a) capturing) between) at_c (ap (λ t. head_answer (suc a) b a paren (cond t (goes quest) stops) c) (ne_eqb c 63 ne))
-  opening_goes (captures_named {j = j} {n = n} q at_p at_less name at_end) =
-      asked q ∙ (by_head (suc (suc a)) 80 letter_p after_p at_p heads.2 refl ∙ on (suc (suc (suc a))) 60 after_p group_name at_less refl ∙ name_goes_on name ∙ off j 62 (group_name_goes n) (begins_group (named n)) _ at_end refl refl)
-  opening_goes (groups q at_c) = asked q ∙ (by_head_ends (suc (suc a)) 58 colon (begins_group (scoped no_flags no_flags)) _ at_c heads.0 refl refl)
-  opening_goes (groups_on {j = j} {f = f} q ls at_end) = asked q ∙ (letters_go ls ∙ off j 58 (letters_on f) (begins_group (scoped f no_flags)) _ at_end refl refl)
-  opening_goes (groups_both {j = j} {k = k} {f = f} {g = g} q ls at_minus ms at_end) =
-      asked q ∙ (letters_go ls ∙ on j 45 (letters_on f) (letters_dash f) at_minus refl ∙ off_go f ms ∙ off k 58 (letters_off f g) (begins_group (scoped f g)) _ at_end refl refl)
-  opening_goes (groups_off {k = k} {g = g} q at_minus ms at_end) =
-      asked q ∙ (by_head (suc (suc a)) 45 minus (letters_dash no_flags) at_minus heads.1 refl ∙ off_go no_flags ms ∙ off k 58 (letters_off no_flags g) (begins_group (scoped no_flags g)) _ at_end refl refl)
-  opening_goes (looks_ahead {c = c} q at_c h) = asked q ∙ (by_head_ends (suc (suc a)) c looks (begins_group lookaround) _ at_c h refl refl)
-  opening_goes (looks_behind {c = c} q at_less at_c h) =
-      asked q ∙ (by_head (suc (suc a)) 60 less after_less at_less heads.4 refl ∙ off (suc (suc (suc a))) c after_less (begins_group lookaround) _ at_c (ap behind_next h) refl)
-  opening_goes (cuts q at_c) = asked q ∙ (by_head_ends (suc (suc a)) 62 greater (begins_group atomic) _ at_c heads.5 refl refl)
-  opening_goes (asks_number {j = j} q at_c ds at_end) =
-      asked q ∙ (by_head (suc (suc a)) 40 condition asks at_c heads.6 refl ∙ digits_go_on ds ∙ off j 41 asks_digits (begins_group conditional) _ at_end refl refl)
-  opening_goes (asks_name {j = j} q at_c name at_end) =
-      asked q ∙ (by_head (suc (suc a)) 40 condition asks at_c heads.6 refl ∙ asks_goes_on name ∙ off j 41 asks_name_goes (begins_group conditional) _ at_end refl refl)
+  opening_goes (captures_named {j = j} {n = n} (at_a, (at_q, (at_p, at_less))) name at_end) =
+      asked at_q ∙ (by_head (suc (suc a)) 80 letter_p after_p at_p heads.2 refl ∙ on (suc (suc (suc a))) 60 after_p group_name at_less refl ∙ name_goes_on name ∙ off j 62 (group_name_goes n) (begins_group (named n)) _ at_end refl refl)
+  opening_goes (groups (at_a, (at_q, at_c))) = asked at_q ∙ (by_head_ends (suc (suc a)) 58 colon (begins_group (scoped no_flags no_flags)) _ at_c heads.0 refl refl)
+  opening_goes (groups_on {j = j} {f = f} (at_a, at_q) ls at_end) = asked at_q ∙ (letters_go ls ∙ off j 58 (letters_on f) (begins_group (scoped f no_flags)) _ at_end refl refl)
+  opening_goes (groups_both {j = j} {k = k} {f = f} {g = g} (at_a, at_q) ls at_minus ms at_end) =
+      asked at_q ∙ (letters_go ls ∙ on j 45 (letters_on f) (letters_dash f) at_minus refl ∙ off_go f ms ∙ off k 58 (letters_off f g) (begins_group (scoped f g)) _ at_end refl refl)
+  opening_goes (groups_off {k = k} {g = g} (at_a, (at_q, at_minus)) ms at_end) =
+      asked at_q ∙ (by_head (suc (suc a)) 45 minus (letters_dash no_flags) at_minus heads.1 refl ∙ off_go no_flags ms ∙ off k 58 (letters_off no_flags g) (begins_group (scoped no_flags g)) _ at_end refl refl)
+  opening_goes (looks_ahead {c = c} (at_a, at_q) at_c h) = asked at_q ∙ (by_head_ends (suc (suc a)) c looks (begins_group lookaround) _ at_c h refl refl)
+  opening_goes (looks_behind {c = c} (at_a, (at_q, at_less)) at_c h) =
+      asked at_q ∙ (by_head (suc (suc a)) 60 less after_less at_less heads.4 refl ∙ off (suc (suc (suc a))) c after_less (begins_group lookaround) _ at_c (ap behind_next h) refl)
+  opening_goes (cuts (at_a, (at_q, at_c))) = asked at_q ∙ (by_head_ends (suc (suc a)) 62 greater (begins_group atomic) _ at_c heads.5 refl refl)
+  opening_goes (asks_number {j = j} (at_a, (at_q, at_c)) ds at_end) =
+      asked at_q ∙ (by_head (suc (suc a)) 40 condition asks at_c heads.6 refl ∙ digits_go_on ds ∙ off j 41 asks_digits (begins_group conditional) _ at_end refl refl)
+  opening_goes (asks_name {j = j} (at_a, (at_q, at_c)) name at_end) =
+      asked at_q ∙ (by_head (suc (suc a)) 40 condition asks at_c heads.6 refl ∙ asks_goes_on name ∙ off j 41 asks_name_goes (begins_group conditional) _ at_end refl refl)
 
   -- a reference to a name
-  pub reference_goes : {j : ℕ} {n : List ℕ} → Quest text w a → At text w (suc (suc a)) 80 → At text w (suc (suc (suc a))) 61 → Name text w (suc (suc (suc (suc a)))) j n → At text w j 41 → reads_from text w ask (suc a) (at b (in_head a paren)) ≡ reads_from text w ask (suc j) (at (put_leaf b a (suc j) (glyph reference)) between)
-  reference_goes {j} q at_p at_is name at_end =
-      asked q ∙ (by_head (suc (suc a)) 80 letter_p after_p at_p heads.2 refl ∙ on (suc (suc (suc a))) 61 after_p reference_name at_is refl ∙ reference_goes_on name ∙ off j 41 reference_name_goes is_reference _ at_end refl refl)
+  pub reference_goes : {j : ℕ} {n : List ℕ} → Stands text w a "(?P=" → Name text w (suc (suc (suc (suc a)))) j n → At text w j 41 → reads_from text w ask (suc a) (at b (in_head a paren)) ≡ reads_from text w ask (suc j) (at (put_leaf b a (suc j) (glyph reference)) between)
+  reference_goes {j} (at_a, (at_q, (at_p, at_is))) name at_end =
+      asked at_q ∙ (by_head (suc (suc a)) 80 letter_p after_p at_p heads.2 refl ∙ on (suc (suc (suc a))) 61 after_p reference_name at_is refl ∙ reference_goes_on name ∙ off j 41 reference_name_goes is_reference _ at_end refl refl)
 
   -- a comment in parentheses
   remark_goes_on : {i j : ℕ} → Without text w 41 i j → From i (at b remark) ≡ From j (at b remark)
   remark_goes_on no_code = refl
   remark_goes_on (one_code {j = j} {c = c} h at_c ne) = remark_goes_on h ∙ goes_to text w ask j c _ _ at_c (ap (λ t. cond t (Some (at b between)) (Some (at b remark))) (ne_eqb c 41 ne))
 
-  pub remark_goes : {j : ℕ} → Quest text w a → At text w (suc (suc a)) 35 → Without text w 41 (suc (suc (suc a))) j → At text w j 41 → reads_from text w ask (suc a) (at b (in_head a paren)) ≡ reads_from text w ask (suc j) (at b between)
-  remark_goes {j} q at_c h at_end =
-      asked q ∙ (by_head_ends (suc (suc a)) 35 sharps begins_remark _ at_c heads.3 refl refl ∙ remark_goes_on h ∙ goes_to text w ask j 41 _ _ at_end refl)
+  pub remark_goes : {j : ℕ} → Stands text w a "(?#" → Without text w 41 (suc (suc (suc a))) j → At text w j 41 → reads_from text w ask (suc a) (at b (in_head a paren)) ≡ reads_from text w ask (suc j) (at b between)
+  remark_goes {j} (at_a, (at_q, at_c)) h at_end =
+      asked at_q ∙ (by_head_ends (suc (suc a)) 35 sharps begins_remark _ at_c heads.3 refl refl ∙ remark_goes_on h ∙ goes_to text w ask j 41 _ _ at_end refl)
 
   -- a flag group, where the machine takes it
   pub front_goes : {j : ℕ} {f : Flags} → FlagGroup text w a j f → (s : State) → put_front b a j f ≡ Some s → reads_from text w ask (suc a) (at b (in_head a paren)) ≡ reads_from text w ask j s
-  front_goes (flag_group {j = j} {f = f} q ls at_end) s st = asked q ∙ (letters_go ls ∙ off j 41 (letters_on f) (is_front f) s at_end refl st)
+  front_goes (flag_group {j = j} {f = f} (at_a, at_q) ls at_end) s st = asked at_q ∙ (letters_go ls ∙ off j 41 (letters_on f) (is_front f) s at_end refl st)

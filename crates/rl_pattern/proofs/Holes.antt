@@ -134,7 +134,7 @@ module _ (u : Universe) (drop out : Span → Bool) where
       atom_within (literal_brace a z) t h = absurd (true≢false (sym h))
       atom_within (dotted a) t h = absurd (true≢false (sym h))
       atom_within (escaped e) t h = absurd (true≢false (sym h))
-      atom_within (refers q a b n z) t h = absurd (true≢false (sym h))
+      atom_within (refers q n z) t h = absurd (true≢false (sym h))
       atom_within (bracketed e ms z) t h = absurd (true≢false (sym h))
       atom_within (grouped {i = i} {j = j} {k = k} {kd = kd} {bs = bs} o hs z) t h =
           let inner = sym (whole_holes (span j k) bs t) ∙ group_hole (span i (suc k)) kd (shape u (whole_body (span j k) bs)) t h in

@@ -268,7 +268,7 @@ module _ (u : Universe) (drop out : Span → Bool) where
         no_lead (literal_brace x z) = refl
         no_lead (dotted x) = refl
         no_lead (escaped x) = refl
-        no_lead (refers q x y n z) = refl
+        no_lead (refers q n z) = refl
         no_lead (bracketed h ms z) = refl
         no_lead (grouped o hs z) = refl
 
@@ -280,7 +280,7 @@ module _ (u : Universe) (drop out : Span → Bool) where
         no_tail (literal_brace x z) = refl
         no_tail (dotted x) = refl
         no_tail (escaped x) = refl
-        no_tail (refers q x y n z) = refl
+        no_tail (refers q n z) = refl
         no_tail (bracketed h ms z) = refl
         no_tail (grouped o hs z) = refl
 
@@ -475,7 +475,7 @@ module _ (u : Universe) (drop out : Span → Bool) where
       atom_links (literal_brace x z) gd ag = leaf_links _ _ _ (literal_brace x z) ag
       atom_links (dotted x) gd ag = leaf_links _ _ _ (dotted x) ag
       atom_links (escaped x) gd ag = leaf_links _ _ _ (escaped x) ag
-      atom_links (refers q x y n z) gd ag = leaf_links _ _ _ (refers q x y n z) ag
+      atom_links (refers q n z) gd ag = leaf_links _ _ _ (refers q n z) ag
       atom_links (bracketed h ms z) gd ag = leaf_links _ _ _ (bracketed h ms z) ag
       atom_links {fl} (grouped {i = i} {j = j} {k = k} {kd = kd} {bs = bs} o hs at_k) gd ag =
           let r = span j k in

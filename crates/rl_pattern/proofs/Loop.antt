@@ -126,7 +126,7 @@ module _ (call : Flags) (text : Bool) (w : List ℕ) where
       let same : b.state ≡ r = same_Some b.state r (sym b.runs ∙ e) in
       let lex : at_paren r.lex ≡ true = ap (λ z. at_paren z.lex) (sym same) ∙ ap at_paren b.lex in
       let deep : (length r.base.below == 100) ≡ true = eq-eqb (length r.base.below) 100 (ap (λ z. length z.base.below) (sym same) ∙ b.deep) in
-      let opens = none_not w i (λ q e. h.no_remark ((h.opens, q), e)) (λ q e f. h.no_reference ((h.opens, q), e, f)) in
+      let opens = none_not w i (λ q e. h.no_remark (h.opens, (q, e))) (λ q e f. h.no_reference (h.opens, (q, (e, f)))) in
       and_from (at_paren r.lex) _ lex (and_from (length r.base.below == 100) _ deep opens)
 
   pub stand_step : (i c : ℕ) (s r : State) → Standing call text w i s → slice_get w i ≡ Some c → step_at text i s c ≡ Some r → is_too_deep r w i ≡ false → Standing call text w (suc i) r
@@ -150,7 +150,7 @@ module _ (call : Flags) (text : Bool) (w : List ℕ) where
       let opens : slice_get w i ≡ Some 40 = subst (λ m. slice_get w m ≡ Some 40) same (taken_at w (suc i) at.0 40 ok.1.0) in
       let heads = not_none w i opens p2.1 in
       let behind : Behind call text w i 100 = record { state = r; runs = runs; lex = at.1 ∙ ap (λ m. in_head m paren) same; deep = eqb-true (length r.base.below) 100 p2.0 } in
-      let deep = seen_too_deep call text w i behind opens (λ z. heads.0 z.0 z.1) (λ z. heads.1 z.0 z.1 z.2) in
+      let deep = seen_too_deep call text w i behind opens (λ z. heads.0 (z.0, z.1.0) z.1.1) (λ z. heads.1 (z.0, z.1.0) z.1.1.0 z.1.1.1) in
       (deep, too_deep_begins call text w i deep, h.shallow)
 
   -- no group opens too deep where the codes before are all that begins a spelled pattern

@@ -500,5 +500,5 @@ too_deep_has call text w p q h sp =
     let len : length u ≡ suc p = length-take-le (suc p) w (slice_get_within w p 40 h.opens) in
     let reads_all : observe text finish_at (suc p) (Some s) rest ≡ Some q = sym (ap (λ o. observe text finish_at (suc p) o rest) bh.runs) ∙ sym (let z : 0 + length u ≡ suc p = omega (arith, len) in ap (λ m. observe text finish_at m (run text 0 (Some (start call)) u) rest) z) ∙ sym (observe-append text finish_at 0 (start call) u rest) ∙ ap (observe text finish_at 0 (Some (start call))) (take-append-drop (suc p) w) ∙ spelled_is_read call text w q sp in
     let same : at s.base (in_head p paren) ≡ s = ap (at s.base) (sym bh.lex) in
-    let deep = paren_deep text s.base p 99 (sym bh.deep) (suc p) rest (λ x z. h.no_remark ((h.opens, dropped_at w (suc p) 0 63 (suc p) (omega arith) x), dropped_at w (suc p) 1 35 (suc (suc p)) (omega arith) z)) (λ x y z. h.no_reference ((h.opens, dropped_at w (suc p) 0 63 (suc p) (omega arith) x), dropped_at w (suc p) 1 80 (suc (suc p)) (omega arith) y, dropped_at w (suc p) 2 61 (suc (suc (suc p))) (omega arith) z)) in
+    let deep = paren_deep text s.base p 99 (sym bh.deep) (suc p) rest (λ x z. h.no_remark (h.opens, (dropped_at w (suc p) 0 63 (suc p) (omega arith) x, dropped_at w (suc p) 1 35 (suc (suc p)) (omega arith) z))) (λ x y z. h.no_reference (h.opens, (dropped_at w (suc p) 0 63 (suc p) (omega arith) x, (dropped_at w (suc p) 1 80 (suc (suc p)) (omega arith) y, dropped_at w (suc p) 2 61 (suc (suc (suc p))) (omega arith) z)))) in
     subst (λ o. Holds o (λ t. Has t.body 101)) reads_all (subst (λ t. Holds (observe text finish_at (suc p) (Some t) rest) (λ t. Has t.body 101)) same deep)

@@ -6,7 +6,7 @@ use mathlib.Core.Logic.{inl, inr, ⊎_elim}
 use Rattle.rl_pattern.specs.declared.flags.Flags.{Flags}
 use Rattle.rl_pattern.specs.Tree.{Span, span, nodes, branches, branch_body, Kind, capturing, named, scoped, lookaround, atomic, conditional, Node, Branch, branch, whole_body, Front, Whole}
 use Rattle.rl_pattern.specs.Codes.{splits, on_letter, Headed, headed, sharps, looks, letter_p}
-use Rattle.rl_pattern.specs.Grammar.{At, Quest, Letters, first_letter, next_letter, Opening, captures, captures_named, groups, groups_on, groups_both, groups_off, looks_ahead, looks_behind, cuts, asks_number, asks_name, Atom, literal, literal_brace, dotted, escaped, refers, bracketed, grouped, Item, once, repeated, edge_code, edge_escape, Items, no_items, pass_over, one_item, IsBranches, first_branch, next_branch, Fronts, spelled, Spells}
+use Rattle.rl_pattern.specs.Grammar.{At, Stands, Letters, first_letter, next_letter, Opening, captures, captures_named, groups, groups_on, groups_both, groups_off, looks_ahead, looks_behind, cuts, asks_number, asks_name, Atom, literal, literal_brace, dotted, escaped, refers, bracketed, grouped, Item, once, repeated, edge_code, edge_escape, Items, no_items, pass_over, one_item, IsBranches, first_branch, next_branch, Fronts, spelled, Spells}
 use Rattle.rl_pattern.specs.Viable.{Part, part_first, part_next, Open, none_open, one_open}
 use Rattle.rl_pattern.specs.Answers.{Shallow}
 use Rattle.rl_pattern.specs.internal.Meeting.{Thinned}
@@ -46,7 +46,7 @@ module _ (text : Bool) (w : List ℕ) (kept : ℕ → Bool) (g : ℕ → ℕ) wh
     atom_all (literal_brace a z) k = (_, left_leaf (literal_brace a z) refl k)
     atom_all (dotted a) k = (_, left_leaf (dotted a) refl k)
     atom_all (escaped e) k = (_, left_leaf (escaped e) refl k)
-    atom_all (refers q a b n z) k = (_, left_leaf (refers q a b n z) refl k)
+    atom_all (refers q n z) k = (_, left_leaf (refers q n z) refl k)
     atom_all (bracketed e ms z) k = (_, left_leaf (bracketed e ms z) refl k)
     atom_all (grouped {i = i} {j = j} {k = e} {kd = kd} o hs z) k =
         let lt = opening_lt text w o in
@@ -179,42 +179,42 @@ module _ (text : Bool) (w : List ℕ) where
 
   opening_at : {i j : ℕ} {kd : Kind} → Opening text w i j kd → At text w i 40
   opening_at (captures at_i at_c ne) = at_i
-  opening_at (captures_named q p l n e) = q.0
-  opening_at (groups q c) = q.0
+  opening_at (captures_named q n e) = q.0
+  opening_at (groups q) = q.0
   opening_at (groups_on q l e) = q.0
   opening_at (groups_both q l m n e) = q.0
-  opening_at (groups_off q m l e) = q.0
+  opening_at (groups_off q l e) = q.0
   opening_at (looks_ahead q c h) = q.0
-  opening_at (looks_behind q l c h) = q.0
-  opening_at (cuts q c) = q.0
-  opening_at (asks_number q c d e) = q.0
-  opening_at (asks_name q c n e) = q.0
+  opening_at (looks_behind q c h) = q.0
+  opening_at (cuts q) = q.0
+  opening_at (asks_number q d e) = q.0
+  opening_at (asks_name q n e) = q.0
 
-  no_remark : {i j : ℕ} {kd : Kind} → Opening text w i j kd → ¬ (Quest text w i × At text w (suc (suc i)) 35)
-  no_remark (captures {i = i} at_i at_c ne) (q, r) = ne (same_code w (suc i) _ 63 at_c q.1)
-  no_remark (captures_named {i = i} q p l n e) (z, r) = apart_from (suc (suc i)) 80 35 p r refl
-  no_remark (groups {i = i} q c) (z, r) = apart_from (suc (suc i)) 58 35 c r refl
-  no_remark (groups_on q l e) (z, r) = true≢false (sym (letters_first l 35 r) ∙ letter_tests.0)
-  no_remark (groups_both q l m n e) (z, r) = true≢false (sym (letters_first l 35 r) ∙ letter_tests.0)
-  no_remark (groups_off {i = i} q m l e) (z, r) = apart_from (suc (suc i)) 45 35 m r refl
-  no_remark (looks_ahead {i = i} {c = c} q a h) (z, r) = let e : sharps ≡ looks = looks_apart c 35 (same_code w (suc (suc i)) c 35 a r) h letter_tests.2 in cc e
-  no_remark (looks_behind {i = i} q l a h) (z, r) = apart_from (suc (suc i)) 60 35 l r refl
-  no_remark (cuts {i = i} q a) (z, r) = apart_from (suc (suc i)) 62 35 a r refl
-  no_remark (asks_number {i = i} q a d e) (z, r) = apart_from (suc (suc i)) 40 35 a r refl
-  no_remark (asks_name {i = i} q a n e) (z, r) = apart_from (suc (suc i)) 40 35 a r refl
+  no_remark : {i j : ℕ} {kd : Kind} → Opening text w i j kd → ¬ Stands text w i "(?#"
+  no_remark (captures {i = i} at_i at_c ne) (a, (b, r)) = ne (same_code w (suc i) _ 63 at_c b)
+  no_remark (captures_named {i = i} q n e) (z, (y, r)) = apart_from (suc (suc i)) 80 35 q.1.1.0 r refl
+  no_remark (groups {i = i} q) (z, (y, r)) = apart_from (suc (suc i)) 58 35 q.1.1 r refl
+  no_remark (groups_on q l e) (z, (y, r)) = true≢false (sym (letters_first l 35 r) ∙ letter_tests.0)
+  no_remark (groups_both q l m n e) (z, (y, r)) = true≢false (sym (letters_first l 35 r) ∙ letter_tests.0)
+  no_remark (groups_off {i = i} q l e) (z, (y, r)) = apart_from (suc (suc i)) 45 35 q.1.1 r refl
+  no_remark (looks_ahead {i = i} {c = c} q a h) (z, (y, r)) = let e : sharps ≡ looks = looks_apart c 35 (same_code w (suc (suc i)) c 35 a r) h letter_tests.2 in cc e
+  no_remark (looks_behind {i = i} q a h) (z, (y, r)) = apart_from (suc (suc i)) 60 35 q.1.1 r refl
+  no_remark (cuts {i = i} q) (z, (y, r)) = apart_from (suc (suc i)) 62 35 q.1.1 r refl
+  no_remark (asks_number {i = i} q d e) (z, (y, r)) = apart_from (suc (suc i)) 40 35 q.1.1 r refl
+  no_remark (asks_name {i = i} q n e) (z, (y, r)) = apart_from (suc (suc i)) 40 35 q.1.1 r refl
 
-  no_reference : {i j : ℕ} {kd : Kind} → Opening text w i j kd → ¬ (Quest text w i × At text w (suc (suc i)) 80 × At text w (suc (suc (suc i))) 61)
-  no_reference (captures {i = i} at_i at_c ne) (q, r, x) = ne (same_code w (suc i) _ 63 at_c q.1)
-  no_reference (captures_named {i = i} q p l n e) (z, r, x) = apart_from (suc (suc (suc i))) 60 61 l x refl
-  no_reference (groups {i = i} q c) (z, r, x) = apart_from (suc (suc i)) 58 80 c r refl
-  no_reference (groups_on q l e) (z, r, x) = true≢false (sym (letters_first l 80 r) ∙ letter_tests.1)
-  no_reference (groups_both q l m n e) (z, r, x) = true≢false (sym (letters_first l 80 r) ∙ letter_tests.1)
-  no_reference (groups_off {i = i} q m l e) (z, r, x) = apart_from (suc (suc i)) 45 80 m r refl
-  no_reference (looks_ahead {i = i} {c = c} q a h) (z, r, x) = let e : letter_p ≡ looks = looks_apart c 80 (same_code w (suc (suc i)) c 80 a r) h letter_tests.3 in cc e
-  no_reference (looks_behind {i = i} q l a h) (z, r, x) = apart_from (suc (suc i)) 60 80 l r refl
-  no_reference (cuts {i = i} q a) (z, r, x) = apart_from (suc (suc i)) 62 80 a r refl
-  no_reference (asks_number {i = i} q a d e) (z, r, x) = apart_from (suc (suc i)) 40 80 a r refl
-  no_reference (asks_name {i = i} q a n e) (z, r, x) = apart_from (suc (suc i)) 40 80 a r refl
+  no_reference : {i j : ℕ} {kd : Kind} → Opening text w i j kd → ¬ Stands text w i "(?P="
+  no_reference (captures {i = i} at_i at_c ne) (a, (b, r)) = ne (same_code w (suc i) _ 63 at_c b)
+  no_reference (captures_named {i = i} q n e) (z, (y, (r, x))) = apart_from (suc (suc (suc i))) 60 61 q.1.1.1 x refl
+  no_reference (groups {i = i} q) (z, (y, (r, x))) = apart_from (suc (suc i)) 58 80 q.1.1 r refl
+  no_reference (groups_on q l e) (z, (y, (r, x))) = true≢false (sym (letters_first l 80 r) ∙ letter_tests.1)
+  no_reference (groups_both q l m n e) (z, (y, (r, x))) = true≢false (sym (letters_first l 80 r) ∙ letter_tests.1)
+  no_reference (groups_off {i = i} q l e) (z, (y, (r, x))) = apart_from (suc (suc i)) 45 80 q.1.1 r refl
+  no_reference (looks_ahead {i = i} {c = c} q a h) (z, (y, (r, x))) = let e : letter_p ≡ looks = looks_apart c 80 (same_code w (suc (suc i)) c 80 a r) h letter_tests.3 in cc e
+  no_reference (looks_behind {i = i} q a h) (z, (y, (r, x))) = apart_from (suc (suc i)) 60 80 q.1.1 r refl
+  no_reference (cuts {i = i} q) (z, (y, (r, x))) = apart_from (suc (suc i)) 62 80 q.1.1 r refl
+  no_reference (asks_number {i = i} q d e) (z, (y, (r, x))) = apart_from (suc (suc i)) 40 80 q.1.1 r refl
+  no_reference (asks_name {i = i} q n e) (z, (y, (r, x))) = apart_from (suc (suc i)) 40 80 q.1.1 r refl
 
 body_parts : (r : Span) (ps : List Node) (m : ℕ) → Has (branch_body r ps) m → ItemsHave ps m
 body_parts r [] m h = h
@@ -270,7 +270,7 @@ module _ (call : Flags) (text : Bool) (w : List ℕ) (shallow : Shallow call tex
     atom_deep (literal_brace a z) kd d l here m h = zero_deep d m l h
     atom_deep (dotted a) kd d l here m h = zero_deep d m l h
     atom_deep (escaped e) kd d l here m h = zero_deep d m l h
-    atom_deep (refers q a b n z) kd d l here m h = zero_deep d m l h
+    atom_deep (refers q n z) kd d l here m h = zero_deep d m l h
     atom_deep (bracketed e ms z) kd d l here m h = zero_deep d m l h
     atom_deep (grouped o hs z) kd d l here zero h = omega (arith, l)
     atom_deep {fl} (grouped {i = i} {j = j} {k = k} {kd = kd2} {bs = bs} o hs z) kd d l here (suc m) h =

@@ -97,8 +97,8 @@ module _ (text : Bool) (w : List ℕ) {X : Type 0} (ask : ℕ → State → Opti
       sign_goes text w ask i 35 b sharp (at b line) at_c signs.7 (ap (λ f. cond f.verbose (Some (at b line)) (Some (at (put_code b i 35) between))) e ∙ ap (λ v. cond v (Some (at b line)) (Some (at (put_code b i 35) between))) on) ∙ line_goes b h ∙ goes_to text w ask k 10 _ _ at_end refl
   passed_goes (pass_last_line {i = i} on at_c h) b e =
       sign_goes text w ask i 35 b sharp (at b line) at_c signs.7 (ap (λ f. cond f.verbose (Some (at b line)) (Some (at (put_code b i 35) between))) e ∙ ap (λ v. cond v (Some (at b line)) (Some (at (put_code b i 35) between))) on) ∙ line_goes b h ∙ same_end text w ask (length w) _ _ (slice_get_past w (length w) (omega arith)) (fair.at_line (length w) b)
-  passed_goes (pass_remark {i = i} q at_c h at_end) b e =
-      sign_goes text w ask i 40 b left _ q.0 signs.0 refl ∙ remark_goes text w ask b i q at_c h at_end
+  passed_goes (pass_remark {i = i} q h at_end) b e =
+      sign_goes text w ask i 40 b left _ q.0 signs.0 refl ∙ remark_goes text w ask b i q h at_end
 
   pub blanks_go : {fl : Flags} {i j : ℕ} → Blanks text w fl i j → (b : Base) → b.top.flags ≡ fl → From i (at b between) ≡ From j (at b between)
   blanks_go no_blank b e = refl
@@ -150,20 +150,20 @@ module _ (text : Bool) (w : List ℕ) {X : Type 0} (ask : ℕ → State → Opti
 
   pub opens_at : {i j : ℕ} {k : Kind} → Opening text w i j k → At text w i 40
   opens_at (captures at_i at_c ne) = at_i
-  opens_at (captures_named q p l n e) = q.0
-  opens_at (groups q c) = q.0
+  opens_at (captures_named q n e) = q.0
+  opens_at (groups q) = q.0
   opens_at (groups_on q l e) = q.0
   opens_at (groups_both q l m n e) = q.0
-  opens_at (groups_off q m l e) = q.0
+  opens_at (groups_off q l e) = q.0
   opens_at (looks_ahead q c h) = q.0
-  opens_at (looks_behind q l c h) = q.0
-  opens_at (cuts q c) = q.0
-  opens_at (asks_number q c d e) = q.0
-  opens_at (asks_name q c n e) = q.0
+  opens_at (looks_behind q c h) = q.0
+  opens_at (cuts q) = q.0
+  opens_at (asks_number q d e) = q.0
+  opens_at (asks_name q n e) = q.0
 
   set_at : {i j : ℕ} {v : Bool} → SetHead text w i j v → At text w i 91
   set_at (upright at_i n) = at_i
-  set_at (inverted at_i h) = at_i
+  set_at (inverted h) = h.0
 
   literal_goes : (b : Base) (i c : ℕ) → At text w i c → is_literal b.top.flags c → From i (at b between) ≡ From (suc i) (at (put_code b i c) between)
   literal_goes b i c at_c (inl h) = sign_goes text w ask i c b plain _ at_c h refl
@@ -203,9 +203,9 @@ module _ (text : Bool) (w : List ℕ) {X : Type 0} (ask : ℕ → State → Opti
     atom_goes {fl} (escaped {i = i} {j = j} {e = e} h) kd o f ds ps l =
         let b = base fl kd o f ds ps l in
         sign_goes text w ask i 92 b slash _ (backslash text w h) signs.4 refl ∙ escape_goes text w ask false e (at b (at_slash i)) (λ x. at b (in_escape i x)) (λ k. at (put_leaf b i k (glyph e)) between) (top_reader b i e) h
-    atom_goes {fl} (refers {i = i} q at_p at_is name at_end) kd o f ds ps l =
+    atom_goes {fl} (refers {i = i} q name at_end) kd o f ds ps l =
         let b = base fl kd o f ds ps l in
-        sign_goes text w ask i 40 b left _ q.0 signs.0 refl ∙ reference_goes text w ask b i q at_p at_is name at_end
+        sign_goes text w ask i 40 b left _ q.0 signs.0 refl ∙ reference_goes text w ask b i q name at_end
     atom_goes {fl} (bracketed {i = i} {inverse = v} h ms at_end) kd o f ds ps l =
         let b = base fl kd o f ds ps l in
         sign_goes text w ask i 91 b bracket _ (set_at h) signs.6 refl ∙ class_goes text w ask fair b i v h ms at_end

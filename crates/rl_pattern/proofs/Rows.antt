@@ -75,7 +75,7 @@ unfolding sign
 behind_row = record { state = _; runs = refl; lex = refl; deep = refl }
 
 too_deep_row : TooDeepAt no_flags true (replicate 101 40 ++ codes "?P!") 100
-too_deep_row = seen_too_deep no_flags true (replicate 101 40 ++ codes "?P!") 100 behind_row refl (λ h. eqb-false 80 35 refl (same_Some 80 35 h.1)) (λ h. eqb-false 33 61 refl (same_Some 33 61 h.2))
+too_deep_row = seen_too_deep no_flags true (replicate 101 40 ++ codes "?P!") 100 behind_row refl (λ h. eqb-false 80 35 refl (same_Some 80 35 h.1.1)) (λ h. eqb-false 33 61 refl (same_Some 33 61 h.1.1.1))
 
 -- the leaf of one code
 lit : ℕ → ℕ → Node

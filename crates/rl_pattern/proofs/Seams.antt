@@ -6,7 +6,7 @@ use mathlib.Core.Logic.{inl, inr, ⊎_elim}
 use Rattle.rl_ranges.specs.declared.universe.Universe.{Universe}
 use Rattle.rl_pattern.specs.declared.flags.Flags.{Flags}
 use Rattle.rl_pattern.specs.Tree.{Span, span, Count, Greed, Kind, Node, leaf, mark, repeat, group, nothing, seq, choice, Nodes, no_nodes, more_nodes, Branches, no_branches, more_branches, nodes, branches, Branch, branch_body, branch, whole_body, Front}
-use Rattle.rl_pattern.specs.Codes.{sign, Sign, left, right, bar, brace, slash, dot, bracket, times, edge, blank, sharp, plain, is_blank, is_digit, Numeral, numeral, low_digit, high_digit, no_digit, is_some_digit}
+use Rattle.rl_pattern.specs.Codes.{is_in, sign, Sign, left, right, bar, brace, slash, dot, bracket, times, edge, blank, sharp, plain, is_blank, is_digit, Numeral, numeral, low_digit, high_digit, no_digit, is_some_digit}
 use Rattle.rl_pattern.specs.Grammar.{At, Opening, captures, captures_named, groups, groups_on, groups_both, groups_off, looks_ahead, looks_behind, cuts, asks_number, asks_name, Quantifier, Passed, pass_blank, pass_line, pass_last_line, pass_remark, Blanks, SetHead, upright, inverted, Atom, literal, literal_brace, dotted, escaped, refers, bracketed, grouped, Item, once, repeated, edge_code, edge_escape, Items, no_items, pass_over, one_item, IsBranches, first_branch, next_branch, flag_group, Fronts, no_fronts, one_front}
 use Rattle.rl_pattern.specs.Shape.{is_text, shape}
 use Rattle.rl_pattern.specs.internal.Meeting.{is_open, goes_on, MayMeet}
@@ -110,7 +110,7 @@ low_calm c l =
     let e3 = ne_eqb c 63 (λ e. omega (arith, l, e)) in
     let e4 = ne_eqb c 125 (λ e. omega (arith, l, e)) in
     let e5 = ne_eqb c 44 (λ e. omega (arith, l, e)) in
-    (or_from (is_digit c) (c == 43 || (c == 63 || (c == 125 || c == 44))) e1 (or_from (c == 43) (c == 63 || (c == 125 || c == 44)) e2 (or_from (c == 63) (c == 125 || c == 44) e3 (or_from (c == 125) (c == 44) e4 e5))), λ e. omega (arith, l, e))
+    (or_from (is_digit c) (is_in "+?}," c) e1 (or_from (c == 43) (is_in "?}," c) e2 (or_from (c == 63) (is_in "}," c) e3 (or_from (c == 125) (is_in "," c) e4 (or_from (c == 44) false e5 refl)))), λ e. omega (arith, l, e))
 
 blank_calm : (c : ℕ) → sign c ≡ blank → IsCalm c
 blank_calm c h = low_calm c (subst (Blank_low c) h (sign_low c))
@@ -128,27 +128,27 @@ module _ (text : Bool) (w : List ℕ) where
   passed_calm (pass_blank {i = i} {c = d} x at_i is) c at_c = subst IsCalm (same_code w i d c at_i at_c) (blank_calm d is)
   passed_calm (pass_line {i = i} x at_i h z) c at_c = subst IsCalm (same_code w i 35 c at_i at_c) calm_codes.2
   passed_calm (pass_last_line {i = i} x at_i h) c at_c = subst IsCalm (same_code w i 35 c at_i at_c) calm_codes.2
-  passed_calm (pass_remark {i = i} q at_d h z) c at_c = subst IsCalm (same_code w i 40 c q.0 at_c) calm_codes.3
+  passed_calm (pass_remark {i = i} q h z) c at_c = subst IsCalm (same_code w i 40 c q.0 at_c) calm_codes.3
 
   is_no_63 : (i d c : ℕ) → At text w i d → At text w i c → d ≢ 63 → c ≢ 63
   is_no_63 i d c at_d at_c n e = n (same_code w i d c at_d at_c ∙ e)
 
   opening_40 : {i j : ℕ} {kd : Kind} → Opening text w i j kd → At text w i 40
   opening_40 (captures at_i at_c ne) = at_i
-  opening_40 (captures_named q p l n e) = q.0
-  opening_40 (groups q c) = q.0
+  opening_40 (captures_named q n e) = q.0
+  opening_40 (groups q) = q.0
   opening_40 (groups_on q l e) = q.0
   opening_40 (groups_both q l m n e) = q.0
-  opening_40 (groups_off q m l e) = q.0
+  opening_40 (groups_off q l e) = q.0
   opening_40 (looks_ahead q c h) = q.0
-  opening_40 (looks_behind q l c h) = q.0
-  opening_40 (cuts q c) = q.0
-  opening_40 (asks_number q c d e) = q.0
-  opening_40 (asks_name q c n e) = q.0
+  opening_40 (looks_behind q c h) = q.0
+  opening_40 (cuts q) = q.0
+  opening_40 (asks_number q d e) = q.0
+  opening_40 (asks_name q n e) = q.0
 
   set_91 : {i j : ℕ} {x : Bool} → SetHead text w i j x → At text w i 91
   set_91 (upright at_i n) = at_i
-  set_91 (inverted at_i h) = at_i
+  set_91 (inverted h) = h.0
 
   atom_unasked : {fl : Flags} {i j : ℕ} {p : Node} → Atom text w fl i j p → (c : ℕ) → At text w i c → c ≢ 63
   atom_unasked (literal {i = i} {c = d} at_i (inl is)) c at_c = is_no_63 i d c at_i at_c (not_asked d plain is (λ n e. cc e))
@@ -157,7 +157,7 @@ module _ (text : Bool) (w : List ℕ) where
   atom_unasked (literal_brace {i = i} at_i n) c at_c = is_no_63 i 123 c at_i at_c (λ e. eqb-false 123 63 refl e)
   atom_unasked (dotted {i = i} at_i) c at_c = is_no_63 i 46 c at_i at_c (λ e. eqb-false 46 63 refl e)
   atom_unasked (escaped {i = i} h) c at_c = is_no_63 i 92 c (backslash text w h) at_c (λ e. eqb-false 92 63 refl e)
-  atom_unasked (refers {i = i} q a b n z) c at_c = is_no_63 i 40 c q.0 at_c (λ e. eqb-false 40 63 refl e)
+  atom_unasked (refers {i = i} q n z) c at_c = is_no_63 i 40 c q.0 at_c (λ e. eqb-false 40 63 refl e)
   atom_unasked (bracketed {i = i} h ms z) c at_c = is_no_63 i 91 c (set_91 h) at_c (λ e. eqb-false 91 63 refl e)
   atom_unasked (grouped {i = i} o hs z) c at_c = is_no_63 i 40 c (opening_40 o) at_c (λ e. eqb-false 40 63 refl e)
 
@@ -177,16 +177,16 @@ module _ (text : Bool) (w : List ℕ) where
   -- the end of an opening that isn't refused
   pub opening_end : {i j : ℕ} {kd : Kind} → Opening text w i j kd → is_plain kd ≡ true → (t c : ℕ) → suc t ≡ j → At text w t c → is_open c ≡ false
   opening_end (captures {i = i} at_i at_c ne) pl t c e at_t = let same : t ≡ i = omega (arith, e) in ap is_open (same_code w t c 40 at_t (subst (λ m. At text w m 40) (sym same) at_i)) ∙ closed_codes.0
-  opening_end (captures_named {j = j} q p l n z) pl t c e at_t = let same : t ≡ j = omega (arith, e) in ap is_open (same_code w t c 62 at_t (subst (λ m. At text w m 62) (sym same) z)) ∙ closed_codes.3
-  opening_end (groups {i = i} q z) pl t c e at_t = let same : t ≡ suc (suc i) = omega (arith, e) in ap is_open (same_code w t c 58 at_t (subst (λ m. At text w m 58) (sym same) z)) ∙ closed_codes.2
+  opening_end (captures_named {j = j} q n z) pl t c e at_t = let same : t ≡ j = omega (arith, e) in ap is_open (same_code w t c 62 at_t (subst (λ m. At text w m 62) (sym same) z)) ∙ closed_codes.3
+  opening_end (groups {i = i} q) pl t c e at_t = let same : t ≡ suc (suc i) = omega (arith, e) in ap is_open (same_code w t c 58 at_t (subst (λ m. At text w m 58) (sym same) q.1.1)) ∙ closed_codes.2
   opening_end (groups_on {j = j} q l z) pl t c e at_t = let same : t ≡ j = omega (arith, e) in ap is_open (same_code w t c 58 at_t (subst (λ m. At text w m 58) (sym same) z)) ∙ closed_codes.2
   opening_end (groups_both {k = k} q l m n z) pl t c e at_t = let same : t ≡ k = omega (arith, e) in ap is_open (same_code w t c 58 at_t (subst (λ m. At text w m 58) (sym same) z)) ∙ closed_codes.2
-  opening_end (groups_off {k = k} q m l z) pl t c e at_t = let same : t ≡ k = omega (arith, e) in ap is_open (same_code w t c 58 at_t (subst (λ m. At text w m 58) (sym same) z)) ∙ closed_codes.2
+  opening_end (groups_off {k = k} q l z) pl t c e at_t = let same : t ≡ k = omega (arith, e) in ap is_open (same_code w t c 58 at_t (subst (λ m. At text w m 58) (sym same) z)) ∙ closed_codes.2
   opening_end (looks_ahead q a h) pl t c e at_t = absurd (true≢false (sym pl))
-  opening_end (looks_behind q l a h) pl t c e at_t = absurd (true≢false (sym pl))
-  opening_end (cuts q a) pl t c e at_t = absurd (true≢false (sym pl))
-  opening_end (asks_number q a d z) pl t c e at_t = absurd (true≢false (sym pl))
-  opening_end (asks_name q a n z) pl t c e at_t = absurd (true≢false (sym pl))
+  opening_end (looks_behind q a h) pl t c e at_t = absurd (true≢false (sym pl))
+  opening_end (cuts q) pl t c e at_t = absurd (true≢false (sym pl))
+  opening_end (asks_number q d z) pl t c e at_t = absurd (true≢false (sym pl))
+  opening_end (asks_name q n z) pl t c e at_t = absurd (true≢false (sym pl))
 
 module _ (u : Universe) (drop out : Span → Bool) where
   -- a repeat whose own quantifier is taken out
@@ -307,7 +307,7 @@ module _ (u : Universe) (drop out : Span → Bool) where
     atom_strict (literal_brace a z) h = true≢false (sym h)
     atom_strict (dotted a) h = true≢false (sym h)
     atom_strict (escaped e) h = true≢false (sym h)
-    atom_strict (refers q a b n z) h = true≢false (sym h)
+    atom_strict (refers q n z) h = true≢false (sym h)
     atom_strict (bracketed e ms z) h = true≢false (sym h)
     atom_strict (grouped {i = i} {j = j} {k = k} {kd = kd} {bs = bs} o hs z) h =
         omega (arith, opening_lt (is_text u) w o, (branches_within u drop out w hs (drops_in u drop out bs) i (sym (whole_holes u drop out (span j k) bs i) ∙ group_hole u drop out (span i (suc k)) kd (shape u (whole_body (span j k) bs)) i h)).0)
@@ -439,7 +439,7 @@ module _ (u : Universe) (drop out : Span → Bool) where
       atom_meets (literal_brace a z) gd cl ag t h = absurd (true≢false (sym h))
       atom_meets (dotted a) gd cl ag t h = absurd (true≢false (sym h))
       atom_meets (escaped e) gd cl ag t h = absurd (true≢false (sym h))
-      atom_meets (refers q a b n z) gd cl ag t h = absurd (true≢false (sym h))
+      atom_meets (refers q n z) gd cl ag t h = absurd (true≢false (sym h))
       atom_meets (bracketed e ms z) gd cl ag t h = absurd (true≢false (sym h))
       atom_meets (grouped {i = i} {j = j} {k = k} {kd = kd} {bs = bs} o hs at_k) gd cl ag t h =
           let r = span j k in

@@ -111,7 +111,7 @@ module _ (text : Bool) (w : List ℕ) {X : Type 0} (ask : ℕ → State → Opti
 
   head_goes : {j : ℕ} {v : Bool} → SetHead text w a j v → v ≡ inverse → From (suc a) (at b (set_open a)) ≡ From j (In [] set_first)
   head_goes (upright at_a no_hat) q = open_stays (suc a) (sym q) no_hat
-  head_goes (inverted at_a at_hat) q = goes_to text w ask (suc a) 94 _ _ at_hat (ap (λ v. Some (at b (in_class a v (record { before = []; part = set_first })))) q)
+  head_goes (inverted at_a) q = goes_to text w ask (suc a) 94 _ _ at_a.1 (ap (λ v. Some (at b (in_class a v (record { before = []; part = set_first })))) q)
 
   pub class_goes : {j k : ℕ} {ms : List Member} → SetHead text w a j inverse → Members text w j k ms → At text w k 93 → reads_from text w ask (suc a) (at b (set_open a)) ≡ reads_from text w ask (suc k) (at (put_leaf b a (suc k) (members inverse ms)) between)
   class_goes {k = k} {ms = ms} h hs close = head_goes h refl ∙ members_go hs ∙ goes_to text w ask k 93 (In ms set_next) _ close refl

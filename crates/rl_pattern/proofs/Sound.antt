@@ -7,7 +7,7 @@ use Rattle.rl_pattern.specs.declared.flags.Flags.{Flags}
 use Rattle.rl_pattern.specs.Tree.{span, Count, Greed, greedy, lazy, possessive, Escaped, Member, glyph, Kind, capturing, Node, Branch, branch, Front, Whole}
 use Rattle.rl_pattern.specs.Codes.{Sign, sign, left, right, bar, brace, slash, dot, bracket, times, edge, blank, sharp, plain, is_blank, Slashed, slashed, single, kinds, hexes, naming, octal, low, high, edges, no_escape, counts, count_of, joined, inside, splits}
 use Rattle.rl_pattern.specs.internal.Signs.{SignIs}
-use Rattle.rl_pattern.specs.Grammar.{is_literal, outermost, At, Without, no_code, one_code, Escape, SetHead, upright, inverted, Quest, Opening, captures, Text, no_text, one_text, Braces, braces, Counts, by_code, by_braces, Quantifier, is_greedy, is_lazy, is_possessive, Passed, pass_blank, pass_line, pass_last_line, pass_remark, Blanks, no_blank, one_blank, Atom, literal, literal_brace, dotted, escaped, bracketed, grouped, Item, once, repeated, edge_code, edge_escape, Items, no_items, pass_over, one_item, IsBranches, first_branch, next_branch, FlagGroup, Fronts, no_fronts, one_front, spelled, Spells}
+use Rattle.rl_pattern.specs.Grammar.{is_literal, outermost, At, Without, no_code, one_code, Escape, SetHead, upright, inverted, Stands, Opening, captures, Text, no_text, one_text, Braces, braces, Counts, by_code, by_braces, Quantifier, is_greedy, is_lazy, is_possessive, Passed, pass_blank, pass_line, pass_last_line, pass_remark, Blanks, no_blank, one_blank, Atom, literal, literal_brace, dotted, escaped, bracketed, grouped, Item, once, repeated, edge_code, edge_escape, Items, no_items, pass_over, one_item, IsBranches, first_branch, next_branch, FlagGroup, Fronts, no_fronts, one_front, spelled, Spells}
 use Rattle.rl_pattern.specs.internal.Machine.{Frame, Last, nothing_yet, an_atom, Base, Lex, between, line, remark, in_braces, counted, at_slash, in_escape, in_head, set_open, in_class, State, at, settled, put, put_item, put_leaf, put_code, put_codes, no_count, put_repeat, count_last, all_branches, next_branch as next_branch_base, split, open_group, close, is_nil, is_settled, at_front, put_front, begin, by_sign, go_on, end_braces, braces_step, counted_step, escape_begins, slash_step, escape_step, head_stops, behind_paren, head_answer, set_answer, set_opens, set_step, Set, set_first, step, step_at, observe, finish_below, finish, finish_escape, finish_lex, finish_at, start, reads, InEscape, escape_first, escape_next, escape_rest, Answer, stops, goes, ends, InHead, paren, quest, after_p, after_less, group_name, group_name_goes, reference_name, reference_name_goes, asks, asks_digits, asks_name_goes, letters_on, letters_dash, letters_off, head_step, Begun, begins_group, begins_remark, is_reference, is_front}
 use Rattle.rl_pattern.proofs.Steps.{same_code}
 use Rattle.rl_pattern.proofs.Reading.{put_more, counts_plain, brace_not, text_length}
@@ -67,7 +67,7 @@ module _ (call : Flags) (text : Bool) (w : List ℕ) where
   abbrev pub LexOk : ℕ → Base → Lex → Type 0
   LexOk k b between = BaseOk k b
   LexOk k b line = (i : ℕ) × BaseOk i b × (b.top.flags.verbose ≡ true) × At text w i 35 × Without text w 10 (suc i) k
-  LexOk k b remark = (i : ℕ) × BaseOk i b × Quest text w i × At text w (suc (suc i)) 35 × Without text w 41 (suc (suc (suc i))) k
+  LexOk k b remark = (i : ℕ) × BaseOk i b × Stands text w i "(?#" × Without text w 41 (suc (suc (suc i))) k
   LexOk k b (in_braces a t) = BaseOk a b × At text w a 123 × Text text w (suc a) k t
   LexOk k b (counted a p q n) = (m : ℕ) × BaseOk a b × Atom text w b.top.flags a m p × Blanks text w b.top.flags m q × Counts text w q k n
   LexOk k b (at_slash a) = BaseOk a b × At text w a 92 × (k ≡ suc a)
@@ -296,7 +296,7 @@ module _ (call : Flags) (text : Bool) (w : List ℕ) where
 
   begin_ok : (a k : ℕ) (b : Base) (o : Begun) → BaseOk a b → BegunOk text w a o k → Kept k (begin b a k o)
   begin_ok a k b (begins_group kd) h o = open_ok b kd h o
-  begin_ok a k b begins_remark h (q, at_c, e) = (a, h, q, at_c, subst (λ m. Without text w 41 (suc (suc (suc a))) m) (sym e) no_code)
+  begin_ok a k b begins_remark h (q, e) = (a, h, q, subst (λ m. Without text w 41 (suc (suc (suc a))) m) (sym e) no_code)
   begin_ok a k b is_reference h o = put_ok b _ h (o b.top.flags)
   begin_ok a k b (is_front f) h o = front_ok a k b f h o
 
@@ -333,7 +333,7 @@ module _ (call : Flags) (text : Bool) (w : List ℕ) where
   opens_ok : (k a : ℕ) (b : Base) (c : ℕ) → BaseOk a b → At text w a 91 → k ≡ suc a → At text w k c → Kept (suc k) (set_opens text k b a c)
   opens_ok k a b c h at_a e at_c =
       cond_both (c == 94) (Some (at b (in_class a true (record { before = []; part = set_first })))) (set_answer k b a false (set_step text k [] set_first c)) (Kept (suc k))
-      (λ z. (suc k, h, subst (λ m. SetHead text w a (suc m) true) (sym e) (inverted at_a (subst (λ m. At text w m 94) e (subst (At text w k) (eqb-true c 94 z) at_c))), none_before))
+      (λ z. (suc k, h, subst (λ m. SetHead text w a (suc m) true) (sym e) (inverted (at_a, subst (λ m. At text w m 94) e (subst (At text w k) (eqb-true c 94 z) at_c))), none_before))
       (λ z. set_answer_ok k a k b false (set_step text k [] set_first c) h (subst (λ m. SetHead text w a m false) (sym e) (upright at_a (λ at_94. eqb-false c 94 z (same_code w k c 94 at_c (subst (λ m. At text w m 94) (sym e) at_94))))) (set_kept text w k k [] set_first c none_before at_c))
 
   -- each step keeps what was read
@@ -341,8 +341,8 @@ module _ (call : Flags) (text : Bool) (w : List ℕ) where
   step_ok k b between c h at_c = go_on_ok k b c h at_c
   step_ok k b line c (i, h, on, at_i, ws) at_c =
       cond_both (c == 10) (Some (at b between)) (Some (at b line)) (Kept (suc k)) (λ z. passed_ok b h (pass_line on at_i ws (subst (At text w k) (eqb-true c 10 z) at_c))) (λ z. (i, h, on, at_i, one_code ws at_c (eqb-false c 10 z)))
-  step_ok k b remark c (i, h, q, at_i, ws) at_c =
-      cond_both (c == 41) (Some (at b between)) (Some (at b remark)) (Kept (suc k)) (λ z. passed_ok b h (pass_remark q at_i ws (subst (At text w k) (eqb-true c 41 z) at_c))) (λ z. (i, h, q, at_i, one_code ws at_c (eqb-false c 41 z)))
+  step_ok k b remark c (i, h, q, ws) at_c =
+      cond_both (c == 41) (Some (at b between)) (Some (at b remark)) (Kept (suc k)) (λ z. passed_ok b h (pass_remark q ws (subst (At text w k) (eqb-true c 41 z) at_c))) (λ z. (i, h, q, one_code ws at_c (eqb-false c 41 z)))
   step_ok k b (in_braces a t) c (h, at_a, txt) at_c = braces_ok k a b t c h at_a txt at_c
   step_ok k b (counted a p q n) c (m, h, atom, bl, cs) at_c = counted_ok k a m q n b p c h atom bl cs at_c
   step_ok k b (at_slash a) c (h, back, e) at_c = slash_ok k a b c (slashed text false c) refl h back e at_c

@@ -78,7 +78,7 @@ module _ (u : Universe) where
       atom_placed (literal_brace a z) = omega arith
       atom_placed (dotted a) = omega arith
       atom_placed (escaped {i = i} {j = j} e) = let lt = escape_lt text w e in omega (arith, lt)
-      atom_placed (refers q a b n z) = let lt = name_lt text w n in omega (arith, lt)
+      atom_placed (refers q n z) = let lt = name_lt text w n in omega (arith, lt)
       atom_placed (bracketed e ms z) = let lt = set_head_lt text w e in let lt2 = members_lt text w ms in omega (arith, lt, lt2)
       atom_placed (grouped {i = i} {j = j} {k = k} {kd = kd} {bs = bs} o hs z) =
           let lt = opening_lt text w o in

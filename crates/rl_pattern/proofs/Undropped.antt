@@ -85,7 +85,7 @@ module _ (u : Universe) where
       atom_goes (literal_brace a z) = refl
       atom_goes (dotted a) = refl
       atom_goes (escaped e) = refl
-      atom_goes (refers q a b n z) = refl
+      atom_goes (refers q n z) = refl
       atom_goes (bracketed e ms z) = refl
       atom_goes (grouped {i = i} {j = j} {k = k} {kd = kd} {bs = bs} o hs z) = group_goes (span i (suc k)) kd (shape u (whole_body (span j k) bs)) (whole_goes (span j k) bs (branches_go hs))
 

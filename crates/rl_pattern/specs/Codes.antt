@@ -1,5 +1,9 @@
 -- What single codes are to the grammar of patterns.
-use Rattle.std.specs.Prelude.{[], ℕ, ◌+◌, ◌-◌, ◌*◌, Bool, true, false, not, ◌&&◌, ◌||◌, if◌then◌else◌, nat_le, ◌==◌, List, ◌∷◌, Option, Some, None, min}
+use Prim.Native.Char.{Char}
+use Prim.Native.String.{String}
+use Rattle.std.specs.Prelude.{[], ℕ, ◌+◌, ◌-◌, ◌*◌, Bool, true, false, not, ◌&&◌, ◌||◌, if◌then◌else◌, nat_le, ◌==◌, List, ◌∷◌, Option, Some, None, min, codes}
+use Rattle.std.specs.List.{list_any}
+pub use Prim.Native.Char.{code as code_of}
 use Rattle.rl_pattern.specs.declared.flags.Flags.{Flags}
 pub use Rattle.rl_pattern.specs.declared.lex.Sign.{Sign}
 pub use Rattle.rl_pattern.specs.declared.lex.Sign.TheVariants.{Left as left, Right as right, Bar as bar, Brace as brace, Slash as slash, Dot as dot, Bracket as bracket, Times as times, Edge as edge, Blank as blank, Sharp as sharp, Plain as plain}
@@ -11,35 +15,47 @@ pub use Rattle.rl_pattern.specs.declared.lex.Headed.{Headed}
 pub use Rattle.rl_pattern.specs.declared.lex.Headed.TheVariants.{Letter as letter, Colon as colon, Minus as minus, LetterP as letter_p, Sharps as sharps, Less as less, Greater as greater, Condition as condition, Looks as looks, NoHead as no_head}
 use Rattle.rl_pattern.specs.Tree.{Count, digits, spaces, words, caret, text_start, dollar, text_end, boundary, Escaped, code, too_large, by_name, kind, reference, Kind, capturing, named, scoped, lookaround, atomic, conditional, Branch}
 
--- space, tab, line feed, CR, vertical tab and form feed
+-- c is the code of this character
+abbrev pub is : Char → ℕ → Bool
+is character c = c == code_of character
+
+-- c is the code of one of these characters
+abbrev pub is_in : String → ℕ → Bool
+is_in characters c = list_any (λ d. c == d) (codes characters)
+
+-- c lies between the codes of these two characters, or is one of them
+abbrev pub is_from : Char → Char → ℕ → Bool
+is_from first last c = nat_le (code_of first) c && nat_le c (code_of last)
+
+-- space, and from tab to CR: tab, line feed, vertical tab, form feed and CR
 abbrev pub is_blank : ℕ → Bool
-is_blank c = c == 32 || (nat_le 9 c && nat_le c 13)
+is_blank c = is " " c || is_from "\t" "\r" c
 
 abbrev pub count : ℕ → Option ℕ → Count
 count m n = record { least = m; most = n }
 
 unfoldable pub sign : ℕ → Sign
 sign c =
-    if c == 40 then left
-    else (if c == 41 then right
-    else (if c == 124 then bar
-    else (if c == 42 then times (count 0 None)
-    else (if c == 43 then times (count 1 None)
-    else (if c == 63 then times (count 0 (Some 1))
-    else (if c == 123 then brace
-    else (if c == 92 then slash
-    else (if c == 46 then dot
-    else (if c == 91 then bracket
-    else (if c == 94 then edge caret
-    else (if c == 36 then edge dollar
-    else (if c == 35 then sharp
+    if is "(" c then left
+    else (if is ")" c then right
+    else (if is "|" c then bar
+    else (if is "*" c then times (count 0 None)
+    else (if is "+" c then times (count 1 None)
+    else (if is "?" c then times (count 0 (Some 1))
+    else (if is "{" c then brace
+    else (if is "\\" c then slash
+    else (if is "." c then dot
+    else (if is "[" c then bracket
+    else (if is "^" c then edge caret
+    else (if is "$" c then edge dollar
+    else (if is "#" c then sharp
     else (if is_blank c then blank
     else plain)))))))))))))
 
 unfoldable pub numeral : ℕ → Numeral
 numeral c =
-    if nat_le 48 c && nat_le c 55 then low_digit (c - 48)
-    else (if nat_le 56 c && nat_le c 57 then high_digit
+    if is_from "0" "7" c then low_digit (c - code_of "0")
+    else (if is_from "8" "9" c then high_digit
     else no_digit)
 
 abbrev pub is_some_digit : Numeral → Bool
@@ -53,45 +69,45 @@ is_digit c = is_some_digit (numeral c)
 -- the value of a hexadecimal digit
 unfoldable pub hex : ℕ → Option ℕ
 hex c =
-    if nat_le 48 c && nat_le c 57 then Some (c - 48)
-    else (if nat_le 97 c && nat_le c 102 then Some (c - 87)
-    else (if nat_le 65 c && nat_le c 70 then Some (c - 55)
+    if is_from "0" "9" c then Some (c - code_of "0")
+    else (if is_from "a" "f" c then Some (10 + (c - code_of "a"))
+    else (if is_from "A" "F" c then Some (10 + (c - code_of "A"))
     else None))
 
 -- ASCII letters
 abbrev pub is_letter : ℕ → Bool
-is_letter c = (nat_le 97 c && nat_le c 122) || (nat_le 65 c && nat_le c 90)
+is_letter c = is_from "a" "z" c || is_from "A" "Z" c
 
 -- the codes of a name. The first argument says whether the universe is text
 unfoldable pub begins_name : Bool → ℕ → Bool
-begins_name text c = is_letter c || c == 95 || (text && nat_le 128 c)
+begins_name text c = is_letter c || is "_" c || (text && nat_le 0x80 c)
 
 unfoldable pub goes_in_name : Bool → ℕ → Bool
 goes_in_name text c = begins_name text c || is_digit c
 
--- a letter behind a backslash, in text or not, in a class or not
+-- a letter behind a backslash, in text or not, in a class or not. BEL is 7, backspace 8, vertical tab 11, form feed 12
 abbrev pub slashed_letter : Bool → Bool → ℕ → Slashed
 slashed_letter text in_class c =
-    if c == 97 then single 7
-    else (if c == 102 then single 12
-    else (if c == 110 then single 10
-    else (if c == 114 then single 13
-    else (if c == 116 then single 9
-    else (if c == 118 then single 11
-    else (if c == 100 then kinds digits false
-    else (if c == 68 then kinds digits true
-    else (if c == 115 then kinds spaces false
-    else (if c == 83 then kinds spaces true
-    else (if c == 119 then kinds words false
-    else (if c == 87 then kinds words true
-    else (if c == 120 then hexes 2
-    else (if text && c == 117 then hexes 4
-    else (if text && c == 85 then hexes 8
-    else (if text && c == 78 then naming
-    else (if c == 98 then (if in_class then single 8 else edges (boundary false))
-    else (if not in_class && c == 66 then edges (boundary true)
-    else (if not in_class && c == 65 then edges text_start
-    else (if not in_class && c == 90 then edges text_end
+    if is "a" c then single 7
+    else (if is "f" c then single 12
+    else (if is "n" c then single (code_of "\n")
+    else (if is "r" c then single (code_of "\r")
+    else (if is "t" c then single (code_of "\t")
+    else (if is "v" c then single 11
+    else (if is "d" c then kinds digits false
+    else (if is "D" c then kinds digits true
+    else (if is "s" c then kinds spaces false
+    else (if is "S" c then kinds spaces true
+    else (if is "w" c then kinds words false
+    else (if is "W" c then kinds words true
+    else (if is "x" c then hexes 2
+    else (if text && is "u" c then hexes 4
+    else (if text && is "U" c then hexes 8
+    else (if text && is "N" c then naming
+    else (if is "b" c then (if in_class then single 8 else edges (boundary false))
+    else (if not in_class && is "B" c then edges (boundary true)
+    else (if not in_class && is "A" c then edges text_start
+    else (if not in_class && is "Z" c then edges text_end
     else no_escape)))))))))))))))))))
 
 -- a digit behind a backslash
@@ -105,15 +121,15 @@ slashed text in_class c =
     if is_letter c then slashed_letter text in_class c else slashed_digit in_class (numeral c) c
 
 -- what a number is as a code
-abbrev pub code_of : ℕ → ℕ → Escaped
-code_of greatest n = if nat_le n greatest then code n else too_large
+abbrev pub code_up_to : ℕ → ℕ → Escaped
+code_up_to greatest n = if nat_le n greatest then code n else too_large
 
 -- an octal number, at most 255, and one in hexadecimal digits, at most 0x10FFFF
 abbrev pub octal_code : ℕ → Escaped
-octal_code n = code_of 255 n
+octal_code n = code_up_to 255 n
 
 abbrev pub hex_code : ℕ → Escaped
-hex_code n = code_of 1114111 n
+hex_code n = code_up_to 0x10FFFF n
 
 abbrev pub is_kind : Escaped → Bool
 is_kind (kind k n) = true
@@ -122,27 +138,27 @@ is_kind too_large = false
 is_kind by_name = false
 is_kind reference = false
 
--- a i L m s u x
+-- the letters of flags
 unfoldable pub on_letter : ℕ → Bool
-on_letter c = c == 97 || c == 105 || c == 76 || c == 109 || c == 115 || c == 117 || c == 120
+on_letter c = is_in "aiLmsux" c
 
--- i m s x
+-- those that may stand after a -
 unfoldable pub off_letter : ℕ → Bool
-off_letter c = c == 105 || c == 109 || c == 115 || c == 120
+off_letter c = is_in "imsx" c
 
+-- what a code is behind (?
 unfoldable pub headed : ℕ → Headed
 headed c =
     if on_letter c then letter
-    else (if c == 58 then colon
-    else (if c == 45 then minus
-    else (if c == 80 then letter_p
-    else (if c == 35 then sharps
-    else (if c == 61 then looks
-    else (if c == 33 then looks
-    else (if c == 60 then less
-    else (if c == 62 then greater
-    else (if c == 40 then condition
-    else no_head)))))))))
+    else (if is ":" c then colon
+    else (if is "-" c then minus
+    else (if is "P" c then letter_p
+    else (if is "#" c then sharps
+    else (if is_in "=!" c then looks
+    else (if is "<" c then less
+    else (if is ">" c then greater
+    else (if is "(" c then condition
+    else no_head))))))))
 
 abbrev pub no_flags : Flags
 no_flags = record { ignore_case = false; multiline = false; dot_all = false; verbose = false; ascii = false; unicode = false; locale = false }
@@ -151,13 +167,13 @@ no_flags = record { ignore_case = false; multiline = false; dot_all = false; ver
 unfoldable pub with_letter : Flags → ℕ → Flags
 with_letter f c =
     record {
-      ignore_case = f.ignore_case || c == 105;
-      multiline = f.multiline || c == 109;
-      dot_all = f.dot_all || c == 115;
-      verbose = f.verbose || c == 120;
-      ascii = f.ascii || c == 97;
-      unicode = f.unicode || c == 117;
-      locale = f.locale || c == 76;
+      ignore_case = f.ignore_case || is "i" c;
+      multiline = f.multiline || is "m" c;
+      dot_all = f.dot_all || is "s" c;
+      verbose = f.verbose || is "x" c;
+      ascii = f.ascii || is "a" c;
+      unicode = f.unicode || is "u" c;
+      locale = f.locale || is "L" c;
     }
 
 -- the flags after a front flag group
@@ -213,12 +229,12 @@ with_digit b n d = min (n * b + d) 4294967295
 
 -- digits and commas, the text of a count
 unfoldable pub counts : ℕ → Bool
-counts c = is_digit c || c == 44
+counts c = is_digit c || is "," c
 
 -- the greatest number of copies: none is no bound, and a second comma spells no count
 abbrev pub most_of : ℕ → ℕ → List ℕ → Option Count
 most_of m n [] = Some (count m (Some n))
-most_of m n (c ∷ cs) = if c == 44 then None else most_of m (with_digit 10 n (c - 48)) cs
+most_of m n (c ∷ cs) = if is "," c then None else most_of m (with_digit 10 n (c - code_of "0")) cs
 
 abbrev pub upper_of : ℕ → List ℕ → Option Count
 upper_of m [] = Some (count m None)
@@ -226,7 +242,7 @@ upper_of m (c ∷ cs) = most_of m 0 (c ∷ cs)
 
 abbrev pub least_of : ℕ → List ℕ → Option Count
 least_of m [] = Some (count m (Some m))
-least_of m (c ∷ cs) = if c == 44 then upper_of m cs else least_of (with_digit 10 m (c - 48)) cs
+least_of m (c ∷ cs) = if is "," c then upper_of m cs else least_of (with_digit 10 m (c - code_of "0")) cs
 
 -- the count that a text of digits and commas spells between braces: m or m, or ,n or m,n or a comma alone
 unfoldable pub count_of : List ℕ → Option Count

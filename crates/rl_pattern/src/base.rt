@@ -146,7 +146,7 @@ pub(crate) fn no_count(base: Base, from: u32, text: &[u32]) -> Result<Base, OutO
     requires { suc from + length text.now < 2 ^ 32 }
     ensures { IfOk result (λ found. base_of found ≡ m.no_count (base_of base) from text.now) }
 {
-    let mut base = put_code(base, from, 123)?;
+    let mut base = put_code(base, from, '{' as u32)?;
     let mut place = from + 1;
     for code in text {
         base = put_code(base, place, *code)?;

@@ -12,30 +12,30 @@ use rl_ranges::Named;
 pub(crate) fn sign(code: u32) -> Sign
     ensures { result ≡ sign code }
 {
-    match code {
-        40 => Sign::Left,
-        41 => Sign::Right,
-        124 => Sign::Bar,
-        42 => Sign::Times(Count {
+    match char::from_u32(code) {
+        Some('(') => Sign::Left,
+        Some(')') => Sign::Right,
+        Some('|') => Sign::Bar,
+        Some('*') => Sign::Times(Count {
             least: 0,
             most: None,
         }),
-        43 => Sign::Times(Count {
+        Some('+') => Sign::Times(Count {
             least: 1,
             most: None,
         }),
-        63 => Sign::Times(Count {
+        Some('?') => Sign::Times(Count {
             least: 0,
             most: Some(1),
         }),
-        123 => Sign::Brace,
-        92 => Sign::Slash,
-        46 => Sign::Dot,
-        91 => Sign::Bracket,
-        94 => Sign::Edge(Mark::Caret),
-        36 => Sign::Edge(Mark::Dollar),
-        35 => Sign::Sharp,
-        9..=13 | 32 => Sign::Blank,
+        Some('{') => Sign::Brace,
+        Some('\\') => Sign::Slash,
+        Some('.') => Sign::Dot,
+        Some('[') => Sign::Bracket,
+        Some('^') => Sign::Edge(Mark::Caret),
+        Some('$') => Sign::Edge(Mark::Dollar),
+        Some('#') => Sign::Sharp,
+        Some('\t'..='\r' | ' ') => Sign::Blank,
         _ => Sign::Plain,
     }
 }
@@ -45,9 +45,9 @@ pub(crate) fn sign(code: u32) -> Sign
 pub(crate) fn numeral(code: u32) -> Numeral
     ensures { result ≡ numeral code }
 {
-    match code {
-        48..=55 => Numeral::LowDigit(code - 48),
-        56 | 57 => Numeral::HighDigit,
+    match char::from_u32(code) {
+        Some('0'..='7') => Numeral::LowDigit(code - '0' as u32),
+        Some('8' | '9') => Numeral::HighDigit,
         _ => Numeral::NoDigit,
     }
 }
@@ -68,10 +68,10 @@ pub(crate) fn is_digit(code: u32) -> bool
 pub(crate) fn hex(code: u32) -> Option<u32>
     ensures { result ≡ hex code }
 {
-    match code {
-        48..=57 => Some(code - 48),
-        97..=102 => Some(code - 87),
-        65..=70 => Some(code - 55),
+    match char::from_u32(code) {
+        Some('0'..='9') => Some(code - '0' as u32),
+        Some('a'..='f') => Some(10 + (code - 'a' as u32)),
+        Some('A'..='F') => Some(10 + (code - 'A' as u32)),
         _ => None,
     }
 }
@@ -80,7 +80,7 @@ pub(crate) fn hex(code: u32) -> Option<u32>
 pub(crate) fn is_letter(code: u32) -> bool
     ensures { result ≡ is_letter code }
 {
-    97 <= code && code <= 122 || 65 <= code && code <= 90
+    matches!(char::from_u32(code), Some('a'..='z' | 'A'..='Z'))
 }
 
 /// Whether the code may begin a name, in text or not.
@@ -88,7 +88,7 @@ pub(crate) fn is_letter(code: u32) -> bool
 pub(crate) fn begins_name(text: bool, code: u32) -> bool
     ensures { result ≡ begins_name text code }
 {
-    is_letter(code) || code == 95 || text && 128 <= code
+    is_letter(code) || code == '_' as u32 || text && 0x80 <= code
 }
 
 /// Whether the code may stand in a name, in text or not.
@@ -103,28 +103,28 @@ pub(crate) fn goes_in_name(text: bool, code: u32) -> bool
 fn slashed_letter(text: bool, in_class: bool, code: u32) -> Slashed
     ensures { result ≡ slashed_letter text in_class code }
 {
-    match code {
-        97 => Slashed::Single(7),
-        102 => Slashed::Single(12),
-        110 => Slashed::Single(10),
-        114 => Slashed::Single(13),
-        116 => Slashed::Single(9),
-        118 => Slashed::Single(11),
-        100 => Slashed::Kinds(Named::Digit, false),
-        68 => Slashed::Kinds(Named::Digit, true),
-        115 => Slashed::Kinds(Named::Space, false),
-        83 => Slashed::Kinds(Named::Space, true),
-        119 => Slashed::Kinds(Named::Word, false),
-        87 => Slashed::Kinds(Named::Word, true),
-        120 => Slashed::Hexes(2),
-        117 if text => Slashed::Hexes(4),
-        85 if text => Slashed::Hexes(8),
-        78 if text => Slashed::Naming,
-        98 if in_class => Slashed::Single(8),
-        98 => Slashed::Edges(Mark::Boundary(false)),
-        66 if !in_class => Slashed::Edges(Mark::Boundary(true)),
-        65 if !in_class => Slashed::Edges(Mark::TextStart),
-        90 if !in_class => Slashed::Edges(Mark::TextEnd),
+    match char::from_u32(code) {
+        Some('a') => Slashed::Single(7),
+        Some('f') => Slashed::Single(12),
+        Some('n') => Slashed::Single('\n' as u32),
+        Some('r') => Slashed::Single('\r' as u32),
+        Some('t') => Slashed::Single('\t' as u32),
+        Some('v') => Slashed::Single(11),
+        Some('d') => Slashed::Kinds(Named::Digit, false),
+        Some('D') => Slashed::Kinds(Named::Digit, true),
+        Some('s') => Slashed::Kinds(Named::Space, false),
+        Some('S') => Slashed::Kinds(Named::Space, true),
+        Some('w') => Slashed::Kinds(Named::Word, false),
+        Some('W') => Slashed::Kinds(Named::Word, true),
+        Some('x') => Slashed::Hexes(2),
+        Some('u') if text => Slashed::Hexes(4),
+        Some('U') if text => Slashed::Hexes(8),
+        Some('N') if text => Slashed::Naming,
+        Some('b') if in_class => Slashed::Single(8),
+        Some('b') => Slashed::Edges(Mark::Boundary(false)),
+        Some('B') if !in_class => Slashed::Edges(Mark::Boundary(true)),
+        Some('A') if !in_class => Slashed::Edges(Mark::TextStart),
+        Some('Z') if !in_class => Slashed::Edges(Mark::TextEnd),
         _ => Slashed::NoEscape,
     }
 }
@@ -161,13 +161,10 @@ pub(crate) fn slashed(text: bool, in_class: bool, code: u32) -> Slashed
 pub(crate) fn on_letter(code: u32) -> bool
     ensures { result ≡ on_letter code }
 {
-    code == 97
-        || code == 105
-        || code == 76
-        || code == 109
-        || code == 115
-        || code == 117
-        || code == 120
+    matches!(
+        char::from_u32(code),
+        Some('a' | 'i' | 'L' | 'm' | 's' | 'u' | 'x')
+    )
 }
 
 /// Whether the code is a letter that may stand after a `-`.
@@ -175,7 +172,7 @@ pub(crate) fn on_letter(code: u32) -> bool
 pub(crate) fn off_letter(code: u32) -> bool
     ensures { result ≡ off_letter code }
 {
-    code == 105 || code == 109 || code == 115 || code == 120
+    matches!(char::from_u32(code), Some('i' | 'm' | 's' | 'x'))
 }
 
 /// What a code is behind `(?`.
@@ -186,15 +183,15 @@ pub(crate) fn headed(code: u32) -> Headed
     if on_letter(code) {
         return Headed::Letter;
     }
-    match code {
-        58 => Headed::Colon,
-        45 => Headed::Minus,
-        80 => Headed::LetterP,
-        35 => Headed::Sharps,
-        61 | 33 => Headed::Looks,
-        60 => Headed::Less,
-        62 => Headed::Greater,
-        40 => Headed::Condition,
+    match char::from_u32(code) {
+        Some(':') => Headed::Colon,
+        Some('-') => Headed::Minus,
+        Some('P') => Headed::LetterP,
+        Some('#') => Headed::Sharps,
+        Some('=' | '!') => Headed::Looks,
+        Some('<') => Headed::Less,
+        Some('>') => Headed::Greater,
+        Some('(') => Headed::Condition,
         _ => Headed::NoHead,
     }
 }
@@ -204,5 +201,5 @@ pub(crate) fn headed(code: u32) -> Headed
 pub(crate) fn counts(code: u32) -> bool
     ensures { result ≡ counts code }
 {
-    is_digit(code) || code == 44
+    is_digit(code) || code == ',' as u32
 }

@@ -12,24 +12,24 @@ use crate::tree::Count;
 fn count_next(part: CountPart, code: u32) -> Option<CountPart>
     ensures { result ≡ part_next part code }
 {
-    let digit = code.saturating_sub(48);
+    let digit = code.saturating_sub('0' as u32);
     match part {
         CountPart::Least(least) => {
-            if code == 44 {
+            if code == ',' as u32 {
                 Some(CountPart::Upper(least))
             } else {
                 Some(CountPart::Least(with_digit(10, least, digit)))
             }
         }
         CountPart::Upper(least) => {
-            if code == 44 {
+            if code == ',' as u32 {
                 None
             } else {
                 Some(CountPart::Most(least, with_digit(10, 0, digit)))
             }
         }
         CountPart::Most(least, most) => {
-            if code == 44 {
+            if code == ',' as u32 {
                 None
             } else {
                 Some(CountPart::Most(least, with_digit(10, most, digit)))

@@ -1,7 +1,7 @@
 //! The reader within an escape.
 
 ghost use Rattle.std.specs.Prelude.{◌≡◌, ℕ};
-ghost use Rattle.rl_pattern.specs.Codes.{with_digit, code_of, octal_code, hex_code, is_kind};
+ghost use Rattle.rl_pattern.specs.Codes.{with_digit, code_up_to, octal_code, hex_code, is_kind};
 ghost use Rattle.rl_pattern.specs.internal.Machine.{escape_first, escape_next, escape_rest, hex_next, octal_next, low_next, high_next, two_next};
 
 use crate::codes::{hex, numeral};
@@ -16,8 +16,8 @@ pub(crate) fn with_digit(base: u32, number: u32, digit: u32) -> u32
 }
 
 /// A number as a code, which is at most the greatest.
-fn code_of(greatest: u32, number: u32) -> Escaped
-    ensures { result ≡ code_of greatest number }
+fn code_up_to(greatest: u32, number: u32) -> Escaped
+    ensures { result ≡ code_up_to greatest number }
 {
     if number <= greatest {
         Escaped::Code(number)
@@ -30,14 +30,14 @@ fn code_of(greatest: u32, number: u32) -> Escaped
 fn octal_code(number: u32) -> Escaped
     ensures { result ≡ octal_code number }
 {
-    code_of(255, number)
+    code_up_to(255, number)
 }
 
 /// The code of a number in hexadecimal digits.
 fn hex_code(number: u32) -> Escaped
     ensures { result ≡ hex_code number }
 {
-    code_of(0x10FFFF, number)
+    code_up_to(0x10FFFF, number)
 }
 
 /// Whether it is a named class.
@@ -107,21 +107,21 @@ pub(crate) fn escape_next(within: InEscape, code: u32) -> Answer<InEscape, Escap
     match within {
         InEscape::InHex(still, value) => hex_next(still, value, hex(code)),
         InEscape::NameBrace => {
-            if code == 123 {
+            if code == '{' as u32 {
                 Answer::Goes(InEscape::NameBegins)
             } else {
                 Answer::Stops
             }
         }
         InEscape::NameBegins => {
-            if code == 125 {
+            if code == '}' as u32 {
                 Answer::Stops
             } else {
                 Answer::Goes(InEscape::NameGoes)
             }
         }
         InEscape::NameGoes => {
-            if code == 125 {
+            if code == '}' as u32 {
                 Answer::Ends(Escaped::ByName)
             } else {
                 Answer::Goes(InEscape::NameGoes)

@@ -43,13 +43,13 @@ pub(crate) fn with_letter(letters: Flags, code: u32) -> Flags
     ensures { result ≡ with_letter letters code }
 {
     Flags {
-        ignore_case: letters.ignore_case || code == 105,
-        multiline: letters.multiline || code == 109,
-        dot_all: letters.dot_all || code == 115,
-        verbose: letters.verbose || code == 120,
-        ascii: letters.ascii || code == 97,
-        unicode: letters.unicode || code == 117,
-        locale: letters.locale || code == 76,
+        ignore_case: letters.ignore_case || code == 'i' as u32,
+        multiline: letters.multiline || code == 'm' as u32,
+        dot_all: letters.dot_all || code == 's' as u32,
+        verbose: letters.verbose || code == 'x' as u32,
+        ascii: letters.ascii || code == 'a' as u32,
+        unicode: letters.unicode || code == 'u' as u32,
+        locale: letters.locale || code == 'L' as u32,
     }
 }
 

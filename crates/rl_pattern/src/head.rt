@@ -1,6 +1,7 @@
 //! The reader within the head of a group.
 
-ghost use Rattle.std.specs.Prelude.{◌≡◌, ℕ, Bool, if◌then◌else◌, nat_eq, IfOk};
+ghost use Rattle.std.specs.Prelude.{◌≡◌, ℕ, Bool, if◌then◌else◌, IfOk};
+ghost use Rattle.rl_pattern.specs.Codes.{is};
 ghost use Rattle.rl_pattern.specs.internal.Machine.{head_step, quest_next, behind_next, behind_paren};
 
 use crate::codes::{begins_name, goes_in_name, headed, is_digit, off_letter, on_letter};
@@ -74,13 +75,13 @@ fn behind_next(next: Headed) -> HeadAnswer
 fn letters_next(letters: Flags, code: u32) -> HeadAnswer
     ensures { (text : Bool) → result ≡ head_step text (InHead.LettersOn letters) code }
 {
-    if code == 58 {
+    if code == ':' as u32 {
         return Answer::Ends(Begun::BeginsGroup(Kind::Scoped(letters, no_flags())));
     }
-    if code == 41 {
+    if code == ')' as u32 {
         return Answer::Ends(Begun::IsFront(letters));
     }
-    if code == 45 {
+    if code == '-' as u32 {
         return Answer::Goes(InHead::LettersDash(letters));
     }
     if on_letter(code) {
@@ -105,7 +106,7 @@ fn goes_if(goes: bool, head: InHead) -> HeadAnswer
 fn group_name_next(text: bool, mut name: Items<u32>, code: u32) -> Result<HeadAnswer, OutOfMemory>
     ensures { IfOk result (λ answer. answer ≡ head_step text (InHead.GroupNameGoes name) code) }
 {
-    if code == 62 {
+    if code == '>' as u32 {
         return Ok(Answer::Ends(Begun::BeginsGroup(Kind::Named(name))));
     }
     if goes_in_name(text, code) {
@@ -118,9 +119,9 @@ fn group_name_next(text: bool, mut name: Items<u32>, code: u32) -> Result<HeadAn
 
 /// A code within what a conditional asks for.
 fn asks_next(code: u32, goes: bool, head: InHead) -> HeadAnswer
-    ensures { result ≡ (if nat_eq code 41 then Answer.Ends (Begun.BeginsGroup Kind.Conditional) else (if goes then Answer.Goes head else Answer.Stops)) }
+    ensures { result ≡ (if is ")" code then Answer.Ends (Begun.BeginsGroup Kind.Conditional) else (if goes then Answer.Goes head else Answer.Stops)) }
 {
-    if code == 41 {
+    if code == ')' as u32 {
         Answer::Ends(Begun::BeginsGroup(Kind::Conditional))
     } else {
         goes_if(goes, head)
@@ -137,13 +138,13 @@ pub(crate) fn head_step(
     ensures { IfOk result (λ answer. answer ≡ head_step text head code) }
 {
     match head {
-        InHead::Paren => Ok(goes_if(code == 63, InHead::Quest)),
+        InHead::Paren => Ok(goes_if(code == '?' as u32, InHead::Quest)),
         InHead::Quest => Ok(quest_next(headed(code), code)),
         InHead::AfterP => {
-            if code == 60 {
+            if code == '<' as u32 {
                 Ok(Answer::Goes(InHead::GroupName))
             } else {
-                Ok(goes_if(code == 61, InHead::ReferenceName))
+                Ok(goes_if(code == '=' as u32, InHead::ReferenceName))
             }
         }
         InHead::AfterLess => Ok(behind_next(headed(code))),
@@ -159,7 +160,7 @@ pub(crate) fn head_step(
         InHead::GroupNameGoes(name) => group_name_next(text, name, code),
         InHead::ReferenceName => Ok(goes_if(begins_name(text, code), InHead::ReferenceNameGoes)),
         InHead::ReferenceNameGoes => {
-            if code == 41 {
+            if code == ')' as u32 {
                 Ok(Answer::Ends(Begun::IsReference))
             } else {
                 Ok(goes_if(goes_in_name(text, code), InHead::ReferenceNameGoes))
@@ -180,7 +181,7 @@ pub(crate) fn head_step(
             InHead::LettersOff(letters, with_letter(no_flags(), code)),
         )),
         InHead::LettersOff(letters, off) => {
-            if code == 58 {
+            if code == ':' as u32 {
                 Ok(Answer::Ends(Begun::BeginsGroup(Kind::Scoped(letters, off))))
             } else {
                 Ok(goes_if(

@@ -35,13 +35,13 @@ impl From<OutOfMemory> for ReadError {
     }
 }
 
-/// Whether this code is at the place.
-fn is_code(codes: &[u32], place: usize, code: u32) -> bool
-    ensures { result ≡ is_code (slice_get codes.now place) code }
+/// Whether this character is at the place.
+fn is_code(codes: &[u32], place: usize, character: char) -> bool
+    ensures { result ≡ is_code (slice_get codes.now place) character }
 {
     match codes.get(place) {
         None => false,
-        Some(found) => *found == code,
+        Some(found) => *found == character as u32,
     }
 }
 
@@ -50,9 +50,9 @@ fn opens_none(codes: &[u32], place: usize) -> bool
     requires { place < 2 ^ 32 }
     ensures { result ≡ opens_none codes.now place }
 {
-    is_code(codes, place + 1, 63)
-        && (is_code(codes, place + 2, 35)
-            || is_code(codes, place + 2, 80) && is_code(codes, place + 3, 61))
+    is_code(codes, place + 1, '?')
+        && (is_code(codes, place + 2, '#')
+            || is_code(codes, place + 2, 'P') && is_code(codes, place + 3, '='))
 }
 
 /// Whether the reader stands behind a parenthesis.

@@ -36,7 +36,7 @@ fn in_set(before: Items<Member>, part: InSet) -> SetAnswer
 fn side_first(i: u32, before: Items<Member>, code: u32) -> SetAnswer
     ensures { result ≡ side_first i before code }
 {
-    if code == 92 {
+    if code == '\\' as u32 {
         in_set(before, InSet::SetSlash(i))
     } else {
         in_set(before, InSet::SetSide(i, Escaped::Code(code)))
@@ -47,7 +47,7 @@ fn side_first(i: u32, before: Items<Member>, code: u32) -> SetAnswer
 fn member_first(i: u32, before: Items<Member>, code: u32) -> SetAnswer
     ensures { result ≡ member_first i before code }
 {
-    if code == 93 {
+    if code == ']' as u32 {
         Answer::Ends(before)
     } else {
         side_first(i, before, code)
@@ -64,7 +64,7 @@ fn side_next(
 ) -> Result<SetAnswer, OutOfMemory>
     ensures { IfOk result (λ answer. answer ≡ side_next i before from side code) }
 {
-    if code == 45 {
+    if code == '-' as u32 {
         return Ok(in_set(before, InSet::SetDash(from, i, side)));
     }
     Ok(member_first(i, with_one(before, from, i, side)?, code))
@@ -178,14 +178,14 @@ fn dash_next(
     requires { i < 2 ^ 32 - 1 }
     ensures { IfOk result (λ found. found ≡ dash_next i before from dash first code) }
 {
-    if code == 93 {
+    if code == ']' as u32 {
         let before = with_one(before, from, dash, first)?;
-        return Ok(Answer::Ends(with_one(before, dash, i, Escaped::Code(45))?));
+        return Ok(Answer::Ends(with_one(before, dash, i, Escaped::Code('-' as u32))?));
     }
     if is_kind(first) {
         return Ok(Answer::Stops);
     }
-    if code == 92 {
+    if code == '\\' as u32 {
         return Ok(in_set(before, InSet::DashSlash(from, first)));
     }
     before.push(Member::Range(Span { from, upto: i + 1 }, first, Escaped::Code(code)))?;

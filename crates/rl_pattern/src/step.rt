@@ -96,7 +96,7 @@ fn end_braces(
     match count {
         None => {
             let base = no_count(base, from, text)?;
-            Ok(between(put_code(base, i, 125)?))
+            Ok(between(put_code(base, i, '}' as u32)?))
         }
         Some(count) => Ok(count_last(base, from, count)),
     }
@@ -115,7 +115,7 @@ fn braces_step(
     requires fits { i ≡ suc from + length text }
     ensures { IfOk result (λ found. option_map state_of found ≡ m.braces_step i (base_of base) from text code) }
 {
-    if code == 125 {
+    if code == '}' as u32 {
         let count = count_of(text.as_slice());
         return end_braces(i, base, from, text.as_slice(), count);
     }
@@ -145,11 +145,11 @@ fn counted_step(
         from: mark,
         upto: i + 1,
     };
-    if code == 63 {
+    if code == '?' as u32 {
         let base = put_repeat(alloc, base, from, atom, longer, count, Greed::Lazy)?;
         return Ok(between(base));
     }
-    if code == 43 {
+    if code == '+' as u32 {
         let base = put_repeat(alloc, base, from, atom, longer, count, Greed::Possessive)?;
         return Ok(between(base));
     }
@@ -320,7 +320,7 @@ fn set_opens(
     requires { i < 2 ^ 32 - 1 }
     ensures { IfOk result (λ found. option_map state_of found ≡ m.set_opens text i (base_of base) from code) }
 {
-    if code == 94 {
+    if code == '^' as u32 {
         let set = Set {
             before: Items::new(alloc),
             part: InSet::SetFirst,
@@ -347,14 +347,14 @@ pub(crate) fn step(
     match lex {
         Lex::Between => go_on(alloc, i, base, code),
         Lex::Line => {
-            if code == 10 {
+            if code == '\n' as u32 {
                 Ok(between(base))
             } else {
                 Ok(Some(at(base, Lex::Line)))
             }
         }
         Lex::Remark => {
-            if code == 41 {
+            if code == ')' as u32 {
                 Ok(between(base))
             } else {
                 Ok(Some(at(base, Lex::Remark)))

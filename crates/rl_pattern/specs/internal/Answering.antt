@@ -6,6 +6,7 @@ use Rattle.rl_pattern.specs.declared.read.ReadError.{ReadError}
 use Rattle.rl_pattern.specs.declared.read.ReadError.TheVariants.{Syntax, TooDeep, OutOfMemory}
 use Rattle.rl_pattern.specs.declared.state.State.{State as ProgramState}
 use Rattle.rl_pattern.specs.Tree as t
+use Rattle.rl_pattern.specs.Codes.{code_of}
 use Rattle.rl_pattern.specs.Grammar.{Spells}
 use Rattle.rl_pattern.specs.Viable.{Begins, Viable, TooDeepAt}
 use Rattle.rl_pattern.specs.internal.Views.{state_of, whole_of}
@@ -27,7 +28,7 @@ is_code (Some d) c = d == c
 
 -- the codes behind a parenthesis at p are ?# or ?P=
 abbrev pub opens_none : List ℕ → ℕ → Bool
-opens_none w p = is_code (slice_get w (suc p)) 63 && (is_code (slice_get w (suc (suc p))) 35 || (is_code (slice_get w (suc (suc p))) 80 && is_code (slice_get w (suc (suc (suc p)))) 61))
+opens_none w p = is_code (slice_get w (suc p)) (code_of "?") && (is_code (slice_get w (suc (suc p))) (code_of "#") || (is_code (slice_get w (suc (suc p))) (code_of "P") && is_code (slice_get w (suc (suc (suc p)))) (code_of "=")))
 
 -- the machine stands behind a parenthesis
 abbrev pub at_paren : Lex → Bool

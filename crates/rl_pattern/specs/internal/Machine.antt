@@ -14,7 +14,7 @@ pub use Rattle.rl_pattern.specs.declared.lex.InHead.TheVariants.{Paren as paren,
 pub use Rattle.rl_pattern.specs.declared.lex.Begun.{Begun}
 pub use Rattle.rl_pattern.specs.declared.lex.Begun.TheVariants.{BeginsGroup as begins_group, BeginsRemark as begins_remark, IsReference as is_reference, IsFront as is_front}
 use Rattle.rl_pattern.specs.Tree.{span, Count, Greed, greedy, lazy, possessive, Escaped, code, by_name, kind, reference, Member, one, range, Leaf, any, glyph, members, Kind, capturing, named, scoped, lookaround, atomic, conditional, Node, leaf, mark, repeat, group, Branch, branch, whole_body, Front, Whole}
-use Rattle.rl_pattern.specs.Codes.{Sign, sign, left, right, bar, brace, slash, dot, bracket, times, edge, blank, sharp, plain, Numeral, numeral, low_digit, high_digit, no_digit, is_digit, hex, begins_name, goes_in_name, Slashed, slashed, single, kinds, hexes, naming, octal, low, high, edges, no_escape, octal_code, hex_code, is_kind, Headed, headed, letter, colon, minus, letter_p, sharps, less, greater, condition, looks, no_head, on_letter, off_letter, no_flags, with_letter, joined, inside, splits, with_digit, counts, count_of}
+use Rattle.rl_pattern.specs.Codes.{code_of, is, Sign, sign, left, right, bar, brace, slash, dot, bracket, times, edge, blank, sharp, plain, Numeral, numeral, low_digit, high_digit, no_digit, is_digit, hex, begins_name, goes_in_name, Slashed, slashed, single, kinds, hexes, naming, octal, low, high, edges, no_escape, octal_code, hex_code, is_kind, Headed, headed, letter, colon, minus, letter_p, sharps, less, greater, condition, looks, no_head, on_letter, off_letter, no_flags, with_letter, joined, inside, splits, with_digit, counts, count_of}
 use Rattle.rl_pattern.specs.Grammar.{outermost}
 
 -- the code behind the backslash
@@ -55,9 +55,9 @@ two_next v no_digit = stops
 
 abbrev pub escape_next : InEscape → ℕ → Answer InEscape Escaped
 escape_next (in_hex still v) c = hex_next still v (hex c)
-escape_next name_brace c = if c == 123 then goes name_begins else stops
-escape_next name_begins c = if c == 125 then stops else goes name_goes
-escape_next name_goes c = if c == 125 then ends by_name else goes name_goes
+escape_next name_brace c = if is "{" c then goes name_begins else stops
+escape_next name_begins c = if is "}" c then stops else goes name_goes
+escape_next name_goes c = if is "}" c then ends by_name else goes name_goes
 escape_next (in_octal still v) c = octal_next still v (numeral c)
 escape_next (after_low v) c = low_next v (numeral c)
 escape_next after_high c = high_next (numeral c)
@@ -82,14 +82,14 @@ with_one ms a j e = ms ++ one (span a j) e ∷ []
 
 -- a code that begins a member
 abbrev pub side_first : ℕ → List Member → ℕ → Answer Set (List Member)
-side_first i ms c = if c == 92 then in_set ms (set_slash i) else in_set ms (set_side i (code c))
+side_first i ms c = if is "\\" c then in_set ms (set_slash i) else in_set ms (set_side i (code c))
 
 abbrev pub member_first : ℕ → List Member → ℕ → Answer Set (List Member)
-member_first i ms c = if c == 93 then ends ms else side_first i ms c
+member_first i ms c = if is "]" c then ends ms else side_first i ms c
 
 -- a code after a side
 abbrev pub side_next : ℕ → List Member → ℕ → Escaped → ℕ → Answer Set (List Member)
-side_next i ms a e c = if c == 45 then in_set ms (set_dash a i e) else member_first i (with_one ms a i e) c
+side_next i ms a e c = if is "-" c then in_set ms (set_dash a i e) else member_first i (with_one ms a i e) c
 
 abbrev pub escape_in_set : List Member → ℕ → Answer InEscape Escaped → Answer Set (List Member)
 escape_in_set ms a stops = stops
@@ -121,9 +121,9 @@ escape_dash_next i ms a e (ends d) o c = range_ends (suc i) ms a e d
 -- a code after a side and a - at b
 abbrev pub dash_next : ℕ → List Member → ℕ → ℕ → Escaped → ℕ → Answer Set (List Member)
 dash_next i ms a b e c =
-    if c == 93 then ends (with_one (with_one ms a b e) b i (code 45))
+    if is "]" c then ends (with_one (with_one ms a b e) b i (code (code_of "-")))
     else (if is_kind e then stops
-    else (if c == 92 then in_set ms (dash_slash a e)
+    else (if is "\\" c then in_set ms (dash_slash a e)
     else in_set (ms ++ range (span a (suc i)) e (code c) ∷ []) set_next))
 
 -- the code at i of a class
@@ -162,26 +162,26 @@ behind_next condition = stops
 behind_next no_head = stops
 
 abbrev pub head_step : Bool → InHead → ℕ → Answer InHead Begun
-head_step text paren c = if c == 63 then goes quest else stops
+head_step text paren c = if is "?" c then goes quest else stops
 head_step text quest c = quest_next (headed c) c
-head_step text after_p c = if c == 60 then goes group_name else (if c == 61 then goes reference_name else stops)
+head_step text after_p c = if is "<" c then goes group_name else (if is "=" c then goes reference_name else stops)
 head_step text after_less c = behind_next (headed c)
 head_step text group_name c = if begins_name text c then goes (group_name_goes (c ∷ [])) else stops
 head_step text (group_name_goes n) c =
-    if c == 62 then ends (begins_group (named n)) else (if goes_in_name text c then goes (group_name_goes (n ++ c ∷ [])) else stops)
+    if is ">" c then ends (begins_group (named n)) else (if goes_in_name text c then goes (group_name_goes (n ++ c ∷ [])) else stops)
 head_step text reference_name c = if begins_name text c then goes reference_name_goes else stops
-head_step text reference_name_goes c = if c == 41 then ends is_reference else (if goes_in_name text c then goes reference_name_goes else stops)
+head_step text reference_name_goes c = if is ")" c then ends is_reference else (if goes_in_name text c then goes reference_name_goes else stops)
 head_step text asks c = if is_digit c then goes asks_digits else (if begins_name text c then goes asks_name_goes else stops)
-head_step text asks_digits c = if c == 41 then ends (begins_group conditional) else (if is_digit c then goes asks_digits else stops)
-head_step text asks_name_goes c = if c == 41 then ends (begins_group conditional) else (if goes_in_name text c then goes asks_name_goes else stops)
+head_step text asks_digits c = if is ")" c then ends (begins_group conditional) else (if is_digit c then goes asks_digits else stops)
+head_step text asks_name_goes c = if is ")" c then ends (begins_group conditional) else (if goes_in_name text c then goes asks_name_goes else stops)
 head_step text (letters_on f) c =
-    if c == 58 then ends (begins_group (scoped f no_flags))
-    else (if c == 41 then ends (is_front f)
-    else (if c == 45 then goes (letters_dash f)
+    if is ":" c then ends (begins_group (scoped f no_flags))
+    else (if is ")" c then ends (is_front f)
+    else (if is "-" c then goes (letters_dash f)
     else (if on_letter c then goes (letters_on (with_letter f c)) else stops)))
 head_step text (letters_dash f) c = if off_letter c then goes (letters_off f (with_letter no_flags c)) else stops
 head_step text (letters_off f g) c =
-    if c == 58 then ends (begins_group (scoped f g)) else (if off_letter c then goes (letters_off f (with_letter g c)) else stops)
+    if is ":" c then ends (begins_group (scoped f g)) else (if off_letter c then goes (letters_off f (with_letter g c)) else stops)
 
 -- an open body: its group's kind, the places of its parenthesis and of its first code, the place where the open
 -- branch begins, the branches before that, and the items of the open branch
@@ -254,7 +254,7 @@ put_codes b i (c ∷ cs) = put_codes (put_code b i c) (suc i) cs
 
 -- a brace at a and the text after it, which are no count
 abbrev pub no_count : Base → ℕ → List ℕ → Base
-no_count b a t = put_codes (put_code b a 123) (suc a) t
+no_count b a t = put_codes (put_code b a (code_of "{")) (suc a) t
 
 -- the atom p from a with the quantifier from q up to j
 abbrev pub put_repeat : Base → ℕ → Node → ℕ → ℕ → Count → Greed → Base
@@ -347,19 +347,19 @@ go_on i b c = by_sign i b c (sign c)
 
 -- the } at i of a brace at a
 abbrev pub end_braces : ℕ → Base → ℕ → List ℕ → Option Count → Option State
-end_braces i b a t None = Some (at (put_code (no_count b a t) i 125) between)
+end_braces i b a t None = Some (at (put_code (no_count b a t) i (code_of "}")) between)
 end_braces i b a t (Some n) = count_last b a n b.last
 
 abbrev pub braces_step : ℕ → Base → ℕ → List ℕ → ℕ → Option State
 braces_step i b a t c =
-    if c == 125 then end_braces i b a t (count_of t)
+    if is "}" c then end_braces i b a t (count_of t)
     else (if counts c then Some (at b (in_braces a (t ++ c ∷ []))) else go_on i (no_count b a t) c)
 
 -- the code after the quantifier from q for the atom from a
 abbrev pub counted_step : ℕ → Base → ℕ → Node → ℕ → Count → ℕ → Option State
 counted_step i b a p q n c =
-    if c == 63 then Some (at (put_repeat b a p q (suc i) n lazy) between)
-    else (if c == 43 then Some (at (put_repeat b a p q (suc i) n possessive) between)
+    if is "?" c then Some (at (put_repeat b a p q (suc i) n lazy) between)
+    else (if is "+" c then Some (at (put_repeat b a p q (suc i) n possessive) between)
     else go_on i (put_repeat b a p q i n greedy) c)
 
 abbrev pub escape_begins : ℕ → Base → ℕ → Answer InEscape Escaped → Option State
@@ -420,14 +420,14 @@ set_answer i b a inverse (ends ms) = Some (at (put_leaf b a (suc i) (members inv
 -- the code behind a bracket at a
 abbrev pub set_opens : Bool → ℕ → Base → ℕ → ℕ → Option State
 set_opens text i b a c =
-    if c == 94 then Some (at b (in_class a true (record { before = []; part = set_first })))
+    if is "^" c then Some (at b (in_class a true (record { before = []; part = set_first })))
     else set_answer i b a false (set_step text i [] set_first c)
 
 -- the code at i, in text or not
 abbrev pub step : Bool → ℕ → Base → Lex → ℕ → Option State
 step text i b between c = go_on i b c
-step text i b line c = if c == 10 then Some (at b between) else Some (at b line)
-step text i b remark c = if c == 41 then Some (at b between) else Some (at b remark)
+step text i b line c = if is "\n" c then Some (at b between) else Some (at b line)
+step text i b remark c = if is ")" c then Some (at b between) else Some (at b remark)
 step text i b (in_braces a t) c = braces_step i b a t c
 step text i b (counted a p q n) c = counted_step i b a p q n c
 step text i b (at_slash a) c = slash_step i b a (slashed text false c)

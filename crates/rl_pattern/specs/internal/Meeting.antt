@@ -1,19 +1,19 @@
 -- Codes from which some are taken out, so that what comes to stand side by side may do so.
-use Rattle.std.specs.Prelude.{◌≡◌, ◌≢◌, ℕ, suc, Bool, true, false, ◌||◌, ◌==◌, List, length, Some, slice_get}
-use Rattle.rl_pattern.specs.Codes.{is_digit}
+use Rattle.std.specs.Prelude.{◌≡◌, ◌≢◌, ℕ, suc, Bool, true, false, ◌||◌, List, length, Some, slice_get}
+use Rattle.rl_pattern.specs.Codes.{code_of, is_in, is_digit}
 
 -- behind such a code a further one may belong to what ends with it: to a number, a count, or a quantifier
 unfoldable pub is_open : ℕ → Bool
-is_open c = is_digit c || (c == 42 || (c == 43 || (c == 63 || (c == 123 || (c == 125 || c == 44)))))
+is_open c = is_digit c || is_in "*+?{}," c
 
 -- and this is such a further code
 unfoldable pub goes_on : ℕ → Bool
-goes_on c = is_digit c || (c == 43 || (c == 63 || (c == 125 || c == 44)))
+goes_on c = is_digit c || is_in "+?}," c
 
 -- two codes may come to stand side by side: the second doesn't go on with what ends with the first
 pub record MayMeet (c d : ℕ) : Type 0 where
   pub apart : is_open c ≡ true → goes_on d ≡ false
-  pub no_head : c ≡ 40 → d ≢ 63
+  pub no_head : c ≡ code_of "(" → d ≢ code_of "?"
 
 -- the codes v are those of w whose places are kept, g(i) of them before the place i; and where codes are taken out, what comes
 -- to stand side by side may do so

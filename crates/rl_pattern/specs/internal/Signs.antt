@@ -2,24 +2,20 @@
 use Rattle.std.specs.Prelude.{◌≡◌, ℕ, true}
 use Rattle.rl_pattern.specs.declared.lex.Sign.{Sign}
 use Rattle.rl_pattern.specs.declared.lex.Sign.TheVariants.{Left as left, Right as right, Bar as bar, Brace as brace, Slash as slash, Dot as dot, Bracket as bracket, Times as times, Edge as edge, Blank as blank, Sharp as sharp, Plain as plain}
-use Rattle.rl_pattern.specs.declared.lex.Numeral.{Numeral}
-use Rattle.rl_pattern.specs.declared.lex.Numeral.TheVariants.{LowDigit as low_digit, HighDigit as high_digit, NoDigit as no_digit}
-use Rattle.rl_pattern.specs.declared.lex.Slashed.{Slashed}
-use Rattle.rl_pattern.specs.declared.lex.Slashed.TheVariants.{Single as single, Kinds as kinds, Hexes as hexes, Naming as naming, Octal as octal, Low as low, High as high, Edges as edges, NoEscape as no_escape}
 use Rattle.rl_pattern.specs.declared.lex.Headed.{Headed}
 use Rattle.rl_pattern.specs.declared.lex.Headed.TheVariants.{Letter as letter, Colon as colon, Minus as minus, LetterP as letter_p, Sharps as sharps, Less as less, Greater as greater, Condition as condition, Looks as looks, NoHead as no_head}
-use Rattle.rl_pattern.specs.Codes.{on_letter}
+use Rattle.rl_pattern.specs.Codes.{code_of, on_letter}
 
 -- the single code that a sign names
 abbrev pub SignIs : Sign → ℕ → Type 0
-SignIs left c = c ≡ 40
-SignIs right c = c ≡ 41
-SignIs bar c = c ≡ 124
-SignIs brace c = c ≡ 123
-SignIs slash c = c ≡ 92
-SignIs dot c = c ≡ 46
-SignIs bracket c = c ≡ 91
-SignIs sharp c = c ≡ 35
+SignIs left c = c ≡ code_of "("
+SignIs right c = c ≡ code_of ")"
+SignIs bar c = c ≡ code_of "|"
+SignIs brace c = c ≡ code_of "{"
+SignIs slash c = c ≡ code_of "\\"
+SignIs dot c = c ≡ code_of "."
+SignIs bracket c = c ≡ code_of "["
+SignIs sharp c = c ≡ code_of "#"
 SignIs (times n) c = Unit {0}
 SignIs (edge m) c = Unit {0}
 SignIs blank c = Unit {0}
@@ -28,12 +24,12 @@ SignIs plain c = Unit {0}
 -- the single code that a sign behind (? names
 abbrev pub HeadIs : Headed → ℕ → Type 0
 HeadIs letter c = on_letter c ≡ true
-HeadIs colon c = c ≡ 58
-HeadIs minus c = c ≡ 45
-HeadIs letter_p c = c ≡ 80
-HeadIs sharps c = c ≡ 35
-HeadIs less c = c ≡ 60
-HeadIs greater c = c ≡ 62
-HeadIs condition c = c ≡ 40
+HeadIs colon c = c ≡ code_of ":"
+HeadIs minus c = c ≡ code_of "-"
+HeadIs letter_p c = c ≡ code_of "P"
+HeadIs sharps c = c ≡ code_of "#"
+HeadIs less c = c ≡ code_of "<"
+HeadIs greater c = c ≡ code_of ">"
+HeadIs condition c = c ≡ code_of "("
 HeadIs looks c = Unit {0}
 HeadIs no_head c = Unit {0}

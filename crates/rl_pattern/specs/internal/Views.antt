@@ -1,5 +1,5 @@
 -- What the program's values are to the grammar and the machine.
-use Rattle.std.specs.Prelude.{◌≡◌, ℕ, suc, ◌+◌, List, map, reverse, length, Option, Some, None, if◌then◌else◌, ◌==◌, ◌-◌}
+use Rattle.std.specs.Prelude.{◌≡◌, ℕ, suc, ◌+◌, List, map, reverse, length, Option, Some, None, if◌then◌else◌, ◌-◌}
 use Rattle.rl_pattern.specs.declared.tree.Node.{Node}
 use Rattle.rl_pattern.specs.declared.tree.Node.TheOpen as Open
 use Rattle.rl_pattern.specs.declared.tree.Node.TheFolds.{fold-Node, fold-Branch}
@@ -14,7 +14,7 @@ use Rattle.rl_pattern.specs.declared.state.Lex.TheVariants.{Between, Line, Remar
 use Rattle.rl_pattern.specs.declared.state.State.{State}
 use Rattle.rl_pattern.specs.declared.lex.CountPart.{CountPart}
 use Rattle.rl_pattern.specs.declared.lex.CountPart.TheVariants.{Least, Upper, Most}
-use Rattle.rl_pattern.specs.Codes.{with_digit, least_of, upper_of, most_of}
+use Rattle.rl_pattern.specs.Codes.{code_of, is, with_digit, least_of, upper_of, most_of}
 use Rattle.rl_pattern.specs.Tree as t
 use Rattle.rl_pattern.specs.internal.Machine as m
 
@@ -87,6 +87,6 @@ part_rest (Most m n) cs = most_of m n cs
 
 -- a part with one code more
 abbrev pub part_next : CountPart → ℕ → Option CountPart
-part_next (Least m) c = if c == 44 then Some (Upper m) else Some (Least (with_digit 10 m (c - 48)))
-part_next (Upper m) c = if c == 44 then None else Some (Most m (with_digit 10 0 (c - 48)))
-part_next (Most m n) c = if c == 44 then None else Some (Most m (with_digit 10 n (c - 48)))
+part_next (Least m) c = if is "," c then Some (Upper m) else Some (Least (with_digit 10 m (c - code_of "0")))
+part_next (Upper m) c = if is "," c then None else Some (Most m (with_digit 10 0 (c - code_of "0")))
+part_next (Most m n) c = if is "," c then None else Some (Most m (with_digit 10 n (c - code_of "0")))
