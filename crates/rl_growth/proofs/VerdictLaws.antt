@@ -10,6 +10,7 @@ use Rattle.rl_degree.proofs.RankPaths.{by_degree}
 use Rattle.rl_degree.proofs.WithoutSplit.{without_cycle}
 use Rattle.rl_degree.proofs.SplitLaws.{rank_still, chain_short}
 use Rattle.rl_ranges.specs.Text.{code_count, IsText}
+use Rattle.rl_ranges.specs.declared.letters.TheConstants.{MOST_LETTERS}
 use Rattle.rl_syntax.specs.declared.verdict.Family.{Family}
 use Rattle.rl_syntax.specs.declared.verdict.Limit.{Limit}
 use Rattle.rl_syntax.specs.declared.verdict.Limit.TheVariants.{Size, Letters, Moves, Sets, Pairs}
@@ -17,6 +18,7 @@ use Rattle.rl_syntax.specs.declared.verdict.Verdict.{Verdict}
 use Rattle.rl_syntax.specs.declared.verdict.Verdict.TheVariants.{Degree, Expo, Undecided}
 use Rattle.rl_syntax.specs.Tree.{size}
 use Rattle.rl_syntax.specs.Family.{IsFamily}
+use Rattle.rl_syntax.specs.declared.limits.TheConstants.{MOST_COUNTED_SETS, MOST_MOVES, MOST_NODES}
 use Rattle.rl_prio.specs.Automaton.{Automaton, IsAutomaton}
 use Rattle.rl_prio.specs.Items.{longest}
 use Rattle.rl_prio.specs.StandsFor.{StandsFor}
@@ -35,10 +37,10 @@ use Rattle.rl_growth.proofs.RouteLaws.{chained-from}
 
 -- the limits
 
-pub small : (q : Question) → size q.tree ≤ 4000 → length (letters q.tree (code_count q.universe)) ≤ 128 → longest q.tree ≤ 256 → IsSmall q
+pub small : (q : Question) → size q.tree ≤ MOST_NODES → length (letters q.tree (code_count q.universe)) ≤ MOST_LETTERS → longest q.tree ≤ MOST_MOVES → IsSmall q
 small q s l m = record { size = λ h. omega arith; letters = λ h. omega arith; moves = λ h. omega arith }
 
-pub none_passed : (q : Question) (a : Automaton) (next : ℕ → ℕ → List ℕ) (at : ℕ → Pair) (n : ℕ) → IsMachine q a → IsSmall q → IsPairGraph a next at n → n ≤ q.max_pairs → (MoreThan 20000 (CountedSet a) → ⊥) → (limit : Limit) → IsPassed q limit → ⊥
+pub none_passed : (q : Question) (a : Automaton) (next : ℕ → ℕ → List ℕ) (at : ℕ → Pair) (n : ℕ) → IsMachine q a → IsSmall q → IsPairGraph a next at n → n ≤ q.max_pairs → (MoreThan MOST_COUNTED_SETS (CountedSet a) → ⊥) → (limit : Limit) → IsPassed q limit → ⊥
 none_passed q a next at n machine small g few sets Size h = small.size h
 none_passed q a next at n machine small g few sets Letters h = small.letters h
 none_passed q a next at n machine small g few sets Moves h = small.moves h
@@ -119,7 +121,7 @@ chain_fits a next at n splits alone heads pumps stands g none w =
     omega (arith, short, w.count)
 
 pub decided : {E : Type 0} (q : Question) (a : Automaton) (next : ℕ → ℕ → List ℕ) (at : ℕ → Pair) (n : ℕ) (r : Result Verdict E) → StandsFor a q.tree q.ending → a.table.codes ≡ code_count q.universe
-    → size q.tree ≤ 4000 → length (letters q.tree (code_count q.universe)) ≤ 128 → longest q.tree ≤ 256 → IsPairGraph a next at n → n ≤ q.max_pairs → (MoreThan 20000 (CountedSet a) → ⊥) → IfOk r (DecidesFor a) → IfOk r (RightVerdict q)
+    → size q.tree ≤ MOST_NODES → length (letters q.tree (code_count q.universe)) ≤ MOST_LETTERS → longest q.tree ≤ MOST_MOVES → IsPairGraph a next at n → n ≤ q.max_pairs → (MoreThan MOST_COUNTED_SETS (CountedSet a) → ⊥) → IfOk r (DecidesFor a) → IfOk r (RightVerdict q)
 decided q a next at n (Ok v) stands codes s l m g few sets h =
     let machine : IsMachine q a = record { stands = stands; same_codes = codes } in
     h q machine (none_passed q a next at n machine (small q s l m) g few sets)

@@ -6,6 +6,7 @@ use Rattle.rl_syntax.specs.declared.re.Lowered.{Lowered}
 use Rattle.rl_syntax.specs.declared.verdict.Verdict.{Verdict}
 use Rattle.rl_syntax.specs.declared.verdict.Limit.{Limit}
 use Rattle.rl_syntax.specs.Tree.{Tree, tree_of}
+use Rattle.rl_syntax.specs.declared.limits.TheConstants.{MOST_PAIRS}
 use Rattle.rl_prio.specs.Automaton.{Automaton, IsAutomaton}
 use Rattle.rl_prio.specs.StandsFor.{StandsFor}
 use Rattle.rl_graph.specs.Paths.{paths}
@@ -24,11 +25,11 @@ question_of l universe max_pairs = record { tree = tree_of l.tree; ending = l.en
 abbrev pub StandsForSome : Automaton → Type 0
 StandsForSome a = (t : Tree) × (ending : Ending) × IsAutomaton a × StandsFor a t ending
 
--- a numbered graph of the live pairs, of which there are at most 1,000, with a word that leads to each of them and a rest that its set refuses
+-- a numbered graph of the live pairs, of which there are no more than a caller may allow, with a word that leads to each of them and a rest that its set refuses
 pub record IsLedGraph (a : Automaton) (next : ℕ → ℕ → List ℕ) (at : ℕ → Pair) (n : ℕ) (lead rest : ℕ → List ℕ) : Type 0 where
   pub graph : IsPairGraph a next at n
   pub numbered : IsNumbered a next at n
-  pub few : n ≤ 1000
+  pub few : n ≤ MOST_PAIRS
   pub leads : (i : ℕ) → i < n → 1 ≤ paths next 0 i (lead i)
   pub rests : (i : ℕ) → i < n → IsRest a (rest i)
   pub refuses : (i : ℕ) → i < n → refused a at i (rest i) ≡ true

@@ -4,6 +4,7 @@ ghost use Rattle.std.specs.Prelude.{◌≡◌, ℕ, ◌<◌, ◌≤◌, [], ◌�
 ghost use Rattle.rl_graph.specs.Graph.{edges_of};
 ghost use Rattle.rl_graph.specs.Twins.{HasNoTwin, IsTwin};
 ghost use Rattle.rl_syntax.specs.Tree.{tree_of, size, IsOver};
+ghost use Rattle.rl_syntax.specs.declared.limits.TheConstants.{MOST_PAIRS};
 ghost use Rattle.rl_pairs.specs.PairTable.{moves_in};
 ghost use Rattle.rl_pairs.specs.RightVerdict.{RightVerdict};
 ghost use Rattle.rl_growth.specs.Texts.{HasTexts};
@@ -17,11 +18,8 @@ use rl_expo::{TwinPaths, twin};
 use rl_lists::{Items, OutOfMemory};
 use rl_pairs::{PairGraph, PairsError, pairs};
 use rl_prio::{Prio, PrioError};
-use rl_syntax::{Family, Limit, Lowered, Universe, Verdict};
+use rl_syntax::{Family, Limit, Lowered, MOST_NODES, Universe, Verdict};
 use std::alloc::Global;
-
-/// The most nodes that a judged tree has.
-const MOST_NODES: u64 = 4_000;
 
 /// The verdict on a graph of live pairs that has a twin.
 fn exponential(
@@ -97,9 +95,9 @@ fn judged_small(
     max_pairs: u32,
 ) -> Result<Verdict, OutOfMemory>
     requires some { 1 ≤ max_pairs }
-    requires few { max_pairs ≤ 1000 }
+    requires few { max_pairs ≤ MOST_PAIRS }
     requires inside { IsOver u (tree_of l.now.tree) }
-    requires small { size (tree_of l.now.tree) ≤ 4000 }
+    requires small { size (tree_of l.now.tree) ≤ MOST_NODES }
     ensures right { IfOk result (RightVerdict (question_of l.now u max_pairs)) }
     ensures class { IfOk result (HasClass (question_of l.now u max_pairs)) }
 {
@@ -124,8 +122,9 @@ fn judged_small(
 /// The degree is exact: the family's texts cost at least this power of the family's number, and no text costs more than this
 /// power of its length and one, up to a factor that the tree's size gives. It is 0 where no live pair lies on a cycle, else one
 /// more than the splits of the longest chain. [`Verdict::Undecided`] names the limit that is passed: the tree has more than
-/// 4,000 nodes, more than 128 letters, a list of more than 256 moves, more than `max_pairs` live pairs, or more than 20,000
-/// counted sets.
+/// [`MOST_NODES`], more than [`MOST_LETTERS`](rl_syntax::MOST_LETTERS), a list of more than
+/// [`MOST_MOVES`](rl_syntax::MOST_MOVES), more than `max_pairs` live pairs, or more than
+/// [`MOST_COUNTED_SETS`](rl_syntax::MOST_COUNTED_SETS).
 ///
 /// # Errors
 /// [`OutOfMemory`] where there was no memory for the automaton, the graph or the family.
@@ -136,7 +135,7 @@ pub fn classify(
     max_pairs: u32,
 ) -> Result<Verdict, OutOfMemory>
     requires some { 1 ≤ max_pairs }
-    requires few { max_pairs ≤ 1000 }
+    requires few { max_pairs ≤ MOST_PAIRS }
     requires inside { IsOver u (tree_of l.now.tree) }
     ensures right { IfOk result (RightVerdict (question_of l.now u max_pairs)) }
     ensures texts { IfOk result (HasTexts u) }

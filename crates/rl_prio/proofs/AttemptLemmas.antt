@@ -4,6 +4,7 @@ use Rattle.std.proofs.lemmas.List.{append-nil, take_more}
 use Rattle.std.proofs.lemmas.List.Folds.{length-flat_map-take}
 use Rattle.std.proofs.lemmas.Grind.{flat_map-append}
 use Rattle.std.specs.List.{flat_map}
+use Rattle.rl_syntax.specs.declared.limits.TheConstants.{MOST_MOVES}
 use Rattle.rl_prio.specs.internal.Attempts.{onward, ends_replaced}
 use Rattle.rl_prio.specs.declared.build.attempts.Attempt.{Attempt}
 
@@ -24,6 +25,6 @@ onward_front l further i a lt is =
 
 -- too many up to one attempt are too many in all
 pub onward_many : (l further list : List Attempt) (i : ℕ) (d : Attempt) → i < length l → list ≡ ends_replaced (take i l) further
-    → 256 < length list + length (onward further (get_or l i d)) → 256 < length (ends_replaced l further)
+    → MOST_MOVES < length list + length (onward further (get_or l i d)) → MOST_MOVES < length (ends_replaced l further)
 onward_many l further list i d lt is many =
     omega (arith, ap length is, length-flat_map-take (onward further) l i d lt)

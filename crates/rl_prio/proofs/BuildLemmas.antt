@@ -14,6 +14,7 @@ use Rattle.rl_ranges.proofs.LetterLemmas.{class_of-same, class_of-only, class_of
 use Rattle.rl_syntax.specs.declared.re.Ending.{Ending}
 use Rattle.rl_syntax.specs.declared.re.Ending.TheVariants.{AtEnd, Anywhere}
 use Rattle.rl_syntax.specs.Tree.{Tree, empty, one, guard, both, either, many, size, places, sets_in, guard_sets}
+use Rattle.rl_syntax.specs.declared.limits.TheConstants.{MOST_NODES}
 use Rattle.rl_prio.specs.Items.{Item, test_at, pass, after, set_of, all_hold}
 use Rattle.rl_prio.specs.Letters.{all_sets, kinds, kind_of}
 use Rattle.rl_prio.specs.States.{place_states, state_of, accepting, dead, state_count, test_target, ends_here, pass_target, moves_on, items_of, kind_before, moves_over}
@@ -27,6 +28,7 @@ use Rattle.rl_prio.specs.declared.build.attempts.Attempt.TheVariants.{Test, End}
 use Rattle.rl_prio.specs.declared.build.plan.Plan.{Plan}
 use Rattle.rl_ranges.specs.declared.letters.LettersError.{LettersError}
 use Rattle.rl_ranges.specs.declared.letters.LettersError.TheVariants.{TooMany, OutOfMemory}
+use Rattle.rl_ranges.specs.declared.letters.TheConstants.{MOST_LETTERS}
 use Rattle.rl_prio.specs.declared.build.attempts.ListError.{ListError}
 use Rattle.rl_prio.specs.declared.build.attempts.ListError.TheVariants.{TooLong, OutOfMemory as NoRoom}
 use Rattle.rl_prio.specs.declared.error.PrioError.TheVariants.{Letters, Moves}
@@ -202,7 +204,7 @@ module _ (p : Plan) (t : Tree) (sets : List (ℕ → Bool)) (n : ℕ) (lt kt : L
               ∙ ap attempts (sym (cond-false (nat_lt r (place_states t n)) here [] (le-ltb r (place_states t n) h)))
         ]
 
-    pub sound-plan : size t ≤ 4000 → length lt.samples ≤ 128 → IsSound p
+    pub sound-plan : size t ≤ MOST_NODES → length lt.samples ≤ MOST_LETTERS → IsSound p
     sound-plan small few =
         let all : length p.members.items ≡ places t =
         ap length plan.same_members ∙ length-map (sets_in t) (λ set. map set lt.samples) ∙ length-sets_in t in

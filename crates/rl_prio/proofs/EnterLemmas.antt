@@ -5,6 +5,7 @@ use Rattle.std.proofs.lemmas.List.{append-nil, length-map, map-append, ext_get_o
 use Rattle.rl_syntax.specs.declared.anchors.Guard.{Guard}
 use Rattle.rl_syntax.specs.Tree.{Tree, guard, both, either, many, places}
 use Rattle.rl_syntax.specs.Run.{one_more}
+use Rattle.rl_syntax.specs.declared.limits.TheConstants.{MOST_MOVES}
 use Rattle.rl_prio.specs.Items.{Item, test_at, pass, guarded, all_guarded, replaced, first}
 use Rattle.rl_prio.specs.internal.GuardSets.{no_guards, only, guard_set}
 use Rattle.rl_prio.specs.internal.Attempts.{attempt, attempts, behind, ends_replaced, followed, lists_of, widest, width_of, AreReplaced, AreEntered, AreShort, IsTooWide}
@@ -82,11 +83,11 @@ replaced_parts further xs ys zs old new from to r is from_is to_is =
           ]
     ])
 
--- lists of 256 items at most
+-- lists of no more items than a list may have
 short_part : (ls : List (List Item)) (old zs new : List (List Attempt)) (to : ℕ) → new ≡ (old ++ map attempts ls) ++ zs → to ≡ length old + length ls
-    → AreShort (length old) to new → widest ls ≤ 256
+    → AreShort (length old) to new → widest ls ≤ MOST_MOVES
 short_part ls old zs new to is to_is short =
-    widest-all ls 256 (λ k lt.
+    widest-all ls MOST_MOVES (λ k lt.
     let size : length (map attempts ls) ≡ length ls = length-map ls attempts in
     let in_front : length old + k < length (old ++ map attempts ls) = omega (arith, length-append old (map attempts ls)) in
     let back : (length old + k) - length old ≡ k = omega arith in
@@ -100,7 +101,7 @@ short_part ls old zs new to is to_is short =
 
 -- a list that would be longer
 wide_part : (ls : List (List Item)) (m : List Item) (old zs lists : List (List Attempt)) (k : ℕ) → lists ≡ (old ++ map attempts ls) ++ zs
-    → length old ≤ k → k < length old + length ls → 256 < length (ends_replaced (get_or lists k []) (attempts m)) → 256 < widest (followed ls m)
+    → length old ≤ k → k < length old + length ls → MOST_MOVES < length (ends_replaced (get_or lists k []) (attempts m)) → MOST_MOVES < widest (followed ls m)
 wide_part ls m old zs lists k is from to over =
     let size : length (map attempts ls) ≡ length ls = length-map ls attempts in
     let in_front : k < length (old ++ map attempts ls) = omega (arith, length-append old (map attempts ls)) in
@@ -137,13 +138,13 @@ module _ (e : Tree) (old mid : List (List Attempt)) (l1 : List Attempt) (h : Are
     parts_are : mid2 ≡ (old ++ map attempts (lists_of e (length old))) ++ map attempts (lists_of f (length old + places e))
     parts_are = k.lists ∙ ap₂ (λ x b. x ++ map attempts (lists_of f b)) h.lists size_after
 
-    short_second : widest (lists_of f (length old + places e)) ≤ 256
-    short_second = let s = subst (λ b. width_of f b ≤ 256) size_after k.short in omega (arith, s)
+    short_second : widest (lists_of f (length old + places e)) ≤ MOST_MOVES
+    short_second = let s = subst (λ b. width_of f b ≤ MOST_MOVES) size_after k.short in omega (arith, s)
 
     list_is : ends_replaced l1 l2 ≡ attempts (first (both e f) (length old))
     list_is = ap₂ ends_replaced h.entering further_is ∙ sym (attempts-replaced (first e (length old)) (first f (length old + places e)))
 
-    pub entered-both : (new : List (List Attempt)) (list : List Attempt) → list ≡ ends_replaced l1 l2 → length list ≤ 256
+    pub entered-both : (new : List (List Attempt)) (list : List Attempt) → list ≡ ends_replaced l1 l2 → length list ≤ MOST_MOVES
         → AreReplaced l2 (length old) (length mid) mid2 new → AreShort (length old) (length mid) new → AreEntered (both e f) old new list
     entered-both new list is short r shorts =
         let b = length old in
@@ -159,24 +160,24 @@ module _ (e : Tree) (old mid : List (List Attempt)) (l1 : List Attempt) (h : Are
           entering = all;
           lists = new_is ∙ append_assoc old (map attempts (followed ls m)) zs ∙ ap (λ x. old ++ x) (sym (map-append attempts (followed ls m) (lists_of f (b + places e))));
           short =
-              let first_short : length (first (both e f) b) ≤ 256 = omega (arith, ap length all, length-attempts (first (both e f) b)) in
-              let front_short : widest (followed ls m) ≤ 256 =
+              let first_short : length (first (both e f) b) ≤ MOST_MOVES = omega (arith, ap length all, length-attempts (first (both e f) b)) in
+              let front_short : widest (followed ls m) ≤ MOST_MOVES =
               short_part (followed ls m) old zs new (length mid) new_is (omega (arith, size_lists, length-followed ls m)) shorts in
-              omega (arith, first_short, widest-within (followed ls m) (lists_of f (b + places e)) 256 front_short short_second);
+              omega (arith, first_short, widest-within (followed ls m) (lists_of f (b + places e)) MOST_MOVES front_short short_second);
         }
 
-    pub wide-both : IsTooWide l1 l2 (length old) (length mid) mid2 → 256 < width_of (both e f) (length old)
+    pub wide-both : IsTooWide l1 l2 (length old) (length mid) mid2 → MOST_MOVES < width_of (both e f) (length old)
     wide-both (inl over) = omega (arith, ap length list_is, length-attempts (first (both e f) (length old)))
     wide-both (inr w) =
         let b = length old in
         let m = first f (b + places e) in
         let ls = lists_of e b in
-        let over = subst (λ x. 256 < length (ends_replaced (get_or mid2 w.0 []) x)) further_is w.3 in
-        let wide : 256 < widest (followed ls m) =
+        let over = subst (λ x. MOST_MOVES < length (ends_replaced (get_or mid2 w.0 []) x)) further_is w.3 in
+        let wide : MOST_MOVES < widest (followed ls m) =
         wide_part ls m old (map attempts (lists_of f (b + places e))) mid2 w.0 parts_are w.1 (omega (arith, w.2, size_lists)) over in
         omega (arith, wide, widest-left (followed ls m) (lists_of f (b + places e)))
 
-    pub entered-either : (list : List Attempt) → list ≡ l1 ++ l2 → length list ≤ 256 → AreEntered (either e f) old mid2 list
+    pub entered-either : (list : List Attempt) → list ≡ l1 ++ l2 → length list ≤ MOST_MOVES → AreEntered (either e f) old mid2 list
     entered-either list is short =
         let b = length old in
         let all : list ≡ attempts (first (either e f) b) =
@@ -186,23 +187,23 @@ module _ (e : Tree) (old mid : List (List Attempt)) (l1 : List Attempt) (h : Are
           lists = parts_are ∙ append_assoc old (map attempts (lists_of e b)) (map attempts (lists_of f (b + places e)))
               ∙ ap (λ x. old ++ x) (sym (map-append attempts (lists_of e b) (lists_of f (b + places e))));
           short =
-              let first_short : length (first (either e f) b) ≤ 256 = omega (arith, ap length all, length-attempts (first (either e f) b)) in
-              let front_short : widest (lists_of e b) ≤ 256 = omega (arith, h.short) in
-              omega (arith, first_short, widest-within (lists_of e b) (lists_of f (b + places e)) 256 front_short short_second);
+              let first_short : length (first (either e f) b) ≤ MOST_MOVES = omega (arith, ap length all, length-attempts (first (either e f) b)) in
+              let front_short : widest (lists_of e b) ≤ MOST_MOVES = omega (arith, h.short) in
+              omega (arith, first_short, widest-within (lists_of e b) (lists_of f (b + places e)) MOST_MOVES front_short short_second);
         }
 
-    pub wide-either : 256 < length (l1 ++ l2) → 256 < width_of (either e f) (length old)
+    pub wide-either : MOST_MOVES < length (l1 ++ l2) → MOST_MOVES < width_of (either e f) (length old)
     wide-either over =
         let b = length old in
         let all : l1 ++ l2 ≡ attempts (first (either e f) b) =
         ap₂ (λ x y. x ++ y) h.entering further_is ∙ sym (map-append attempt (first e b) (first f (b + places e))) in
         omega (arith, ap length all, length-attempts (first (either e f) b))
 
-  pub wide-both_right : (f : Tree) → 256 < width_of f (length mid) → 256 < width_of (both e f) (length old)
-  wide-both_right f over = omega (arith, subst (λ b. 256 < width_of f b) size_after over, width-both_right e f (length old))
+  pub wide-both_right : (f : Tree) → MOST_MOVES < width_of f (length mid) → MOST_MOVES < width_of (both e f) (length old)
+  wide-both_right f over = omega (arith, subst (λ b. MOST_MOVES < width_of f b) size_after over, width-both_right e f (length old))
 
-  pub wide-either_right : (f : Tree) → 256 < width_of f (length mid) → 256 < width_of (either e f) (length old)
-  wide-either_right f over = omega (arith, subst (λ b. 256 < width_of f b) size_after over, width-either_right e f (length old))
+  pub wide-either_right : (f : Tree) → MOST_MOVES < width_of f (length mid) → MOST_MOVES < width_of (either e f) (length old)
+  wide-either_right f over = omega (arith, subst (λ b. MOST_MOVES < width_of f b) size_after over, width-either_right e f (length old))
 
   module _ (greedy : Bool) where
     more_is : one_more greedy (End no_guards) l1 ≡ attempts (first (many e greedy) (length old))
@@ -211,7 +212,7 @@ module _ (e : Tree) (old mid : List (List Attempt)) (l1 : List Attempt) (h : Are
     part_is : mid ≡ (old ++ map attempts (lists_of e (length old))) ++ []
     part_is = h.lists ∙ sym (append-nil (old ++ map attempts (lists_of e (length old))))
 
-    pub entered-many : (new : List (List Attempt)) (list : List Attempt) → list ≡ one_more greedy (End no_guards) l1 → length list ≤ 256
+    pub entered-many : (new : List (List Attempt)) (list : List Attempt) → list ≡ one_more greedy (End no_guards) l1 → length list ≤ MOST_MOVES
         → AreReplaced (one_more greedy (End no_guards) l1) (length old) (length mid) mid new → AreShort (length old) (length mid) new → AreEntered (many e greedy) old new list
     entered-many new list is short r shorts =
         let b = length old in
@@ -226,31 +227,31 @@ module _ (e : Tree) (old mid : List (List Attempt)) (l1 : List Attempt) (h : Are
           entering = all;
           lists = new_is ∙ append-nil (old ++ map attempts (followed ls m));
           short =
-              let first_short : length m ≤ 256 = omega (arith, ap length all, length-attempts m) in
-              let front_short : widest (followed ls m) ≤ 256 =
+              let first_short : length m ≤ MOST_MOVES = omega (arith, ap length all, length-attempts m) in
+              let front_short : widest (followed ls m) ≤ MOST_MOVES =
               short_part (followed ls m) old [] new (length mid) new_is (omega (arith, size_lists, length-followed ls m)) shorts in
               omega (arith, first_short, front_short);
         }
 
-    pub wide-many : (256 < length (one_more greedy (End no_guards) l1)) ⊎ IsTooWide [] (one_more greedy (End no_guards) l1) (length old) (length mid) mid
-        → 256 < width_of (many e greedy) (length old)
+    pub wide-many : (MOST_MOVES < length (one_more greedy (End no_guards) l1)) ⊎ IsTooWide [] (one_more greedy (End no_guards) l1) (length old) (length mid) mid
+        → MOST_MOVES < width_of (many e greedy) (length old)
     wide-many (inl over) = omega (arith, ap length more_is, length-attempts (first (many e greedy) (length old)))
     wide-many (inr (inl over)) = absurd (omega arith)
     wide-many (inr (inr w)) =
         let b = length old in
         let m = first (many e greedy) b in
         let ls = lists_of e b in
-        let over = subst (λ x. 256 < length (ends_replaced (get_or mid w.0 []) x)) more_is w.3 in
-        let wide : 256 < widest (followed ls m) = wide_part ls m old [] mid w.0 part_is w.1 (omega (arith, w.2, size_lists)) over in
+        let over = subst (λ x. MOST_MOVES < length (ends_replaced (get_or mid w.0 []) x)) more_is w.3 in
+        let wide : MOST_MOVES < widest (followed ls m) = wide_part ls m old [] mid w.0 part_is w.1 (omega (arith, w.2, size_lists)) over in
         omega (arith, wide)
 
-pub wide-both_left : (e f : Tree) (b : ℕ) → 256 < width_of e b → 256 < width_of (both e f) b
+pub wide-both_left : (e f : Tree) (b : ℕ) → MOST_MOVES < width_of e b → MOST_MOVES < width_of (both e f) b
 wide-both_left e f b over = omega (arith, width-both_left e f b)
 
-pub wide-either_left : (e f : Tree) (b : ℕ) → 256 < width_of e b → 256 < width_of (either e f) b
+pub wide-either_left : (e f : Tree) (b : ℕ) → MOST_MOVES < width_of e b → MOST_MOVES < width_of (either e f) b
 wide-either_left e f b over = omega (arith, width-either_left e f b)
 
-pub wide-many_body : (e : Tree) (greedy : Bool) (b : ℕ) → 256 < width_of e b → 256 < width_of (many e greedy) b
+pub wide-many_body : (e : Tree) (greedy : Bool) (b : ℕ) → MOST_MOVES < width_of e b → MOST_MOVES < width_of (many e greedy) b
 wide-many_body e greedy b over = omega (arith, width-many e greedy b)
 
 pub entered-guard : (g : Guard) (old : List (List Attempt)) (list : List Attempt) → list ≡ End (only g) ∷ [] → AreEntered (guard g) old old list
@@ -265,5 +266,5 @@ pub moved_to : (P : List Attempt → List Attempt → ℕ → ℕ → Type 0) {s
 moved_to P {s1 = s1} {l1 = l1} {s2 = s2} {l2 = l2} {i = i} {a = a} {j = j} {b = b} p q r s h =
     subst (λ x. P l1 l2 a x) s (subst (λ x. P l1 l2 x j) r (subst (λ x. P l1 x i j) q (subst (λ x. P x s2 i j) p h)))
 
-pub entered-short : (t : Tree) (old new : List (List Attempt)) (list : List Attempt) → AreEntered t old new list → length list ≤ 256
+pub entered-short : (t : Tree) (old new : List (List Attempt)) (list : List Attempt) → AreEntered t old new list → length list ≤ MOST_MOVES
 entered-short t old new list h = omega (arith, h.short, ap length h.entering, length-attempts (first t (length old)))

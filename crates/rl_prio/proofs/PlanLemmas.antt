@@ -7,6 +7,8 @@ use Rattle.std.proofs.lemmas.List.FromFn.{length-map-range_with_len, get_or-map-
 use Rattle.std.proofs.lemmas.Nat.{mul-add-lt, mul-le}
 use Rattle.std.proofs.Math.Nat.{div-lt_iff_lt-mul}
 use Rattle.std.proofs.lemmas.Bool.{and_parts, ltb-true}
+use Rattle.rl_ranges.specs.declared.letters.TheConstants.{MOST_LETTERS}
+use Rattle.rl_syntax.specs.declared.limits.TheConstants.{MOST_NODES}
 use Rattle.rl_prio.specs.internal.GuardSets.{met, shown, holding}
 use Rattle.rl_prio.specs.internal.Attempts.{guards_of, is_unguarded}
 use Rattle.rl_prio.specs.internal.Rows.{Rows}
@@ -112,9 +114,9 @@ holds_at-beyond p place letter le =
     le-ltb letter (plan_letters p) le ∙ ap (λ b. b && get_or (get_or p.members.items place []) letter false) (sym (le-ltb letter (plan_letters p) le))
 
 -- the state of a place and a kind is small
-pub state_small : (p : Plan) (place kind : ℕ) → IsSound p → place < length p.after.items → kind < plan_kinds p → place * plan_kinds p + kind < 512000
+pub state_small : (p : Plan) (place kind : ℕ) → IsSound p → place < length p.after.items → kind < plan_kinds p → place * plan_kinds p + kind < MOST_NODES * MOST_LETTERS
 state_small p place kind sound p_in k_in =
-    omega (arith, place_state (length p.after.items) (plan_kinds p) place kind p_in k_in, mul-le (length p.after.items) (plan_kinds p) 4000 128 sound.few_places sound.few_kinds)
+    omega (arith, place_state (length p.after.items) (plan_kinds p) place kind p_in k_in, mul-le (length p.after.items) (plan_kinds p) MOST_NODES MOST_LETTERS sound.few_places sound.few_kinds)
 
 -- ---- the finished rows
 

@@ -4,7 +4,9 @@ ghost use Rattle.std.specs.Prelude.{◌≡◌, ℕ, ◌<◌, ◌≤◌, ◌++◌
 ghost use Rattle.rl_ranges.specs.Codes.{has, IsInside};
 ghost use Rattle.rl_ranges.specs.Letters.{IsLetters, alike, classes};
 ghost use Rattle.rl_ranges.specs.Text.{code_count};
+ghost use Rattle.rl_ranges.specs.declared.letters.TheConstants.{MOST_LETTERS};
 ghost use Rattle.rl_syntax.specs.Tree.{tree_of, size, guard_sets, IsOver};
+ghost use Rattle.rl_syntax.specs.declared.limits.TheConstants.{MOST_MOVES, MOST_NODES};
 ghost use Rattle.rl_prio.specs.Items.{longest};
 ghost use Rattle.rl_prio.specs.Letters.{all_sets, letters};
 
@@ -93,24 +95,25 @@ impl Prio {
     /// The automaton of a tree and an ending, over the letters of the universe that the tree's sets tell apart.
     ///
     /// # Errors
-    /// [`PrioError::Letters`] exactly where there are more than 128 letters, [`PrioError::Moves`] exactly where there are no
-    /// more and a list of items has more than 256, [`PrioError::OutOfMemory`] where there was no memory for the automaton.
+    /// [`PrioError::Letters`] exactly where there are more than [`MOST_LETTERS`], [`PrioError::Moves`] exactly where there
+    /// are no more and a list of items has more than [`MOST_MOVES`], [`PrioError::OutOfMemory`] where there was no memory for
+    /// the automaton.
     pub fn build(
         alloc: Global,
         tree: &Re,
         ending: Ending,
         universe: Universe,
     ) -> Result<Prio, PrioError>
-        requires small { size (tree_of tree.now) ≤ 4000 }
+        requires small { size (tree_of tree.now) ≤ MOST_NODES }
         requires inside { IsOver universe (tree_of tree.now) }
         ensures ok { IfOk result (λ a. StandsFor a (tree_of tree.now) ending) }
         ensures codes { IfOk result (λ a. a.table.codes ≡ code_count universe) }
         ensures within { OnOk result
-            ((length (letters (tree_of tree.now) (code_count universe)) ≤ 128) × (longest (tree_of tree.now) ≤ 256)) }
+            ((length (letters (tree_of tree.now) (code_count universe)) ≤ MOST_LETTERS) × (longest (tree_of tree.now) ≤ MOST_MOVES)) }
         ensures letters { IfErr result (λ e. e ≡ PrioError.Letters
-            → 128 < length (letters (tree_of tree.now) (code_count universe))) }
+            → MOST_LETTERS < length (letters (tree_of tree.now) (code_count universe))) }
         ensures moves { IfErr result (λ e. e ≡ PrioError.Moves
-            → (length (letters (tree_of tree.now) (code_count universe)) ≤ 128) × (256 < longest (tree_of tree.now))) }
+            → (length (letters (tree_of tree.now) (code_count universe)) ≤ MOST_LETTERS) × (MOST_MOVES < longest (tree_of tree.now))) }
     {
         let mut sets = Vec::new(alloc);
         add_letter_sets(alloc, tree, &mut sets)?;
@@ -121,8 +124,9 @@ impl Prio {
     /// least what the sets of the tree and those that its guards name do.
     ///
     /// # Errors
-    /// [`PrioError::Letters`] exactly where there are more than 128 letters, [`PrioError::Moves`] exactly where there are no
-    /// more and a list of items has more than 256, [`PrioError::OutOfMemory`] where there was no memory for the automaton.
+    /// [`PrioError::Letters`] exactly where there are more than [`MOST_LETTERS`], [`PrioError::Moves`] exactly where there
+    /// are no more and a list of items has more than [`MOST_MOVES`], [`PrioError::OutOfMemory`] where there was no memory for
+    /// the automaton.
     pub fn build_over(
         alloc: Global,
         tree: &Re,
@@ -130,7 +134,7 @@ impl Prio {
         universe: Universe,
         sets: &Vec<CodeSet>,
     ) -> Result<Prio, PrioError>
-        requires small { size (tree_of tree.now) ≤ 4000 }
+        requires small { size (tree_of tree.now) ≤ MOST_NODES }
         requires inside { IsOver universe (tree_of tree.now) }
         requires sets_inside { All (IsInside universe) sets.now.items }
         requires finer { (c d : ℕ) → alike (map has sets.now.items) c d ≡ true
@@ -139,11 +143,11 @@ impl Prio {
             (λ a. StandsOver a (tree_of tree.now) ending (map has sets.now.items)) }
         ensures codes { IfOk result (λ a. a.table.codes ≡ code_count universe) }
         ensures within { OnOk result
-            ((length (classes (map has sets.now.items) (code_count universe)) ≤ 128) × (longest (tree_of tree.now) ≤ 256)) }
+            ((length (classes (map has sets.now.items) (code_count universe)) ≤ MOST_LETTERS) × (longest (tree_of tree.now) ≤ MOST_MOVES)) }
         ensures letters { IfErr result (λ e. e ≡ PrioError.Letters
-            → 128 < length (classes (map has sets.now.items) (code_count universe))) }
+            → MOST_LETTERS < length (classes (map has sets.now.items) (code_count universe))) }
         ensures moves { IfErr result (λ e. e ≡ PrioError.Moves
-            → (length (classes (map has sets.now.items) (code_count universe)) ≤ 128) × (256 < longest (tree_of tree.now))) }
+            → (length (classes (map has sets.now.items) (code_count universe)) ≤ MOST_LETTERS) × (MOST_MOVES < longest (tree_of tree.now))) }
     {
         let table = Letters::of(alloc, sets, universe)?;
         let letters = shared(alloc, table)?;

@@ -7,9 +7,9 @@ use rl_lists::OutOfMemory;
 /// Why an automaton isn't built.
 #[derive(Clone, Copy, Debug, PartialEq, Eq)]
 pub enum PrioError {
-    /// There would be more than 128 letters.
+    /// There would be more than [`MOST_LETTERS`].
     Letters,
-    /// The letters are within their limit, and a list of items would have more than 256.
+    /// The letters are within their limit, and a list of items would have more than [`MOST_MOVES`].
     Moves,
     /// Out of memory.
     OutOfMemory,

@@ -13,6 +13,7 @@ use Rattle.rl_ranges.specs.Building.{range_at}
 use Rattle.rl_ranges.specs.Codes.{has}
 use Rattle.rl_ranges.specs.Letters.{IsLetters, IsPlain, LetterTable, alike, class_of, classes, letter_at, letter_from, place_where}
 use Rattle.rl_ranges.specs.Numbering.{IsNumbered, firsts, same_value}
+use Rattle.rl_ranges.specs.declared.letters.TheConstants.{MOST_LETTERS}
 use Rattle.rl_ranges.specs.internal.Splitting.{IsPreferred, TellsApart, value_in}
 
 beq-same : (x : Bool) → beq x x ≡ true
@@ -189,7 +190,7 @@ TellsApart-more sets s n stretches stretches' least least' t h =
 
 -- too many values are too many letters
 pub values_many : (sets : List (ℕ → Bool)) (s : List (ℕ × ℕ)) (n : ℕ) (stretches : List (ℕ × ℕ)) (least : List ℕ) → TellsApart stretches least sets n
-    → 128 < length (firsts (same_value (value_in stretches s)) n) → 128 < length (classes (sets ++ has s ∷ []) n)
+    → MOST_LETTERS < length (firsts (same_value (value_in stretches s)) n) → MOST_LETTERS < length (classes (sets ++ has s ∷ []) n)
 values_many sets s n stretches least t many =
     let same = firsts-congr (same_value (value_in stretches s)) (alike (sets ++ has s ∷ [])) n (values_tell sets s n stretches least t) in
     omega (arith, ap length same, ap length (classes-firsts (sets ++ has s ∷ []) n))

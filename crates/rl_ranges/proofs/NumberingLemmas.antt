@@ -9,6 +9,7 @@ use Rattle.rl_ranges.proofs.StretchLemmas.{Covers-push, letter_from-at, letter_f
 use Rattle.rl_ranges.specs.Building.{range_at}
 use Rattle.rl_ranges.specs.Letters.{letter_from, place_where}
 use Rattle.rl_ranges.specs.Numbering.{Covers, IsNumbered, ValuesBelow, firsts, same_value}
+use Rattle.rl_ranges.specs.declared.letters.TheConstants.{MOST_LETTERS}
 use Rattle.rl_ranges.specs.internal.Splitting.{HasNumber, start_or}
 
 -- the code has the value
@@ -23,7 +24,7 @@ KnowsNumber value least v (Some n) = (list_any (has_value value v) least ≡ tru
 -- the codes below `at` are numbered
 pub record Progress (value : ℕ → ℕ) (values at : ℕ) (known : List (Option ℕ)) (stretches : List (ℕ × ℕ)) (least : List ℕ) : Type 0 where
   pub width : length known ≡ values
-  pub few : length least ≤ 128
+  pub few : length least ≤ MOST_LETTERS
   pub same_firsts : least ≡ firsts (same_value value) at
   pub numbers : (v : ℕ) → v < values → KnowsNumber value least v (get_or known v None)
   pub begun : at ≡ 0 → stretches ≡ []
@@ -93,7 +94,7 @@ below-push s at n m m' old le new k k_in = elim (cases_lt k (length s)) [
 -- what the next run changes: the value of its codes has the number, and the numbers of the codes before it stay
 record Grown (value : ℕ → ℕ) (values at next n : ℕ) (known : List (Option ℕ)) (least least' : List ℕ) : Type 0 where
   pub width : length known ≡ values
-  pub few : length least' ≤ 128
+  pub few : length least' ≤ MOST_LETTERS
   pub same_firsts : least' ≡ firsts (same_value value) next
   pub numbers : (v : ℕ) → v < values → KnowsNumber value least' v (get_or known v None)
   pub named : list_any (has_value value (value at)) least' ≡ true
@@ -167,7 +168,7 @@ value_other value at w other = ne_eqb _ _ other
 
 grown_new : (value : ℕ → ℕ) (values at next n : ℕ) (known known' : List (Option ℕ)) (stretches : List (ℕ × ℕ)) (least least' : List ℕ)
     → at < next → ((c : ℕ) → at ≤ c → c < next → value c ≡ value at) → value at < values → Progress value values at known stretches least
-    → None ≡ get_or known (value at) None → (n ≡ length least) × (known' ≡ set known (value at) (Some n)) × (least' ≡ least ++ at ∷ []) × (length least < 128)
+    → None ≡ get_or known (value at) None → (n ≡ length least) × (known' ≡ set known (value at) (Some n)) × (least' ≡ least ++ at ∷ []) × (length least < MOST_LETTERS)
     → Grown value values at next n known' least least'
 unfolding has_value
 grown_new value values at next n known known' stretches least least' lt run v_in p there is =
@@ -240,7 +241,7 @@ Progress-all value count values at known stretches least some all p = record {
 
 -- a run with a value of its own, where all numbers are taken
 pub Progress-too_many : (value : ℕ → ℕ) (count values at v : ℕ) (known : List (Option ℕ)) (stretches : List (ℕ × ℕ)) (least : List ℕ) → at < count → value at ≡ v → v < values
-    → Progress value values at known stretches least → get_or known v None ≡ None → length least ≡ 128 → 128 < length (firsts (same_value value) count)
+    → Progress value values at known stretches least → get_or known v None ≡ None → length least ≡ MOST_LETTERS → MOST_LETTERS < length (firsts (same_value value) count)
 unfolding has_value
 Progress-too_many value count values at v known stretches least lt here v_in p there full =
     let like = same_value value in

@@ -10,6 +10,7 @@ use Rattle.rl_ranges.specs.Codes.{has}
 use Rattle.rl_ranges.specs.Letters.{alike, classes, place_where}
 use Rattle.rl_ranges.specs.Numbering.{firsts}
 use Rattle.rl_ranges.specs.internal.Splitting.{HasTooMany, TellsApart, TellsMore}
+use Rattle.rl_ranges.specs.declared.letters.TheConstants.{MOST_LETTERS}
 use Rattle.rl_ranges.specs.internal.Order.{is_wide, picked}
 
 swap : (a b c : Bool) → (a && (b && c)) ≡ (b && (a && c))
@@ -41,7 +42,7 @@ TellsApart-congr xs ys n stretches least e t =
           ∙ place-same (alike xs c) (alike ys c) (firsts (alike ys) n) (λ k k_in. e c (get_or (firsts (alike ys) n) k 0)));
     }
 
-pub many-congr : (xs ys : List (ℕ → Bool)) (n : ℕ) → ((c d : ℕ) → alike xs c d ≡ alike ys c d) → 128 < length (classes xs n) → 128 < length (classes ys n)
+pub many-congr : (xs ys : List (ℕ → Bool)) (n : ℕ) → ((c d : ℕ) → alike xs c d ≡ alike ys c d) → MOST_LETTERS < length (classes xs n) → MOST_LETTERS < length (classes ys n)
 many-congr xs ys n e many =
     omega (arith, many, ap length (classes-firsts xs n), ap length (classes-firsts ys n), ap length (firsts-congr (alike xs) (alike ys) n (λ c d hc hd. e c d)))
 
@@ -123,9 +124,9 @@ pub tells-more : (more most : List (ℕ → Bool)) (n : ℕ) (a b c : List (ℕ 
 tells-more more most n a b c j k l one two sets t = subst (λ x. TellsApart c l x n) (append_assoc sets more most) (two (sets ++ more) (one sets t))
 
 pub many-later : (more most : List (ℕ → Bool)) (n : ℕ) (a b : List (ℕ × ℕ)) (j k : List ℕ) → TellsMore a j b k more n → HasTooMany b k most n → HasTooMany a j (more ++ most) n
-many-later more most n a b j k one two sets t = subst (λ x. 128 < length (classes x n)) (append_assoc sets more most) (two (sets ++ more) (one sets t))
+many-later more most n a b j k one two sets t = subst (λ x. MOST_LETTERS < length (classes x n)) (append_assoc sets more most) (two (sets ++ more) (one sets t))
 
 -- still more sets have no fewer letters
 pub many-more : (more most : List (ℕ → Bool)) (n : ℕ) (a : List (ℕ × ℕ)) (j : List ℕ) → HasTooMany a j more n → HasTooMany a j (more ++ most) n
 many-more more most n a j many sets t =
-    subst (λ x. 128 < length (classes x n)) (append_assoc sets more most) (omega (arith, many sets t, classes-append (sets ++ more) most n))
+    subst (λ x. MOST_LETTERS < length (classes x n)) (append_assoc sets more most) (omega (arith, many sets t, classes-append (sets ++ more) most n))

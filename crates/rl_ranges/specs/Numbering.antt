@@ -3,6 +3,7 @@ use Rattle.std.specs.Prelude.{[], ◌≡◌, ℕ, ◌<◌, ◌≤◌, suc, zero,
 use Rattle.std.specs.List.{list_any}
 use Rattle.rl_ranges.specs.Letters.{letter_from, place_where}
 use Rattle.rl_ranges.specs.Building.{range_at}
+use Rattle.rl_ranges.specs.declared.letters.TheConstants.{MOST_LETTERS}
 
 -- the codes below `n` that are like no code before them, rising
 unfoldable pub firsts : (ℕ → ℕ → Bool) → ℕ → List ℕ
@@ -28,7 +29,7 @@ ValuesBelow m stretches = (k : ℕ) → k < length stretches → (range_at stret
 pub record IsNumbered (value : ℕ → ℕ) (count : ℕ) (stretches : List (ℕ × ℕ)) (least : List ℕ) : Type 0 where
   pub covers : Covers stretches count
   pub below : ValuesBelow (length least) stretches
-  pub few : length least ≤ 128
+  pub few : length least ≤ MOST_LETTERS
   pub same_firsts : least ≡ firsts (same_value value) count
   pub same_number : (c : ℕ) → c < count → letter_from 0 stretches c ≡ place_where (same_value value c) least
 
@@ -36,4 +37,4 @@ pub record IsNumbered (value : ℕ → ℕ) (count : ℕ) (stretches : List (ℕ
 pub record IsTable (codes : ℕ) (stretches : List (ℕ × ℕ)) (samples : List ℕ) : Type 0 where
   pub covers : Covers stretches codes
   pub below : ValuesBelow (length samples) stretches
-  pub few : length samples ≤ 128
+  pub few : length samples ≤ MOST_LETTERS

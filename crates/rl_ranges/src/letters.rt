@@ -15,10 +15,13 @@ use rl_lists::OutOfMemory;
 use std::alloc::{AllocError, AllocFailed, Global};
 use std::marker::Model;
 
+/// The most letters of a list of sets. Sets that tell more codes apart have no letters.
+pub const MOST_LETTERS: usize = 128;
+
 /// Why there are no letters.
 #[derive(Clone, Copy, Debug, PartialEq, Eq)]
 pub enum LettersError {
-    /// There are more than 128 letters.
+    /// There are more than [`MOST_LETTERS`].
     TooMany,
     /// Out of memory.
     OutOfMemory,
@@ -81,8 +84,8 @@ impl Letters {
     /// The letters of the sets, for the codes of the universe.
     ///
     /// # Errors
-    /// [`LettersError::TooMany`] exactly where there are more than 128 letters, [`LettersError::OutOfMemory`] where there was
-    /// no memory for them.
+    /// [`LettersError::TooMany`] exactly where there are more than [`MOST_LETTERS`], [`LettersError::OutOfMemory`] where
+    /// there was no memory for them.
     pub fn of(
         alloc: Global,
         sets: &Vec<CodeSet>,
@@ -91,9 +94,9 @@ impl Letters {
         requires { All (IsInside universe) sets.now.items }
         ensures ok { IfOk result
             (λ t. IsLetters t (map has sets.now.items) (code_count universe)) }
-        ensures few { IfOk result (λ t. length t.samples ≤ 128) }
+        ensures few { IfOk result (λ t. length t.samples ≤ MOST_LETTERS) }
         ensures too_many { IfErr result (λ e. e ≡ LettersError.TooMany
-            → 128 < length (classes (map has sets.now.items) (code_count universe))) }
+            → MOST_LETTERS < length (classes (map has sets.now.items) (code_count universe))) }
     {
         let start = Numbering {
             stretches: Vec::from_slice(alloc, &[(0, 0)])?,
@@ -167,8 +170,8 @@ fn stands_before(sets: &Vec<CodeSet>, count: usize, set: &CodeSet) -> bool
 /// The numbering that tells codes apart where the known one does, or where the set holds one of them alone.
 ///
 /// # Errors
-/// [`LettersError::TooMany`] exactly where it has more than 128 numbers, [`LettersError::OutOfMemory`] where there was no
-/// memory for it.
+/// [`LettersError::TooMany`] exactly where it has more than [`MOST_LETTERS`] numbers, [`LettersError::OutOfMemory`] where
+/// there was no memory for it.
 fn refined(
     alloc: Global,
     known: &Numbering,
@@ -188,8 +191,8 @@ fn refined(
 /// The numbering refined by the sets of a list that are wide, or by those that aren't.
 ///
 /// # Errors
-/// [`LettersError::TooMany`] exactly where it has more than 128 numbers, [`LettersError::OutOfMemory`] where there was no
-/// memory for it.
+/// [`LettersError::TooMany`] exactly where it has more than [`MOST_LETTERS`] numbers, [`LettersError::OutOfMemory`] where
+/// there was no memory for it.
 fn refined_by(
     alloc: Global,
     first: Numbering,

@@ -35,7 +35,7 @@ mod tables;
 pub mod universe;
 
 pub use code_set::CodeSet;
-pub use letters::{Letters, LettersError};
+pub use letters::{Letters, LettersError, MOST_LETTERS};
 pub use named::Named;
 pub use rl_lists::{Bytes, Codes, Items, Members, OutOfMemory, Path, Places, Ranks, Word};
 pub use universe::Universe;

@@ -29,6 +29,7 @@
 pub mod anchors;
 pub mod feature;
 pub mod laws;
+pub mod limits;
 pub mod lowering;
 pub mod pat;
 pub mod pattern;
@@ -39,12 +40,14 @@ pub mod verdict;
 
 pub use anchors::{AnchorKind, Guard, Trail};
 pub use feature::Feature;
+pub use limits::{MOST_COUNTED_SETS, MOST_MOVES, MOST_NODES, MOST_PAIRS, MOST_SET_PAIRS};
 pub use lowering::lower;
 pub use pat::{Branch, Branches, Pat, Pats};
 pub use pattern::Pattern;
 pub use re::{Ending, LowerError, Lowered, Mode, Re};
 pub use rl_ranges::{
-    Bytes, CodeSet, Codes, Items, Members, Named, OutOfMemory, Path, Places, Ranks, Universe, Word,
+    Bytes, CodeSet, Codes, Items, MOST_LETTERS, Members, Named, OutOfMemory, Path, Places, Ranks,
+    Universe, Word,
 };
 pub use sizes::size_after;
 pub use span::{Span, Spans};

@@ -11,6 +11,7 @@ ghost use Rattle.rl_syntax.specs.Modes.{trailed, sought, wrapped, ending_of};
 ghost use Rattle.rl_syntax.specs.Pattern.{pattern_tree, pattern_ending, is_anchored, trail_of, universe_of};
 
 use crate::anchors::{AnchorKind, Guard, Trail};
+use crate::limits::MOST_NODES;
 use crate::pat::{Branch, Pat};
 use crate::pattern::Pattern;
 use crate::re::{Ending, LowerError, Lowered, Mode, Re};
@@ -19,20 +20,17 @@ use rl_lists::OutOfMemory;
 use rl_ranges::{CodeSet, Universe};
 use std::alloc::Global;
 
-/// The most nodes that a tree has.
-const MOST_NODES: u64 = 4_000;
-
 /// The pattern's tree in the mode, and where a match may end.
 ///
 /// # Errors
-/// [`LowerError::TooLarge`] where the tree would have more than 4,000 nodes, which is found before any of it is built;
+/// [`LowerError::TooLarge`] where the tree would have more than [`MOST_NODES`], which is found before any of it is built;
 /// [`LowerError::OutOfMemory`] where there was no memory for it.
 pub fn lower(alloc: Global, p: &Pattern, mode: Mode) -> Result<Lowered, LowerError>
     ensures tree { IfOk result (λ l. tree_of l.tree ≡ pattern_tree p.now mode) }
     ensures ending { IfOk result (λ l. l.ending ≡ pattern_ending p.now mode) }
-    ensures small { IfOk result (λ l. size (tree_of l.tree) ≤ 4000) }
+    ensures small { IfOk result (λ l. size (tree_of l.tree) ≤ MOST_NODES) }
     ensures over { IfOk result (λ l. IsOver (universe_of p.now) (tree_of l.tree)) }
-    ensures too_large { IfErr result (λ e. e ≡ error.TooLarge → 4000 < size (pattern_tree p.now mode)) }
+    ensures too_large { IfErr result (λ e. e ≡ error.TooLarge → MOST_NODES < size (pattern_tree p.now mode)) }
 {
     if size_after(p, mode) > MOST_NODES {
         return Err(LowerError::TooLarge);

@@ -2,6 +2,7 @@
 use Rattle.std.specs.Prelude.{◌≡◌, ℕ, ◌+◌, ◌<◌, ◌≤◌, ◌⊎◌, Bool, List, [], ◌∷◌, ◌++◌, length, map, max, slice_index_or}
 use Rattle.std.specs.List.{flat_map}
 use Rattle.rl_syntax.specs.Tree.{Tree, empty, one, guard, both, either, many, places}
+use Rattle.rl_syntax.specs.declared.limits.TheConstants.{MOST_MOVES}
 use Rattle.rl_prio.specs.Items.{Item, test_at, pass, replaced, first}
 use Rattle.rl_prio.specs.internal.GuardSets.{no_guards, joined, guard_set, met}
 use Rattle.rl_prio.specs.declared.build.guards.Guards.{Guards}
@@ -68,17 +69,17 @@ widest (l ∷ ls) = max (length l) (widest ls)
 abbrev pub width_of : Tree → ℕ → ℕ
 width_of t b = max (length (first t b)) (widest (lists_of t b))
 
--- the items on entering a tree, and the lists of its places behind those that were there; none is longer than 256
+-- the items on entering a tree, and the lists of its places behind those that were there; none has more items than a list may have
 pub record AreEntered (t : Tree) (old new : List (List Attempt)) (list : List Attempt) : Type 0 where
   pub entering : list ≡ attempts (first t (length old))
   pub lists : new ≡ old ++ map attempts (lists_of t (length old))
-  pub short : width_of t (length old) ≤ 256
+  pub short : width_of t (length old) ≤ MOST_MOVES
 
--- where the ends in the lists from one place to another, and in one list more, are replaced, a list is longer than 256
+-- where the ends in the lists from one place to another, and in one list more, are replaced, a list has more items than it may
 abbrev pub IsTooWide : List Attempt → List Attempt → ℕ → ℕ → List (List Attempt) → Type 0
 IsTooWide list further from to lists =
-    (256 < length (ends_replaced list further)) ⊎ ((k : ℕ) × (from ≤ k) × (k < to) × (256 < length (ends_replaced (slice_index_or lists k []) further)))
+    (MOST_MOVES < length (ends_replaced list further)) ⊎ ((k : ℕ) × (from ≤ k) × (k < to) × (MOST_MOVES < length (ends_replaced (slice_index_or lists k []) further)))
 
--- each list from one place to another has 256 items at most
+-- each list from one place to another has no more items than a list may have
 abbrev pub AreShort : ℕ → ℕ → List (List Attempt) → Type 0
-AreShort from to lists = (k : ℕ) → from ≤ k → k < to → length (slice_index_or lists k []) ≤ 256
+AreShort from to lists = (k : ℕ) → from ≤ k → k < to → length (slice_index_or lists k []) ≤ MOST_MOVES

@@ -2,9 +2,11 @@
 use Rattle.std.specs.Prelude.{◌≡◌, ℕ, zero, suc, ◌+◌, ◌*◌, ◌-◌, ◌/◌, ◌%◌, ◌<◌, ◌≤◌, Bool, true, false, ◌==◌, ◌&&◌, nat_lt, List, [], ◌∷◌, ◌++◌, length, map, None, Some, All, slice_index_or, if◌then◌else◌}
 use Rattle.std.specs.List.{flat_map, range_with_len}
 use Rattle.rl_ranges.specs.Letters.{LetterTable, letter_at}
+use Rattle.rl_ranges.specs.declared.letters.TheConstants.{MOST_LETTERS}
 use Rattle.rl_syntax.specs.declared.re.Ending.{Ending}
 use Rattle.rl_syntax.specs.declared.re.Ending.TheVariants.{AtEnd, Anywhere}
 use Rattle.rl_syntax.specs.Tree.{Tree, sets_in}
+use Rattle.rl_syntax.specs.declared.limits.TheConstants.{MOST_NODES}
 use Rattle.rl_prio.specs.Items.{first}
 use Rattle.rl_prio.specs.internal.GuardSets.{met, shown, holding}
 use Rattle.rl_prio.specs.internal.Attempts.{attempts, guards_of, lists_of}
@@ -93,10 +95,10 @@ IsPlaced n (End gs) = Unit {0}
 
 -- the parts of a plan fit together
 pub record IsSound (p : Plan) : Type 0 where
-  pub few_places : length p.after.items ≤ 4000
+  pub few_places : length p.after.items ≤ MOST_NODES
   pub some_kind : 1 ≤ plan_kinds p
-  pub few_kinds : plan_kinds p ≤ 128
-  pub few_letters : plan_letters p ≤ 128
+  pub few_kinds : plan_kinds p ≤ MOST_LETTERS
+  pub few_letters : plan_letters p ≤ MOST_LETTERS
   pub next_count : length p.next.items ≡ suc (plan_letters p)
   pub same_places : length p.members.items ≡ length p.after.items
   pub same_letters : (k : ℕ) → k < length p.members.items → length (slice_index_or p.members.items k []) ≡ plan_letters p

@@ -6,15 +6,13 @@ ghost use Rattle.rl_prio.specs.internal.Attempts.{guards_of, is_unguarded, behin
 
 use crate::build::guards::Guards;
 use rl_lists::{Items, OutOfMemory};
+use rl_syntax::MOST_MOVES;
 use std::alloc::Global;
-
-/// How many items there may be in a list.
-const MAX_ITEMS: usize = 256;
 
 /// Why there is no list.
 #[derive(Clone, Copy, Debug, PartialEq, Eq)]
 pub(crate) enum ListError {
-    /// It would have more than 256 items.
+    /// It would have more than [`MOST_MOVES`] items.
     TooLong,
     /// Out of memory.
     OutOfMemory,
@@ -95,10 +93,10 @@ pub(crate) fn single(alloc: Global, attempt: Attempt) -> Result<AttemptList, Out
 /// [`ListError::TooLong`] exactly where the list is full, [`ListError::OutOfMemory`] where there was no memory for it.
 fn put(list: &mut AttemptList, attempt: Attempt) -> Result<(), ListError>
     ensures put { OnOk result (list.new ≡ list.old ++ attempt ∷ []) }
-    ensures short { OnOk result (length list.new ≤ 256) }
-    ensures moves { IfErr result (λ e. e ≡ ListError.TooLong → 256 ≤ length list.old) }
+    ensures short { OnOk result (length list.new ≤ MOST_MOVES) }
+    ensures moves { IfErr result (λ e. e ≡ ListError.TooLong → MOST_MOVES ≤ length list.old) }
 {
-    if list.len() >= MAX_ITEMS {
+    if list.len() >= MOST_MOVES {
         return Err(ListError::TooLong);
     }
     list.push(attempt)?;
@@ -108,17 +106,17 @@ fn put(list: &mut AttemptList, attempt: Attempt) -> Result<(), ListError>
 /// Appends further attempts, each with the guards in front.
 ///
 /// # Errors
-/// [`ListError::TooLong`] exactly where there would be more than 256, [`ListError::OutOfMemory`] where there was no memory for
-/// them.
+/// [`ListError::TooLong`] exactly where there would be more than [`MOST_MOVES`], [`ListError::OutOfMemory`] where there was
+/// no memory for them.
 pub(crate) fn put_behind(
     list: &mut AttemptList,
     guards: Guards,
     further: &[Attempt],
 ) -> Result<(), ListError>
     ensures put { OnOk result (list.new ≡ list.old ++ map (behind guards) further.now) }
-    ensures short { OnOk result (length list.old ≤ 256 → length list.new ≤ 256) }
+    ensures short { OnOk result (length list.old ≤ MOST_MOVES → length list.new ≤ MOST_MOVES) }
     ensures moves { IfErr result (λ e. e ≡ ListError.TooLong
-        → 256 < length list.old + length further.now) }
+        → MOST_MOVES < length list.old + length further.now) }
 {
     for attempt in further {
         put(list, attempt.behind(guards))?;
@@ -129,17 +127,17 @@ pub(crate) fn put_behind(
 /// Appends an attempt, an end replaced by further attempts.
 ///
 /// # Errors
-/// [`ListError::TooLong`] exactly where there would be more than 256, [`ListError::OutOfMemory`] where there was no memory for
-/// them.
+/// [`ListError::TooLong`] exactly where there would be more than [`MOST_MOVES`], [`ListError::OutOfMemory`] where there was
+/// no memory for them.
 fn put_onward(
     list: &mut AttemptList,
     attempt: Attempt,
     further: &[Attempt],
 ) -> Result<(), ListError>
     ensures put { OnOk result (list.new ≡ list.old ++ onward further.now attempt) }
-    ensures short { OnOk result (length list.old ≤ 256 → length list.new ≤ 256) }
+    ensures short { OnOk result (length list.old ≤ MOST_MOVES → length list.new ≤ MOST_MOVES) }
     ensures moves { IfErr result (λ e. e ≡ ListError.TooLong
-        → 256 < length list.old + length (onward further.now attempt)) }
+        → MOST_MOVES < length list.old + length (onward further.now attempt)) }
 {
     match attempt {
         Attempt::Test(_, _) => put(list, attempt),
@@ -150,8 +148,8 @@ fn put_onward(
 /// The attempts with each end replaced by further ones.
 ///
 /// # Errors
-/// [`ListError::TooLong`] exactly where there would be more than 256, [`ListError::OutOfMemory`] where there was no memory for
-/// them.
+/// [`ListError::TooLong`] exactly where there would be more than [`MOST_MOVES`], [`ListError::OutOfMemory`] where there was
+/// no memory for them.
 #[tactic(auto, using(crate::proofs::AttemptLemmas::onward_front, crate::proofs::AttemptLemmas::onward_more))]
 pub(crate) fn with_ends_replaced(
     alloc: Global,
@@ -159,9 +157,9 @@ pub(crate) fn with_ends_replaced(
     further: &[Attempt],
 ) -> Result<AttemptList, ListError>
     ensures ok { IfOk result (λ l. l ≡ ends_replaced attempts.now further.now) }
-    ensures short { IfOk result (λ l. length l ≤ 256) }
+    ensures short { IfOk result (λ l. length l ≤ MOST_MOVES) }
     ensures moves { IfErr result (λ e. e ≡ ListError.TooLong
-        → 256 < length (ends_replaced attempts.now further.now)) }
+        → MOST_MOVES < length (ends_replaced attempts.now further.now)) }
 {
     let mut list = Items::new(alloc);
     for attempt in attempts {
@@ -173,8 +171,8 @@ pub(crate) fn with_ends_replaced(
 /// Replaces each end in the lists from one place to another.
 ///
 /// # Errors
-/// [`ListError::TooLong`] only where a list would have more than 256 attempts, [`ListError::OutOfMemory`] where there was no
-/// memory for them.
+/// [`ListError::TooLong`] only where a list would have more than [`MOST_MOVES`] attempts, [`ListError::OutOfMemory`] where
+/// there was no memory for them.
 pub(crate) fn replace_ends(
     alloc: Global,
     lists: &mut Vec<AttemptList>,
@@ -187,7 +185,7 @@ pub(crate) fn replace_ends(
     ensures ok { OnOk result (AreReplaced further.now from to lists.old.items lists.new.items) }
     ensures short { OnOk result (AreShort from to lists.new.items) }
     ensures moves { IfErr result (λ e. e ≡ ListError.TooLong → (k : ℕ) × (from ≤ k) × (k < to)
-        × (256 < length (ends_replaced (slice_index_or lists.old.items k []) further.now))) }
+        × (MOST_MOVES < length (ends_replaced (slice_index_or lists.old.items k []) further.now))) }
 {
     for place in from..to {
         let list = with_ends_replaced(alloc, lists[place].as_slice(), further)?;

@@ -3,6 +3,7 @@
 ghost use Rattle.std.specs.Prelude.{◌≡◌, ℕ, ◌<◌, ◌≤◌, ◌+◌, ◌++◌, ◌⊎◌, ◌∷◌, [], List, length, IfOk, IfErr, OnOk};
 ghost use Rattle.rl_syntax.specs.Tree.{tree_of};
 ghost use Rattle.rl_syntax.specs.Run.{one_more};
+ghost use Rattle.rl_syntax.specs.declared.limits.TheConstants.{MOST_MOVES};
 ghost use Rattle.rl_prio.specs.internal.GuardSets.{no_guards};
 ghost use Rattle.rl_prio.specs.internal.Attempts.{ends_replaced, width_of, AreReplaced, AreEntered, AreShort, IsTooWide};
 
@@ -30,13 +31,13 @@ fn put_end(alloc: Global, lists: &mut Vec<AttemptList>) -> Result<(), OutOfMemor
 /// The attempts of the one list and then those of the other.
 ///
 /// # Errors
-/// [`ListError::TooLong`] exactly where there would be more than 256, [`ListError::OutOfMemory`] where there was no memory for
-/// them.
+/// [`ListError::TooLong`] exactly where there would be more than [`MOST_MOVES`], [`ListError::OutOfMemory`] where there was
+/// no memory for them.
 fn alternatives(list: AttemptList, others: &[Attempt]) -> Result<AttemptList, ListError>
     ensures ok { IfOk result (λ l. l ≡ list ++ others.now) }
-    ensures short { IfOk result (λ l. length list ≤ 256 → length l ≤ 256) }
+    ensures short { IfOk result (λ l. length list ≤ MOST_MOVES → length l ≤ MOST_MOVES) }
     ensures moves { IfErr result (λ e. e ≡ ListError.TooLong
-        → 256 < length (list ++ others.now)) }
+        → MOST_MOVES < length (list ++ others.now)) }
 {
     let mut all = list;
     put_behind(&mut all, Guards::none(), others)?;
@@ -46,13 +47,13 @@ fn alternatives(list: AttemptList, others: &[Attempt]) -> Result<AttemptList, Li
 /// The attempts with one end more: behind the last one where the flag is true, and in front where it is false.
 ///
 /// # Errors
-/// [`ListError::TooLong`] exactly where there would be more than 256, [`ListError::OutOfMemory`] where there was no memory for
-/// them.
+/// [`ListError::TooLong`] exactly where there would be more than [`MOST_MOVES`], [`ListError::OutOfMemory`] where there was
+/// no memory for them.
 fn with_one_more(alloc: Global, list: AttemptList, greedy: bool) -> Result<AttemptList, ListError>
     ensures ok { IfOk result (λ l. l ≡ one_more greedy (Attempt.End no_guards) list) }
-    ensures short { IfOk result (λ l. length list ≤ 256 → length l ≤ 256) }
+    ensures short { IfOk result (λ l. length list ≤ MOST_MOVES → length l ≤ MOST_MOVES) }
     ensures moves { IfErr result (λ e. e ≡ ListError.TooLong
-        → 256 < length (one_more greedy (Attempt.End no_guards) list)) }
+        → MOST_MOVES < length (one_more greedy (Attempt.End no_guards) list)) }
 {
     let end = single(alloc, Attempt::End(Guards::none()))?;
     if greedy {
@@ -66,8 +67,8 @@ fn with_one_more(alloc: Global, list: AttemptList, greedy: bool) -> Result<Attem
 /// attempts of that other tree.
 ///
 /// # Errors
-/// [`ListError::TooLong`] only where a list would have more than 256 attempts, [`ListError::OutOfMemory`] where there was no
-/// memory for them.
+/// [`ListError::TooLong`] only where a list would have more than [`MOST_MOVES`] attempts, [`ListError::OutOfMemory`] where
+/// there was no memory for them.
 fn in_turn(
     alloc: Global,
     lists: &mut Vec<AttemptList>,
@@ -79,7 +80,7 @@ fn in_turn(
     requires in_order { from ≤ to }
     requires in_lists { to ≤ length lists.old.items }
     ensures list { IfOk result (λ l. l ≡ ends_replaced list.now further.now) }
-    ensures list_short { IfOk result (λ l. length l ≤ 256) }
+    ensures list_short { IfOk result (λ l. length l ≤ MOST_MOVES) }
     ensures lists { OnOk result (AreReplaced further.now from to lists.old.items lists.new.items) }
     ensures lists_short { OnOk result (AreShort from to lists.new.items) }
     ensures moves { IfErr result (λ e. e ≡ ListError.TooLong
@@ -92,8 +93,8 @@ fn in_turn(
 /// The attempts of a tree that is repeated, and in the lists from a place on each end replaced by them.
 ///
 /// # Errors
-/// [`ListError::TooLong`] only where a list would have more than 256 attempts, [`ListError::OutOfMemory`] where there was no
-/// memory for them.
+/// [`ListError::TooLong`] only where a list would have more than [`MOST_MOVES`] attempts, [`ListError::OutOfMemory`] where
+/// there was no memory for them.
 fn repeated(
     alloc: Global,
     lists: &mut Vec<AttemptList>,
@@ -102,14 +103,14 @@ fn repeated(
     greedy: bool,
 ) -> Result<AttemptList, ListError>
     requires in_lists { from ≤ length lists.old.items }
-    requires short { length list ≤ 256 }
+    requires short { length list ≤ MOST_MOVES }
     ensures list { IfOk result (λ l. l ≡ one_more greedy (Attempt.End no_guards) list) }
-    ensures list_short { IfOk result (λ l. length l ≤ 256) }
+    ensures list_short { IfOk result (λ l. length l ≤ MOST_MOVES) }
     ensures lists { OnOk result (AreReplaced (one_more greedy (Attempt.End no_guards) list)
         from (length lists.old.items) lists.old.items lists.new.items) }
     ensures lists_short { OnOk result (AreShort from (length lists.old.items) lists.new.items) }
     ensures moves { IfErr result (λ e. e ≡ ListError.TooLong
-        → (256 < length (one_more greedy (Attempt.End no_guards) list))
+        → (MOST_MOVES < length (one_more greedy (Attempt.End no_guards) list))
         ⊎ IsTooWide [] (one_more greedy (Attempt.End no_guards) list) from (length lists.old.items) lists.old.items) }
 {
     let all = with_one_more(alloc, list, greedy)?;
@@ -121,8 +122,8 @@ fn repeated(
 /// Adds the list of each place of the tree, and gives that of entering it.
 ///
 /// # Errors
-/// [`ListError::TooLong`] exactly where a list would have more than 256 attempts, [`ListError::OutOfMemory`] where there was no
-/// memory for them.
+/// [`ListError::TooLong`] exactly where a list would have more than [`MOST_MOVES`] attempts, [`ListError::OutOfMemory`] where
+/// there was no memory for them.
 pub(crate) fn enter(
     alloc: Global,
     tree: &Re,
@@ -130,7 +131,7 @@ pub(crate) fn enter(
 ) -> Result<AttemptList, ListError>
     ensures ok { IfOk result (λ l. AreEntered (tree_of tree.now) lists.old.items lists.new.items l) }
     ensures moves { IfErr result (λ e. e ≡ ListError.TooLong
-        → 256 < width_of (tree_of tree.now) (length lists.old.items)) }
+        → MOST_MOVES < width_of (tree_of tree.now) (length lists.old.items)) }
 {
     match tree {
         Re::Empty => Ok(single(alloc, Attempt::End(Guards::none()))?),

@@ -2,8 +2,10 @@
 
 ghost use Rattle.std.specs.Prelude.{◌≡◌, ℕ, ◌+◌, ◌*◌, ◌-◌, ◌<◌, ◌≤◌, ◌++◌, [], None, Some, All, length, map, OnOk, IfOk, IfErr, slice_index_or};
 ghost use Rattle.rl_syntax.specs.Tree.{tree_of, sets_in};
+ghost use Rattle.rl_syntax.specs.declared.limits.TheConstants.{MOST_MOVES, MOST_NODES};
 ghost use Rattle.rl_ranges.specs.Codes.{has};
 ghost use Rattle.rl_ranges.specs.Letters.{letter_at};
+ghost use Rattle.rl_ranges.specs.declared.letters.TheConstants.{MOST_LETTERS};
 ghost use Rattle.rl_prio.specs.internal.GuardSets.{shown};
 ghost use Rattle.rl_prio.specs.internal.Attempts.{width_of};
 ghost use Rattle.rl_prio.specs.internal.Plans.{plan_letters, plan_kinds, plan_places, plan_states, holds_at, test_goes, may_end, end_goes, target_of, move_of, moves_of, attempts_at, before_at, row_of, each_letter, rows_of_state, IsPlaced, IsSound, AreRows, IsPlan};
@@ -36,8 +38,8 @@ impl Plan {
     /// The plan of a tree and an ending, over letters and kinds.
     ///
     /// # Errors
-    /// [`ListError::TooLong`] exactly where a list of items would have more than 256, [`ListError::OutOfMemory`] where there
-    /// was no memory for the plan.
+    /// [`ListError::TooLong`] exactly where a list of items would have more than [`MOST_MOVES`], [`ListError::OutOfMemory`]
+    /// where there was no memory for the plan.
     pub(crate) fn new(
         alloc: Global,
         tree: &Re,
@@ -47,9 +49,9 @@ impl Plan {
     ) -> Result<Plan, ListError>
         requires { All (λ c. c < kinds.now.codes) letters.now.samples }
         ensures ok { IfOk result (λ p. IsPlan p (tree_of tree.now) letters.now kinds.now ending) }
-        ensures short { OnOk result (width_of (tree_of tree.now) 0 ≤ 256) }
+        ensures short { OnOk result (width_of (tree_of tree.now) 0 ≤ MOST_MOVES) }
         ensures too_long { IfErr result (λ e. e ≡ ListError.TooLong
-            → 256 < width_of (tree_of tree.now) 0) }
+            → MOST_MOVES < width_of (tree_of tree.now) 0) }
     {
         let mut after = Vec::new(alloc);
         let first = enter(alloc, tree, &mut after)?;
@@ -76,7 +78,7 @@ impl Plan {
     pub(crate) fn states(&self) -> usize
         requires { IsSound self.now }
         ensures value { result ≡ plan_states self.now }
-        ensures small { result ≤ 512003 }
+        ensures small { result ≤ MOST_NODES * MOST_LETTERS + 3 }
     {
         self.place_states() + 3
     }
@@ -86,7 +88,7 @@ impl Plan {
         requires { IsSound self.now }
         ensures value { result ≡ plan_kinds self.now }
         ensures some { 1 ≤ result }
-        ensures few { result ≤ 128 }
+        ensures few { result ≤ MOST_LETTERS }
     {
         self.before.len() - 1
     }
@@ -95,7 +97,7 @@ impl Plan {
     fn place_states(&self) -> usize
         requires { IsSound self.now }
         ensures value { result ≡ plan_places self.now }
-        ensures small { result ≤ 512000 }
+        ensures small { result ≤ MOST_NODES * MOST_LETTERS }
     {
         self.after.len() * self.kinds()
     }

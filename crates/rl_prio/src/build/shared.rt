@@ -3,7 +3,9 @@
 ghost use Rattle.std.specs.Prelude.{◌≡◌, ℕ, ◌<◌, ◌≤◌, Bool, true, List, IfOk, IfErr, OnOk, length};
 ghost use Rattle.rl_ranges.specs.Letters.{IsLetters, alike};
 ghost use Rattle.rl_ranges.specs.Text.{code_count};
+ghost use Rattle.rl_ranges.specs.declared.letters.TheConstants.{MOST_LETTERS};
 ghost use Rattle.rl_syntax.specs.Tree.{tree_of, size, IsOver};
+ghost use Rattle.rl_syntax.specs.declared.limits.TheConstants.{MOST_MOVES, MOST_NODES};
 ghost use Rattle.rl_prio.specs.Automaton.{letters_count};
 ghost use Rattle.rl_prio.specs.Items.{longest};
 ghost use Rattle.rl_prio.specs.Letters.{all_sets};
@@ -33,8 +35,8 @@ impl Prio {
     /// its guards name do.
     ///
     /// # Errors
-    /// [`PrioError::Moves`] exactly where a list of items has more than 256, [`PrioError::OutOfMemory`] where there was no
-    /// memory for the automaton.
+    /// [`PrioError::Moves`] exactly where a list of items has more than [`MOST_MOVES`], [`PrioError::OutOfMemory`] where
+    /// there was no memory for the automaton.
     pub(crate) fn over_letters(
         alloc: Global,
         tree: &Re,
@@ -42,17 +44,17 @@ impl Prio {
         universe: Universe,
         letters: Rc<Letters>,
     ) -> Result<Prio, PrioError>
-        requires small { size (tree_of tree.now) ≤ 4000 }
+        requires small { size (tree_of tree.now) ≤ MOST_NODES }
         requires inside { IsOver universe (tree_of tree.now) }
-        requires few { length letters.value.samples ≤ 128 }
+        requires few { length letters.value.samples ≤ MOST_LETTERS }
         requires finer { (sets : List (ℕ → Bool)) × IsLetters letters.value sets (code_count universe)
             × ((c d : ℕ) → alike sets c d ≡ true → alike (all_sets (tree_of tree.now)) c d ≡ true) }
         ensures ok { IfOk result (λ a. (sets : List (ℕ → Bool)) → IsLetters letters.value sets (code_count universe)
             → ((c d : ℕ) → alike sets c d ≡ true → alike (all_sets (tree_of tree.now)) c d ≡ true)
             → StandsOver a (tree_of tree.now) ending sets) }
         ensures table { IfOk result (λ a. a.table ≡ letters.value) }
-        ensures short { OnOk result (longest (tree_of tree.now) ≤ 256) }
-        ensures moves { IfErr result (λ e. e ≡ PrioError.Moves → 256 < longest (tree_of tree.now)) }
+        ensures short { OnOk result (longest (tree_of tree.now) ≤ MOST_MOVES) }
+        ensures moves { IfErr result (λ e. e ≡ PrioError.Moves → MOST_MOVES < longest (tree_of tree.now)) }
         ensures letters { IfErr result (λ e. e ≡ PrioError.Letters → ⊥) }
     {
         let kinds = kinds(alloc, tree, universe)?;
@@ -66,8 +68,8 @@ impl Prio {
     /// the tree and those that its guards name do.
     ///
     /// # Errors
-    /// [`PrioError::Moves`] exactly where a list of items has more than 256, [`PrioError::OutOfMemory`] where there was no
-    /// memory for the automaton.
+    /// [`PrioError::Moves`] exactly where a list of items has more than [`MOST_MOVES`], [`PrioError::OutOfMemory`] where
+    /// there was no memory for the automaton.
     pub fn build_beside(
         alloc: Global,
         other: &Prio,
@@ -75,17 +77,17 @@ impl Prio {
         ending: Ending,
         universe: Universe,
     ) -> Result<Prio, PrioError>
-        requires small { size (tree_of tree.now) ≤ 4000 }
+        requires small { size (tree_of tree.now) ≤ MOST_NODES }
         requires inside { IsOver universe (tree_of tree.now) }
-        requires few { letters_count other.now ≤ 128 }
+        requires few { letters_count other.now ≤ MOST_LETTERS }
         requires finer { (sets : List (ℕ → Bool)) × IsLetters other.now.table sets (code_count universe)
             × ((c d : ℕ) → alike sets c d ≡ true → alike (all_sets (tree_of tree.now)) c d ≡ true) }
         ensures ok { IfOk result (λ a. (sets : List (ℕ → Bool)) → IsLetters other.now.table sets (code_count universe)
             → ((c d : ℕ) → alike sets c d ≡ true → alike (all_sets (tree_of tree.now)) c d ≡ true)
             → StandsOver a (tree_of tree.now) ending sets) }
         ensures table { IfOk result (λ a. a.table ≡ other.now.table) }
-        ensures short { OnOk result (longest (tree_of tree.now) ≤ 256) }
-        ensures moves { IfErr result (λ e. e ≡ PrioError.Moves → 256 < longest (tree_of tree.now)) }
+        ensures short { OnOk result (longest (tree_of tree.now) ≤ MOST_MOVES) }
+        ensures moves { IfErr result (λ e. e ≡ PrioError.Moves → MOST_MOVES < longest (tree_of tree.now)) }
         ensures letters { IfErr result (λ e. e ≡ PrioError.Letters → ⊥) }
     {
         let letters = other.shared_letters()?;

@@ -4,6 +4,7 @@ use Rattle.rl_ranges.specs.Letters.{alike, classes, letter_from, place_where}
 use Rattle.rl_ranges.specs.Building.{range_at}
 use Rattle.rl_ranges.specs.Codes.{has}
 use Rattle.rl_ranges.specs.Numbering.{firsts, Covers, ValuesBelow}
+use Rattle.rl_ranges.specs.declared.letters.TheConstants.{MOST_LETTERS}
 
 -- where the stretch at the place begins, and `count` behind the last
 abbrev pub start_or : List (ℕ × ℕ) → ℕ → ℕ → ℕ
@@ -36,14 +37,14 @@ pub record ArePassed (ranges : List (ℕ × ℕ)) (place code : ℕ) : Type 0 wh
 -- the value has its number: the one that it had, or else the next one, with the code as its least
 abbrev pub HasNumber : Option ℕ → ℕ → List (Option ℕ) → List (Option ℕ) → List ℕ → List ℕ → ℕ → ℕ → Type 0
 HasNumber None number known known' least least' value code =
-    (number ≡ length least) × (known' ≡ slice_set known value (Some number)) × (least' ≡ least ++ code ∷ []) × (length least < 128)
+    (number ≡ length least) × (known' ≡ slice_set known value (Some number)) × (least' ≡ least ++ code ∷ []) × (length least < MOST_LETTERS)
 HasNumber (Some n) number known known' least least' value code = (number ≡ n) × (known' ≡ known) × (least' ≡ least)
 
 -- the stretches and the least codes are those of the letters of the sets, for the codes below `count`
 pub record TellsApart (stretches : List (ℕ × ℕ)) (least : List ℕ) (sets : List (ℕ → Bool)) (count : ℕ) : Type 0 where
   pub covers : Covers stretches count
   pub below : ValuesBelow (length least) stretches
-  pub few : length least ≤ 128
+  pub few : length least ≤ MOST_LETTERS
   pub same_firsts : least ≡ firsts (alike sets) count
   pub same_number : (c : ℕ) → c < count → letter_from 0 stretches c ≡ place_where (alike sets c) (firsts (alike sets) count)
 
@@ -52,10 +53,10 @@ abbrev pub TellsMore : List (ℕ × ℕ) → List ℕ → List (ℕ × ℕ) → 
 TellsMore stretches least stretches' least' more count =
     (sets : List (ℕ → Bool)) → TellsApart stretches least sets count → TellsApart stretches' least' (sets ++ more) count
 
--- with some more sets there are more than 128 letters
+-- with some more sets there are more letters than may be
 abbrev pub HasTooMany : List (ℕ × ℕ) → List ℕ → List (ℕ → Bool) → ℕ → Type 0
 HasTooMany stretches least more count =
-    (sets : List (ℕ → Bool)) → TellsApart stretches least sets count → 128 < length (classes (sets ++ more) count)
+    (sets : List (ℕ → Bool)) → TellsApart stretches least sets count → MOST_LETTERS < length (classes (sets ++ more) count)
 
 -- the sample of a value, of the plain codes from `low` on: the least one of the value, or the value's least code where none is
 abbrev pub IsPreferred : List (ℕ × ℕ) → ℕ → ℕ → ℕ → ℕ → Type 0

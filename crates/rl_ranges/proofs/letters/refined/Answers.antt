@@ -3,6 +3,7 @@ use Rattle.std.proofs.lemmas.Result.{IfErr-weaker, IfOk-weaker}
 use Rattle.rl_ranges.proofs.LetterLemmas.{TellsApart-more, values_many}
 use Rattle.rl_ranges.specs.Numbering.{IsNumbered, firsts, same_value}
 use Rattle.rl_ranges.specs.internal.Splitting.{value_in}
+use Rattle.rl_ranges.specs.declared.letters.TheConstants.{MOST_LETTERS}
 use Rattle.rl_ranges.specs.Text.{code_count}
 use Rattle.rl_ranges.proofs.letters.refined.Goals as goal
 
@@ -23,5 +24,5 @@ returns-clause-too_many c =
     let old = c.args.known.now in
     IfErr-weaker c.split.result _ _
     (λ e many too_many sets told. values_many sets s n old.stretches.items old.least.items told
-    (subst (λ l. 128 < length (firsts (same_value (value_in old.stretches.items l)) n)) c.as_ranges.ensures.value
-    (subst (λ m. 128 < length (firsts (same_value (value_in old.stretches.items c.as_ranges.result.now)) m)) c.count.ensures (many too_many)))) c.split.ensures.too_many
+    (subst (λ l. MOST_LETTERS < length (firsts (same_value (value_in old.stretches.items l)) n)) c.as_ranges.ensures.value
+    (subst (λ m. MOST_LETTERS < length (firsts (same_value (value_in old.stretches.items c.as_ranges.result.now)) m)) c.count.ensures (many too_many)))) c.split.ensures.too_many

@@ -2,6 +2,7 @@ use Rattle.std.proofs.Common.{◌≡◌, ◌<◌, [], ◌∷◌, length, ap, sym
 use Rattle.std.proofs.lemmas.Result.{err_from_is_err_and}
 use Rattle.rl_syntax.specs.Tree.{tree_of}
 use Rattle.rl_syntax.specs.Run.{one_more}
+use Rattle.rl_syntax.specs.declared.limits.TheConstants.{MOST_MOVES}
 use Rattle.rl_prio.specs.internal.GuardSets.{no_guards}
 use Rattle.rl_prio.specs.internal.Attempts.{ends_replaced, AreReplaced, AreShort, IsTooWide}
 use Rattle.rl_prio.specs.declared.build.attempts.Attempt.TheVariants.{End}
@@ -65,7 +66,7 @@ returns-in_err-all-in-Either-clause-moves t c =
     rw (c.in-Either.is, ← c.deref-in-Either.ensures, ← c.deref-in-Either-2.ensures, p.1) (λ e.
     wide-either (tree_of c.deref-in-Either.result.now) c.args.lists.now.items c.enter-in-Either.new.lists.items c.in_ok-list-in-Either.list c.in_ok-list-in-Either.ensures.ok
     (tree_of c.deref-in-Either-2.result.now) c.enter-in-Either-2.new.lists.items c.in_ok-others-in-Either.others c.in_ok-others-in-Either.ensures.ok
-    (subst (λ l. 256 < length (c.in_ok-list-in-Either.list ++ l)) c.as_slice-in-Either.ensures (c.in_err-all-in-Either.ensures.moves (sym p.2 ∙ e))))
+    (subst (λ l. MOST_MOVES < length (c.in_ok-list-in-Either.list ++ l)) c.as_slice-in-Either.ensures (c.in_err-all-in-Either.ensures.moves (sym p.2 ∙ e))))
 
 pub returns-in_ok-all-in-Either-clause-ok : goal.returns-in_ok-all-in-Either-clause-ok
 returns-in_ok-all-in-Either-clause-ok t c =
@@ -90,7 +91,7 @@ returns-in_err-all-in-Many-clause-moves t c =
     let more = one_more c.in-Many.greedy (End no_guards) c.in_ok-list-in-Many.list in
     rw (c.in-Many.is, ← c.deref-in-Many.ensures, p.1) (λ e.
     wide-many (tree_of c.deref-in-Many.result.now) c.args.lists.now.items mid c.in_ok-list-in-Many.list c.in_ok-list-in-Many.ensures.ok c.in-Many.greedy
-    (subst (λ i. (256 < length more) ⊎ IsTooWide [] more i (length mid) mid) (c.len-from-in-Many.ensures ∙ c.args.lists.now.ok.0)
+    (subst (λ i. (MOST_MOVES < length more) ⊎ IsTooWide [] more i (length mid) mid) (c.len-from-in-Many.ensures ∙ c.args.lists.now.ok.0)
     (c.in_err-all-in-Many.ensures.moves (sym p.2 ∙ e))))
 
 pub returns-in_ok-single-in-Guard-clause-ok : goal.returns-in_ok-single-in-Guard-clause-ok

@@ -3,12 +3,13 @@ use Rattle.std.proofs.lemmas.Result.{IfOk-weaker, IfErr-weaker, on_ok_weaker}
 use Rattle.rl_ranges.specs.Codes.{has}
 use Rattle.rl_ranges.specs.Letters.{LetterTable, IsLetters}
 use Rattle.rl_ranges.specs.Text.{code_count}
+use Rattle.rl_ranges.specs.declared.letters.TheConstants.{MOST_LETTERS}
 use Rattle.rl_prio.proofs.prio.Prio.build_over.Goals as goal
 
 are-letters : (shared table : LetterTable) (sets : List (ℕ → Bool)) (n : ℕ) → shared ≡ table → IsLetters table sets n → IsLetters shared sets n
 are-letters shared table sets n same are = subst (λ (l : LetterTable). IsLetters l sets n) (sym same) are
 
-few-letters : (shared table : LetterTable) → shared ≡ table → length table.samples ≤ 128 → length shared.samples ≤ 128
+few-letters : (shared table : LetterTable) → shared ≡ table → length table.samples ≤ MOST_LETTERS → length shared.samples ≤ MOST_LETTERS
 few-letters shared table same few = omega (arith, ap (λ (l : LetterTable). length l.samples) same, few)
 
 pub over_letters-requires-clause-few : goal.over_letters-requires-clause-few

@@ -1,0 +1,62 @@
+"""The table of limits in docs/USAGE.md: each number in it is that of the constant which decides."""
+from __future__ import annotations
+
+import re
+import unittest
+from pathlib import Path
+from typing import Dict, List
+
+TOP = Path(__file__).resolve().parents[2]
+PAGE = TOP / "docs" / "USAGE.md"
+CONSTANT = re.compile(r"^ *(?:pub(?:\(crate\))? )?const ([A-Z_]+): [a-z0-9]+ = ([0-9_]+);$", re.MULTILINE)
+NUMBER = re.compile(r"[0-9][0-9,]*")
+# the constant that decides, for what a row names first
+DECIDES = {
+    "`size`": "rl_syntax/src/limits.rt MOST_NODES",
+    "`letters`": "rl_ranges/src/letters.rt MOST_LETTERS",
+    "`moves`": "rl_syntax/src/limits.rt MOST_MOVES",
+    "`pairs`": "rl_syntax/src/limits.rt MOST_PAIRS",
+    "`sets`": "rl_syntax/src/limits.rt MOST_COUNTED_SETS",
+    "pairs of sets of a comparison": "rl_syntax/src/limits.rt MOST_SET_PAIRS",
+    "triples of a certificate": "rl_numbers/src/numbering.rt MOST_TRIPLES",
+    "characters of the text of `cost`": "rl_lint/src/cost.rt MAX_TEXT",
+    "bytes of a source": "rl_pylex/src/lex.rt MOST_BYTES",
+    "bytes of a baseline or a certificate": "rl_sarif/src/reading.rt MAX_BYTES",
+    "levels of folders": "rl_walk/src/walking.rt LAST_LEVEL",
+}
+# rows whose number stands in the code without a name
+UNNAMED = ("characters of a pattern", "open groups", "the number in `{m,n}`")
+
+
+def rows() -> Dict[str, List[str]]:
+    """The cells of each row of the table, by its first one."""
+    text = PAGE.read_text(encoding="utf-8")
+    table = text.split("\n## Limits\n", 1)[1].strip().split("\n\n", 1)[0]
+    cells = [[cell.strip() for cell in line.strip("|").split("|")] for line in table.splitlines()[2:]]
+    return {row[0]: row[1:] for row in cells}
+
+
+def value_of(constant: str) -> int:
+    """What the file gives the constant."""
+    file, name = constant.split()
+    found = dict(CONSTANT.findall((TOP / "crates" / file).read_text(encoding="utf-8")))
+    return int(found[name].replace("_", ""))
+
+
+@unittest.skipUnless((TOP / "crates").is_dir(), "the sources of the program aren't here")
+class Limits(unittest.TestCase):
+    """The rows of the table."""
+
+    def test_each_row_is_known(self) -> None:
+        self.assertEqual(sorted(rows()), sorted([*DECIDES, *UNNAMED]))
+
+    def test_each_number_is_that_of_its_constant(self) -> None:
+        table = rows()
+        for first, constant in DECIDES.items():
+            with self.subTest(row=first):
+                most = NUMBER.findall(table[first][1])[-1]
+                self.assertEqual(int(most.replace(",", "")), value_of(constant))
+
+
+if __name__ == "__main__":
+    unittest.main()
