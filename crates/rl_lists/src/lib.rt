@@ -22,8 +22,10 @@
 #![tactic(auto)]
 
 pub mod items;
+pub mod limits;
 
 pub use items::Items;
+pub use limits::MOST_BYTES;
 use std::alloc::{AllocError, AllocFailed};
 
 /// Out of memory. What the call was given is unchanged.
