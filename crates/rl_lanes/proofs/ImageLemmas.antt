@@ -1,74 +1,13 @@
 -- Lemmas on the union of chosen rows: what a place of it holds, and how far a loop over the chosen rows has come.
-use Rattle.std.proofs.Common.{◌≡◌, ℕ, zero, suc, ◌+◌, ◌-◌, ◌<◌, ◌≤◌, ◌⊎◌, ◌↔◌, Bool, true, false, List, [], ◌∷◌, length, get_or, set, drop, replicate, refl, sym, ap, ◌∙◌, inl, inr, arith, All}
+use Rattle.std.proofs.Common.{◌≡◌, ℕ, zero, suc, ◌<◌, ◌≤◌, ◌⊎◌, ◌↔◌, Bool, true, false, List, [], ◌∷◌, length, get_or, set, replicate, refl, sym, ap, ◌∙◌, inl, inr, arith, All}
 use Rattle.std.specs.List.{fold}
-use Rattle.std.proofs.Math.Seq.{drop-cons}
-use Rattle.std.proofs.lemmas.Bool.{both_ways, or_cases, or_left, or_right, false≢true}
-use Rattle.std.proofs.lemmas.List.{get_or-drop, get_or-replicate, length-set, length-replicate}
+use Rattle.std.proofs.lemmas.Bool.{both_ways, cases_eq, cases_lt, or_cases, or_left, or_right, false≢true}
+use Rattle.std.proofs.lemmas.List.{ext_get_or, get_or-replicate, length-set, length-replicate}
 use Rattle.std.proofs.lemmas.List.Elements.{All-from_get_or, All-set}
 use Rattle.rl_lanes.specs.Rows.{list_or, NoneFrom, IsLeastFrom}
+use Rattle.rl_lanes.specs.Runs.{IsRun}
 use Rattle.rl_lanes.specs.Tables.{chosen_rows, image}
 use Rattle.rl_lanes.proofs.RowLemmas.{length-list_or, get_or-list_or, get_or-replicate_false}
-
--- where no place holds true, no row is chosen
-chosen_rows-none : (rows : List (List Bool)) (chosen : List Bool) → ((k : ℕ) → get_or chosen k false ≡ false) → chosen_rows rows chosen ≡ []
-chosen_rows-none [] chosen none = refl
-chosen_rows-none (row ∷ rows) [] none = refl
-chosen_rows-none (row ∷ rows) (true ∷ chosen) none = absurd (false≢true (sym (none 0)))
-chosen_rows-none (row ∷ rows) (false ∷ chosen) none = chosen_rows-none rows chosen (λ k. none (suc k))
-
--- the rows chosen from place i on, by the value at i
-chosen_rows-skip : (rows : List (List Bool)) (chosen : List Bool) (i : ℕ) → i < length rows → i < length chosen → get_or chosen i false ≡ false → chosen_rows (drop i rows) (drop i chosen) ≡ chosen_rows (drop (suc i) rows) (drop (suc i) chosen)
-chosen_rows-skip rows chosen i row_in in_row off =
-    (λ k. chosen_rows (drop-cons rows i [] row_in k) ((drop-cons chosen i false in_row ∙ ap (λ b. b ∷ drop (suc i) chosen) off) k))
-
-chosen_rows-take : (rows : List (List Bool)) (chosen : List Bool) (i : ℕ) → i < length rows → i < length chosen → get_or chosen i false ≡ true → chosen_rows (drop i rows) (drop i chosen) ≡ get_or rows i [] ∷ chosen_rows (drop (suc i) rows) (drop (suc i) chosen)
-chosen_rows-take rows chosen i row_in in_row on =
-    (λ k. chosen_rows (drop-cons rows i [] row_in k) ((drop-cons chosen i false in_row ∙ ap (λ b. b ∷ drop (suc i) chosen) on) k))
-
--- n places that hold false are passed over
-chosen_rows-gap : (rows : List (List Bool)) (chosen : List Bool) (i n : ℕ) → length chosen ≡ length rows → i + n ≤ length chosen → ((k : ℕ) → i ≤ k → k < i + n → get_or chosen k false ≡ false) → chosen_rows (drop i rows) (drop i chosen) ≡ chosen_rows (drop (i + n) rows) (drop (i + n) chosen)
-chosen_rows-gap rows chosen i zero same le off = (λ k. chosen_rows (drop (here k) rows) (drop (here k) chosen))
-  where
-    here : i ≡ i + 0
-    here = omega arith
-chosen_rows-gap rows chosen i (suc n) same le off =
-    chosen_rows-skip rows chosen i (omega arith) (omega arith) (off i (omega arith) (omega arith))
-    ∙ chosen_rows-gap rows chosen (suc i) n same (omega arith) (λ k ge lt. off k (omega arith) (omega arith))
-    ∙ (λ k. chosen_rows (drop (next k) rows) (drop (next k) chosen))
-  where
-    next : suc i + n ≡ i + suc n
-    next = omega arith
-
--- `into` has the union of the chosen rows before `at`: what the others add makes the image
-pub record JoinsRows (rows : List (List Bool)) (chosen : List Bool) (len at : ℕ) (into : List Bool) : Type 0 where
-  pub within : at ≤ length chosen
-  pub long : length into ≡ len
-  pub rest : fold list_or into (chosen_rows (drop at rows) (drop at chosen)) ≡ image rows chosen len
-
-pub JoinsRows-none : (rows : List (List Bool)) (chosen : List Bool) (len : ℕ) → JoinsRows rows chosen len 0 (replicate len false)
-unfolding image
-JoinsRows-none rows chosen len = record { within = omega arith; long = length-replicate len false; rest = refl }
-
-pub JoinsRows-more : (rows : List (List Bool)) (chosen : List Bool) (len at row : ℕ) (into : List Bool) → length chosen ≡ length rows → All (λ r. length r ≡ len) rows → JoinsRows rows chosen len at into → IsLeastFrom chosen at row → JoinsRows rows chosen len (row + 1) (list_or into (get_or rows row []))
-JoinsRows-more rows chosen len at row into same each joined least =
-    let in_chosen = least.within in
-    let in_rows : row < length rows = omega (arith, least.within) in
-    let row_long : length (get_or rows row []) ≡ len = each row [] in_rows in
-    let gap : at + (row - at) ≡ row = omega (arith, least.after) in
-    let past : suc row ≡ row + 1 = omega arith in
-    let passed = chosen_rows-gap rows chosen at (row - at) same (omega (arith, least.within, least.after)) (λ k ge lt. least.before k ge (omega arith)) in
-    let here : chosen_rows (drop at rows) (drop at chosen) ≡ get_or rows row [] ∷ chosen_rows (drop (row + 1) rows) (drop (row + 1) chosen) =
-    passed ∙ (λ k. chosen_rows (drop (gap k) rows) (drop (gap k) chosen)) ∙ chosen_rows-take rows chosen row in_rows in_chosen least.member
-    ∙ (λ k. get_or rows row [] ∷ chosen_rows (drop (past k) rows) (drop (past k) chosen)) in
-    record {
-      within = omega (arith, least.within);
-      long = length-list_or into (get_or rows row []) (joined.long ∙ sym row_long) ∙ joined.long;
-      rest = sym (ap (fold list_or into) here) ∙ joined.rest;
-    }
-
-pub JoinsRows-all : (rows : List (List Bool)) (chosen : List Bool) (len at : ℕ) (into : List Bool) → JoinsRows rows chosen len at into → NoneFrom chosen at → into ≡ image rows chosen len
-JoinsRows-all rows chosen len at into joined none =
-    sym (ap (fold list_or into) (chosen_rows-none (drop at rows) (drop at chosen) (λ k. get_or-drop at chosen k false ∙ none (at + k) (omega arith)))) ∙ joined.rest
 
 -- ---- a place of the image
 -- some chosen row holds true at a place
@@ -141,6 +80,72 @@ get_or-image rows chosen len k each = (
   ]),
   (λ held. held_to len (replicate len false) rows chosen k (length-replicate len false) each (inr held)),
 )
+
+same_truth : (a b : Bool) → (a ≡ true → b ≡ true) → (b ≡ true → a ≡ true) → a ≡ b
+same_truth true b to from = sym (to refl)
+same_truth false true to from = from refl
+same_truth false false to from = refl
+
+-- a row with as many places that holds true where the chosen rows do is the image
+pub image_is : (rows : List (List Bool)) (chosen : List Bool) (len : ℕ) (into : List Bool) → All (λ r. length r ≡ len) rows → length into ≡ len → ((k : ℕ) → k < len → get_or into k false ≡ true → IsHeld rows chosen k) → ((k : ℕ) → k < len → IsHeld rows chosen k → get_or into k false ≡ true) → into ≡ image rows chosen len
+image_is rows chosen len into each long held from =
+    ext_get_or false into (image rows chosen len) (long ∙ sym (length-image rows chosen len each)) (λ k lt.
+    let below : k < len = omega arith in
+    let place = get_or-image rows chosen len k each in
+    same_truth (get_or into k false) (get_or (image rows chosen len) k false) (λ e. place.1 (held k below e)) (λ e. from k below (place.0 e)))
+
+-- ---- a loop over the chosen rows
+-- `into` is the union of the chosen rows before `at`
+pub record JoinsRows (rows : List (List Bool)) (chosen : List Bool) (len at : ℕ) (into : List Bool) : Type 0 where
+  pub within : at ≤ length chosen
+  pub long : length into ≡ len
+  pub held : (k : ℕ) → get_or into k false ≡ true → IsHeld rows chosen k
+  pub each : (i k : ℕ) → i < at → get_or chosen i false ≡ true → get_or (get_or rows i []) k false ≡ true → get_or into k false ≡ true
+
+pub JoinsRows-none : (rows : List (List Bool)) (chosen : List Bool) (len : ℕ) → JoinsRows rows chosen len 0 (replicate len false)
+JoinsRows-none rows chosen len = record {
+  within = omega arith;
+  long = length-replicate len false;
+  held = λ k e. absurd (both_ways (get_or (replicate len false) k false) (get_or-replicate_false len k) e);
+  each = λ i k lt on held. absurd (omega arith);
+}
+
+-- with a row also the run behind it is joined
+pub JoinsRows-more : (rows : List (List Bool)) (chosen : List Bool) (len at row end : ℕ) (into : List Bool) → length chosen ≡ length rows → All (λ r. length r ≡ len) rows → JoinsRows rows chosen len at into → IsLeastFrom chosen at row → IsRun rows row end → JoinsRows rows chosen len end (list_or into (get_or rows row []))
+JoinsRows-more rows chosen len at row end into same each joined least run = record {
+  within = omega (arith, run.inside);
+  long = length-list_or into added alike ∙ joined.long;
+  held = λ k e. elim (or_cases (get_or into k false) (get_or added k false) (sym (get_or-list_or into added k alike) ∙ e)) [
+    | inl was ↦ joined.held k was
+    | inr new ↦ (row, least.member, new)
+  ];
+  each = λ i k lt on held. elim (cases_lt i at) [
+    | inl before ↦ get_or-list_or into added k alike ∙ or_left (get_or into k false) (get_or added k false) (joined.each i k before on held)
+    | inr from ↦ elim (cases_lt i row) [
+      | inl between ↦ absurd (both_ways (get_or chosen i false) (least.before i from between) on)
+      | inr past ↦ elim (cases_eq i row) [
+        | inl here ↦ put k (ap (λ j. get_or (get_or rows j []) k false) (sym here) ∙ held)
+        | inr other ↦ put k (run.covered i (omega arith) lt k held)
+      ]
+    ]
+  ];
+}
+  where
+    added : List Bool
+    added = get_or rows row []
+
+    alike : length into ≡ length added
+    alike = joined.long ∙ sym (each row [] (omega (arith, least.within)))
+
+    put : (k : ℕ) → get_or added k false ≡ true → get_or (list_or into added) k false ≡ true
+    put k e = get_or-list_or into added k alike ∙ or_right (get_or into k false) (get_or added k false) e
+
+pub JoinsRows-all : (rows : List (List Bool)) (chosen : List Bool) (len at : ℕ) (into : List Bool) → All (λ r. length r ≡ len) rows → JoinsRows rows chosen len at into → NoneFrom chosen at → into ≡ image rows chosen len
+JoinsRows-all rows chosen len at into each joined none =
+    image_is rows chosen len into each joined.long (λ k lt e. joined.held k e) (λ k lt (i, on, held). elim (cases_lt i at) [
+      | inl before ↦ joined.each i k before on held
+      | inr from ↦ absurd (both_ways (get_or chosen i false) (none i from) on)
+    ])
 
 -- ---- a table whose rows have one length keeps it
 pub row_lengths-replicate : (rows len : ℕ) → All (λ row. length row ≡ len) (replicate rows (replicate len false))

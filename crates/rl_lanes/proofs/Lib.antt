@@ -1,8 +1,11 @@
 pub mod CountLemmas
 pub mod ImageLemmas
+pub mod NarrowLemmas
 pub mod NextLemmas
 pub mod PackedLemmas
 pub mod RowLemmas
+pub mod RunLemmas
 pub mod StoredLemmas
 pub mod TableLemmas
+pub mod UnionLemmas
 pub mod WordLemmas

@@ -207,3 +207,33 @@ IsRow-set {len} {words} {row} i word to r lt at others =
         ap (λ w. eqb (bit_at w (k % 64)) 1) (get_or-set_other words (i / 64) (k / 64) word 0 other_word)
         ∙ sym (IsRow-get_or r k)
         ∙ sym (get_or-set_other row i k to false other)
+
+-- a row of at most 64 places by its first word
+pub IsRow-word : {len w : ℕ} {words : List ℕ} {row : List Bool} → IsRow len words row → w ≡ get_or words 0 0 → (i : ℕ) → i < 64 → get_or row i false ≡ eqb (bit_at w i) 1
+IsRow-word {len} {w} {words} r word_is i lt =
+    IsRow-get_or r i ∙ ap (bit words) place ∙ bit-at words 0 i lt ∙ ap (λ n. eqb (bit_at n i) 1) (sym word_is)
+  where
+    place : i ≡ 64 * 0 + i
+    place = omega arith
+
+-- a row of 1 to 64 places whose word is replaced
+word_put : (words : List ℕ) (word i : ℕ) → 0 < length words → i < 64 → bit (set words 0 word) i ≡ eqb (bit_at word i) 1
+word_put words word i some lt =
+    ap (bit (set words 0 word)) place ∙ bit-at (set words 0 word) 0 i lt ∙ ap (λ n. eqb (bit_at n i) 1) (get_or-set_same words 0 word 0 some)
+  where
+    place : i ≡ 64 * 0 + i
+    place = omega arith
+
+pub IsPacked-word : {len : ℕ} {words : List ℕ} {row : List Bool} (word : ℕ) → IsRow len words row → 0 < length row → length row ≤ 64 → ((i : ℕ) → length row ≤ i → i < 64 → bit_at word i ≡ 0) → IsPacked len (set words 0 word)
+IsPacked-word {len} {words} {row} word r some few clear = record {
+  enough = length-set words 0 word ∙ r.packed.enough;
+  clear = λ i ge. elim (cases_lt i 64) [
+    | inl lt ↦ word_put words word i (omega (arith, IsRow-length r, r.packed.enough)) lt ∙ ap (λ b. eqb b 1) (clear i (omega (arith, IsRow-length r)) lt)
+    | inr past ↦ bit_past (set words 0 word) i (omega (arith, length-set words 0 word, IsRow-length r, r.packed.enough))
+  ];
+}
+
+pub truths-word : {len : ℕ} {words : List ℕ} {row : List Bool} (word : ℕ) → IsRow len words row → 0 < length row → length row ≤ 64 → ((i : ℕ) → length row ≤ i → i < 64 → bit_at word i ≡ 0) → (i : ℕ) → i < 64 → get_or (truths len (set words 0 word)) i false ≡ eqb (bit_at word i) 1
+truths-word {len} {words} word r some few clear i lt =
+    get_or-truths_all len (set words 0 word) i (IsPacked-word word r some few clear)
+    ∙ word_put words word i (omega (arith, IsRow-length r, r.packed.enough)) lt

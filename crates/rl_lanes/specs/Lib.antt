@@ -1,4 +1,5 @@
 pub mod Packed
 pub mod Rows
+pub mod Runs
 pub mod Tables
 pub mod internal

@@ -42,3 +42,14 @@ pub(crate) fn lowest(word: u64) -> usize
 {
     word.trailing_zeros() as usize
 }
+
+/// The word with its lowest set bit cleared.
+#[inline(always)]
+pub(crate) fn without_lowest(word: u64) -> u64
+    requires { word ≢ 0 }
+    ensures less { result < word }
+    ensures inside { (k : ℕ) → bit_at result k ≡ 1 → bit_at word k ≡ 1 }
+    ensures kept { (i k : ℕ) → i < k → bit_at word i ≡ 1 → bit_at word k ≡ 1 → bit_at result k ≡ 1 }
+{
+    word & (word - 1)
+}

@@ -1,6 +1,7 @@
 // A row of truth values.
-ghost use Rattle.std.specs.Prelude.{◌≡◌, ◌↔◌, ℕ, ◌+◌, ◌*◌, ◌/◌, ◌^◌, ◌<◌, ◌≤◌, Bool, false, length, replicate, count_by, slice_index_or, slice_set, IsTrue, IfOk, IfSome, IfNone};
+ghost use Rattle.std.specs.Prelude.{◌≡◌, ◌==◌, ◌↔◌, ℕ, ◌+◌, ◌*◌, ◌/◌, ◌^◌, ◌<◌, ◌≤◌, Bool, false, length, replicate, count_by, slice_index_or, slice_set, IsTrue, IfOk, IfSome, IfNone};
 ghost use Rattle.std.specs.Bool.{OnFalse};
+ghost use Rattle.std.specs.Int.{bit_at};
 ghost use Rattle.rl_lanes.specs.Rows.{list_or, list_and_not, Meets, AreApart, IsSubset, HasOther, NoneFrom, IsLeastFrom};
 ghost use Rattle.rl_lanes.specs.Packed.{truths, IsPacked, words_of};
 ghost use Rattle.rl_lanes.specs.internal.PackedWords.{IsLeastBitFrom, NoBitFrom};
@@ -165,6 +166,31 @@ impl BitRow {
         } else {
             None
         }
+    }
+
+    /// The word that holds the values of a row of at most 64 places.
+    #[inline(always)]
+    pub(crate) fn word(&self) -> u64
+        requires { length self.now ≤ 64 }
+        ensures { (i : ℕ) → i < 64 → slice_index_or self.now i false ≡ (bit_at result i == 1) }
+    {
+        if self.words.is_empty() {
+            0
+        } else {
+            self.words[0]
+        }
+    }
+
+    /// Makes the values of a row of 1 to 64 places those that a word holds.
+    #[inline(always)]
+    pub(crate) fn put_word(&mut self, word: u64)
+        requires some { 0 < length self.old }
+        requires few { length self.old ≤ 64 }
+        requires clear { (i : ℕ) → length self.old ≤ i → i < 64 → bit_at word i ≡ 0 }
+        ensures values { (i : ℕ) → i < 64 → slice_index_or self.new i false ≡ (bit_at word i == 1) }
+        ensures len { length self.new ≡ length self.old }
+    {
+        self.words[0] = word;
     }
 
     /// The words that hold the values.

@@ -1,10 +1,13 @@
 // A table of rows of truth values.
-ghost use Rattle.std.specs.Prelude.{◌≡◌, ◌<◌, ◌+◌, [], All, Bool, false, length, replicate, slice_index_or, slice_set, IfOk};
+ghost use Rattle.std.specs.Prelude.{◌≡◌, ℕ, ◌<◌, ◌≤◌, [], All, Bool, false, length, replicate, slice_index, slice_index_or, slice_set, IfOk, IsTrue};
 ghost use Rattle.rl_lanes.specs.Packed.{truths, IsPacked};
+ghost use Rattle.rl_lanes.specs.Rows.{IsSubset};
 ghost use Rattle.rl_lanes.specs.Tables.{image};
+ghost use Rattle.rl_lanes.specs.Runs.{IsRun, AreRuns};
 
 use crate::bits::with_bit;
 use crate::row::{BitRow, WORD};
+use crate::words::{any_outside, union_of};
 use rl_lists::OutOfMemory;
 use std::alloc::Global;
 use std::marker::Model;
@@ -13,22 +16,26 @@ use std::marker::Model;
 ///
 /// Contracts see it as the list of its rows. Each row begins with a word of its own, and its bits past the last value
 /// are false.
+///
+/// Rows behind a row that all lie within it are a run. The table has an end of the run of each row, or none at all.
 #[derive(Debug, Drop)]
 pub struct BitTable {
     words: Vec<u64>,
     rows: usize,
     len: usize,
+    ends: Vec<usize>,
 }
 
 impl Model for BitTable {
     ghost use Rattle.std.specs.Prelude.{Bool, List};
-    ghost use Rattle.rl_lanes.specs.Packed.{table_rows, IsPackedTable};
+    ghost use Rattle.rl_lanes.specs.Packed.{table_rows};
+    ghost use Rattle.rl_lanes.specs.Runs.{IsPackedWithRuns};
 
     ghost Value = { List (List Bool) };
 
     ghost view = { λ t. table_rows t.rows t.len t.words.items };
 
-    ghost invariant = { λ t. IsPackedTable t.rows t.len t.words.items };
+    ghost invariant = { λ t. IsPackedWithRuns t.rows t.len t.words.items t.ends.items };
 }
 
 impl BitTable {
@@ -43,7 +50,12 @@ impl BitTable {
             return Err(OutOfMemory);
         };
         let words = Vec::from_elem(alloc, 0, count)?;
-        Ok(BitTable { words, rows, len })
+        Ok(BitTable {
+            words,
+            rows,
+            len,
+            ends: Vec::new(alloc),
+        })
     }
 
     /// Puts a value at a place of a row.
@@ -52,8 +64,24 @@ impl BitTable {
         requires place_in { i < length (slice_index_or self.old row []) }
         ensures { self.new ≡ slice_set self.old row (slice_set (slice_index_or self.old row []) i to) }
     {
+        self.ends.clear();
         let word = row * self.len.div_ceil(WORD) + i / WORD;
         self.words[word] = with_bit(self.words[word], i % WORD, to);
+    }
+
+    /// Finds the runs of the rows, so that images pass over rows that add nothing. It pays where a table is filled and
+    /// many images are taken then: it costs about as much as two images of all rows. Where a word can hold the chosen rows,
+    /// images are fast without it, and nothing is done.
+    ///
+    /// # Errors
+    /// [`OutOfMemory`] where there was no memory for the ends of the runs.
+    pub fn find_runs(&mut self) -> Result<(), OutOfMemory>
+        ensures { self.new ≡ self.old }
+    {
+        if WORD < self.rows {
+            self.ends = self.runs()?;
+        }
+        Ok(())
     }
 
     /// Makes `into` the union of the rows whose numbers `chosen` holds.
@@ -63,12 +91,79 @@ impl BitTable {
         ensures image { into.new ≡ image self.now chosen.now (length into.old) }
         ensures len { length into.new ≡ length into.old }
     {
+        if chosen.len() <= WORD && 0 < into.len() && into.len() <= WORD {
+            into.put_word(union_of(self.words.as_slice(), chosen.word()));
+        } else {
+            self.join_chosen(chosen, into);
+        }
+    }
+
+    /// Makes `into` the union of the chosen rows, row by row.
+    fn join_chosen(&self, chosen: &BitRow, into: &mut BitRow)
+        requires rows { length chosen.now ≡ length self.now }
+        requires places { All (λ row. length row ≡ length into.old) self.now }
+        ensures image { into.new ≡ image self.now chosen.now (length into.old) }
+        ensures len { length into.new ≡ length into.old }
+    {
         into.clear();
         let mut at = 0;
         while let Some(row) = chosen.next_from(at) {
             into.add_words(self.row_words(row));
-            at = row + 1;
+            at = self.run_end(row);
         }
+    }
+
+    /// The end of the run of a row that is known.
+    fn run_end(&self, row: usize) -> usize
+        requires { row < length self.now }
+        ensures { IsRun self.now row result }
+    {
+        // The end is at most the number of rows, which is read so that it is known to fit.
+        let _rows = self.rows;
+        if row < self.ends.len() {
+            self.ends[row]
+        } else {
+            row + 1
+        }
+    }
+
+    /// The end of the run of each row.
+    fn runs(&self) -> Result<Vec<usize>, OutOfMemory>
+        ensures { IfOk result (λ ends. AreRuns self.now ends.items) }
+    {
+        let mut ends = Vec::from_elem(*self.words.allocator(), 0, self.rows)?;
+        let mut row = self.rows;
+        while 0 < row {
+            row -= 1;
+            ends[row] = self.run_from(row, ends.as_slice());
+        }
+        Ok(ends)
+    }
+
+    /// The end of the longest run of a row, from the ends of the runs of the rows behind it.
+    fn run_from(&self, row: usize, ends: &[usize]) -> usize
+        requires row_in { row < length self.now }
+        requires long { length ends.now ≡ length self.now }
+        requires behind { (i : ℕ) → row < i → i < length self.now → IsRun self.now i (slice_index ends.now i) }
+        ensures { IsRun self.now row result }
+    {
+        let mut end = row + 1;
+        while end < ends.len() && self.is_within(end, row) {
+            end = ends[end];
+        }
+        end
+    }
+
+    /// Whether each place that holds true in one row does in another.
+    fn is_within(&self, row: usize, of: usize) -> bool
+        requires row_in { row < length self.now }
+        requires of_in { of < length self.now }
+        ensures { IsTrue result → IsSubset (slice_index_or self.now row []) (slice_index_or self.now of []) }
+    {
+        // Named, so that each is known to be a word of 64 bits.
+        let words = self.row_words(row);
+        let of_words = self.row_words(of);
+        !any_outside(words, of_words)
     }
 
     /// The words of a row.
@@ -76,6 +171,7 @@ impl BitTable {
         requires { row < length self.now }
         ensures packed { IsPacked (length (slice_index_or self.now row [])) result.now }
         ensures shows { truths (length (slice_index_or self.now row [])) result.now ≡ slice_index_or self.now row [] }
+        ensures alike { (i : ℕ) → i < length self.now → length (slice_index_or self.now i []) ≡ length (slice_index_or self.now row []) }
     {
         let width = self.len.div_ceil(WORD);
         let start = row * width;

@@ -1,5 +1,5 @@
 // Rows and tables against plain lists, and rows as keys.
-ghost use Rattle.std.specs.Prelude.{◌≡◌, ◌<◌, length, IfOk};
+ghost use Rattle.std.specs.Prelude.{◌≡◌, ◌<◌, All, length, IfOk};
 
 use crate::row::BitRow;
 use crate::table::BitTable;
@@ -21,6 +21,32 @@ fn multiples(alloc: Global, len: usize, of: usize) -> Result<BitRow, OutOfMemory
         row.set(i, i % of == 0);
     }
     Ok(row)
+}
+
+/// Makes a place of a table hold true whose rows have `len` places.
+fn put(table: &mut BitTable, len: usize, row: usize, i: usize)
+    requires row_in { row < length table.old }
+    requires place_in { i < len }
+    requires wide { All (λ r. length r ≡ len) table.old }
+    ensures high { length table.new ≡ length table.old }
+    ensures wide { All (λ r. length r ≡ len) table.new }
+{
+    table.set(row, i, true);
+}
+
+/// A table with as many rows as places in a row. The listed places hold true, each by its row and its number in that row.
+fn square(alloc: Global, len: usize, places: &[(usize, usize)]) -> Result<BitTable, OutOfMemory>
+    ensures high { IfOk result (λ table. length table ≡ len) }
+    ensures wide { IfOk result (λ table. All (λ row. length row ≡ len) table) }
+{
+    let mut table = BitTable::zeros(alloc, len, len)?;
+    for at in 0..places.len() {
+        let (row, i) = places[at];
+        if row < len && i < len {
+            put(&mut table, len, row, i);
+        }
+    }
+    Ok(table)
 }
 
 #[test]
@@ -100,6 +126,45 @@ fn image_is_the_union_of_the_chosen_rows(rt: HostRuntime) -> Result<(), Fail> {
     chosen.clear();
     table.image(&chosen, &mut into);
     assert!(rt; into.is_empty());
+    Ok(())
+}
+
+#[test]
+fn image_of_rows_of_one_word(rt: HostRuntime) -> Result<(), Fail> {
+    let table = square(rt.alloc(), 64, &[(0, 63), (5, 5), (63, 0), (63, 63)])?;
+    let mut chosen = multiples(rt.alloc(), 64, 63)?;
+    let mut into = multiples(rt.alloc(), 64, 1)?;
+    table.image(&chosen, &mut into);
+    assert_eq!(rt; into.count(), 2);
+    assert_eq!(rt; into.next_from(0), Some(0));
+    assert_eq!(rt; into.next_from(1), Some(63));
+    chosen.clear();
+    table.image(&chosen, &mut into);
+    assert!(rt; into.is_empty());
+    Ok(())
+}
+
+/// Of the rows of three words the second and the fourth are equal and lie within the first. The last but one has a place of
+/// its own, and the others have none.
+#[test]
+fn image_passes_over_runs(rt: HostRuntime) -> Result<(), Fail> {
+    let places = [(0, 0), (0, 64), (1, 64), (3, 64), (128, 129)];
+    let mut table = square(rt.alloc(), 130, &places)?;
+    table.find_runs()?;
+    let mut chosen = multiples(rt.alloc(), 130, 1)?;
+    let mut into = multiples(rt.alloc(), 130, 7)?;
+    table.image(&chosen, &mut into);
+    assert_eq!(rt; into.count(), 3);
+    assert_eq!(rt; into.next_from(1), Some(64));
+    assert_eq!(rt; into.next_from(65), Some(129));
+    chosen.set(0, false);
+    table.image(&chosen, &mut into);
+    assert_eq!(rt; into.count(), 2);
+    assert_eq!(rt; into.next_from(0), Some(64));
+    put(&mut table, 130, 3, 7);
+    table.image(&chosen, &mut into);
+    assert_eq!(rt; into.count(), 3);
+    assert_eq!(rt; into.next_from(0), Some(7));
     Ok(())
 }
 

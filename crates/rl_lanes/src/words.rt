@@ -1,8 +1,10 @@
 // Lists of words of 64 bits: eight words at a time by lanes, and the rest one by one.
 ghost use Rattle.std.specs.Prelude.{◌≡◌, ◌≢◌, ℕ, ◌+◌, ◌*◌, ◌^◌, ◌<◌, ◌≤◌, length, map, slice_index, bit_and, bit_or, count_ones, MatchBool};
+ghost use Rattle.std.specs.Int.{bit_at};
 ghost use Rattle.std.specs.Simd.Lanes.{sum_l, chunk};
-ghost use Rattle.rl_lanes.specs.internal.Words.{JoinsAt, JoinsEach, SomePair, NoPair, SomePairAt, NoPairAt, SomeWord, NoWord, and_not};
+ghost use Rattle.rl_lanes.specs.internal.Words.{JoinsAt, JoinsEach, SomePair, NoPair, SomePairAt, NoPairAt, SomeWord, NoWord, IsUnionOf, and_not};
 
+use crate::bits::{lowest, without_lowest};
 use std::simd::prelude::*;
 
 /// How many words a kernel takes at once.
@@ -162,4 +164,18 @@ pub(crate) fn count_words(words: &[u64]) -> usize
         at += 1;
     }
     count
+}
+
+/// The union of the words at the places of the bits that are set.
+pub(crate) fn union_of(words: &[u64], chosen: u64) -> u64
+    requires { (i : ℕ) → i < 64 → bit_at chosen i ≡ 1 → i < length words.now }
+    ensures { IsUnionOf words.now chosen result }
+{
+    let mut left = chosen;
+    let mut union = 0;
+    while left != 0 {
+        union |= words[lowest(left)];
+        left = without_lowest(left);
+    }
+    union
 }

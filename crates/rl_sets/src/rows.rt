@@ -65,6 +65,7 @@ pub(crate) fn table_on(alloc: Global, a: &Prio, letter: u32) -> Result<BitTable,
     for q in 0..a.states() {
         mark_row(&mut table, q as usize, a.moves(q, letter));
     }
+    table.find_runs()?;
     Ok(table)
 }
 

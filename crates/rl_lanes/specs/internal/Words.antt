@@ -1,6 +1,6 @@
 -- Facts of each or some of the words of two lists, and of eight words from a place on.
 use Rattle.std.specs.Prelude.{◌≡◌, ◌≢◌, ℕ, ◌+◌, ◌<◌, ◌≤◌, List, length, slice_index, bit_and}
-use Rattle.std.specs.Int.{bit_not, w64}
+use Rattle.std.specs.Int.{bit_at, bit_not, w64}
 
 -- the bits of x that y does not have
 abbrev pub and_not : ℕ → ℕ → ℕ
@@ -41,3 +41,8 @@ SomePairAt f at a b = (k : ℕ) × (at ≤ k) × (k < at + 8) × (f (slice_index
 -- each pair of the eight words from `at` on is joined to 0 by f
 abbrev pub NoPairAt : (ℕ → ℕ → ℕ) → ℕ → List ℕ → List ℕ → Type 0
 NoPairAt f at a b = (k : ℕ) → at ≤ k → k < at + 8 → f (slice_index a k) (slice_index b k) ≡ 0
+
+-- the union of the words at the places of the bits that are set in `chosen`, bit by bit
+pub record IsUnionOf (words : List ℕ) (chosen union : ℕ) : Type 0 where
+  pub held : (k : ℕ) → bit_at union k ≡ 1 → (i : ℕ) × (i < 64) × (bit_at chosen i ≡ 1) × (bit_at (slice_index words i) k ≡ 1)
+  pub each : (i k : ℕ) → i < 64 → bit_at chosen i ≡ 1 → bit_at (slice_index words i) k ≡ 1 → bit_at union k ≡ 1

@@ -1,25 +1,43 @@
-use Rattle.std.proofs.Common.{◌≡◌, ◌+◌, [], length, get_or, ap, sym, ◌∙◌, subst, arith}
-use Rattle.rl_lanes.specs.Rows.{list_or}
-use Rattle.rl_lanes.specs.Packed.{truths}
-use Rattle.rl_lanes.proofs.ImageLemmas.{JoinsRows, JoinsRows-none, JoinsRows-more, JoinsRows-all}
+use Rattle.std.proofs.Common.{◌<◌, length, sym, subst, arith}
+use Rattle.rl_lanes.specs.internal.Words.{IsUnionOf}
+use Rattle.rl_lanes.proofs.NarrowLemmas.{IsNarrow, narrow_within, narrow_clear, narrow_image}
 use Rattle.rl_lanes.proofs.table.BitTable.image.Goals as goal
 
-pub loop-row-init : goal.loop-row-init
-loop-row-init c =
-    let len = length c.args.into.now in
-    subst (JoinsRows c.args.self.now c.args.chosen.now len 0) (sym c.clear.ensures) (JoinsRows-none c.args.self.now c.args.chosen.now len)
+pub union_of-requires : goal.union_of-requires
+union_of-requires c i lt on =
+    let t : IsNarrow c.self.inside.rows c.self.inside.len c.self.inside.words.items c.args.self.now (length c.args.into.now) c.args.chosen.now c.word.result = record {
+      table_is = record { packed = c.self.invariant.packed; shows = c.self.view_is };
+      each = c.requires.places;
+      some = omega arith;
+      few = omega arith;
+      alike = c.requires.rows;
+      short = omega arith;
+      holds = c.word.ensures;
+    } in
+    subst (λ ws. i < length ws) (sym c.as_slice.ensures.value) (narrow_within i t lt on)
 
-pub loop-row-preserved : goal.loop-row-preserved
-loop-row-preserved c =
-    let table = c.args.self.now in
-    let row = get_or table c.in-Some.row [] in
-    let long : length c.loop-row.into ≡ length row = c.loop-row.invariant.long ∙ sym (c.requires.places c.in-Some.row [] (omega (arith, c.in-Some.ensures.found.within, c.requires.rows))) in
-    let added : c.add_words.new.self ≡ list_or c.loop-row.into row = c.add_words.ensures ∙ ap (λ n. list_or c.loop-row.into (truths n c.row_words.result.now)) long ∙ ap (list_or c.loop-row.into) c.row_words.ensures.shows in
-    subst (JoinsRows table c.args.chosen.now (length c.args.into.now) (c.in-Some.row + 1)) (sym added)
-    (JoinsRows-more table c.args.chosen.now (length c.args.into.now) c.loop-row.at c.in-Some.row c.loop-row.into c.requires.rows c.requires.places c.loop-row.invariant c.in-Some.ensures.found)
+pub put_word-requires-clause-clear : goal.put_word-requires-clause-clear
+put_word-requires-clause-clear c i ge lt =
+    let t : IsNarrow c.self.inside.rows c.self.inside.len c.self.inside.words.items c.args.self.now (length c.args.into.now) c.args.chosen.now c.word.result = record {
+      table_is = record { packed = c.self.invariant.packed; shows = c.self.view_is };
+      each = c.requires.places;
+      some = omega arith;
+      few = omega arith;
+      alike = c.requires.rows;
+      short = omega arith;
+      holds = c.word.ensures;
+    } in
+    narrow_clear c.union_of.result i t (subst (λ ws. IsUnionOf ws c.word.result c.union_of.result) c.as_slice.ensures.value c.union_of.ensures) ge lt
 
-pub returns : goal.returns
-returns c = record {
-  image = JoinsRows-all c.args.self.now c.args.chosen.now (length c.args.into.now) c.loop-row.at c.loop-row.into c.loop-row.invariant c.in_default.ensures.none;
-  len = c.loop-row.invariant.long;
-}
+pub returns-then-len-le-WORD-2-clause-image : goal.returns-then-len-le-WORD-2-clause-image
+returns-then-len-le-WORD-2-clause-image c =
+    let t : IsNarrow c.self.inside.rows c.self.inside.len c.self.inside.words.items c.args.self.now (length c.args.into.now) c.args.chosen.now c.word.result = record {
+      table_is = record { packed = c.self.invariant.packed; shows = c.self.view_is };
+      each = c.requires.places;
+      some = omega arith;
+      few = omega arith;
+      alike = c.requires.rows;
+      short = omega arith;
+      holds = c.word.ensures;
+    } in
+    narrow_image c.union_of.result c.put_word.new.self t (subst (λ ws. IsUnionOf ws c.word.result c.union_of.result) c.as_slice.ensures.value c.union_of.ensures) c.put_word.ensures.len c.put_word.ensures.values

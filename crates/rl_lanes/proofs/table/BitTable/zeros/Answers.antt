@@ -1,4 +1,4 @@
-use Rattle.std.proofs.Common.{◌≡◌, ◌*◌, ℕ, List, ap, sym, ◌∙◌, subst, replicate, false}
+use Rattle.std.proofs.Common.{◌≡◌, ◌*◌, ℕ, List, ap, sym, ◌∙◌, subst, length, replicate, false, arith}
 use Rattle.rl_lanes.proofs.TableLemmas.{IsTable, IsTable-zeros, width_of}
 use Rattle.rl_lanes.proofs.table.BitTable.zeros.Goals as goal
 
@@ -7,7 +7,10 @@ shown rows len width count words width_is count_is zeros =
     subst (λ ws. IsTable rows len ws (replicate rows (replicate len false))) (sym (zeros ∙ ap (λ n. replicate n 0) (count_is ∙ ap (λ w. rows * w) width_is))) (IsTable-zeros rows len)
 
 pub invariant_of-result : goal.invariant_of-result
-invariant_of-result c = (shown c.args.rows c.args.len c.div_ceil.result c.in-Some.count _ c.div_ceil.ensures c.in-Some.ensures.1 (c.in_ok-words.ensures.items_if_clones_equal (λ y e. e))).packed
+invariant_of-result c = record {
+  packed = (shown c.args.rows c.args.len c.div_ceil.result c.in-Some.count _ c.div_ceil.ensures c.in-Some.ensures.1 (c.in_ok-words.ensures.items_if_clones_equal (λ y e. e))).packed;
+  runs = λ row lt. absurd (omega (arith, ap length c.new.ensures.items));
+}
 
 pub returns : goal.returns
 returns c = (shown c.args.rows c.args.len c.div_ceil.result c.in-Some.count _ c.div_ceil.ensures c.in-Some.ensures.1 (c.in_ok-words.ensures.items_if_clones_equal (λ y e. e))).shows
