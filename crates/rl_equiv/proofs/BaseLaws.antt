@@ -5,9 +5,11 @@ use Rattle.rl_ranges.specs.Letters.{alike, classes, class_of, place_where, Lette
 use Rattle.rl_ranges.specs.Numbering.{firsts}
 use Rattle.rl_ranges.specs.Text.{code_count}
 use Rattle.rl_ranges.proofs.LetterLemmas.{alike-append, classes-firsts, class_of-place}
+use Rattle.rl_ranges.specs.declared.letters.TheConstants.{MOST_LETTERS}
 use Rattle.rl_syntax.specs.declared.re.Ending.{Ending}
 use Rattle.rl_syntax.specs.declared.re.Ending.TheVariants.{AtEnd}
 use Rattle.rl_syntax.specs.Tree.{Tree}
+use Rattle.rl_syntax.specs.declared.limits.TheConstants.{MOST_MOVES}
 use Rattle.rl_prio.specs.Automaton.{Automaton, IsAutomaton, letters_count}
 use Rattle.rl_prio.specs.Items.{longest}
 use Rattle.rl_prio.specs.Letters.{all_sets}
@@ -65,7 +67,7 @@ abbrev pub OverAny : Universe → Tree → Automaton → Automaton → Type 0
 OverAny u t a b = (sets : List (ℕ → Bool)) → IsLetters a.table sets (code_count u) → ((c d : ℕ) → alike sets c d ≡ true → alike (all_sets t) c d ≡ true) → StandsOver b t AtEnd sets
 
 -- what the error of the second automaton tells of both trees
-pub second-passed : (u : Universe) (s t : Tree) → AreSmall s t → length (joint_letters u s t) ≤ 128 → (e : PrioError) → (e ≡ Moves → 256 < longest t) → (e ≡ Letters → ⊥) → IsPassed u s t (same_error e)
+pub second-passed : (u : Universe) (s t : Tree) → AreSmall s t → length (joint_letters u s t) ≤ MOST_LETTERS → (e : PrioError) → (e ≡ Moves → MOST_MOVES < longest t) → (e ≡ Letters → ⊥) → IsPassed u s t (same_error e)
 second-passed u s t small few Letters moves none = absurd (none refl)
 second-passed u s t small few Moves moves none = (small, few, inr (moves refl))
 second-passed u s t small few OutOfMemory moves none = tt
@@ -78,10 +80,10 @@ module _ (u : Universe) (s t : Tree) (sets : List (ℕ → Bool)) (same : sets �
   pub first-letters : IsLetters a.table (joint_sets s t) (code_count u)
   first-letters = subst (IsLetters a.table (joint_sets s t)) codes first-stands.same_letters
 
-  pub joint-few : length (classes sets (code_count u)) ≤ 128 → length (joint_letters u s t) ≤ 128
-  joint-few few = subst (λ (l : List (ℕ → Bool)). length (classes l (code_count u)) ≤ 128) same few
+  pub joint-few : length (classes sets (code_count u)) ≤ MOST_LETTERS → length (joint_letters u s t) ≤ MOST_LETTERS
+  joint-few few = subst (λ (l : List (ℕ → Bool)). length (classes l (code_count u)) ≤ MOST_LETTERS) same few
 
-  pub count-few : length (classes sets (code_count u)) ≤ 128 → letters_count a ≤ 128
+  pub count-few : length (classes sets (code_count u)) ≤ MOST_LETTERS → letters_count a ≤ MOST_LETTERS
   count-few few = omega (arith, first-letters.same_count, joint-few few)
 
   pub joint-together : (b : Automaton) → IsAutomaton a → IsAutomaton b → b.table ≡ a.table → OverAny u t a b → StandTogether u s t a b
@@ -110,16 +112,16 @@ module _ (u : Universe) (s t : Tree) (no : TellsNoMore s t) where
     pub base-letters : IsLetters a.table (all_sets s) (code_count u)
     base-letters = subst (IsLetters a.table (all_sets s)) base.codes base.stands.same_letters
 
-    pub base-few : letters_count a ≤ 128
+    pub base-few : letters_count a ≤ MOST_LETTERS
     base-few = omega (arith, base-letters.same_count, base.within.few_letters)
 
-    few-joint : length (joint_letters u s t) ≤ 128
-    few-joint = subst (λ l. length l ≤ 128) (sym joint-known) base.within.few_letters
+    few-joint : length (joint_letters u s t) ≤ MOST_LETTERS
+    few-joint = subst (λ l. length l ≤ MOST_LETTERS) (sym joint-known) base.within.few_letters
 
-    pub base-within : AreSmall s t → longest t ≤ 256 → AreWithin u s t
+    pub base-within : AreSmall s t → longest t ≤ MOST_MOVES → AreWithin u s t
     base-within small short = record { small = small; few_letters = few-joint; first_moves = base.within.few_moves; second_moves = short }
 
-    pub base-passed : AreSmall s t → (e : PrioError) → (e ≡ Moves → 256 < longest t) → (e ≡ Letters → ⊥) → IsPassed u s t (same_error e)
+    pub base-passed : AreSmall s t → (e : PrioError) → (e ≡ Moves → MOST_MOVES < longest t) → (e ≡ Letters → ⊥) → IsPassed u s t (same_error e)
     base-passed small e moves none = second-passed u s t small few-joint e moves none
 
     -- what is built over all letters stands together

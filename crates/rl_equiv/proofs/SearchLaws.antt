@@ -4,6 +4,7 @@ use Rattle.std.specs.List.{list_any}
 use Rattle.std.proofs.lemmas.Bool.{cases_lt, cond-true, cond-false, lt-ltb, le-ltb}
 use Rattle.std.proofs.lemmas.List.{length-append, length-map, map-append, append-nil, get_or_append_left, get_or-map, take_all, take_more}
 use Rattle.std.proofs.lemmas.Option.{slice_get-get_or, get_or_from_slice_get}
+use Rattle.rl_syntax.specs.declared.limits.TheConstants.{MOST_SET_PAIRS}
 use Rattle.rl_prio.specs.Automaton.{Automaton, letters_count}
 use Rattle.rl_sets.specs.Live.{below}
 use Rattle.rl_sets.specs.Walk.{Walk, set_at}
@@ -167,15 +168,15 @@ ends-read a b s place key x y e f g =
     λ i. record { first = p i; second = q i }
 
 -- the search begins with the first set pair
-pub search-start : (a b : Automaton) (limit n m : ℕ) (v w : Walk) (keys : List Key) (ways : List Way) → 1 ≤ limit → limit ≤ 20000 → IsSide a 20000 1 v → IsSide b 20000 1 w
+pub search-start : (a b : Automaton) (limit n m : ℕ) (v w : Walk) (keys : List Key) (ways : List Way) → 1 ≤ limit → limit ≤ MOST_SET_PAIRS → IsSide a MOST_SET_PAIRS 1 v → IsSide b MOST_SET_PAIRS 1 w
     → n < length v.sets → m < length w.sets → set_at v n ≡ 0 ∷ [] → set_at w m ≡ 0 ∷ [] → keys ≡ record { first = n; second = m } ∷ [] → ways ≡ no_way ∷ []
     → IsSearch a b (record { limit = limit; first = v; second = w; keys = keys; ways = ways })
 search-start a b limit n m v w keys ways some low one two n_in m_in e f ks ws =
     subst (λ (t : State). IsSearch a b t) (λ i. record { limit = limit; first = v; second = w; keys = sym ks i; ways = sym ws i }) (record {
       some_limit = some;
       low_limit = low;
-      first_side = side-lower a limit 20000 1 v low one;
-      second_side = side-lower b limit 20000 1 w low two;
+      first_side = side-lower a limit MOST_SET_PAIRS 1 v low one;
+      second_side = side-lower b limit MOST_SET_PAIRS 1 w low two;
       first_in = λ k lt. by_first k lt;
       second_in = λ k lt. by_second k lt;
       some = omega arith;

@@ -4,6 +4,7 @@ use Rattle.std.proofs.lemmas.Bool.{or_from, ne_eqb}
 use Rattle.std.proofs.lemmas.List.{length_push, get_or_append_left}
 use Rattle.std.proofs.lemmas.List.Elements.{Contains-append_left, Contains-get_or}
 use Rattle.std.proofs.lemmas.Option.{slice_get_within, get_or_from_slice_get}
+use Rattle.rl_syntax.specs.declared.limits.TheConstants.{MOST_SET_PAIRS}
 use Rattle.rl_prio.specs.Automaton.{Automaton, accepting_state}
 use Rattle.rl_sets.specs.Live.{holds}
 use Rattle.rl_sets.specs.Walk.{Walk, set_at, set_of}
@@ -64,7 +65,7 @@ module _ (a : Automaton) (old new : Walk) (set : List ℕ) (n : ℕ) (g : Gets a
       by (inr m) = absurd (m.0 (subst (Contains old.sets) (sym (gets-same n lt) ∙ gets-set) (Contains-get_or old.sets n [] lt)))
 
 -- the first two sets of a walk
-pub side-begun : (a : Automaton) (w x y : Walk) (k l : ℕ) → w.sets ≡ [] → w.limit ≡ 60000 → Gets a w x (set_of a []) k → Gets a x y (set_of a (accepting_state a ∷ [])) l → IsSide a 20000 0 y
+pub side-begun : (a : Automaton) (w x y : Walk) (k l : ℕ) → w.sets ≡ [] → w.limit ≡ 60000 → Gets a w x (set_of a []) k → Gets a x y (set_of a (accepting_state a ∷ [])) l → IsSide a MOST_SET_PAIRS 0 y
 side-begun a w x y k l none is g h = record {
   made = h.made;
   limit_is = h.limit_is ∙ g.limit_is ∙ is;
@@ -114,7 +115,7 @@ side-kept a limit count w side = record {
 }
 
 -- one that was kept, and hasn't grown too large, has room again
-pub side-again : (a : Automaton) (w : Walk) → length w.sets ≤ 30000 → IsSide a 0 1 w → IsSide a 20000 0 w
+pub side-again : (a : Automaton) (w : Walk) → length w.sets ≤ 30000 → IsSide a 0 1 w → IsSide a MOST_SET_PAIRS 0 w
 side-again a w few side = record {
   made = side.made;
   limit_is = side.limit_is;

@@ -2,6 +2,7 @@
 
 ghost use Rattle.std.specs.Prelude.{◌≡◌, ◌≤◌, IfOk, IfErr, OnOk};
 ghost use Rattle.rl_syntax.specs.Tree.{tree_of, IsOver, Tree};
+ghost use Rattle.rl_syntax.specs.declared.limits.TheConstants.{MOST_SET_PAIRS};
 ghost use Rattle.rl_equiv.specs.SetPairs.{set_pairs};
 ghost use Rattle.rl_equiv.specs.Bases.{Base, IsBase, TellsNoMore};
 ghost use Rattle.rl_equiv.specs.Joined.{StandTogether};
@@ -10,14 +11,13 @@ ghost use Rattle.rl_equiv.specs.Limits.{AreWithin, IsPassed, IsWithin, IsPassedB
 ghost use Rattle.rl_equiv.specs.Numbering.{IsAnswer};
 
 use crate::error::SameError;
-use crate::joint::MOST_NODES;
 use crate::sameness::Sameness;
 use crate::searching::Search;
 use crate::sides::kept_side;
 use rl_prio::Prio;
 use rl_ranges::Universe;
 use rl_sets::SetWalk;
-use rl_syntax::{Ending, Re};
+use rl_syntax::{Ending, MOST_NODES, Re};
 use std::alloc::Global;
 use std::marker::Model;
 
@@ -76,9 +76,9 @@ impl Baseline {
     /// The tree with which others are compared, if it passes no limit.
     ///
     /// # Errors
-    /// [`SameError::Size`] where the tree has more than 4,000 nodes, else [`SameError::Letters`] where it has more than 128
-    /// letters, else [`SameError::Moves`] where it has a list of more than 256 items. [`SameError::OutOfMemory`] where there
-    /// was no memory.
+    /// [`SameError::Size`] where the tree has more than [`MOST_NODES`], else [`SameError::Letters`] where it has more than
+    /// [`MOST_LETTERS`](rl_syntax::MOST_LETTERS), else [`SameError::Moves`] where it has a list of more than
+    /// [`MOST_MOVES`](rl_syntax::MOST_MOVES) items. [`SameError::OutOfMemory`] where there was no memory.
     pub fn new(alloc: Global, tree: Re, u: Universe) -> Result<Baseline, SameError>
         requires inside { IsOver u (tree_of tree) }
         ensures base { IfOk result (λ b. b ≡ record { tree = tree; universe = u }) }
@@ -108,7 +108,7 @@ impl Baseline {
         requires inside { IsOver self.old.universe (tree_of other.now) }
         requires letters { TellsNoMore (tree_of self.old.tree) (tree_of other.now) }
         requires some { 1 ≤ limit }
-        requires low { limit ≤ 20000 }
+        requires low { limit ≤ MOST_SET_PAIRS }
         ensures within { OnOk result (AreWithin self.old.universe (tree_of self.old.tree) (tree_of other.now)) }
         ensures passed { IfErr result (IsPassed self.old.universe (tree_of self.old.tree) (tree_of other.now)) }
         ensures answer { IfOk result (IsAnswer (set_pairs self.old.universe (tree_of self.old.tree) (tree_of other.now)) limit) }

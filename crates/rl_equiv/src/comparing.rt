@@ -2,6 +2,7 @@
 
 ghost use Rattle.std.specs.Prelude.{◌≡◌, ◌≤◌, IfOk, IfErr, OnOk};
 ghost use Rattle.rl_syntax.specs.Tree.{tree_of, IsOver};
+ghost use Rattle.rl_syntax.specs.declared.limits.TheConstants.{MOST_SET_PAIRS};
 ghost use Rattle.rl_equiv.specs.SetPairs.{set_pairs};
 ghost use Rattle.rl_equiv.specs.Languages.{IsTold};
 ghost use Rattle.rl_equiv.specs.Limits.{AreWithin, IsPassed};
@@ -22,14 +23,15 @@ use std::alloc::Global;
 /// shows a difference.
 ///
 /// # Errors
-/// [`SameError::Size`] where one of the trees has more than 4,000 nodes, else [`SameError::Letters`] where there are more than
-/// 128 letters, else [`SameError::Moves`] where one of the trees has a list of more than 256 items. [`SameError::OutOfMemory`]
-/// where there was no memory.
+/// [`SameError::Size`] where one of the trees has more than [`MOST_NODES`](rl_syntax::MOST_NODES), else
+/// [`SameError::Letters`] where there are more than [`MOST_LETTERS`](rl_syntax::MOST_LETTERS), else [`SameError::Moves`] where
+/// one of the trees has a list of more than [`MOST_MOVES`](rl_syntax::MOST_MOVES) items. [`SameError::OutOfMemory`] where there
+/// was no memory.
 pub fn same(alloc: Global, a: &Re, b: &Re, u: Universe, limit: u32) -> Result<Sameness, SameError>
     requires first_inside { IsOver u (tree_of a.now) }
     requires second_inside { IsOver u (tree_of b.now) }
     requires some { 1 ≤ limit }
-    requires low { limit ≤ 20000 }
+    requires low { limit ≤ MOST_SET_PAIRS }
     ensures within { OnOk result (AreWithin u (tree_of a.now) (tree_of b.now)) }
     ensures passed { IfErr result (IsPassed u (tree_of a.now) (tree_of b.now)) }
     ensures answer { IfOk result (IsAnswer (set_pairs u (tree_of a.now) (tree_of b.now)) limit) }

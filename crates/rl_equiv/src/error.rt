@@ -7,11 +7,13 @@ use rl_lists::OutOfMemory;
 /// Why two trees aren't compared.
 #[derive(Clone, Copy, Debug, PartialEq, Eq)]
 pub enum SameError {
-    /// One of the trees has more than 4,000 nodes.
+    /// One of the trees has more than [`MOST_NODES`](rl_syntax::MOST_NODES).
     Size,
-    /// The sizes are within their limit, and the sets of both trees tell more than 128 letters apart.
+    /// The sizes are within their limit, and the sets of both trees tell more letters apart than
+    /// [`MOST_LETTERS`](rl_syntax::MOST_LETTERS).
     Letters,
-    /// Sizes and letters are within their limits, and a list of items of one of the trees has more than 256.
+    /// Sizes and letters are within their limits, and a list of items of one of the trees has more than
+    /// [`MOST_MOVES`](rl_syntax::MOST_MOVES).
     Moves,
     /// Out of memory.
     OutOfMemory,

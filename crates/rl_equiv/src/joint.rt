@@ -11,11 +11,8 @@ use crate::error::SameError;
 use rl_lists::OutOfMemory;
 use rl_prio::{Prio, PrioError, add_letter_sets};
 use rl_ranges::{CodeSet, Universe};
-use rl_syntax::{Ending, Re};
+use rl_syntax::{Ending, MOST_NODES, Re};
 use std::alloc::Global;
-
-/// The most nodes that a compared tree has.
-pub(crate) const MOST_NODES: u64 = 4_000;
 
 /// The automata of two trees as fullmatch, over the letters of both.
 #[derive(Drop)]

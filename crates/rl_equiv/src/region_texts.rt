@@ -5,6 +5,7 @@ ghost use Rattle.std.proofs.Math.Bool.{beq};
 ghost use Rattle.rl_syntax.specs.declared.re.Ending.TheVariants.{AtEnd};
 ghost use Rattle.rl_syntax.specs.Cost.{matched};
 ghost use Rattle.rl_syntax.specs.Tree.{tree_of, IsOver};
+ghost use Rattle.rl_syntax.specs.declared.limits.TheConstants.{MOST_SET_PAIRS};
 ghost use Rattle.rl_equiv.specs.Limits.{AreWithin, IsPassed};
 ghost use Rattle.rl_equiv.specs.Regions.{AreRegions};
 ghost use Rattle.rl_equiv.specs.Told.{AreTold};
@@ -65,7 +66,7 @@ pub fn regions(
     requires first_inside { IsOver u (tree_of a.now) }
     requires second_inside { IsOver u (tree_of b.now) }
     requires some { 1 ≤ limit }
-    requires low { limit ≤ 20000 }
+    requires low { limit ≤ MOST_SET_PAIRS }
     ensures within { OnOk result (AreWithin u (tree_of a.now) (tree_of b.now)) }
     ensures passed { IfErr result (IsPassed u (tree_of a.now) (tree_of b.now)) }
     ensures regions { IfOk result (AreRegions u (tree_of a.now) (tree_of b.now) limit) }

@@ -1,6 +1,7 @@
 //! The search for a set pair that shows a difference, breadth first.
 
 ghost use Rattle.std.specs.Prelude.{◌≡◌, ℕ, ◌<◌, ◌≤◌, ◌∷◌, [], true, false, not, ◌&&◌, List, length, map, slice_index_or, IfOk, OnOk};
+ghost use Rattle.rl_syntax.specs.declared.limits.TheConstants.{MOST_SET_PAIRS};
 ghost use Rattle.rl_prio.specs.Automaton.{letters_count};
 ghost use Rattle.rl_equiv.specs.declared.pair.SetPair.{SetPair};
 ghost use Rattle.rl_equiv.specs.SetPairs.{first_pair};
@@ -73,7 +74,7 @@ impl Search {
     pub(crate) fn new(alloc: Global, a: &Prio, b: &Prio, limit: u32) -> Result<Search, OutOfMemory>
         requires readers { AreReaders a.now b.now }
         requires some { 1 ≤ limit }
-        requires low { limit ≤ 20000 }
+        requires low { limit ≤ MOST_SET_PAIRS }
         ensures search { IfOk result (λ s. IsSearch a.now b.now (state_of s)) }
         ensures limit { IfOk result (λ s. s.limit ≡ limit) }
         ensures one { IfOk result (λ s. pairs_in (state_of s) ≡ first_pair ∷ []) }
@@ -91,9 +92,9 @@ impl Search {
         limit: u32,
     ) -> Result<Search, OutOfMemory>
         requires readers { AreReaders a.now b.now }
-        requires side { IsSide a.now 20000 0 walk }
+        requires side { IsSide a.now MOST_SET_PAIRS 0 walk }
         requires some { 1 ≤ limit }
-        requires low { limit ≤ 20000 }
+        requires low { limit ≤ MOST_SET_PAIRS }
         ensures search { IfOk result (λ s. IsSearch a.now b.now (state_of s)) }
         ensures limit { IfOk result (λ s. s.limit ≡ limit) }
         ensures one { IfOk result (λ s. pairs_in (state_of s) ≡ first_pair ∷ []) }

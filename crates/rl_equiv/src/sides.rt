@@ -1,6 +1,7 @@
 //! The walk over the sets of one of two automata that are read side by side.
 
 ghost use Rattle.std.specs.Prelude.{◌≡◌, ◌≢◌, ◌<◌, ◌≤◌, [], ◌∷◌, length, All, Contains, IfOk, OnOk};
+ghost use Rattle.rl_syntax.specs.declared.limits.TheConstants.{MOST_SET_PAIRS};
 ghost use Rattle.rl_prio.specs.Automaton.{letters_count, accepting_state, dead_state};
 ghost use Rattle.rl_sets.specs.Live.{image};
 ghost use Rattle.rl_sets.specs.Walk.{set_at, set_of, IsMadeFor};
@@ -13,7 +14,7 @@ use rl_prio::Prio;
 use rl_sets::{SetWalk, SetsError};
 use std::alloc::Global;
 
-/// The most sets that a walk may have. A search adds 20,001 at most.
+/// The most sets that a walk may have. A search adds at most one more than [`MOST_SET_PAIRS`](rl_syntax::MOST_SET_PAIRS).
 const MOST_SETS: u32 = 60_000;
 
 /// The most sets of a walk that goes on with another search.
@@ -36,7 +37,7 @@ fn put(walk: &mut SetWalk, a: &Prio, members: &Vec<u32>) -> Result<u32, OutOfMem
 /// A new walk with the sets that the end letter gives.
 pub(crate) fn begin_side(alloc: Global, a: &Prio) -> Result<SetWalk, OutOfMemory>
     requires { IsReader a.now }
-    ensures { IfOk result (IsSide a.now 20000 0) }
+    ensures { IfOk result (IsSide a.now MOST_SET_PAIRS 0) }
 {
     let mut walk = SetWalk::new(alloc, a, MOST_SETS)?;
     let none = Vec::new(alloc);
@@ -54,7 +55,7 @@ pub(crate) fn kept_side(
 ) -> Result<SetWalk, OutOfMemory>
     requires reads { IsReader a.now }
     requires kept { IsKeptSide a.now kept }
-    ensures { IfOk result (IsSide a.now 20000 0) }
+    ensures { IfOk result (IsSide a.now MOST_SET_PAIRS 0) }
 {
     match kept {
         Some(walk) if walk.len() <= MOST_KEPT => Ok(walk),
@@ -69,8 +70,8 @@ pub(crate) fn start_side(
     mut walk: SetWalk,
 ) -> Result<(SetWalk, u32), OutOfMemory>
     requires reads { IsReader a.now }
-    requires side { IsSide a.now 20000 0 walk }
-    ensures side { IfOk result (λ r. IsSide a.now 20000 1 r.0) }
+    requires side { IsSide a.now MOST_SET_PAIRS 0 walk }
+    ensures side { IfOk result (λ r. IsSide a.now MOST_SET_PAIRS 1 r.0) }
     ensures inside { IfOk result (λ r. r.1 < length r.0.sets) }
     ensures start { IfOk result (λ r. set_at r.0 r.1 ≡ 0 ∷ []) }
 {

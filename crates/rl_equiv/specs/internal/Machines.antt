@@ -1,6 +1,7 @@
 -- For the functions that read automata: the set pairs of two automata over the same letters.
 use Rattle.std.specs.Prelude.{◌≡◌, ℕ, ◌≤◌, Bool, ◌&&◌, nat_lt, List, map}
 use Rattle.std.specs.List.{list_all}
+use Rattle.rl_ranges.specs.declared.letters.TheConstants.{MOST_LETTERS}
 use Rattle.rl_prio.specs.Automaton.{Automaton, letters_count, accepting_state}
 use Rattle.rl_sets.specs.Live.{below, holds, image}
 use Rattle.rl_equiv.specs.declared.pair.SetPair.{SetPair}
@@ -27,7 +28,7 @@ pairs_of a b = record {
   proper = λ p. all_proper a p.first && all_proper b p.second;
 }
 
--- the automata have the same letters, and 128 of them at most
+-- the automata have the same letters, and no more than there may be
 pub record ShareLetters (a b : Automaton) : Type 0 where
   pub same_letters : letters_count a ≡ letters_count b
-  pub few_letters : letters_count a ≤ 128
+  pub few_letters : letters_count a ≤ MOST_LETTERS

@@ -11,6 +11,7 @@ use Rattle.rl_equiv.specs.declared.searching.Search.{Search}
 use Rattle.rl_equiv.specs.declared.sameness.Sameness.{Sameness}
 use Rattle.rl_equiv.specs.declared.sameness.Sameness.TheVariants.{Equal, Apart, Passed}
 use Rattle.std.proofs.Math.Bool.{beq}
+use Rattle.rl_syntax.specs.declared.limits.TheConstants.{MOST_SET_PAIRS}
 use Rattle.rl_equiv.specs.declared.searching.Ends.{Ends}
 use Rattle.rl_equiv.specs.Sides.{IsSide}
 use Rattle.rl_equiv.specs.SetPairs.{first_pair, SetPairs}
@@ -106,7 +107,7 @@ pub record IsNext (a b : Automaton) (s : State) (k : ℕ) (way : Way) : Type 0 w
 -- the search goes on well
 pub record IsSearch (a b : Automaton) (s : State) : Type 0 where
   pub some_limit : 1 ≤ s.limit
-  pub low_limit : s.limit ≤ 20000
+  pub low_limit : s.limit ≤ MOST_SET_PAIRS
   pub first_side : IsSide a s.limit (length s.keys) s.first
   pub second_side : IsSide b s.limit (length s.keys) s.second
   pub first_in : (k : ℕ) → k < length s.keys → (key_at s k).first < length s.first.sets

@@ -1,6 +1,7 @@
 use Rattle.std.proofs.Common.{◌≤◌, arith}
 use Rattle.std.proofs.lemmas.Result.{err_from_is_err_and}
 use Rattle.rl_syntax.specs.Tree.{tree_of, size}
+use Rattle.rl_syntax.specs.declared.limits.TheConstants.{MOST_NODES}
 use Rattle.rl_prio.specs.Letters.{all_sets}
 use Rattle.rl_equiv.proofs.BaseLaws.{base-letters, base-few, base-within, base-passed, base-together}
 use Rattle.rl_equiv.proofs.baseline.beside.Goals as goal
@@ -20,10 +21,10 @@ pub returns-in_err-second-clause-passed : goal.returns-in_err-second-clause-pass
 returns-in_err-second-clause-passed c =
     let p = err_from_is_err_and c.from_residual.result c.from_residual.ensures.1 in
     rw (p.1, p.2) (λ s base tells.
-    let small : size (tree_of c.args.other.now) ≤ 4000 = omega (arith, c.if-nodes-gt-MOST_NODES.false, c.nodes.ensures) in
+    let small : size (tree_of c.args.other.now) ≤ MOST_NODES = omega (arith, c.if-nodes-gt-MOST_NODES.false, c.nodes.ensures) in
     base-passed c.args.u s (tree_of c.args.other.now) tells c.args.first.now base (record { first_small = base.within.small; second_small = small }) c.in_err-second.field-0.0 c.in_err-second.ensures.moves c.in_err-second.ensures.letters)
 
 pub returns-clause-within : goal.returns-clause-within
 returns-clause-within c s base tells =
-    let small : size (tree_of c.args.other.now) ≤ 4000 = omega (arith, c.if-nodes-gt-MOST_NODES.false, c.nodes.ensures) in
+    let small : size (tree_of c.args.other.now) ≤ MOST_NODES = omega (arith, c.if-nodes-gt-MOST_NODES.false, c.nodes.ensures) in
     base-within c.args.u s (tree_of c.args.other.now) tells c.args.first.now base (record { first_small = base.within.small; second_small = small }) c.in_ok-second.ensures.short
