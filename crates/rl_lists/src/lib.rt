@@ -2,8 +2,10 @@
 #![tactic(auto)]
 
 pub mod items;
+pub mod limits;
 
 pub use items::Items;
+pub use limits::MOST_BYTES;
 use std::alloc::{AllocError, AllocFailed};
 
 /// Out of memory. What the call was given is unchanged.

@@ -3,6 +3,7 @@ use Rattle.std.proofs.Common.{◌≡◌, ℕ, suc, ◌+◌, ◌≤◌, Bool, tru
 use Rattle.std.specs.Prelude.{nat_eq, ◌==◌, IsUtf8}
 use Rattle.std.specs.List.{prefix_len}
 use Rattle.std.proofs.lemmas.Bool.Decides.{nat_tests}
+use Rattle.rl_lists.specs.declared.limits.TheConstants.{MOST_BYTES}
 use Rattle.rl_pylex.specs.declared.token_list.TokenKind.TheVariants as kind
 use Rattle.rl_pylex.specs.declared.rules.Fit.{Fit}
 use Rattle.rl_pylex.specs.declared.rules.Fit.TheVariants.{Passes, Takes}
@@ -101,7 +102,7 @@ one_token text start read =
     }
 
 -- a literal by itself, of at most 4,194,304 bytes of UTF-8, is a source of one token
-pub literal_alone : (text : List ℕ) → IsLiteral text → length text ≤ 4194304 → IsUtf8 text → IsTokenList text (record { kind = kind.Literal; from = 0; upto = length text } ∷ [])
+pub literal_alone : (text : List ℕ) → IsLiteral text → length text ≤ MOST_BYTES → IsUtf8 text → IsTokenList text (record { kind = kind.Literal; from = 0; upto = length text } ∷ [])
 literal_alone [] l short utf8 = absurd (nothing_is_no_literal 0 (IsLiteral-takes [] l))
 literal_alone (x ∷ xs) l short utf8 =
     let takes = IsLiteral-takes (x ∷ xs) l in

@@ -1,5 +1,6 @@
 -- Laws of sources and their tokens: a source has one answer, one list of tokens or one fault; tokens stand in order; a literal's text is a literal by itself.
 use Rattle.std.specs.Prelude.{◌≡◌, ◌≢◌, ◌≤◌, ℕ, List, [], ◌∷◌, length, IsUtf8}
+use Rattle.rl_lists.specs.declared.limits.TheConstants.{MOST_BYTES}
 use Rattle.rl_pylex.specs.declared.token_list.Token.{Token}
 use Rattle.rl_pylex.specs.declared.fault.LexError.{LexError}
 use Rattle.rl_pylex.specs.declared.fault.LexError.TheVariants as error
@@ -31,8 +32,8 @@ abbrev pub HasLiteralTexts : Type 0
 HasLiteralTexts =
     (source : List ℕ) (token : Token) → IsReadAt source token → token.kind ≡ kind.Literal → IsLiteral (text_of source token)
 
--- a literal by itself, of at most 4,194,304 bytes of UTF-8, is a source of one token
+-- a literal by itself, of UTF-8 and no more bytes than a source may have, is a source of one token
 abbrev pub HasLiteralsAlone : Type 0
 HasLiteralsAlone =
-    (text : List ℕ) → IsLiteral text → length text ≤ 4194304 → IsUtf8 text
+    (text : List ℕ) → IsLiteral text → length text ≤ MOST_BYTES → IsUtf8 text
     → IsTokenList text (record { kind = kind.Literal; from = 0; upto = length text } ∷ [])

@@ -1,6 +1,7 @@
 -- The tokens of a source: it is cut into pieces in order, each piece is what the first rule that fits takes at its place, and the tokens are the pieces that have a kind.
 use Rattle.std.specs.Prelude.{◌≡◌, ◌≢◌, ℕ, ◌+◌, ◌-◌, ◌<◌, ◌≤◌, List, [], ◌∷◌, length, take, drop, filter_map, Option, Some, None, IsUtf8, ⊤, All, AllPairs}
 use Rattle.std.specs.Str.{IsValidUpTo}
+use Rattle.rl_lists.specs.declared.limits.TheConstants.{MOST_BYTES}
 use Rattle.rl_pylex.specs.declared.token_list.TokenKind.{TokenKind}
 use Rattle.rl_pylex.specs.declared.token_list.TokenKind.TheVariants as kind
 use Rattle.rl_pylex.specs.declared.token_list.Token.{Token}
@@ -41,9 +42,9 @@ pub record Reaches (source : List ℕ) (at depth : ℕ) (tokens : List Token) : 
   pub cut : Cut source (text_start source) 0 pieces at depth
   pub are : tokens ≡ filter_map token_of pieces
 
--- at most 4,194,304 bytes of UTF-8, with no coding line of another coding
+-- UTF-8 of no more bytes than a source may have, with no coding line of another coding
 pub record IsReadable (source : List ℕ) : Type 0 where
-  pub short : length source ≤ 4194304
+  pub short : length source ≤ MOST_BYTES
   pub utf8 : IsUtf8 source
   pub coding : wrong_coding (drop (text_start source) source) ≡ None
 
@@ -82,10 +83,10 @@ StopsAt source (error.Coding p) = ⊥
 
 -- The source has this fault. The first that holds counts, in the order of the cases here but for the last two, of which the first by place counts.
 abbrev pub IsFault : List ℕ → LexError → Type 0
-IsFault source error.FileTooLong = 4194304 < length source
-IsFault source (error.NotUtf8 n) = (length source ≤ 4194304) × IsValidUpTo source n
+IsFault source error.FileTooLong = MOST_BYTES < length source
+IsFault source (error.NotUtf8 n) = (length source ≤ MOST_BYTES) × IsValidUpTo source n
 IsFault source (error.Coding p) =
-    (length source ≤ 4194304) × IsUtf8 source
+    (length source ≤ MOST_BYTES) × IsUtf8 source
     × ((q : ℕ) × (wrong_coding (drop (text_start source) source) ≡ Some q) × (p ≡ text_start source + q))
 IsFault source (error.Unterminated p) = IsReadable source × StopsAt source (error.Unterminated p)
 IsFault source (error.StrayCode p) = IsReadable source × StopsAt source (error.StrayCode p)

@@ -10,10 +10,8 @@ use crate::bytes::{blank_size, rest_from, text_start};
 use crate::coding::wrong_coding;
 use crate::rules::{Reading, depth_after, read_front};
 use crate::{LexError, Token, TokenKind, TokenList};
+use rl_lists::MOST_BYTES;
 use std::alloc::Global;
-
-/// The greatest length of a source, in bytes.
-const MOST_BYTES: usize = 4_194_304;
 
 /// Appends the token of a piece, if the piece has one.
 fn push_piece(
@@ -22,7 +20,7 @@ fn push_piece(
     at: usize,
     size: usize,
 ) -> Result<(), LexError>
-    requires { at + size ≤ 4194304 }
+    requires { at + size ≤ MOST_BYTES }
     ensures pushed { OnOk result (tokens.new ≡ tokens.old ++ option_to_list (token_of_kind kind at size)) }
     ensures memory { IsOkUnless result LexError.OutOfMemory }
 {
@@ -45,10 +43,10 @@ fn after_blanks(source: &[u8], at: usize) -> usize
     at + blank_size(rest_from(source, at))
 }
 
-/// The tokens of a source of at most 4,194,304 bytes, from the place `first` on where its text begins.
+/// The tokens of a source of at most [`MOST_BYTES`], from the place `first` on where its text begins.
 #[tactic(auto, using(crate::proofs::Cuts::pieces))]
 fn read_pieces(alloc: Global, source: &[u8], first: usize) -> Result<TokenList, LexError>
-    requires short { length source.now ≤ 4194304 }
+    requires short { length source.now ≤ MOST_BYTES }
     requires begins { first ≡ text_start source.now }
     requires within { first ≤ length source.now }
     ensures ok { IfOk result (ReachesEnd source.now) }
@@ -72,7 +70,7 @@ fn read_pieces(alloc: Global, source: &[u8], first: usize) -> Result<TokenList, 
     Ok(tokens)
 }
 
-/// Refuses a source that isn't at most 4,194,304 bytes of UTF-8, or whose coding line names another coding.
+/// Refuses a source that isn't at most [`MOST_BYTES`] of UTF-8, or whose coding line names another coding.
 pub fn check_source(source: &[u8]) -> Result<(), LexError>
     ensures ok { IfOk result (λ _. IsReadable source.now) }
     ensures err { IfErr result (IsFault source.now) }

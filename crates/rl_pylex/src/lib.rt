@@ -1,7 +1,8 @@
 //! The tokens of Python sources, read from bytes by a table of ten rules.
 //!
-//! A source is at most 4,194,304 bytes of UTF-8, with or without a byte order mark, whose coding line, if it has
-//! one, names UTF-8 or ASCII. [`tokens`] cuts it into pieces; at each place the first rule that fits is taken:
+//! A source is at most [`MOST_BYTES`](rl_lists::MOST_BYTES) of UTF-8, with or without a byte order mark, whose
+//! coding line, if it has one, names UTF-8 or ASCII. [`tokens`] cuts it into pieces; at each place the first
+//! rule that fits is taken:
 //!
 //! 1. a space, a tab or a form feed: no token
 //! 2. a backslash and a line end: no token

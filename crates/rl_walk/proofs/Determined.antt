@@ -1,6 +1,7 @@
 -- A map, what is left to do, the paths met and the marks of the calls determine a walk.
-use Rattle.std.proofs.Common.{◌≡◌, ℕ, false, List, [], ◌∷◌, ◌++◌, take, Some, refl, ap, subst, ◌∙◌, arith}
+use Rattle.std.proofs.Common.{◌≡◌, ℕ, ◌+◌, false, List, [], ◌∷◌, ◌++◌, take, Some, refl, ap, subst, ◌∙◌, arith}
 use Rattle.std.specs.Prelude.{IsSomeAnd}
+use Rattle.rl_lists.specs.declared.limits.TheConstants.{MOST_BYTES}
 use Rattle.rl_source.specs.Asked.{call_of}
 use Rattle.rl_source.specs.Distinct.{is_double, has_double, Lists}
 use Rattle.rl_source.specs.NodeMap.{children_at}
@@ -54,8 +55,8 @@ determined n o (source i a w) (file_again j x) e = cc
 determined n o (source i a w) (unread j x) e = cc
 determined n o (source {path} {rest} {met} {calls} {visits} {content} i a w) (source {path = path2} {rest = rest2} {met = met2} {calls = calls2} {visits = visits2} {content = content2} j b x) e =
     let same : content ≡ content2 = cc in
-    let r = more (call_of call.Read path false) (Source path (take 4194305 content)) calls calls2 visits visits2 (determined n o w x cc) in
-    (r.0, r.1 ∙ ap (λ c. Source path (take 4194305 c) ∷ visits2) same)
+    let r = more (call_of call.Read path false) (Source path (take (MOST_BYTES + 1) content)) calls calls2 visits visits2 (determined n o w x cc) in
+    (r.0, r.1 ∙ ap (λ c. Source path (take (MOST_BYTES + 1) c) ∷ visits2) same)
 determined n o (folder_again i w) (folder_again j x) e = determined n o w x e
 determined n o (folder_again i w) (too_deep j l x) e = cc
 determined n o (folder_again i w) (unlisted j l x) e = cc

@@ -21,9 +21,11 @@ use Rattle.rl_walk.specs.Steps.{Step, named, file, folder, other, step_for, step
 use Rattle.rl_walk.specs.Visits.{IsWalk, done, unknown, known, not_plain, file_again, unread, source, folder_again, too_deep, unlisted, listed, Moment, Walked, is_unreadable, has_failed, has_unreadable}
 use Rattle.rl_walk.specs.internal.Parts.{Begins, Does}
 use Rattle.rl_walk.proofs.Paths.{met-new, met-again, with_path-new, with_path-again}
+use Rattle.rl_walk.specs.declared.walking.TheConstants.{MOST_LEVELS}
 use Rattle.std.proofs.lemmas.List.{take_more, map_push}
 use Rattle.std.proofs.Math.Seq.{take-length}
 use Rattle.std.proofs.lemmas.List.Sorted.{IsPermutation-trans}
+use Rattle.rl_lists.specs.declared.limits.TheConstants.{MOST_BYTES}
 
 abbrev pub Paths : Type 0
 Paths = List (List ℕ)
@@ -159,7 +161,7 @@ module _ (path : List ℕ) (met next : Paths) (added : Bool) (says : added ≡ n
     }
 
     pub file-source : (old new : Moment) (was now : List Visit → Type 0) (bytes : List ℕ) → new.told ≡ after (call_of call.Read path false ∷ []) old.told
-        → IfSome old.told (λ t. IsSomeAnd (bytes_at t.nodes path) (λ content. bytes ≡ take 4194305 content))
+        → IfSome old.told (λ t. IsSomeAnd (bytes_at t.nodes path) (λ content. bytes ≡ take (MOST_BYTES + 1) content))
         → ((visits : List Visit) → was visits → now (visits ++ Source path bytes ∷ [])) → Does (file path ∷ []) old new met next was now
     file-source old new was now bytes trail answer told = record {
       calls = call_of call.Read path false ∷ [];
@@ -167,7 +169,7 @@ module _ (path : List ℕ) (met next : Paths) (added : Bool) (says : added ≡ n
       trail = trail;
       begins = λ t e. record {
         then = λ rest calls visits w.
-            let found = some_answer (λ content. bytes ≡ take 4194305 content) (bytes_at t.nodes path) (told_answer (λ u. IsSomeAnd (bytes_at u.nodes path) (λ content. bytes ≡ take 4194305 content)) old.told t answer e) in
+            let found = some_answer (λ content. bytes ≡ take (MOST_BYTES + 1) content) (bytes_at t.nodes path) (told_answer (λ u. IsSomeAnd (bytes_at u.nodes path) (λ content. bytes ≡ take (MOST_BYTES + 1) content)) old.told t answer e) in
             subst (λ bs. IsWalk t.nodes (file path ∷ rest) met (call_of call.Read path false ∷ calls) (Source path bs ∷ visits)) (sym found.2)
             (source is_new found.1 (on_new t.nodes rest calls visits w));
       };
@@ -176,7 +178,7 @@ module _ (path : List ℕ) (met next : Paths) (added : Bool) (says : added ≡ n
       cause = λ h. absurd (false≢true h);
     }
 
-    pub folder-deep : (level : ℕ) (m : Moment) (was now : List Visit → Type 0) → 64 < level
+    pub folder-deep : (level : ℕ) (m : Moment) (was now : List Visit → Type 0) → MOST_LEVELS < level
         → ((visits : List Visit) → was visits → now (visits ++ TooDeep path ∷ [])) → Does (folder path level ∷ []) m m met next was now
     folder-deep level m was now deep told = record {
       calls = [];
@@ -188,7 +190,7 @@ module _ (path : List ℕ) (met next : Paths) (added : Bool) (says : added ≡ n
       cause = λ h. absurd (false≢true h);
     }
 
-    pub folder-unlisted : (level : ℕ) (old new : Moment) (was now : List Visit → Type 0) → level ≤ 64 → new.told ≡ after (call_of call.Children path true ∷ []) old.told
+    pub folder-unlisted : (level : ℕ) (old new : Moment) (was now : List Visit → Type 0) → level ≤ MOST_LEVELS → new.told ≡ after (call_of call.Children path true ∷ []) old.told
         → Rose old.faults new.faults
         → ((visits : List Visit) → was visits → now (visits ++ Unreadable path ∷ [])) → Does (folder path level ∷ []) old new met next was now
     folder-unlisted level old new was now low trail rose told = record {
@@ -202,7 +204,7 @@ module _ (path : List ℕ) (met next : Paths) (added : Bool) (says : added ≡ n
     }
 
     pub folder-listed : (level : ℕ) (old mid new : Moment) (last : Paths) (was now : List Visit → Type 0) (found sorted : List Child)
-        → level ≤ 64 → mid.told ≡ after (call_of call.Children path false ∷ []) old.told
+        → level ≤ MOST_LEVELS → mid.told ≡ after (call_of call.Children path false ∷ []) old.told
         → IfSome old.told (λ t. IsSomeAnd (children_at t.nodes path) (λ children. Lists children found))
         → IsInOrder found sorted → old.faults ≤ mid.faults
         → Does (steps_below path level sorted) mid new next last was now → Does (folder path level ∷ []) old new met last was now

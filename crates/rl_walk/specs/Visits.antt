@@ -1,6 +1,7 @@
 -- The visits of a walk over a map, and the calls of the tree that it makes.
-use Rattle.std.specs.Prelude.{◌≡◌, ℕ, ◌<◌, ◌≤◌, Bool, true, false, List, [], ◌∷◌, ◌++◌, take, map, Option, Some}
+use Rattle.std.specs.Prelude.{◌≡◌, ℕ, ◌+◌, ◌<◌, ◌≤◌, Bool, true, false, List, [], ◌∷◌, ◌++◌, take, map, Option, Some}
 use Rattle.std.specs.List.{list_any}
+use Rattle.rl_lists.specs.declared.limits.TheConstants.{MOST_BYTES}
 use Rattle.rl_source.specs.Asked.{call_of}
 use Rattle.rl_source.specs.Faults.{Rose}
 use Rattle.rl_source.specs.NodeMap.{kind_at, children_at, bytes_at}
@@ -14,6 +15,7 @@ use Rattle.rl_walk.specs.declared.visits.Visit.{Visit}
 use Rattle.rl_walk.specs.declared.visits.Visit.TheVariants.{Source, Unreadable, TooDeep, NotPlain}
 use Rattle.rl_walk.specs.Children.{IsInOrder}
 use Rattle.rl_walk.specs.Steps.{Step, named, file, folder, other, step_for, steps_below, is_met}
+use Rattle.rl_walk.specs.declared.walking.TheConstants.{MOST_LEVELS}
 
 -- Over this map, with these things left to do and these paths met, a walk makes these calls of the tree and these visits.
 -- A call holds its mark, which says whether it failed; so the map, what is left to do, the paths met and the marks of the
@@ -45,7 +47,7 @@ pub data IsWalk (nodes : List Node) : List Step → List (List ℕ) → List Cal
       → is_met path met ≡ false
       → bytes_at nodes path ≡ Some content
       → IsWalk nodes rest (met ++ path ∷ []) calls visits
-      → IsWalk nodes (file path ∷ rest) met (call_of call.Read path false ∷ calls) (Source path (take 4194305 content) ∷ visits)
+      → IsWalk nodes (file path ∷ rest) met (call_of call.Read path false ∷ calls) (Source path (take (MOST_BYTES + 1) content) ∷ visits)
   -- a folder that was met is passed over; another one is met, and entered where it isn't too deep
   folder_again : {path : List ℕ} {level : ℕ} {rest : List Step} {met : List (List ℕ)} {calls : List Call} {visits : List Visit}
       → is_met path met ≡ true
@@ -53,18 +55,18 @@ pub data IsWalk (nodes : List Node) : List Step → List (List ℕ) → List Cal
       → IsWalk nodes (folder path level ∷ rest) met calls visits
   too_deep : {path : List ℕ} {level : ℕ} {rest : List Step} {met : List (List ℕ)} {calls : List Call} {visits : List Visit}
       → is_met path met ≡ false
-      → 64 < level
+      → MOST_LEVELS < level
       → IsWalk nodes rest (met ++ path ∷ []) calls visits
       → IsWalk nodes (folder path level ∷ rest) met calls (TooDeep path ∷ visits)
   unlisted : {path : List ℕ} {level : ℕ} {rest : List Step} {met : List (List ℕ)} {calls : List Call} {visits : List Visit}
       → is_met path met ≡ false
-      → level ≤ 64
+      → level ≤ MOST_LEVELS
       → IsWalk nodes rest (met ++ path ∷ []) calls visits
       → IsWalk nodes (folder path level ∷ rest) met (call_of call.Children path true ∷ calls) (Unreadable path ∷ visits)
   -- the children come in the order of their names, before what was left to do
   listed : {path : List ℕ} {level : ℕ} {rest : List Step} {met : List (List ℕ)} {calls : List Call} {visits : List Visit} {children sorted : List Child}
       → is_met path met ≡ false
-      → level ≤ 64
+      → level ≤ MOST_LEVELS
       → children_at nodes path ≡ Some children
       → IsInOrder children sorted
       → IsWalk nodes (steps_below path level sorted ++ rest) (met ++ path ∷ []) calls visits

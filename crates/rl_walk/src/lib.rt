@@ -12,4 +12,4 @@ mod walking;
 
 pub use laws::walks_are_determined;
 pub use visits::{Visit, Visitor, Visits};
-pub use walking::walk;
+pub use walking::{MOST_LEVELS, walk};

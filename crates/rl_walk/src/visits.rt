@@ -7,11 +7,12 @@ use rl_source::{Content, Name};
 /// What a walk tells of a path.
 #[derive(Drop)]
 pub enum Visit {
-    /// A source, with its bytes: the first 4,194,305 of its file, or all of them where there are fewer.
+    /// A source, with its bytes: the first ones of its file, one more than [`MOST_BYTES`](rl_lists::MOST_BYTES), or all of them
+    /// where there are fewer.
     Source(Name, Content),
     /// A call of the tree for this path failed.
     Unreadable(Name),
-    /// A folder more than 64 levels below the path that the walk was given. It isn't entered.
+    /// A folder more than [`MOST_LEVELS`](crate::MOST_LEVELS) below the path that the walk was given. It isn't entered.
     TooDeep(Name),
     /// A path that the walk was given, and that is neither a file nor a folder.
     NotPlain(Name),

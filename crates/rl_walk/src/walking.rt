@@ -8,15 +8,15 @@ ghost use Rattle.rl_walk.specs.internal.Parts.{Does};
 use crate::children::{has_source_name, in_order, path_below};
 use crate::met::Met;
 use crate::visits::{Visit, Visitor};
-use rl_lists::OutOfMemory;
+use rl_lists::{MOST_BYTES, OutOfMemory};
 use rl_source::{Child, Content, Kind, Name, Tree, TreeError};
 use std::alloc::Global;
 
-/// How many bytes of a source are read at most.
-const MOST_BYTES: usize = 4_194_305;
+/// How many bytes of a source are read at most: one more than it may have, which shows that it is too long.
+const MOST_READ: usize = MOST_BYTES + 1;
 
-/// The level of the deepest folders that are entered.
-const LAST_LEVEL: u32 = 64;
+/// The most levels that a folder may stand below the path that the walk was given. A deeper one isn't entered.
+pub const MOST_LEVELS: u32 = 64;
 
 /// Reads a file, unless it was met.
 fn take_file<T: Tree, V: Visitor>(
@@ -35,7 +35,7 @@ fn take_file<T: Tree, V: Visitor>(
     if !met.add(path)? {
         return Ok(());
     }
-    match tree.read(path, MOST_BYTES) {
+    match tree.read(path, MOST_READ) {
         Ok(bytes) => {
             let name = Name::from_text(alloc, path)?;
             visitor.visit(Visit::Source(name, Content::from_vec(bytes)))
@@ -67,7 +67,7 @@ fn enter<T: Tree, V: Visitor>(
     if !met.add(path)? {
         return Ok(());
     }
-    if level > LAST_LEVEL {
+    if level > MOST_LEVELS {
         let name = Name::from_text(alloc, path)?;
         return visitor.visit(Visit::TooDeep(name));
     }
@@ -95,7 +95,7 @@ fn take_children<T: Tree, V: Visitor>(
     met: &mut Met,
     visitor: &mut V,
 ) -> Result<(), OutOfMemory>
-    requires { level ≤ 64 }
+    requires { level ≤ MOST_LEVELS }
     ensures does { OnOk result (Does (steps_below path.now level children.now)
         (moment_of T.told T.fault_count tree.old) (moment_of T.told T.fault_count tree.new)
         met.old met.new (V.was_told visitor.old) (V.was_told visitor.new)) }
@@ -120,7 +120,7 @@ fn take_child<T: Tree, V: Visitor>(
     met: &mut Met,
     visitor: &mut V,
 ) -> Result<(), OutOfMemory>
-    requires { level ≤ 65 }
+    requires { level ≤ MOST_LEVELS + 1 }
     ensures does { OnOk result (Does (child_steps child.now.kind child.now.name path.now level)
         (moment_of T.told T.fault_count tree.old) (moment_of T.told T.fault_count tree.new)
         met.old met.new (V.was_told visitor.old) (V.was_told visitor.new)) }
@@ -173,9 +173,9 @@ fn take_named<T: Tree, V: Visitor>(
 ///
 /// A path that is a file is read, whatever its name. A path that is a folder is entered. The children of a folder are taken
 /// in the order of the bytes of their names: files whose names end in `.py` are read, folders are entered in their place,
-/// and all else is passed over. A folder more than 64 levels below the path isn't entered. A file or a folder whose path
-/// text was met before in this walk is passed over. After a call that failed the walk goes on. At most 4,194,305 bytes of
-/// a file are read.
+/// and all else is passed over. A folder more than [`MOST_LEVELS`] below the path isn't entered. A file or a folder whose
+/// path text was met before in this walk is passed over. After a call that failed the walk goes on. At most one byte more
+/// than [`MOST_BYTES`] of a file is read.
 ///
 /// # Errors
 /// [`OutOfMemory`] when out of memory; the walk ends then, and the tree may have been read.

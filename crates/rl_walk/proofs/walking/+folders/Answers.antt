@@ -9,17 +9,17 @@ pub enter-returns-then-not-branch-clause-does : goal.enter-returns-then-not-bran
 enter-returns-then-not-branch-clause-does g t c =
     folder-again _ _ _ _ c.in_ok-add.ensures.added c.in_ok-add.ensures.met _ _ _ c.if-not-branch.true
 
-pub enter-returns-then-level-gt-LAST_LEVEL-clause-does : goal.enter-returns-then-level-gt-LAST_LEVEL-clause-does
-enter-returns-then-level-gt-LAST_LEVEL-clause-does g t c =
+pub enter-returns-then-level-gt-MOST_LEVELS-clause-does : goal.enter-returns-then-level-gt-MOST_LEVELS-clause-does
+enter-returns-then-level-gt-MOST_LEVELS-clause-does g t c =
     on_visit c.visit.result (g.V.Visitor.was_told c.args.visitor.now) (g.V.Visitor.was_told c.visit.new.self)
     (TooDeep c.in_ok-name.name) (TooDeep c.args.path.now) c.visit.ensures.told (ap TooDeep c.in_ok-name.ensures)
-    (folder-deep _ _ _ _ c.in_ok-add.ensures.added c.in_ok-add.ensures.met c.if-not-branch.false _ _ _ _ c.if-level-gt-LAST_LEVEL.true)
+    (folder-deep _ _ _ _ c.in_ok-add.ensures.added c.in_ok-add.ensures.met c.if-not-branch.false _ _ _ _ c.if-level-gt-MOST_LEVELS.true)
 
 pub enter-returns-in_ok-children-in-Ok-clause-does : goal.enter-returns-in_ok-children-in-Ok-clause-does
 enter-returns-in_ok-children-in-Ok-clause-does g t c =
     let order = subst (IsInOrder c.in-Ok.children.items) (sym c.deref.ensures.value) c.in_ok-children-in-Ok.ensures in
     on_ok c.take_children.result
-    (folder-listed _ _ _ _ c.in_ok-add.ensures.added c.in_ok-add.ensures.met c.if-not-branch.false _ _ _ _ _ _ _ _ _ c.if-level-gt-LAST_LEVEL.false
+    (folder-listed _ _ _ _ c.in_ok-add.ensures.added c.in_ok-add.ensures.met c.if-not-branch.false _ _ _ _ _ _ _ _ _ c.if-level-gt-MOST_LEVELS.false
     c.in-Ok.ensures.told c.in-Ok.ensures.answer order c.in-Ok.ensures.cause.later)
     c.take_children.ensures.does
 
@@ -29,7 +29,7 @@ enter-returns-in_ok-unlisted-in-Err-Failed-clause-does g t c =
     let cause = rw c.in-Err-Failed.field-0-is at c.in-Err-Failed.ensures.cause in
     on_visit c.visit-in-Err-Failed.result (g.V.Visitor.was_told c.args.visitor.now) (g.V.Visitor.was_told c.visit-in-Err-Failed.new.self)
     (Unreadable c.in_ok-unlisted-in-Err-Failed.unlisted) (Unreadable c.args.path.now) c.visit-in-Err-Failed.ensures.told (ap Unreadable c.in_ok-unlisted-in-Err-Failed.ensures)
-    (folder-unlisted _ _ _ _ c.in_ok-add.ensures.added c.in_ok-add.ensures.met c.if-not-branch.false _ _ _ _ _ c.if-level-gt-LAST_LEVEL.false trail (cause.failed refl))
+    (folder-unlisted _ _ _ _ c.in_ok-add.ensures.added c.in_ok-add.ensures.met c.if-not-branch.false _ _ _ _ _ c.if-level-gt-MOST_LEVELS.false trail (cause.failed refl))
 
 pub take_child-returns-else-has_source_name-clause-does : goal.take_child-returns-else-has_source_name-clause-does
 take_child-returns-else-has_source_name-clause-does g t c =
