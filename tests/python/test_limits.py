@@ -20,9 +20,9 @@ DECIDES = {
     "pairs of sets of a comparison": "rl_syntax/src/limits.rt MOST_SET_PAIRS",
     "triples of a certificate": "rl_numbers/src/numbering.rt MOST_TRIPLES",
     "characters of the text of `cost`": "rl_lint/src/cost.rt MAX_TEXT",
-    "bytes of a source": "rl_pylex/src/lex.rt MOST_BYTES",
+    "bytes of a source": "rl_lists/src/limits.rt MOST_BYTES",
     "bytes of a baseline or a certificate": "rl_sarif/src/reading.rt MAX_BYTES",
-    "levels of folders": "rl_walk/src/walking.rt LAST_LEVEL",
+    "levels of folders": "rl_walk/src/walking.rt MOST_LEVELS",
 }
 # rows whose number stands in the code without a name
 UNNAMED = ("characters of a pattern", "open groups", "the number in `{m,n}`")

@@ -1,10 +1,12 @@
 -- How `compare` ends, by its two patterns and their mode.
 use Rattle.std.specs.Prelude.{◌≡◌, ◌⊎◌, ◌&&◌, ℕ, Bool, true, false, not, List, [], ◌++◌, Option, Some, None, is_some, codes, if◌then◌else◌}
+use Rattle.std.specs.Fmt.{decimal}
 use Rattle.rl_ranges.specs.declared.universe.Universe.TheVariants.{Str}
 use Rattle.rl_syntax.specs.Cost.{matched}
 use Rattle.rl_syntax.specs.Tree.{Tree}
 use Rattle.rl_syntax.specs.declared.re.Ending.{Ending as MatchEnd}
 use Rattle.rl_syntax.specs.declared.re.Mode.{Mode}
+use Rattle.rl_syntax.specs.declared.verdict.Limit.TheVariants as limit
 use Rattle.rl_equiv.specs.Limits.{AreWithin}
 use Rattle.rl_equiv.specs.Regions.{AreRegions}
 use Rattle.rl_equiv.specs.declared.compared.Compared.{Compared}
@@ -14,9 +16,11 @@ use Rattle.rl_compare.specs.Told.{AreTold}
 use Rattle.rl_compare.specs.declared.error.CompareError.{CompareError}
 use Rattle.rl_compare.specs.declared.error.CompareError.TheVariants as error
 use Rattle.rl_report.specs.Verdicts.{quoted_text}
+use Rattle.rl_lint.specs.CostEnding.{undecided_line}
 use Rattle.rl_lint.specs.Endings.{Ending, writes}
 use Rattle.rl_lint.specs.Patterns.{ParsesThen}
 use Rattle.rl_lint.specs.Text.{Text}
+use Rattle.rl_lint.specs.declared.compare.TheConstants.{MOST_SET_PAIRS}
 use Rattle.rl_lint.specs.declared.relation.Relation.{Relation}
 use Rattle.rl_lint.specs.declared.relation.Relation.TheVariants.{Overlapping, Passed, Equal, Included, Includes, Disjoint}
 
@@ -34,7 +38,7 @@ relation_of c =
 
 abbrev pub relation_name : Relation → Text
 relation_name Overlapping = codes "overlapping"
-relation_name Passed = codes "passed over 20000"
+relation_name Passed = codes "passed over " ++ decimal MOST_SET_PAIRS
 relation_name Equal = codes "equal"
 relation_name Included = codes "included"
 relation_name Includes = codes "includes"
@@ -62,9 +66,9 @@ compared_text c =
 
 -- the line on the limit that is passed. Out of memory is no limit
 abbrev pub passed_line : CompareError → Option Text
-passed_line error.Size = Some (codes "undecided size over 4000\n")
-passed_line error.Letters = Some (codes "undecided letters over 128\n")
-passed_line error.Moves = Some (codes "undecided moves over 256\n")
+passed_line error.Size = Some (undecided_line limit.Size)
+passed_line error.Letters = Some (undecided_line limit.Letters)
+passed_line error.Moves = Some (undecided_line limit.Moves)
 passed_line error.OutOfMemory = None
 
 -- ---- the endings
@@ -82,7 +86,7 @@ pub record NamesPassed (s t : Tree) (ending : Ending) : Type 0 where
 pub record WritesRegions (s : Tree) (e : MatchEnd) (t : Tree) (f : MatchEnd) (ending : Ending) : Type 0 where
   pub compared : Compared
   pub within : AreWithin Str (matched_tree Str s e) (matched_tree Str t f)
-  pub regions : AreRegions Str (matched_tree Str s e) (matched_tree Str t f) 20000 compared
+  pub regions : AreRegions Str (matched_tree Str s e) (matched_tree Str t f) MOST_SET_PAIRS compared
   pub told : AreTold Str (matched s e) (matched t f) compared
   pub ends : ending ≡ writes (compared_text compared) (is_difference (relation_of compared)) false
 

@@ -8,25 +8,27 @@ ghost use Rattle.rl_compare.specs.Matched.{matched_tree};
 ghost use Rattle.rl_compare.specs.Passed.{IsComparePassed};
 ghost use Rattle.rl_lint.specs.Endings.{writes};
 ghost use Rattle.rl_lint.specs.internal.Plans.{ending_of};
+ghost use Rattle.rl_lint.specs.CostEnding.{undecided_line};
 ghost use Rattle.rl_lint.specs.CompareEnding.{CompareEnds, IsCompareEnding, compared_text, relation_of, is_difference};
 ghost use Rattle.rl_lint.specs.internal.Compared.{AreTexts, IsFound, PassesSize};
 ghost use Rattle.rl_lint.specs.Patterns.{ParsesThen};
 
+use crate::cost_line::undecided_line;
 use crate::pattern_argument::{PatternArgument, parse_argument};
 use crate::plan::Plan;
 use crate::relation::{Relation, compared_text};
 use rl_compare::{CompareError, Compared, compare};
 use rl_lists::{Bytes, OutOfMemory};
-use rl_syntax::{LowerError, Lowered, Mode, Pattern, Universe, lower};
+use rl_syntax::{Limit, LowerError, Lowered, Mode, Pattern, Universe, lower};
 use std::alloc::Global;
 
-/// How many pairs of sets are looked at.
-const MAX_SET_PAIRS: u32 = 20_000;
+/// The most pairs of sets that are looked at. Where more are reached, a relation that rests on them is passed.
+pub const MOST_SET_PAIRS: u32 = 20_000;
 
 /// A pattern in a mode, lowered.
 ///
 /// # Errors
-/// [`CompareError::Size`] where it has more than 4,000 nodes; [`CompareError::OutOfMemory`].
+/// [`CompareError::Size`] where it has more nodes than the limit; [`CompareError::OutOfMemory`].
 fn lowered(alloc: Global, pattern: &Pattern, mode: Mode) -> Result<Lowered, CompareError>
     requires { universe_of pattern.now ≡ Str }
     ensures tree { IfOk result (λ l. tree_of l.tree ≡ pattern_tree pattern.now mode) }
@@ -59,17 +61,17 @@ fn compared(
 {
     let first = lowered(alloc, first, mode)?;
     let second = lowered(alloc, second, mode)?;
-    compare(alloc, first, second, Universe::Str, MAX_SET_PAIRS)
+    compare(alloc, first, second, Universe::Str, MOST_SET_PAIRS)
 }
 
-/// To write one line, which has no finding.
+/// To write the line on a limit that is passed, which is none on pairs and no finding.
 ///
 /// # Errors
 /// [`OutOfMemory`].
-fn line_plan(alloc: Global, line: &str) -> Result<Plan, OutOfMemory>
-    ensures { IfOk result (λ plan. ending_of plan ≡ writes line.now false false) }
+fn limit_plan(alloc: Global, limit: Limit) -> Result<Plan, OutOfMemory>
+    ensures { IfOk result (λ plan. ending_of plan ≡ writes (undecided_line limit) false false) }
 {
-    let line = String::from_str(alloc, line)?;
+    let line = undecided_line(alloc, limit)?;
     Ok(Plan::Writes {
         text: Bytes::from_vec(line.into_bytes()),
         finding: false,
@@ -111,9 +113,9 @@ fn patterns_plan(
 {
     match compared(alloc, first, second, mode) {
         Ok(compared) => compared_plan(alloc, &compared),
-        Err(CompareError::Size) => line_plan(alloc, "undecided size over 4000\n"),
-        Err(CompareError::Letters) => line_plan(alloc, "undecided letters over 128\n"),
-        Err(CompareError::Moves) => line_plan(alloc, "undecided moves over 256\n"),
+        Err(CompareError::Size) => limit_plan(alloc, Limit::Size),
+        Err(CompareError::Letters) => limit_plan(alloc, Limit::Letters),
+        Err(CompareError::Moves) => limit_plan(alloc, Limit::Moves),
         Err(CompareError::OutOfMemory) => Err(OutOfMemory),
     }
 }

@@ -8,15 +8,30 @@ ghost use Rattle.rl_syntax.specs.Pattern.{pattern_ending, pattern_tree, universe
 ghost use Rattle.rl_syntax.specs.Tree.{IsOver, Tree, size, tree_of};
 ghost use Rattle.rl_syntax.specs.declared.re.Ending.{Ending};
 ghost use Rattle.rl_prio.specs.StandsFor.{StandsFor};
-ghost use Rattle.rl_lint.specs.CostEnding.{cost_line};
+ghost use Rattle.rl_report.specs.Names.{limit_number};
+ghost use Rattle.rl_lint.specs.CostEnding.{cost_line, undecided_line};
 ghost use Rattle.rl_lint.specs.Messages.{steps_line};
 
 use crate::messages::steps_line;
 use rl_lists::{Codes, OutOfMemory};
 use rl_machine::cost;
 use rl_prio::{Prio, PrioError};
-use rl_syntax::{LowerError, Lowered, Mode, Pattern, Universe, lower};
+use rl_report::{limit_name, limit_number};
+use rl_syntax::{Limit, LowerError, Lowered, Mode, Pattern, Universe, lower};
 use std::alloc::Global;
+
+/// The line on a limit that is passed, which is none on pairs.
+///
+/// # Errors
+/// [`OutOfMemory`].
+pub fn undecided_line(alloc: Global, limit: Limit) -> Result<String, OutOfMemory>
+    ensures { IfOk result (λ line. string_bytes line ≡ undecided_line limit) }
+{
+    let name = limit_name(limit);
+    let number = limit_number(limit, 0);
+    let line = format!(in alloc; "undecided {name} over {number}\n")?;
+    Ok(line)
+}
 
 /// The line on the steps of a text by an automaton.
 ///
@@ -37,15 +52,15 @@ fn counted_line(alloc: Global, automaton: &Prio, text: &Codes) -> Result<String,
 /// [`OutOfMemory`].
 fn lowered_line(alloc: Global, lowered: &Lowered, text: &Codes) -> Result<String, OutOfMemory>
     requires over { IsOver Str (tree_of lowered.now.tree) }
-    requires small { size (tree_of lowered.now.tree) ≤ 4000 }
+    requires small { size (tree_of lowered.now.tree) ≤ limit_number 0 Limit.Size }
     requires in_universe { IsText Str text.now }
     ensures { IfOk result (λ line. string_bytes line
         ≡ cost_line (tree_of lowered.now.tree) lowered.now.ending text.now) }
 {
     match Prio::build(alloc, &lowered.tree, lowered.ending, Universe::Str) {
         Ok(automaton) => counted_line(alloc, &automaton, text),
-        Err(PrioError::Letters) => Ok(String::from_str(alloc, "undecided letters over 128\n")?),
-        Err(PrioError::Moves) => Ok(String::from_str(alloc, "undecided moves over 256\n")?),
+        Err(PrioError::Letters) => undecided_line(alloc, Limit::Letters),
+        Err(PrioError::Moves) => undecided_line(alloc, Limit::Moves),
         Err(PrioError::OutOfMemory) => Err(OutOfMemory),
     }
 }
@@ -67,7 +82,7 @@ pub fn cost_line(
 {
     match lower(alloc, pattern, mode) {
         Ok(lowered) => lowered_line(alloc, &lowered, text),
-        Err(LowerError::TooLarge) => Ok(String::from_str(alloc, "undecided size over 4000\n")?),
+        Err(LowerError::TooLarge) => undecided_line(alloc, Limit::Size),
         Err(LowerError::OutOfMemory) => Err(OutOfMemory),
     }
 }

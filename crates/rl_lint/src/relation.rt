@@ -1,10 +1,12 @@
 //! How two patterns are related, and the lines that `compare` writes on it.
 ghost use Rattle.std.specs.Prelude.{◌≡◌, ◌++◌, Some, IfOk, IfSome, OnOk};
+ghost use Rattle.std.specs.String.{string_bytes};
 ghost use Rattle.rl_ranges.specs.Text.{IsText};
 ghost use Rattle.rl_ranges.specs.declared.universe.Universe.TheVariants.{Str};
 ghost use Rattle.rl_lint.specs.internal.Compared.{AreTexts};
 ghost use Rattle.rl_lint.specs.CompareEnding.{compared_text, region_line, relation_name, relation_of, is_difference};
 
+use crate::compare::MOST_SET_PAIRS;
 use rl_compare::Compared;
 use rl_lists::{Bytes, Codes, OutOfMemory};
 use rl_pystr::quote;
@@ -51,17 +53,18 @@ impl Relation {
     }
 
     /// The name in the line of the relation.
-    fn name(self) -> &'static str
-        ensures { result.now ≡ relation_name self }
+    fn name(self, alloc: Global) -> Result<String, OutOfMemory>
+        ensures { IfOk result (λ name. string_bytes name ≡ relation_name self) }
     {
-        match self {
-            Relation::Overlapping => "overlapping",
-            Relation::Passed => "passed over 20000",
-            Relation::Equal => "equal",
-            Relation::Included => "included",
-            Relation::Includes => "includes",
-            Relation::Disjoint => "disjoint",
-        }
+        let name = match self {
+            Relation::Overlapping => String::from_str(alloc, "overlapping")?,
+            Relation::Passed => format!(in alloc; "passed over {MOST_SET_PAIRS}")?,
+            Relation::Equal => String::from_str(alloc, "equal")?,
+            Relation::Included => String::from_str(alloc, "included")?,
+            Relation::Includes => String::from_str(alloc, "includes")?,
+            Relation::Disjoint => String::from_str(alloc, "disjoint")?,
+        };
+        Ok(name)
     }
 
     /// Whether the relation is a finding.
@@ -118,8 +121,9 @@ pub fn compared_text(
     requires texts { AreTexts compared.now }
     ensures { IfOk result (λ text. text ≡ compared_text compared.now) }
 {
+    let name = relation.name(alloc)?;
     let mut out = Vec::new(alloc);
-    out.extend_from_slice(relation.name().as_bytes())?;
+    out.extend_from_slice(name.as_bytes())?;
     out.push(b'\n')?;
     push_region(alloc, &mut out, "first", &compared.first)?;
     push_region(alloc, &mut out, "second", &compared.second)?;

@@ -5,6 +5,7 @@ use Rattle.rl_ranges.specs.declared.universe.Universe.TheVariants.{Str}
 use Rattle.rl_syntax.specs.Cost.{matched}
 use Rattle.rl_syntax.specs.Tree.{Tree, size}
 use Rattle.rl_syntax.specs.declared.re.Ending.{Ending as MatchEnd}
+use Rattle.rl_syntax.specs.declared.verdict.Limit.TheVariants as limit
 use Rattle.rl_equiv.specs.Limits.{AreWithin}
 use Rattle.rl_equiv.specs.Regions.{AreRegions}
 use Rattle.rl_equiv.specs.declared.compared.Compared.{Compared}
@@ -12,10 +13,12 @@ use Rattle.rl_compare.specs.Matched.{matched_tree}
 use Rattle.rl_compare.specs.Told.{AreTold}
 use Rattle.rl_compare.specs.declared.error.CompareError.{CompareError}
 use Rattle.rl_compare.specs.declared.error.CompareError.TheVariants as error
+use Rattle.rl_report.specs.Names.{limit_number}
+use Rattle.rl_lint.specs.declared.compare.TheConstants.{MOST_SET_PAIRS}
 
 -- the tree of one pattern passes the limit, which is that of the nodes; out of memory says nothing
 abbrev pub PassesSize : Tree → CompareError → Type 0
-PassesSize t error.Size = 4000 < size t
+PassesSize t error.Size = limit_number 0 limit.Size < size t
 PassesSize t error.Letters = ⊥
 PassesSize t error.Moves = ⊥
 PassesSize t error.OutOfMemory = ⊤
@@ -23,7 +26,7 @@ PassesSize t error.OutOfMemory = ⊤
 -- the texts of the regions of two patterns
 pub record IsFound (s : Tree) (e : MatchEnd) (t : Tree) (f : MatchEnd) (c : Compared) : Type 0 where
   pub within : AreWithin Str (matched_tree Str s e) (matched_tree Str t f)
-  pub regions : AreRegions Str (matched_tree Str s e) (matched_tree Str t f) 20000 c
+  pub regions : AreRegions Str (matched_tree Str s e) (matched_tree Str t f) MOST_SET_PAIRS c
   pub told : AreTold Str (matched s e) (matched t f) c
 
 -- the texts are such
