@@ -5,6 +5,7 @@ use Rattle.rl_ranges.specs.declared.universe.Universe.TheVariants.{Str}
 use Rattle.rl_syntax.specs.Cost.{matched}
 use Rattle.rl_syntax.specs.Tree.{Tree}
 use Rattle.rl_syntax.specs.declared.re.Ending.{Ending as MatchEnd}
+use Rattle.rl_syntax.specs.declared.limits.TheConstants.{MOST_SET_PAIRS}
 use Rattle.rl_syntax.specs.declared.re.Mode.{Mode}
 use Rattle.rl_syntax.specs.declared.verdict.Limit.TheVariants as limit
 use Rattle.rl_equiv.specs.Limits.{AreWithin}
@@ -20,7 +21,6 @@ use Rattle.rl_lint.specs.CostEnding.{undecided_line}
 use Rattle.rl_lint.specs.Endings.{Ending, writes}
 use Rattle.rl_lint.specs.Patterns.{ParsesThen}
 use Rattle.rl_lint.specs.Text.{Text}
-use Rattle.rl_lint.specs.declared.compare.TheConstants.{MOST_SET_PAIRS}
 use Rattle.rl_lint.specs.declared.relation.Relation.{Relation}
 use Rattle.rl_lint.specs.declared.relation.Relation.TheVariants.{Overlapping, Passed, Equal, Included, Includes, Disjoint}
 

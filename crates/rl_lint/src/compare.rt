@@ -19,11 +19,8 @@ use crate::plan::Plan;
 use crate::relation::{Relation, compared_text};
 use rl_compare::{CompareError, Compared, compare};
 use rl_lists::{Bytes, OutOfMemory};
-use rl_syntax::{Limit, LowerError, Lowered, Mode, Pattern, Universe, lower};
+use rl_syntax::{Limit, LowerError, Lowered, MOST_SET_PAIRS, Mode, Pattern, Universe, lower};
 use std::alloc::Global;
-
-/// The most pairs of sets that are looked at. Where more are reached, a relation that rests on them is passed.
-pub const MOST_SET_PAIRS: u32 = 20_000;
 
 /// A pattern in a mode, lowered.
 ///

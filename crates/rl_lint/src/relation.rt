@@ -6,11 +6,10 @@ ghost use Rattle.rl_ranges.specs.declared.universe.Universe.TheVariants.{Str};
 ghost use Rattle.rl_lint.specs.internal.Compared.{AreTexts};
 ghost use Rattle.rl_lint.specs.CompareEnding.{compared_text, region_line, relation_name, relation_of, is_difference};
 
-use crate::compare::MOST_SET_PAIRS;
 use rl_compare::Compared;
 use rl_lists::{Bytes, Codes, OutOfMemory};
 use rl_pystr::quote;
-use rl_syntax::Universe;
+use rl_syntax::{MOST_SET_PAIRS, Universe};
 use std::alloc::Global;
 
 /// How the texts that two patterns match are related.

@@ -10,6 +10,8 @@ use Rattle.rl_sites.specs.declared.call.Call.{Call}
 use Rattle.rl_sites.specs.Names.{call_word}
 use Rattle.rl_syntax.specs.declared.feature.Feature.{Feature}
 use Rattle.rl_syntax.specs.declared.feature.Feature.TheVariants as feature
+use Rattle.rl_ranges.specs.declared.letters.TheConstants.{MOST_LETTERS}
+use Rattle.rl_syntax.specs.declared.limits.TheConstants.{MOST_COUNTED_SETS, MOST_MOVES, MOST_NODES}
 use Rattle.rl_syntax.specs.declared.verdict.Limit.{Limit}
 use Rattle.rl_syntax.specs.declared.verdict.Limit.TheVariants as limit
 use Rattle.rl_syntax.specs.declared.verdict.Verdict.{Verdict}
@@ -50,10 +52,10 @@ limit_name limit.Pairs = codes "pairs"
 
 -- the number of a limit. That of the pairs is a setting
 abbrev pub limit_number : ℕ → Limit → ℕ
-limit_number max_pairs limit.Size = 4000
-limit_number max_pairs limit.Letters = 128
-limit_number max_pairs limit.Moves = 256
-limit_number max_pairs limit.Sets = 20000
+limit_number max_pairs limit.Size = MOST_NODES
+limit_number max_pairs limit.Letters = MOST_LETTERS
+limit_number max_pairs limit.Moves = MOST_MOVES
+limit_number max_pairs limit.Sets = MOST_COUNTED_SETS
 limit_number max_pairs limit.Pairs = max_pairs
 
 -- why a source has no tokens. Out of memory is no outcome

@@ -6,7 +6,7 @@ use rl_pattern::PatError;
 use rl_pylex::LexError;
 use rl_pystr::StrError;
 use rl_sites::Call;
-use rl_syntax::{Feature, Limit, Verdict};
+use rl_syntax::{Feature, Limit, MOST_COUNTED_SETS, MOST_LETTERS, MOST_MOVES, MOST_NODES, Verdict};
 
 /// The name of what a pattern may not hold.
 pub fn feature_name(feature: Feature) -> &'static str
@@ -65,10 +65,10 @@ pub fn limit_number(limit: Limit, max_pairs: u32) -> u32
     ensures { result ≡ limit_number max_pairs limit }
 {
     match limit {
-        Limit::Size => 4000,
-        Limit::Letters => 128,
-        Limit::Moves => 256,
-        Limit::Sets => 20_000,
+        Limit::Size => MOST_NODES as u32,
+        Limit::Letters => MOST_LETTERS as u32,
+        Limit::Moves => MOST_MOVES as u32,
+        Limit::Sets => MOST_COUNTED_SETS,
         Limit::Pairs => max_pairs,
     }
 }

@@ -4,6 +4,7 @@ use Rattle.rl_ranges.specs.Text.{IsText}
 use Rattle.rl_ranges.specs.declared.universe.Universe.TheVariants.{Str}
 use Rattle.rl_syntax.specs.Cost.{matched}
 use Rattle.rl_syntax.specs.Tree.{Tree, size}
+use Rattle.rl_syntax.specs.declared.limits.TheConstants.{MOST_SET_PAIRS}
 use Rattle.rl_syntax.specs.declared.re.Ending.{Ending as MatchEnd}
 use Rattle.rl_syntax.specs.declared.verdict.Limit.TheVariants as limit
 use Rattle.rl_equiv.specs.Limits.{AreWithin}
@@ -14,7 +15,6 @@ use Rattle.rl_compare.specs.Told.{AreTold}
 use Rattle.rl_compare.specs.declared.error.CompareError.{CompareError}
 use Rattle.rl_compare.specs.declared.error.CompareError.TheVariants as error
 use Rattle.rl_report.specs.Names.{limit_number}
-use Rattle.rl_lint.specs.declared.compare.TheConstants.{MOST_SET_PAIRS}
 
 -- the tree of one pattern passes the limit, which is that of the nodes; out of memory says nothing
 abbrev pub PassesSize : Tree → CompareError → Type 0
