@@ -7,8 +7,10 @@ use Rattle.rl_graph.specs.Paths.{paths, total}
 use Rattle.rl_graph.proofs.GraphLaws.{edges-state}
 use Rattle.rl_degree.specs.Chains.{HasNoCycle}
 use Rattle.rl_ranges.specs.Text.{code_count}
+use Rattle.rl_ranges.specs.declared.letters.TheConstants.{MOST_LETTERS}
 use Rattle.rl_syntax.specs.declared.verdict.Limit.{Limit}
 use Rattle.rl_syntax.specs.Tree.{size}
+use Rattle.rl_syntax.specs.declared.limits.TheConstants.{MOST_COUNTED_SETS, MOST_MOVES, MOST_NODES}
 use Rattle.rl_prio.specs.Automaton.{Automaton, IsAutomaton}
 use Rattle.rl_prio.specs.Items.{longest}
 use Rattle.rl_prio.specs.StandsFor.{StandsFor}
@@ -54,7 +56,7 @@ none-holds q c limit passed = (λ e. absurd (true≢false (sym e)), λ h. absurd
 
 -- else what the graph that was found shows decides
 pub shown-decides : (q : Question) (c : Certificate) (a : Automaton) (next : ℕ → ℕ → List ℕ) (at : ℕ → Pair) (n : ℕ) → StandsFor a q.tree q.ending → a.table.codes ≡ code_count q.universe → IsAutomaton a
-    → size q.tree ≤ 4000 → length (letters q.tree (code_count q.universe)) ≤ 128 → longest q.tree ≤ 256 → IsPairGraph a next at n → IsNumbered a next at n → n ≤ q.max_pairs → (MoreThan 20000 (CountedSet a) → ⊥)
+    → size q.tree ≤ MOST_NODES → length (letters q.tree (code_count q.universe)) ≤ MOST_LETTERS → longest q.tree ≤ MOST_MOVES → IsPairGraph a next at n → IsNumbered a next at n → n ≤ q.max_pairs → (MoreThan MOST_COUNTED_SETS (CountedSet a) → ⊥)
     → (held : Bool) → IsTrue held ↔ Shows q a next at n c c.verdict → IsTrue held ↔ Holds q c
 shown-decides q c a next at n stands codes whole s l m g numbered few sets held iff =
     let machine : IsMachine q a = record { stands = stands; same_codes = codes } in
@@ -64,7 +66,7 @@ shown-decides q c a next at n stands codes whole s l m g numbered few sets held 
     )
 
 pub result-decides : {E : Type 0} (q : Question) (c : Certificate) (a : Automaton) (next : ℕ → ℕ → List ℕ) (at : ℕ → Pair) (n : ℕ) (r : Result Bool E) → StandsFor a q.tree q.ending → a.table.codes ≡ code_count q.universe → IsAutomaton a
-    → size q.tree ≤ 4000 → length (letters q.tree (code_count q.universe)) ≤ 128 → longest q.tree ≤ 256 → IsPairGraph a next at n → IsNumbered a next at n → n ≤ q.max_pairs → (MoreThan 20000 (CountedSet a) → ⊥)
+    → size q.tree ≤ MOST_NODES → length (letters q.tree (code_count q.universe)) ≤ MOST_LETTERS → longest q.tree ≤ MOST_MOVES → IsPairGraph a next at n → IsNumbered a next at n → n ≤ q.max_pairs → (MoreThan MOST_COUNTED_SETS (CountedSet a) → ⊥)
     → IfOk r (λ held. (p : Question) → p.universe ≡ q.universe → IsTrue held ↔ Shows p a next at n c c.verdict) → IfOk r (λ held. IsTrue held ↔ Holds q c)
 result-decides q c a next at n (Ok held) stands codes whole s l m g numbered few sets h =
     shown-decides q c a next at n stands codes whole s l m g numbered few sets held (h q refl)

@@ -17,6 +17,7 @@ use Rattle.rl_syntax.specs.declared.verdict.Limit.TheVariants.{Size, Letters, Mo
 use Rattle.rl_syntax.specs.declared.verdict.Verdict.{Verdict}
 use Rattle.rl_syntax.specs.declared.verdict.Verdict.TheVariants.{Degree, Expo, Undecided as Open}
 use Rattle.rl_ranges.specs.Text.{code_count}
+use Rattle.rl_ranges.specs.declared.letters.TheConstants.{MOST_LETTERS}
 use Rattle.rl_prio.specs.Automaton.{IsAutomaton}
 use Rattle.rl_prio.specs.Items.{longest as longest_list}
 use Rattle.rl_prio.specs.Letters.{letters}
@@ -32,6 +33,7 @@ use Rattle.rl_cert.specs.internal.Made.{IsMade, IsLarge}
 use Rattle.rl_growth.proofs.VerdictLaws.{small, none_passed}
 use Rattle.rl_syntax.specs.Tree.{size}
 use Rattle.rl_syntax.specs.Family.{IsFamily, IsExpoFamily}
+use Rattle.rl_syntax.specs.declared.limits.TheConstants.{MOST_COUNTED_SETS, MOST_MOVES, MOST_NODES}
 use Rattle.rl_prio.specs.Automaton.{Automaton}
 use Rattle.rl_prio.specs.Letters.{all_sets}
 use Rattle.rl_pairs.specs.declared.pair.Pair.{Pair}
@@ -201,7 +203,7 @@ no-equal-split a next at n ranks stands g ranked =
 -- what was made answers the question
 
 pub made-holds : (q : Question) (a : Automaton) (g : PairTable) (r : Result Certificate CertError) → StandsFor a q.tree q.ending → a.table.codes ≡ code_count q.universe → IsAutomaton a
-    → size q.tree ≤ 4000 → length (letters q.tree (code_count q.universe)) ≤ 128 → longest_list q.tree ≤ 256 → IsPairGraph a (moves_in g) (pair_in g) g.graph.states → IsNumbered a (moves_in g) (pair_in g) g.graph.states → g.graph.states ≤ q.max_pairs → (MoreThan 20000 (CountedSet a) → ⊥)
+    → size q.tree ≤ MOST_NODES → length (letters q.tree (code_count q.universe)) ≤ MOST_LETTERS → longest_list q.tree ≤ MOST_MOVES → IsPairGraph a (moves_in g) (pair_in g) g.graph.states → IsNumbered a (moves_in g) (pair_in g) g.graph.states → g.graph.states ≤ q.max_pairs → (MoreThan MOST_COUNTED_SETS (CountedSet a) → ⊥)
     → IfOk r (IsMade a g) → IfOk r (λ c. Holds q c × (IsTooLarge q → ⊥))
 made-holds q a g (Ok c) stands codes whole s l m graph numbered few sets made =
     let field : IsField q a (moves_in g) (pair_in g) g.graph.states = record { machine = record { stands = stands; same_codes = codes }; whole = whole; graph = graph; numbered = numbered } in
@@ -211,7 +213,7 @@ made-holds q a g (Ok c) stands codes whole s l m graph numbered few sets made =
 made-holds q a g (Err e) stands codes whole s l m graph numbered few sets made = tt
 
 pub made-large : (q : Question) (a : Automaton) (g : PairTable) (r : Result Certificate CertError) → StandsFor a q.tree q.ending → a.table.codes ≡ code_count q.universe → IsAutomaton a
-    → size q.tree ≤ 4000 → length (letters q.tree (code_count q.universe)) ≤ 128 → longest_list q.tree ≤ 256 → IsPairGraph a (moves_in g) (pair_in g) g.graph.states → IsNumbered a (moves_in g) (pair_in g) g.graph.states → g.graph.states ≤ q.max_pairs → (MoreThan 20000 (CountedSet a) → ⊥)
+    → size q.tree ≤ MOST_NODES → length (letters q.tree (code_count q.universe)) ≤ MOST_LETTERS → longest_list q.tree ≤ MOST_MOVES → IsPairGraph a (moves_in g) (pair_in g) g.graph.states → IsNumbered a (moves_in g) (pair_in g) g.graph.states → g.graph.states ≤ q.max_pairs → (MoreThan MOST_COUNTED_SETS (CountedSet a) → ⊥)
     → (r ≡ Err TooLarge → IsLarge a g) → IfErr r (λ e. e ≡ TooLarge → IsTooLarge q)
 made-large q a g (Ok c) stands codes whole s l m graph numbered few sets large = tt
 made-large q a g (Err e) stands codes whole s l m graph numbered few sets large = λ same.
@@ -283,8 +285,8 @@ ok-told q (Err e) h = tt
 
 -- the limits that are named
 
-pub letters-named : (q : Question) → size q.tree ≤ 4000 → 128 < length (letters q.tree (code_count q.universe)) → IsNamed q Letters
+pub letters-named : (q : Question) → size q.tree ≤ MOST_NODES → MOST_LETTERS < length (letters q.tree (code_count q.universe)) → IsNamed q Letters
 letters-named q s h = (λ over. absurd (omega (arith, over, s)), h)
 
-pub moves-named : (q : Question) → size q.tree ≤ 4000 → length (letters q.tree (code_count q.universe)) ≤ 128 → 256 < longest_list q.tree → IsNamed q Moves
+pub moves-named : (q : Question) → size q.tree ≤ MOST_NODES → length (letters q.tree (code_count q.universe)) ≤ MOST_LETTERS → MOST_MOVES < longest_list q.tree → IsNamed q Moves
 moves-named q s l h = (λ over. absurd (omega (arith, over, s)), λ over. absurd (omega (arith, over, l)), h)

@@ -4,6 +4,7 @@ ghost use Rattle.std.specs.Prelude.{◌≡◌, ℕ, ◌+◌, ◌<◌, ◌≤◌,
 ghost use Rattle.rl_graph.specs.Graph.{edges_of};
 ghost use Rattle.rl_degree.specs.Chains.{HasNoCycle};
 ghost use Rattle.rl_syntax.specs.Tree.{tree_of, size, IsOver};
+ghost use Rattle.rl_syntax.specs.declared.limits.TheConstants.{MOST_PAIRS};
 ghost use Rattle.rl_ranges.specs.Text.{code_count};
 ghost use Rattle.rl_prio.specs.Automaton.{letters_count};
 ghost use Rattle.rl_pairs.specs.PairTable.{moves_in, pair_in};
@@ -21,11 +22,8 @@ use rl_numbers::checking::triples_hold;
 use rl_numbers::doubling::doubles_hold;
 use rl_pairs::{PairGraph, PairsError, pairs};
 use rl_prio::{Prio, PrioError};
-use rl_syntax::{Family, Lowered, Universe, Verdict};
+use rl_syntax::{Family, Lowered, MOST_NODES, Universe, Verdict};
 use std::alloc::Global;
-
-/// The most nodes that a judged tree has.
-pub(crate) const MOST_NODES: u64 = 4_000;
 
 /// Whether no state is on a cycle.
 fn is_flat(g: &Multigraph) -> Result<bool, OutOfMemory>
@@ -135,9 +133,9 @@ fn checked_small(
     c: &Certificate,
 ) -> Result<bool, OutOfMemory>
     requires some { 1 ≤ max_pairs }
-    requires few { max_pairs ≤ 1000 }
+    requires few { max_pairs ≤ MOST_PAIRS }
     requires inside { IsOver u (tree_of l.now.tree) }
-    requires small { size (tree_of l.now.tree) ≤ 4000 }
+    requires small { size (tree_of l.now.tree) ≤ MOST_NODES }
     ensures { IfOk result (λ yes. IsTrue yes ↔ Holds (question_of l.now u max_pairs) c.now) }
 {
     let a = match Prio::build(alloc, &l.tree, l.ending, u) {
@@ -168,7 +166,7 @@ pub fn check(
     c: &Certificate,
 ) -> Result<bool, OutOfMemory>
     requires some { 1 ≤ max_pairs }
-    requires few { max_pairs ≤ 1000 }
+    requires few { max_pairs ≤ MOST_PAIRS }
     requires inside { IsOver u (tree_of l.now.tree) }
     ensures holds { IfOk result (λ yes. IsTrue yes ↔ Holds (question_of l.now u max_pairs) c.now) }
     ensures sound { IfOk result (λ yes. IsTrue yes → RightVerdict (question_of l.now u max_pairs) c.now.verdict) }

@@ -11,13 +11,13 @@ ghost use Rattle.rl_cert.specs.Ways.{chain_anchors};
 ghost use Rattle.rl_cert.specs.internal.Made.{IsMade, IsLarge};
 ghost use Rattle.rl_syntax.specs.Tree.{tree_of, size, IsOver};
 ghost use Rattle.rl_syntax.specs.declared.verdict.Limit.{Limit};
+ghost use Rattle.rl_syntax.specs.declared.limits.TheConstants.{MOST_PAIRS};
 ghost use Rattle.rl_pairs.specs.RightVerdict.{IsNamed};
 ghost use Rattle.rl_cert.specs.Form.{IsTold};
 ghost use Rattle.rl_cert.specs.Holds.{Holds, question_of};
 ghost use Rattle.rl_cert.specs.TooLarge.{IsTooLarge};
 
 use crate::certificate::{Anchor, Anchors, Certificate};
-use crate::checking::MOST_NODES;
 use rl_degree::{Chain, Loop, Split, degree};
 use rl_expo::{TwinPaths, twin};
 use rl_growth::spelling::family_of;
@@ -26,7 +26,7 @@ use rl_lists::{Items, OutOfMemory};
 use rl_numbers::{TriplesError, doubles_of, triples_of};
 use rl_pairs::{PairGraph, PairsError, pairs};
 use rl_prio::{Prio, PrioError};
-use rl_syntax::{Family, Limit, Lowered, Universe, Verdict};
+use rl_syntax::{Family, Limit, Lowered, MOST_NODES, Universe, Verdict};
 use std::alloc::Global;
 
 /// Why no certificate was made.
@@ -219,9 +219,9 @@ fn made_small(
     max_pairs: u32,
 ) -> Result<Certificate, CertError>
     requires some { 1 ≤ max_pairs }
-    requires few { max_pairs ≤ 1000 }
+    requires few { max_pairs ≤ MOST_PAIRS }
     requires inside { IsOver u (tree_of l.now.tree) }
-    requires small { size (tree_of l.now.tree) ≤ 4000 }
+    requires small { size (tree_of l.now.tree) ≤ MOST_NODES }
     ensures holds { IfOk result (Holds (question_of l.now u max_pairs)) }
     ensures told { IfOk result (λ c. IsTold c.verdict) }
     ensures fits { IfOk result (λ c. IsTooLarge (question_of l.now u max_pairs) → ⊥) }
@@ -256,7 +256,7 @@ pub fn make(
     max_pairs: u32,
 ) -> Result<Certificate, CertError>
     requires some { 1 ≤ max_pairs }
-    requires few { max_pairs ≤ 1000 }
+    requires few { max_pairs ≤ MOST_PAIRS }
     requires inside { IsOver u (tree_of l.now.tree) }
     ensures holds { IfOk result (Holds (question_of l.now u max_pairs)) }
     ensures told { IfOk result (λ c. IsTold c.verdict) }
