@@ -27,7 +27,7 @@ use Rattle.rl_lint.specs.CostEnding.{cost_ending, cost_line}
 use Rattle.rl_lint.specs.Endings.{Ending, refuses, writes}
 use Rattle.rl_lint.specs.internal.Plans.{ending_of, has_fault, is_refusal}
 use Rattle.rl_lint.specs.Files.{HasRefused, ReadsFile, ReadsThen, file_refused, file_taken, file_unreadable, first_bytes, whole_bytes}
-use Rattle.rl_lint.specs.Options.{GivesSettings, default_settings, in_force}
+use Rattle.rl_lint.specs.Options.{GivesSettings, default_settings, with_values}
 use Rattle.rl_lint.specs.Patterns.{IsRefusedPattern, ParsesThen, pattern_parsed, pattern_refused, text_question}
 use Rattle.rl_lint.specs.ProveEnding.{ProveEnds}
 use Rattle.rl_lint.specs.Refusals.{HasRefusedPattern, IsRefused, IsRefusedAction, action, settings}
@@ -187,15 +187,15 @@ of_call : (call : Call) (named : Option Text) (old new : Moment) (ending : Endin
     → HasCause (IsRefused old.told (Some call)) old new ending
 of_call call None old new ending same ends =
     because (IsRefusedAction old.told call.options call.action) old new (IsRefused old.told (Some call)) ending action
-    (of_action (in_force call.options default_settings) call.options call.action old new ending ends)
+    (of_action (with_values call.options.values default_settings) call.options call.action old new ending ends)
 of_call call (Some file) old new ending same ends =
-    of_file (codes "settings") whole_bytes GivesSettings (λ start. IsActionEnding (in_force call.options start) call.options call.action) file
+    of_file (codes "settings") whole_bytes GivesSettings (λ start. IsActionEnding (with_values call.options.values start) call.options call.action) file
     (IsRefused old.told (Some call)) old new ending ends
     (λ r. settings (subst (λ o. HasRefused GivesSettings whole_bytes o old.told) (sym same) r))
     (λ start mid keeps next.
     because (IsRefusedAction mid.told call.options call.action) mid new (IsRefused old.told (Some call)) ending
     (λ r. action (earlier_refused call.options call.action old mid keeps r))
-    (of_action (in_force call.options start) call.options call.action mid new ending next))
+    (of_action (with_values call.options.values start) call.options call.action mid new ending next))
 
 pub plans-refused : {E : Type 0} (result : Result Plan E) (given : Option Call) (call : Call) (old new : Moment) → given ≡ Some call
     → IfOk result (λ plan. IsRunEnding (Some call) old new (ending_of plan))

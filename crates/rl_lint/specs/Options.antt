@@ -6,13 +6,12 @@ use Rattle.rl_report.specs.declared.layouts.Format.TheVariants.{Text as in_text,
 use Rattle.rl_judge.specs.declared.settings.Layout.{Layout}
 use Rattle.rl_judge.specs.declared.settings.Layout.TheVariants.{Report, Sarif}
 use Rattle.rl_judge.specs.declared.settings.Settings.{Settings}
-use Rattle.rl_settings.specs.Settings.{settings_told}
-use Rattle.rl_settings.specs.declared.settings.FileSettings.{FileSettings}
-use Rattle.rl_words.specs.Call.{Chosen}
+use Rattle.rl_settings.specs.Settings.{file_values}
 use Rattle.rl_words.specs.declared.words.FormatWord.{FormatWord}
 use Rattle.rl_words.specs.declared.words.FormatWord.TheVariants as layout
 use Rattle.rl_words.specs.declared.words.ModeWord.{ModeWord}
 use Rattle.rl_words.specs.declared.words.ModeWord.TheVariants as word
+use Rattle.rl_words.specs.declared.words.PartialSettings.{PartialSettings}
 use Rattle.rl_lint.specs.Text.{Text}
 
 -- the number that is given, or its default
@@ -47,9 +46,9 @@ abbrev pub default_settings : Settings
 default_settings = record { compile_as = mode.Search; max_degree = 2; max_pairs = 600; format = Report in_text; report = 2 }
 
 -- the settings with these values in their place
-abbrev pub with_values : FileSettings → Settings → Settings
+abbrev pub with_values : PartialSettings → Settings → Settings
 with_values values s = record {
-  compile_as = mode_given values.compile_as s.compile_as;
+  compile_as = mode_given values.mode s.compile_as;
   max_degree = number_given values.max_degree s.max_degree;
   max_pairs = number_given values.max_pairs s.max_pairs;
   format = layout_given values.format s.format;
@@ -58,22 +57,8 @@ with_values values s = record {
 
 -- the settings with the values of a settings file in their place, or none exactly where its bytes are refused
 abbrev pub settings_of : Text → Settings → Option Settings
-settings_of bytes start = option_map (λ values. with_values values start) (settings_told bytes)
+settings_of bytes start = option_map (λ values. with_values values start) (file_values bytes)
 
 -- what the bytes of a settings file give over the defaults
 abbrev pub GivesSettings : Text → Settings → Type 0
 GivesSettings bytes s = settings_of bytes default_settings ≡ Some s
-
--- what the options give, in the terms of a settings file
-abbrev pub values_of : Chosen → FileSettings
-values_of options = record {
-  compile_as = options.mode;
-  max_degree = options.max_degree;
-  max_pairs = options.max_pairs;
-  format = options.format;
-  report = options.report;
-}
-
--- the settings in force: a value given by an option wins
-abbrev pub in_force : Chosen → Settings → Settings
-in_force options start = with_values (values_of options) start

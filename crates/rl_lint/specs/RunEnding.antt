@@ -12,7 +12,7 @@ use Rattle.rl_lint.specs.CompareEnding.{IsCompareEnding}
 use Rattle.rl_lint.specs.CostEnding.{cost_ending}
 use Rattle.rl_lint.specs.Endings.{Ending, refuses}
 use Rattle.rl_lint.specs.Files.{ReadsThen, whole_bytes}
-use Rattle.rl_lint.specs.Options.{GivesSettings, default_settings, in_force, mode_given}
+use Rattle.rl_lint.specs.Options.{GivesSettings, default_settings, mode_given, with_values}
 use Rattle.rl_lint.specs.Patterns.{ParsesThen}
 use Rattle.rl_lint.specs.ProveEnding.{ProveEnds}
 use Rattle.rl_lint.specs.SampleEnding.{IsSampleEnding}
@@ -24,22 +24,22 @@ use Rattle.rl_lint.specs.VerifyEnding.{IsVerifyEnding}
 abbrev pub IsActionEnding : Settings → Chosen → Asked → Moment → Moment → Ending → Type 0
 IsActionEnding s options (check paths) old new ending = IsCheckEnding s paths options.baseline old new ending
 IsActionEnding s options (class pattern) old new ending =
-    (new ≡ old) × ParsesThen (chars pattern) (mode_given options.mode Fullmatch) (ClassEnds s.max_degree s.max_pairs) ending
+    (new ≡ old) × ParsesThen (chars pattern) (mode_given options.values.mode Fullmatch) (ClassEnds s.max_degree s.max_pairs) ending
 IsActionEnding s options (cost pattern text) old new ending =
-    (new ≡ old) × ParsesThen (chars pattern) (mode_given options.mode Fullmatch) (λ t at end. end ≡ cost_ending (chars text) t at) ending
+    (new ≡ old) × ParsesThen (chars pattern) (mode_given options.values.mode Fullmatch) (λ t at end. end ≡ cost_ending (chars text) t at) ending
 IsActionEnding s options (sample seed count) old new ending = (new ≡ old) × IsSampleEnding s seed count ending
 IsActionEnding s options (prove pattern) old new ending =
-    (new ≡ old) × ParsesThen (chars pattern) (mode_given options.mode Fullmatch) (ProveEnds s.max_pairs) ending
+    (new ≡ old) × ParsesThen (chars pattern) (mode_given options.values.mode Fullmatch) (ProveEnds s.max_pairs) ending
 IsActionEnding s options (verify pattern file) old new ending =
-    IsVerifyEnding s.max_pairs (mode_given options.mode Fullmatch) (chars pattern) file old new ending
+    IsVerifyEnding s.max_pairs (mode_given options.values.mode Fullmatch) (chars pattern) file old new ending
 IsActionEnding s options (compare first second) old new ending =
-    (new ≡ old) × IsCompareEnding (chars first) (chars second) (mode_given options.mode Fullmatch) ending
+    (new ≡ old) × IsCompareEnding (chars first) (chars second) (mode_given options.values.mode Fullmatch) ending
 
 -- a call: its settings file is read first, where one is named, and the values of its options take the place of those there
 abbrev pub IsCallEnding : Call → Option Text → Moment → Moment → Ending → Type 0
-IsCallEnding call None old new ending = IsActionEnding (in_force call.options default_settings) call.options call.action old new ending
+IsCallEnding call None old new ending = IsActionEnding (with_values call.options.values default_settings) call.options call.action old new ending
 IsCallEnding call (Some file) old new ending =
-    ReadsThen (codes "settings") whole_bytes GivesSettings (λ start. IsActionEnding (in_force call.options start) call.options call.action) file old new ending
+    ReadsThen (codes "settings") whole_bytes GivesSettings (λ start. IsActionEnding (with_values call.options.values start) call.options call.action) file old new ending
 
 -- a run, by what its words ask for, if they are a valid call
 abbrev pub IsRunEnding : Option Call → Moment → Moment → Ending → Type 0

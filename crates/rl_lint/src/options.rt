@@ -1,15 +1,13 @@
 //! Values of options and of settings files, in the place of others.
 ghost use Rattle.std.specs.Prelude.{◌≡◌};
-ghost use Rattle.rl_words.specs.Call.{chosen};
-ghost use Rattle.rl_settings.specs.Settings.{HasRanges};
+ghost use Rattle.rl_words.specs.Call.{AreInRange};
 ghost use Rattle.rl_judge.specs.RightEntries.{IsValid};
-ghost use Rattle.rl_lint.specs.Options.{in_force, layout_given, mode_given, number_given, values_of, with_values};
+ghost use Rattle.rl_lint.specs.Options.{layout_given, mode_given, number_given, with_values};
 
 use rl_judge::{Layout, Settings};
 use rl_report::Format;
-use rl_settings::FileSettings;
 use rl_syntax::Mode;
-use rl_words::{FormatWord, ModeWord, Options};
+use rl_words::{FormatWord, ModeWord, PartialSettings};
 
 /// The mode that is given, or its default.
 pub fn mode_given(word: Option<ModeWord>, default: Mode) -> Mode
@@ -44,41 +42,17 @@ fn layout_given(word: Option<FormatWord>, default: Layout) -> Layout
 }
 
 /// The settings with these values in their place.
-pub fn with_values(values: &FileSettings, start: &Settings) -> Settings
-    requires ranges { HasRanges values.now }
+pub fn with_values(values: &PartialSettings, start: &Settings) -> Settings
+    requires ranges { AreInRange values.now }
     requires valid { IsValid start.now }
     ensures value { result ≡ with_values values.now start.now }
     ensures valid { IsValid result }
 {
     Settings {
-        compile_as: mode_given(values.compile_as, start.compile_as),
+        compile_as: mode_given(values.mode, start.compile_as),
         max_degree: number_given(values.max_degree, start.max_degree),
         max_pairs: number_given(values.max_pairs, start.max_pairs),
         format: layout_given(values.format, start.format),
         report: number_given(values.report, start.report),
     }
-}
-
-/// What the options give, in the terms of a settings file.
-fn values_of(options: &Options) -> FileSettings
-    ensures { result ≡ values_of (chosen options.now) }
-{
-    FileSettings {
-        compile_as: options.mode,
-        max_degree: options.max_degree,
-        max_pairs: options.max_pairs,
-        format: options.format,
-        report: options.report,
-    }
-}
-
-/// The settings in force: those to start with, with the values of the options in their place.
-pub fn in_force(options: &Options, start: &Settings) -> Settings
-    requires ranges { HasRanges (values_of (chosen options.now)) }
-    requires valid { IsValid start.now }
-    ensures value { result ≡ in_force (chosen options.now) start.now }
-    ensures valid { IsValid result }
-{
-    let values = values_of(options);
-    with_values(&values, start)
 }

@@ -8,7 +8,7 @@ ghost use Rattle.rl_words.specs.Call.{HasActionRanges, HasRanges, asked, chosen}
 ghost use Rattle.rl_words.specs.Given.{given_by};
 ghost use Rattle.rl_lint.specs.internal.Plans.{call_of, ending_of, has_fault, is_refusal, message_text};
 ghost use Rattle.rl_lint.specs.Files.{ReadsThen, whole_bytes};
-ghost use Rattle.rl_lint.specs.Options.{GivesSettings, in_force};
+ghost use Rattle.rl_lint.specs.Options.{GivesSettings, with_values};
 ghost use Rattle.rl_lint.specs.Refusals.{IsRefused};
 ghost use Rattle.rl_lint.specs.RunEnding.{IsActionEnding, IsRunEnding, asks_itself, asks_tree};
 
@@ -18,7 +18,7 @@ use crate::compare::compare_plan;
 use crate::config::{DEFAULTS, read_config};
 use crate::cost::cost_plan;
 use crate::files::FileRead;
-use crate::options::{in_force, mode_given};
+use crate::options::{mode_given, with_values};
 use crate::prove::prove_plan;
 use crate::sample::sample_plan;
 use crate::verify::verify_plan;
@@ -83,7 +83,7 @@ fn action_plan<T: Tree>(
     ensures trail { asks_itself (asked action.entry) ≡ false → T.told tree.new ≡ T.told tree.old }
     ensures later { T.fault_count tree.old ≤ T.fault_count tree.new }
 {
-    let mode = mode_given(options.mode, Mode::Fullmatch);
+    let mode = mode_given(options.values.mode, Mode::Fullmatch);
     let max_pairs = settings.max_pairs;
     match action {
         Action::Check { paths } => {
@@ -116,7 +116,7 @@ fn config_plan<T: Tree>(
 ) -> Result<Plan, OutOfMemory>
     requires { HasRanges (call_of action options.now) }
     ensures ending { IfOk result (λ plan. ReadsThen (codes "settings") whole_bytes GivesSettings
-        (λ start. IsActionEnding (in_force (chosen options.now) start) (chosen options.now) (asked action.entry)) path.now
+        (λ start. IsActionEnding (with_values options.now.values start) (chosen options.now) (asked action.entry)) path.now
         (moment_of T.told T.fault_count tree.old) (moment_of T.told T.fault_count tree.new) (ending_of plan)) }
     ensures later { T.fault_count tree.old ≤ T.fault_count tree.new }
 {
@@ -126,7 +126,7 @@ fn config_plan<T: Tree>(
         ))),
         FileRead::Refused => Ok(Plan::Refuses(Message::Fixed("relint: settings refused\n"))),
         FileRead::Taken(start) => {
-            let settings = in_force(options, &start);
+            let settings = with_values(&options.values, &start);
             action_plan(alloc, action, options, settings, tree)
         }
     }
@@ -150,7 +150,7 @@ fn call_plan<T: Tree>(
 {
     match options.settings {
         None => {
-            let settings = in_force(options, &DEFAULTS);
+            let settings = with_values(&options.values, &DEFAULTS);
             action_plan(alloc, action, options, settings, tree)
         }
         Some(path) => config_plan(alloc, action, options, path, tree),

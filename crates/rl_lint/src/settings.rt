@@ -1,6 +1,6 @@
 //! The settings that a settings file gives.
 ghost use Rattle.std.specs.Prelude.{◌≡◌, IfOk, IsErrOf, None, Some, option_map};
-ghost use Rattle.rl_settings.specs.Settings.{settings_told};
+ghost use Rattle.rl_settings.specs.Settings.{file_values};
 ghost use Rattle.rl_judge.specs.RightEntries.{IsValid};
 ghost use Rattle.rl_lint.specs.Options.{settings_of, with_values};
 
@@ -22,7 +22,7 @@ pub fn settings_from(
     requires { IsValid start.now }
     ensures ok { IfOk result (λ s. settings_of bytes.now.items start.now ≡ Some s) }
     ensures valid { IfOk result IsValid }
-    ensures refused { IsErrOf result SettingsError.Refused → settings_told bytes.now.items ≡ None }
+    ensures refused { IsErrOf result SettingsError.Refused → file_values bytes.now.items ≡ None }
 {
     match read_settings(alloc, bytes.as_slice()) {
         Ok(values) => Ok(with_values(&values, start)),

@@ -2,13 +2,12 @@
 ghost use Rattle.std.specs.Prelude.{◌≡◌, IfSome, option_map};
 ghost use Rattle.toml.specs.Data.{get_member};
 ghost use Rattle.toml.specs.View.{table_view, view};
-ghost use Rattle.rl_words.specs.Call.{IsBetween};
+ghost use Rattle.rl_words.specs.Call.{AreInRange, IsBetween};
 ghost use Rattle.rl_settings.specs.Values.{format_in, mode_in, number_in};
-ghost use Rattle.rl_settings.specs.Settings.{HasRanges, has_known_keys, is_known, table_told, told};
+ghost use Rattle.rl_settings.specs.Settings.{has_known_keys, is_known, read_at, table_values};
 
-use crate::FileSettings;
 use crate::values::{format_in, mode_in, number_in};
-use rl_words::{FormatWord, ModeWord};
+use rl_words::{FormatWord, ModeWord, PartialSettings};
 use toml::{Table, Value};
 
 // Whether a settings file may have this key.
@@ -39,8 +38,8 @@ fn value_at<'a>(table: &'a Table, key: &str) -> Option<&'a Value>
 // In each of these `Some(None)` says that the table lacks the key, and `None` that its value is
 // refused.
 
-fn mode_told(table: &Table, key: &str) -> Option<Option<ModeWord>>
-    ensures { result ≡ told key.now mode_in (table_view table.now) }
+fn mode_at(table: &Table, key: &str) -> Option<Option<ModeWord>>
+    ensures { result ≡ read_at key.now mode_in (table_view table.now) }
 {
     match value_at(table, key) {
         Some(value) => Some(Some(mode_in(value)?)),
@@ -48,8 +47,8 @@ fn mode_told(table: &Table, key: &str) -> Option<Option<ModeWord>>
     }
 }
 
-fn format_told(table: &Table, key: &str) -> Option<Option<FormatWord>>
-    ensures { result ≡ told key.now format_in (table_view table.now) }
+fn format_at(table: &Table, key: &str) -> Option<Option<FormatWord>>
+    ensures { result ≡ read_at key.now format_in (table_view table.now) }
 {
     match value_at(table, key) {
         Some(value) => Some(Some(format_in(value)?)),
@@ -57,8 +56,8 @@ fn format_told(table: &Table, key: &str) -> Option<Option<FormatWord>>
     }
 }
 
-fn number_told(table: &Table, key: &str, low: u32, high: u32) -> Option<Option<u32>>
-    ensures value { result ≡ told key.now (number_in low high) (table_view table.now) }
+fn number_at(table: &Table, key: &str, low: u32, high: u32) -> Option<Option<u32>>
+    ensures value { result ≡ read_at key.now (number_in low high) (table_view table.now) }
     ensures range { IfSome result (λ n. IfSome n (IsBetween low high)) }
 {
     match value_at(table, key) {
@@ -67,19 +66,19 @@ fn number_told(table: &Table, key: &str, low: u32, high: u32) -> Option<Option<u
     }
 }
 
-/// What a table says, or `None` where it is refused.
-pub(crate) fn table_told(table: &Table) -> Option<FileSettings>
-    ensures value { result ≡ table_told (table_view table.now) }
-    ensures ranges { IfSome result HasRanges }
+/// The settings that a table gives, or `None` where it is refused.
+pub(crate) fn table_values(table: &Table) -> Option<PartialSettings>
+    ensures value { result ≡ table_values (table_view table.now) }
+    ensures ranges { IfSome result AreInRange }
 {
     if !has_known_keys(table) {
         return None;
     }
-    Some(FileSettings {
-        compile_as: mode_told(table, "compile-as")?,
-        max_degree: number_told(table, "max-degree", 0, 999_999)?,
-        max_pairs: number_told(table, "max-pairs", 1, 1000)?,
-        format: format_told(table, "format")?,
-        report: number_told(table, "report", 1, 2)?,
+    Some(PartialSettings {
+        mode: mode_at(table, "compile-as")?,
+        format: format_at(table, "format")?,
+        max_degree: number_at(table, "max-degree", 0, 999_999)?,
+        max_pairs: number_at(table, "max-pairs", 1, 1000)?,
+        report: number_at(table, "report", 1, 2)?,
     })
 }

@@ -4,9 +4,7 @@
 mod error;
 mod keys;
 mod read;
-mod settings;
 mod values;
 
 pub use error::SettingsError;
 pub use read::read_settings;
-pub use settings::FileSettings;

@@ -1,10 +1,12 @@
 //! The settings file as a whole.
 ghost use Rattle.std.specs.Prelude.{◌≡◌, None, Some, IfOk, IsErrOf};
 ghost use Rattle.toml.specs.View.{table_view};
-ghost use Rattle.rl_settings.specs.Settings.{HasRanges, document_of, settings_told};
+ghost use Rattle.rl_words.specs.Call.{AreInRange};
+ghost use Rattle.rl_settings.specs.Settings.{document_of, file_values};
 
-use crate::keys::table_told;
-use crate::{FileSettings, SettingsError};
+use crate::SettingsError;
+use crate::keys::table_values;
+use rl_words::PartialSettings;
 use std::alloc::Global;
 use toml::Table;
 
@@ -20,19 +22,19 @@ fn document_of(alloc: Global, bytes: &[u8]) -> Result<Table, SettingsError>
     }
 }
 
-/// What the bytes of a settings file say.
+/// The settings that the bytes of a settings file give.
 ///
 /// # Errors
 /// [`SettingsError::Refused`] exactly where the bytes are no TOML document, a key isn't one of the
 /// five, or a key doesn't take its value; [`SettingsError::OutOfMemory`] when out of memory.
-#[tactic(auto, unfolding(crate::specs::Settings::settings_told))]
-pub fn read_settings(alloc: Global, bytes: &[u8]) -> Result<FileSettings, SettingsError>
-    ensures ok { IfOk result (λ settings. settings_told bytes.now ≡ Some settings) }
-    ensures ranges { IfOk result HasRanges }
-    ensures refused { IsErrOf result SettingsError.Refused → settings_told bytes.now ≡ None }
+#[tactic(auto, unfolding(crate::specs::Settings::file_values))]
+pub fn read_settings(alloc: Global, bytes: &[u8]) -> Result<PartialSettings, SettingsError>
+    ensures ok { IfOk result (λ settings. file_values bytes.now ≡ Some settings) }
+    ensures ranges { IfOk result AreInRange }
+    ensures refused { IsErrOf result SettingsError.Refused → file_values bytes.now ≡ None }
 {
     let table = document_of(alloc, bytes)?;
-    match table_told(&table) {
+    match table_values(&table) {
         Some(settings) => Ok(settings),
         None => Err(SettingsError::Refused),
     }

@@ -18,7 +18,7 @@ pub(crate) fn mode_in(value: &Value) -> Option<ModeWord>
 pub(crate) fn format_in(value: &Value) -> Option<FormatWord>
     ensures { result ≡ format_in (view value.now) }
 {
-    format_of(true, value.as_str()?)
+    format_of(value.as_str()?)
 }
 
 /// The whole number from `low` to `high`.

@@ -1,5 +1,4 @@
 pub mod CommandLemmas
 pub mod DoubtfulWords
 pub mod GivenLemmas
-pub mod InLemmas
 pub mod ValueLemmas

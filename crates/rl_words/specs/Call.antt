@@ -1,11 +1,8 @@
 -- What a valid call asks for, over texts and numbers.
 use Rattle.std.specs.Prelude.{◌≤◌, ℕ, ⊤, IfSome, List, Option, option_map}
 use Rattle.clap.specs.Walk.{Text, texts}
-use Rattle.rl_words.specs.declared.built.ActionName.{ActionName}
-use Rattle.rl_words.specs.declared.built.ActionName.TheVariants as name
-use Rattle.rl_words.specs.declared.words.ModeWord.{ModeWord}
-use Rattle.rl_words.specs.declared.words.FormatWord.{FormatWord}
 use Rattle.rl_words.specs.declared.words.Options.{Options}
+use Rattle.rl_words.specs.declared.words.PartialSettings.{PartialSettings}
 use Rattle.rl_words.specs.declared.words.Action.{Action}
 use Rattle.rl_words.specs.declared.words.Action.TheVariants as action
 use Rattle.rl_words.specs.declared.words.Words.{Words}
@@ -22,13 +19,9 @@ pub data Asked : Type 0 where
 
 -- the options that were given
 pub record Chosen : Type 0 where
-  pub mode : Option ModeWord
-  pub format : Option FormatWord
-  pub max_degree : Option ℕ
-  pub max_pairs : Option ℕ
-  pub settings : Option Text
-  pub report : Option ℕ
-  pub baseline : Option Text
+  pub values : PartialSettings
+  pub settings : Option Text  -- the path of the settings file
+  pub baseline : Option Text  -- the path of the baseline
 
 pub record Call : Type 0 where
   pub action : Asked
@@ -45,27 +38,14 @@ asked (action.Compare first second) = compare first.now second.now
 
 abbrev pub chosen : Options → Chosen
 chosen options = record {
-  mode = options.mode;
-  format = options.format;
-  max_degree = options.max_degree;
-  max_pairs = options.max_pairs;
+  values = options.values;
   settings = option_map (λ path. path.now) options.settings;
-  report = options.report;
   baseline = option_map (λ path. path.now) options.baseline;
 }
 
 -- what the typed words say
 abbrev pub said : Words → Call
 said words = record { action = asked words.action; options = chosen words.options }
-
-abbrev pub name_of : Asked → ActionName
-name_of (check paths) = name.Check
-name_of (class pattern) = name.Class
-name_of (cost pattern text) = name.Cost
-name_of (sample seed count) = name.Sample
-name_of (prove pattern) = name.Prove
-name_of (verify pattern file) = name.Verify
-name_of (compare first second) = name.Compare
 
 -- ---- the ranges of a call's numbers
 
@@ -76,8 +56,11 @@ abbrev pub HasActionRanges : Asked → Type 0
 HasActionRanges (sample seed count) = IsBetween 0 2147483647 seed × IsBetween 1 20000 count
 HasActionRanges _ = ⊤
 
+pub record AreInRange (values : PartialSettings) : Type 0 where
+  pub max_degree : IfSome values.max_degree (IsBetween 0 999999)
+  pub max_pairs : IfSome values.max_pairs (IsBetween 1 1000)
+  pub report : IfSome values.report (IsBetween 1 2)
+
 pub record HasRanges (call : Call) : Type 0 where
   pub action : HasActionRanges call.action
-  pub max_degree : IfSome call.options.max_degree (IsBetween 0 999999)
-  pub max_pairs : IfSome call.options.max_pairs (IsBetween 1 1000)
-  pub report : IfSome call.options.report (IsBetween 1 2)
+  pub values : AreInRange call.options.values

@@ -1,4 +1,3 @@
-pub mod Built
 pub mod Call
 pub mod Command
 pub mod Values

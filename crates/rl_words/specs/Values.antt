@@ -1,6 +1,6 @@
 -- The values of options and the numbers of `sample`, by the texts that stand for them.
 use Rattle.std.specs.Prelude.{◌==◌, ◌&&◌, ℕ, Bool, not, Option, Some, None, codes}
-use Rattle.std.specs.Prelude.{if◌then◌else◌, length, nat_le}
+use Rattle.std.specs.Prelude.{if◌then◌else◌, length, nat_le, option_and_then, option_map}
 use Rattle.std.specs.Char.{is_ascii_digit}
 use Rattle.std.specs.List.{list_all}
 use Rattle.std.specs.Str.{bytes_eq}
@@ -32,14 +32,25 @@ mode_of word = if bytes_eq word (codes "fullmatch") then Some mode.Fullmatch
     else (if bytes_eq word (codes "search") then Some mode.Search
     else None))
 
--- the layout `sarif` is one where it is in
-abbrev pub format_of : Bool → Text → Option FormatWord
-format_of has_sarif word = if bytes_eq word (codes "text") then Some format.Text
+abbrev pub format_of : Text → Option FormatWord
+format_of word = if bytes_eq word (codes "text") then Some format.Text
     else (if bytes_eq word (codes "brief") then Some format.Brief
     else (if bytes_eq word (codes "json") then Some format.Json
-    else (if bytes_eq word (codes "sarif") && has_sarif then Some format.Sarif
+    else (if bytes_eq word (codes "sarif") then Some format.Sarif
     else None)))
 
--- the path that an option names, where the option is in
-abbrev pub path_of : Bool → Text → Option Text
-path_of is_in path = if is_in && is_filled path then Some path else None
+-- a path isn't empty
+abbrev pub path_of : Text → Option Text
+path_of path = if is_filled path then Some path else None
+
+-- ---- values that may be left out
+
+-- what follows from a value, where there is one; a `do` block is a chain of these
+infixl 10 ◌>>=◌
+abbrev pub ◌>>=◌ : {A B : Type 0} → Option A → (A → Option B) → Option B
+o >>= f = option_and_then f o
+
+-- no value where none is given, else what it stands for; `None` where it is refused
+abbrev pub optional : {V A : Type 0} → (V → Option A) → Option V → Option (Option A)
+optional read None = Some None
+optional read (Some value) = option_map Some (read value)

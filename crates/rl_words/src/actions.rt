@@ -1,19 +1,19 @@
 //! ACTION with its arguments.
-ghost use Rattle.std.specs.Prelude.{◌≡◌, map, IfOk, option_map};
+ghost use Rattle.std.specs.Prelude.{◌≡◌, map, IfOk, IfSome, option_map};
 ghost use Rattle.std.specs.List.{list_all};
 ghost use Rattle.clap.specs.Walk.{texts};
-ghost use Rattle.rl_words.specs.Call.{asked};
-ghost use Rattle.rl_words.specs.Given.{action_name_of, are_paths, asked_of, asked_with};
+ghost use Rattle.rl_words.specs.Call.{HasActionRanges, asked};
+ghost use Rattle.rl_words.specs.Given.{action_name_of, are_paths, asked_with};
 ghost use Rattle.rl_words.specs.Given.{check_of, one_of, sample_of, two_of, verify_of};
 ghost use Rattle.rl_words.specs.Values.{is_filled};
 
 use crate::values::number_of;
-use crate::{Action, ActionName, Built};
+use crate::{Action, ActionName};
 use rl_lists::{Items, OutOfMemory};
 use std::alloc::Global;
 
-// The action of a word.
-fn action_name_of(word: &str) -> Option<ActionName>
+/// The action of a word.
+pub(crate) fn action_name_of(word: &str) -> Option<ActionName>
     ensures { result ≡ action_name_of word.now }
 {
     match word {
@@ -72,7 +72,8 @@ fn check_of<'a>(alloc: Global, paths: &[&'a str]) -> Result<Option<Action<'a>>, 
 
 // SEED and COUNT.
 fn sample_of<'a>(seed: &str, count: &str) -> Option<Action<'a>>
-    ensures { option_map asked result ≡ sample_of (seed.now, count.now) }
+    ensures value { option_map asked result ≡ sample_of (seed.now, count.now) }
+    ensures ranges { IfSome result (λ action. HasActionRanges (asked action)) }
 {
     let seed = number_of(10, 0, 2_147_483_647, seed)?;
     let count = number_of(10, 1, 20_000, count)?;
@@ -89,13 +90,14 @@ fn verify_of<'a>(pattern: &'a str, file: &'a str) -> Option<Action<'a>>
     Some(Action::Verify { pattern, file })
 }
 
-// An action with its arguments.
-fn asked_with<'a>(
+/// The action of this name with these arguments, or `None` where it doesn't take them.
+pub(crate) fn asked_with<'a>(
     alloc: Global,
     name: ActionName,
     args: &[&'a str],
 ) -> Result<Option<Action<'a>>, OutOfMemory>
-    ensures { IfOk result (λ a. option_map asked a ≡ asked_with name (texts args.now)) }
+    ensures value { IfOk result (λ a. option_map asked a ≡ asked_with name (texts args.now)) }
+    ensures ranges { IfOk result (λ a. IfSome a (λ action. HasActionRanges (asked action))) }
 {
     match name {
         ActionName::Check => check_of(alloc, args),
@@ -108,21 +110,5 @@ fn asked_with<'a>(
             first,
             second,
         })),
-    }
-}
-
-/// The action that a word and arguments ask for, or `None` where they don't ask for one that is
-/// in.
-pub(crate) fn asked_of<'a>(
-    alloc: Global,
-    built: Built,
-    word: &str,
-    args: &[&'a str],
-) -> Result<Option<Action<'a>>, OutOfMemory>
-    ensures { IfOk result (λ a. option_map asked a ≡ asked_of built word.now (texts args.now)) }
-{
-    match action_name_of(word) {
-        Some(name) if built.has(name) => asked_with(alloc, name, args),
-        _ => Ok(None),
     }
 }

@@ -99,7 +99,9 @@ pub(crate) fn matches_given<'a>(
     ensures invalid { IsErrOf result WordsError.Invalid
         → rows_given (map string_bytes words.entry.now) ≡ None }
 {
-    let command = relint_command(alloc)?;
+    let Ok(command) = relint_command(alloc) else {
+        return Err(WordsError::OutOfMemory);
+    };
     match command.try_get_matches_from(words) {
         Ok(matches) => Ok(matches),
         Err(error) => Err(error_of(error.kind())),

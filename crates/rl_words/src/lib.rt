@@ -1,8 +1,8 @@
 //! The words of the command line: which of them are a valid call, and what such a call asks for.
 #![tactic(auto)]
 
+mod action_name;
 mod actions;
-mod built;
 mod command;
 mod error;
 mod options;
@@ -11,9 +11,9 @@ mod usage;
 mod values;
 mod words;
 
-pub use built::{ActionName, BUILT, Built};
+pub use action_name::ActionName;
 pub use error::WordsError;
 pub use read::read_words;
 pub use usage::usage_text;
 pub use values::{format_of, mode_of};
-pub use words::{Action, FormatWord, ModeWord, Options, Paths, Words};
+pub use words::{Action, FormatWord, ModeWord, Options, PartialSettings, Paths, Words};

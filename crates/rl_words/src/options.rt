@@ -1,14 +1,14 @@
 //! The options, read from what the command found.
-ghost use Rattle.std.specs.Prelude.{◌≡◌, option_map, codes};
+ghost use Rattle.std.specs.Prelude.{◌≡◌, IfSome, option_map, codes};
 ghost use Rattle.clap.specs.Walk.{first_of, rows_of};
 ghost use Rattle.clap.specs.Matches.{found_of};
-ghost use Rattle.rl_words.specs.Call.{chosen};
-ghost use Rattle.rl_words.specs.Given.{given, number_given, options_given};
+ghost use Rattle.rl_words.specs.Call.{AreInRange, IsBetween, chosen};
+ghost use Rattle.rl_words.specs.Given.{given, number_given, options_given, settings_given};
 ghost use Rattle.rl_words.specs.Values.{format_of, mode_of, path_of};
 
 use crate::command::value_of;
 use crate::values::{format_of, mode_of, number_of, path_of};
-use crate::{Built, FormatWord, ModeWord, Options};
+use crate::{FormatWord, ModeWord, Options, PartialSettings};
 use clap::ArgMatches;
 
 // In each of these `Some(None)` says that the option isn't given, and `None` that its value is
@@ -23,18 +23,18 @@ fn mode_given(matches: &ArgMatches) -> Option<Option<ModeWord>>
     }
 }
 
-fn format_given(has_sarif: bool, matches: &ArgMatches) -> Option<Option<FormatWord>>
-    ensures { result
-        ≡ given (codes "format") (format_of has_sarif) (rows_of (found_of matches.now)) }
+fn format_given(matches: &ArgMatches) -> Option<Option<FormatWord>>
+    ensures { result ≡ given (codes "format") format_of (rows_of (found_of matches.now)) }
 {
     match value_of(matches, "format") {
-        Some(word) => Some(Some(format_of(has_sarif, word)?)),
+        Some(word) => Some(Some(format_of(word)?)),
         None => Some(None),
     }
 }
 
 fn number_given(matches: &ArgMatches, name: &str, low: u32, high: u32) -> Option<Option<u32>>
-    ensures { result ≡ number_given name.now low high (rows_of (found_of matches.now)) }
+    ensures value { result ≡ number_given name.now low high (rows_of (found_of matches.now)) }
+    ensures range { IfSome result (λ n. IfSome n (IsBetween low high)) }
 {
     match value_of(matches, name) {
         Some(text) => Some(Some(number_of(6, low, high, text)?)),
@@ -42,27 +42,37 @@ fn number_given(matches: &ArgMatches, name: &str, low: u32, high: u32) -> Option
     }
 }
 
-fn path_given<'a>(is_in: bool, matches: &ArgMatches<'a>, name: &str) -> Option<Option<&'a str>>
+fn path_given<'a>(matches: &ArgMatches<'a>, name: &str) -> Option<Option<&'a str>>
     ensures { option_map (option_map (λ p. p.now)) result
-        ≡ given name.now (path_of is_in) (rows_of (found_of matches.now)) }
+        ≡ given name.now path_of (rows_of (found_of matches.now)) }
 {
     match value_of(matches, name) {
-        Some(path) => Some(Some(path_of(is_in, path)?)),
+        Some(path) => Some(Some(path_of(path)?)),
         None => Some(None),
     }
 }
 
-/// The options, or `None` where a value is refused.
-pub(crate) fn options_given<'a>(built: Built, matches: &ArgMatches<'a>) -> Option<Options<'a>>
-    ensures { option_map chosen result ≡ options_given built (rows_of (found_of matches.now)) }
+fn settings_given(matches: &ArgMatches) -> Option<PartialSettings>
+    ensures value { result ≡ settings_given (rows_of (found_of matches.now)) }
+    ensures ranges { IfSome result AreInRange }
 {
-    Some(Options {
+    Some(PartialSettings {
         mode: mode_given(matches)?,
-        format: format_given(built.sarif, matches)?,
+        format: format_given(matches)?,
         max_degree: number_given(matches, "max-degree", 0, 999_999)?,
         max_pairs: number_given(matches, "max-pairs", 1, 1000)?,
-        settings: path_given(built.settings, matches, "settings")?,
         report: number_given(matches, "report", 1, 2)?,
-        baseline: path_given(built.baseline, matches, "baseline")?,
+    })
+}
+
+/// The options, or `None` where a value is refused.
+pub(crate) fn options_given<'a>(matches: &ArgMatches<'a>) -> Option<Options<'a>>
+    ensures value { option_map chosen result ≡ options_given (rows_of (found_of matches.now)) }
+    ensures ranges { IfSome result (λ options. AreInRange options.values) }
+{
+    Some(Options {
+        values: settings_given(matches)?,
+        settings: path_given(matches, "settings")?,
+        baseline: path_given(matches, "baseline")?,
     })
 }

@@ -1,72 +1,51 @@
 //! The words as a whole.
-ghost use Rattle.std.specs.Prelude.{◌≡◌, Some, None, map, IfOk, IsErrOf, option_map};
+ghost use Rattle.std.specs.Prelude.{◌≡◌, Some, None, map, IfOk, IfSome, IsErrOf, option_map};
 ghost use Rattle.std.specs.String.{string_bytes};
 ghost use Rattle.clap.specs.Walk.{rows_of};
 ghost use Rattle.clap.specs.Matches.{found_of};
-ghost use Rattle.rl_words.specs.Built.{IsIn};
-ghost use Rattle.rl_words.specs.Call.{HasRanges, asked, said};
-ghost use Rattle.rl_words.specs.Given.{action_given, call_given, given_by, given_in};
+ghost use Rattle.rl_words.specs.Call.{HasActionRanges, HasRanges, asked, said};
+ghost use Rattle.rl_words.specs.Given.{action_given, call_given, given_by};
 
-use crate::actions::asked_of;
+use crate::actions::{action_name_of, asked_with};
 use crate::command::{matches_given, value_of, values_of};
 use crate::options::options_given;
-use crate::{Action, BUILT, Built, Words, WordsError};
+use crate::{Action, Words, WordsError};
 use clap::ArgMatches;
 use rl_lists::OutOfMemory;
 use std::alloc::Global;
 
-// The action, or `None` where the arguments don't ask for one that is in.
+// The action, or `None` where the arguments don't ask for one.
 fn action_given<'a>(
     alloc: Global,
-    built: Built,
     matches: &ArgMatches<'a>,
 ) -> Result<Option<Action<'a>>, OutOfMemory>
-    ensures { IfOk result (λ a. option_map asked a
-        ≡ action_given built (rows_of (found_of matches.now))) }
+    ensures value { IfOk result (λ a. option_map asked a
+        ≡ action_given (rows_of (found_of matches.now))) }
+    ensures ranges { IfOk result (λ a. IfSome a (λ action. HasActionRanges (asked action))) }
 {
     let Some(word) = value_of(matches, "action") else {
         return Ok(None);
     };
+    let Some(name) = action_name_of(word) else {
+        return Ok(None);
+    };
     match values_of(matches, "args") {
-        Some(args) => asked_of(alloc, built, word, args),
-        None => asked_of(alloc, built, word, &[]),
+        Some(args) => asked_with(alloc, name, args),
+        None => asked_with(alloc, name, &[]),
     }
 }
 
 // The call, or `None` where the arguments or an option's value are refused.
-fn call_given<'a>(
-    alloc: Global,
-    built: Built,
-    matches: &ArgMatches<'a>,
-) -> Result<Option<Words<'a>>, OutOfMemory>
-    ensures { IfOk result (λ w. option_map said w
-        ≡ call_given built (rows_of (found_of matches.now))) }
+fn call_given<'a>(alloc: Global, matches: &ArgMatches<'a>) -> Result<Option<Words<'a>>, OutOfMemory>
+    ensures value { IfOk result (λ w. option_map said w
+        ≡ call_given (rows_of (found_of matches.now))) }
+    ensures ranges { IfOk result (λ w. IfSome w (λ words. HasRanges (said words))) }
 {
-    let action = action_given(alloc, built, matches)?;
-    let options = options_given(built, matches);
+    let action = action_given(alloc, matches)?;
+    let options = options_given(matches);
     match (action, options) {
         (Some(action), Some(options)) => Ok(Some(Words { action, options })),
         _ => Ok(None),
-    }
-}
-
-// `read_words` of a program that has what `built` says.
-fn words_given<'a>(
-    alloc: Global,
-    built: Built,
-    words: &'a [String],
-) -> Result<Words<'a>, WordsError>
-    ensures ok { IfOk result (λ w. given_in built (map string_bytes words.entry.now)
-        ≡ Some (said w)) }
-    ensures is_in { IfOk result (λ w. IsIn built (said w)) }
-    ensures ranges { IfOk result (λ w. HasRanges (said w)) }
-    ensures invalid { IsErrOf result WordsError.Invalid
-        → given_in built (map string_bytes words.entry.now) ≡ None }
-{
-    let matches = matches_given(alloc, words)?;
-    match call_given(alloc, built, &matches)? {
-        Some(words) => Ok(words),
-        None => Err(WordsError::Invalid),
     }
 }
 
@@ -78,12 +57,16 @@ fn words_given<'a>(
 pub fn read_words<'a>(alloc: Global, words: &'a Vec<String>) -> Result<Words<'a>, WordsError>
     ensures ok { IfOk result (λ w. given_by (map string_bytes words.entry.now.items)
         ≡ Some (said w)) }
-    ensures is_in { IfOk result (λ w. IsIn BUILT (said w)) }
     ensures ranges { IfOk result (λ w. HasRanges (said w)) }
     ensures invalid { IsErrOf result WordsError.Invalid
         → given_by (map string_bytes words.entry.now.items) ≡ None }
 {
-    words_given(alloc, BUILT, words.as_slice())
+    let matches = matches_given(alloc, words.as_slice())?;
+    match call_given(alloc, &matches) {
+        Ok(Some(words)) => Ok(words),
+        Ok(None) => Err(WordsError::Invalid),
+        Err(OutOfMemory) => Err(WordsError::OutOfMemory),
+    }
 }
 
 #[cfg(test)]

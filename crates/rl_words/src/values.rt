@@ -1,7 +1,8 @@
 //! The values of options and the numbers of `sample`, by the texts that stand for them.
-ghost use Rattle.std.specs.Prelude.{◌≡◌, option_map};
+ghost use Rattle.std.specs.Prelude.{◌≡◌, IfSome, option_map};
 ghost use Rattle.std.specs.Char.{is_ascii_digit};
 ghost use Rattle.std.specs.List.{list_all};
+ghost use Rattle.rl_words.specs.Call.{IsBetween};
 ghost use Rattle.rl_words.specs.Values.{format_of, is_numeral, mode_of, number_of, path_of};
 
 use crate::{FormatWord, ModeWord};
@@ -22,7 +23,8 @@ fn is_numeral(digits: usize, text: &str) -> bool
 
 /// The number from `low` to `high` that one to `digits` ASCII digits write.
 pub(crate) fn number_of(digits: usize, low: u32, high: u32, text: &str) -> Option<u32>
-    ensures { result ≡ number_of digits low high text.now }
+    ensures value { result ≡ number_of digits low high text.now }
+    ensures range { IfSome result (IsBetween low high) }
 {
     if !is_numeral(digits, text) {
         return None;
@@ -46,26 +48,22 @@ pub fn mode_of(word: &str) -> Option<ModeWord>
     }
 }
 
-/// The layout of a word; `has_sarif` says whether `sarif` is one.
-pub fn format_of(has_sarif: bool, word: &str) -> Option<FormatWord>
-    ensures { result ≡ format_of has_sarif word.now }
+/// The layout of a word.
+pub fn format_of(word: &str) -> Option<FormatWord>
+    ensures { result ≡ format_of word.now }
 {
     match word {
         "text" => Some(FormatWord::Text),
         "brief" => Some(FormatWord::Brief),
         "json" => Some(FormatWord::Json),
-        "sarif" if has_sarif => Some(FormatWord::Sarif),
+        "sarif" => Some(FormatWord::Sarif),
         _ => None,
     }
 }
 
-/// The path that an option names, where the option is in.
-pub(crate) fn path_of<'a>(is_in: bool, path: &'a str) -> Option<&'a str>
-    ensures { option_map (λ p. p.now) result ≡ path_of is_in path.entry.now }
+/// The path that an option names.
+pub(crate) fn path_of<'a>(path: &'a str) -> Option<&'a str>
+    ensures { option_map (λ p. p.now) result ≡ path_of path.entry.now }
 {
-    if is_in && !path.is_empty() {
-        Some(path)
-    } else {
-        None
-    }
+    if path.is_empty() { None } else { Some(path) }
 }

@@ -18,10 +18,10 @@ pub enum FormatWord {
     Sarif,
 }
 
-/// The options that were given.
-#[derive(Clone, Copy, Debug)]
-pub struct Options<'a> {
-    /// What `--mode` says.
+/// The settings that options or a settings file give.
+#[derive(Clone, Copy, Debug, PartialEq, Eq)]
+pub struct PartialSettings {
+    /// What `--mode` says, or the key `compile-as`.
     pub mode: Option<ModeWord>,
     /// The layout.
     pub format: Option<FormatWord>,
@@ -29,10 +29,17 @@ pub struct Options<'a> {
     pub max_degree: Option<u32>,
     /// The limit on pairs, from 1 to 1000.
     pub max_pairs: Option<u32>,
-    /// The path of the settings file, not empty.
-    pub settings: Option<&'a str>,
     /// The version of the report, 1 or 2.
     pub report: Option<u32>,
+}
+
+/// The options that were given.
+#[derive(Clone, Copy, Debug)]
+pub struct Options<'a> {
+    /// The settings among them.
+    pub values: PartialSettings,
+    /// The path of the settings file, not empty.
+    pub settings: Option<&'a str>,
     /// The path of the baseline file, not empty.
     pub baseline: Option<&'a str>,
 }

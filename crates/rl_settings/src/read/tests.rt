@@ -1,12 +1,12 @@
-use crate::{FileSettings, SettingsError, read_settings};
-use rl_words::{FormatWord, ModeWord};
+use crate::{SettingsError, read_settings};
+use rl_words::{FormatWord, ModeWord, PartialSettings};
 
 #[test]
 fn a_full_file(rt: HostRuntime) {
     let text = "# strict\nformat = \"sarif\"\nmax-degree = 0\n\nreport = 1\nmax-pairs = 1_000\n\
                 compile-as = 'fullmatch'\n";
-    let said = FileSettings {
-        compile_as: Some(ModeWord::Fullmatch),
+    let said = PartialSettings {
+        mode: Some(ModeWord::Fullmatch),
         max_degree: Some(0),
         max_pairs: Some(1000),
         format: Some(FormatWord::Sarif),
@@ -17,8 +17,8 @@ fn a_full_file(rt: HostRuntime) {
 
 #[test]
 fn an_empty_file(rt: HostRuntime) {
-    let nothing = FileSettings {
-        compile_as: None,
+    let nothing = PartialSettings {
+        mode: None,
         max_degree: None,
         max_pairs: None,
         format: None,

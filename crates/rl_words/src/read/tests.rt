@@ -103,11 +103,11 @@ fn takes_cost(rt: HostRuntime) -> Result<(), Fail> {
             }
             _ => assert!(rt; false, "another action"),
         }
-        assert_eq!(rt; read.options.mode, row.mode);
-        assert_eq!(rt; read.options.format, row.format);
-        assert_eq!(rt; read.options.max_pairs, row.max_pairs);
-        assert_eq!(rt; read.options.max_degree, None);
-        assert_eq!(rt; read.options.report, None);
+        assert_eq!(rt; read.options.values.mode, row.mode);
+        assert_eq!(rt; read.options.values.format, row.format);
+        assert_eq!(rt; read.options.values.max_pairs, row.max_pairs);
+        assert_eq!(rt; read.options.values.max_degree, None);
+        assert_eq!(rt; read.options.values.report, None);
     }
     Ok(())
 }

@@ -13,7 +13,7 @@ returns-in-None-clause-ending g c =
     let old = moment_of g.T.Tree.told g.T.Tree.fault_count c.args.tree.now in
     let new = moment_of g.T.Tree.told g.T.Tree.fault_count c.action_plan.new.tree in
     call-plain c.action_plan.result (call_of c.args.action c.args.options.now) old new (ap (option_map (λ p. p.now)) c.in-None.is)
-    (subst (λ s. IfOk c.action_plan.result (λ plan. IsActionEnding s options (asked c.args.action) old new (ending_of plan))) c.in_force-settings.ensures.value
+    (subst (λ s. IfOk c.action_plan.result (λ plan. IsActionEnding s options (asked c.args.action) old new (ending_of plan))) c.with_values-settings.ensures.value
     c.action_plan.ensures.ending)
 
 pub returns-in-Some-clause-ending : goal.returns-in-Some-clause-ending

@@ -1,17 +1,24 @@
-use Rattle.std.proofs.Common.{◌≡◌, IfOk, IsErrOf, None, Some, map, subst}
+use Rattle.std.proofs.Common.{◌∙◌, Err, ap, map, option_map, sym}
 use Rattle.std.specs.String.{string_bytes}
+use Rattle.std.proofs.lemmas.Result.{err_from_is_err_and}
 use Rattle.rl_words.specs.Call.{said}
-use Rattle.rl_words.specs.Given.{given_by, given_in}
-use Rattle.rl_words.specs.declared.built.TheConstants.{BUILT}
-use Rattle.rl_words.specs.declared.error.WordsError.TheVariants.{Invalid}
+use Rattle.rl_words.specs.Command.{rows_given}
+use Rattle.rl_words.proofs.GivenLemmas.{given_none, given_rows, same_error}
 use Rattle.rl_words.proofs.read.read_words.Goals as goal
 
-pub returns-clause-ok : goal.returns-clause-ok
-unfolding given_by
-returns-clause-ok c =
-    subst (λ words. IfOk c.words_given.result (λ w. given_in BUILT (map string_bytes words) ≡ Some (said w))) c.as_slice.ensures.value c.words_given.ensures.ok
+pub returns-in_err-matches-clause-invalid : goal.returns-in_err-matches-clause-invalid
+returns-in_err-matches-clause-invalid c = λ invalid.
+    let same = ap (λ words. rows_given (map string_bytes words)) (sym c.as_slice.ensures.value) in
+    let p = err_from_is_err_and c.from_residual.result c.from_residual.ensures.1 in
+    let is_invalid = sym p.2 ∙ same_error c.from_residual.result _ _ p.1 invalid in
+    given_none _ (same ∙ c.in_err-matches.ensures.invalid (ap Err is_invalid))
 
-pub returns-clause-invalid : goal.returns-clause-invalid
-unfolding given_by
-returns-clause-invalid c =
-    subst (λ words. IsErrOf c.words_given.result Invalid → given_in BUILT (map string_bytes words) ≡ None) c.as_slice.ensures.value c.words_given.ensures.invalid
+pub returns-in-Ok-Some-clause-ok : goal.returns-in-Ok-Some-clause-ok
+returns-in-Ok-Some-clause-ok c =
+    let same = ap (λ words. rows_given (map string_bytes words)) (sym c.as_slice.ensures.value) in
+    given_rows _ _ _ (same ∙ c.in_ok-matches.ensures.ok) (ap (option_map said) (sym c.in-Ok-Some.field-0-is) ∙ c.in-Ok-Some.ensures.value)
+
+pub returns-in-Ok-None-clause-invalid : goal.returns-in-Ok-None-clause-invalid
+returns-in-Ok-None-clause-invalid c = λ invalid.
+    let same = ap (λ words. rows_given (map string_bytes words)) (sym c.as_slice.ensures.value) in
+    given_rows _ _ _ (same ∙ c.in_ok-matches.ensures.ok) (ap (option_map said) (sym c.in-Ok-None.field-0-is) ∙ c.in-Ok-None.ensures.value)
