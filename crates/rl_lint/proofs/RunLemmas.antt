@@ -1,6 +1,5 @@
 -- The ending of `cost`, and that of a call by whether it names a settings file.
-use Rattle.std.proofs.Common.{◌≡◌, ◌||◌, Bor, Result, Ok, Err, IfOk, codes, Bool, true, false, Option, Some, None, subst, sym, refl}
-use Rattle.std.specs.Prelude.{is_some, option_map}
+use Rattle.std.proofs.Common.{◌≡◌, Bor, Result, Ok, Err, IfOk, codes, Some, None, subst, sym, refl}
 use Rattle.std.specs.Str.{chars}
 use Rattle.rl_syntax.specs.declared.re.Mode.{Mode}
 use Rattle.rl_syntax.specs.declared.re.Mode.TheVariants.{Fullmatch}
