@@ -4,16 +4,18 @@ The parts are spliced as they are: a report is a start, its entries and an end w
 """
 from __future__ import annotations
 
-import re
-from typing import List, NamedTuple, Optional, Sequence, Tuple
+TYPE_CHECKING = False
+if TYPE_CHECKING:  # (it takes as long to import as thousands of files take to list)
+    from typing import List, Optional, Sequence, Tuple
 
 # The order in which relint's statuses win over each other.
 STATUS_ORDER = (2, 5, 4, 3, 1, 0)
-COUNTS_LINE = re.compile(rb"(\d+) entries, (\d+) findings, (\d+) refused, (\d+) undecided(?:, (\d+) hidden)?\n\Z")
+# What stands behind each count: in the last line of a text, without and with a baseline, and at the end of a JSON report.
+COUNTED = (b" entries, ", b" findings, ", b" refused, ", b" undecided\n")
+COUNTED_WITH_HIDDEN = (*COUNTED[:3], b" undecided, ", b" hidden\n")
+COUNTED_IN_JSON = (b',"refused":', b',"undecided":', b',"version":', b"}\n")
 JSON_START, JSON_END = b'{"entries":[', b'],"findings":'
-JSON_COUNTS = re.compile(rb'\],"findings":(\d+),"refused":(\d+),"undecided":(\d+),"version":([12])\}\n\Z')
-SARIF_START = re.compile(rb'\{"runs":\[\{(?:"columnKind":"[^"]*",)?"results":\[')
-SARIF_END = b'],"tool":'
+SARIF_START, SARIF_COLUMNS, SARIF_RESULTS, SARIF_END = b'{"runs":[{', b'"columnKind":"', b'"results":[', b'],"tool":'
 SARIF_FINDINGS = (b'"ruleId":"degree"', b'"ruleId":"exponential"')
 
 
@@ -21,19 +23,20 @@ class JoinError(Exception):
     """The bytes are no report of relint, or reports that don't go together; the message says why."""
 
 
-class Piece(NamedTuple):
+class Piece:
     """A report taken apart: its layout, its bytes without the frame, and what the frame says.
 
     `counts` are those of the last line of a text, and findings, refused and undecided of a JSON report; `frame` is what all
     parts of one report share; `findings` counts the findings; `unreadable` says whether an entry is.
     """
 
-    layout: str
-    body: bytes
-    counts: Tuple[int, ...]
-    frame: Tuple[bytes, ...]
-    findings: int
-    unreadable: bool
+    __slots__ = ("layout", "body", "counts", "frame", "findings", "unreadable")
+
+    def __init__(
+        self, layout: str, body: bytes, counts: Tuple[int, ...], frame: Tuple[bytes, ...], findings: int, unreadable: bool
+    ) -> None:
+        self.layout, self.body, self.counts, self.frame = layout, body, counts, frame
+        self.findings, self.unreadable = findings, unreadable
 
 
 def take_apart(report: bytes) -> Piece:
@@ -77,34 +80,49 @@ def status_of(pieces: Sequence[Piece]) -> int:
     return 1 if any(it.findings for it in pieces) else 0
 
 
+def _numbers(text: bytes, behind: Sequence[bytes]) -> Optional[Tuple[int, ...]]:
+    """Returns the numbers of a text in which each stands before one of these; None where the text is of another form."""
+    found: List[int] = []
+    for it in behind:
+        digits, mark, text = text.partition(it)
+        if not mark or not digits.isdigit():
+            return None
+        found.append(int(digits))
+    return None if text else tuple(found)
+
+
 def _json_piece(report: bytes) -> Optional[Piece]:
     if not report.startswith(JSON_START):
         return None
-    end = report.rfind(JSON_END)
-    found = JSON_COUNTS.match(report, end) if end >= 0 else None
-    if found is None:
+    body, mark, end = report[len(JSON_START):].rpartition(JSON_END)
+    counts = _numbers(end, COUNTED_IN_JSON) if mark else None
+    if counts is None or counts[3] not in (1, 2):
         return None
-    body = report[len(JSON_START):end]
-    counts = tuple(int(it) for it in found.group(1, 2, 3))
-    return Piece("json", body, counts, (found.group(4),), counts[0], b'"kind":"unreadable"' in body)
+    return Piece("json", body, counts[:3], (b"%d" % counts[3],), counts[0], b'"kind":"unreadable"' in body)
 
 
 def _sarif_piece(report: bytes) -> Optional[Piece]:
-    start = SARIF_START.match(report)
-    end = report.rfind(SARIF_END)
-    if start is None or end < 0 or not report.endswith(b'"version":"2.1.0"}\n'):
+    start, mark, rest = report.partition(SARIF_RESULTS)
+    body, end_mark, end = rest.rpartition(SARIF_END)
+    if not (mark and end_mark and _begins_sarif(start) and end.endswith(b'"version":"2.1.0"}\n')):
         return None
-    body = report[start.end():end]
     findings = sum(body.count(it) for it in SARIF_FINDINGS)
-    return Piece("sarif", body, (), (start.group(), report[end:]), findings, b'"ruleId":"unreadable"' in body)
+    return Piece("sarif", body, (), (start + mark, end_mark + end), findings, b'"ruleId":"unreadable"' in body)
+
+
+def _begins_sarif(start: bytes) -> bool:
+    """Whether a SARIF report begins so; the kind of its columns may be said."""
+    if not start.startswith(SARIF_START):
+        return False
+    said = start[len(SARIF_START):]
+    return not said or (said.startswith(SARIF_COLUMNS) and said.endswith(b'",') and said.count(b'"') == 4)
 
 
 def _text_piece(report: bytes) -> Optional[Piece]:
     start = report.rfind(b"\n", 0, max(len(report) - 1, 0)) + 1
-    found = COUNTS_LINE.match(report, start)
-    if found is None:
+    counts = _numbers(report[start:], COUNTED) or _numbers(report[start:], COUNTED_WITH_HIDDEN)
+    if counts is None:
         return None
-    counts = tuple(int(it) for it in found.groups() if it is not None)
     body = report[:start]
     return Piece("text", body, counts, (), counts[1], b": unreadable\n" in body)
 

@@ -8,16 +8,18 @@ from __future__ import annotations
 import os
 import signal
 import stat
-import subprocess
 import sys
-from pathlib import Path
-from types import FrameType
-from typing import Dict, Iterator, List, Optional, Sequence, Set
 
 from .joining import JoinError, Piece, join, status_of, take_apart
 from .parts import MORE_WITH_A_BASELINE, NotJoined, run_parts
 from .program import REFUSED, WRITE_FAULT, Answer, ProgramError, program
-from .walking import Named, TooDeep, walk
+from .spawning import STOPPING, Held, end, spawn
+from .walking import NotListed, TooDeep, walk
+
+TYPE_CHECKING = False
+if TYPE_CHECKING:  # (what takes long to import is imported where it is needed, and this is needed for types alone)
+    from types import FrameType
+    from typing import Dict, Iterator, List, Optional, Sequence
 
 USAGE = """\
 usage: relint-many [--jobs N] [OPTIONS] PATH..
@@ -38,7 +40,6 @@ RELINT_OPTIONS = ("--mode", "--format", "--max-degree", "--max-pairs", "--settin
 OWN_OPTIONS = ("--jobs", "--list", "--into", "--from")
 # What a file costs besides its bytes, in bytes, where lists of the same work are made.
 COST_OF_A_FILE = 8192
-SIGNALS = ("SIGINT", "SIGTERM", "SIGHUP")
 
 
 class WordsError(Exception):
@@ -125,9 +126,10 @@ def check(given: Given) -> int:
         return _one_run(ready, given, named, options)
     more = MORE_WITH_A_BASELINE if "--baseline" in given.options else 1
     try:
-        paths = _walked(walk(named), "--baseline" in given.options)
-        answer = run_parts([ready, "check", *options], paths, jobs, more)
-    except (NotJoined, TooDeep):
+        # (a baseline counts by path, so with one no path may come in two parts)
+        listed = walk(named, once="--baseline" in given.options)
+        answer = run_parts([ready, "check", *options], listed, jobs, more)
+    except (NotJoined, NotListed):
         return _one_run(ready, given, named, options)
     if not answer.out and not answer.err and answer.status == 0:
         return _one_run(ready, given, named, options)
@@ -144,7 +146,7 @@ def _names(given: Given) -> List[bytes]:
 
 def _read_names(source: str) -> List[bytes]:
     try:
-        data = sys.stdin.buffer.read() if source == "-" else Path(source).read_bytes()
+        data = sys.stdin.buffer.read() if source == "-" else _bytes_of(source)
     except OSError as error:
         raise WordsError(f"{source} can't be read: {error.strerror or error}") from error
     if data and not data.endswith(b"\0"):
@@ -153,6 +155,11 @@ def _read_names(source: str) -> List[bytes]:
     if b"" in names:
         raise WordsError(f"{source} holds an empty path")
     return names
+
+
+def _bytes_of(path: str) -> bytes:
+    with open(path, "rb") as file:
+        return file.read()
 
 
 def _can_be_read_again(given: Given) -> bool:
@@ -167,34 +174,38 @@ def _can_be_read_again(given: Given) -> bool:
     return True
 
 
-def _walked(found: Iterator[Named], with_baseline: bool) -> Iterator[bytes]:
-    """The paths to name. A baseline counts by path, so with one no path may come in two parts."""
-    repeated: Set[bytes] = set()
-    for path, repeats in found:
-        if repeats and with_baseline:
-            if path in repeated:
-                raise NotJoined
-            repeated.add(path)
-        yield path
-
-
 def _ready_program() -> str:
-    """The built program: where relint is the script of a clone, it is run once, and so builds the program where need be."""
+    """The program to run. The script of a clone is run once, and builds it where need be; then it is the one behind it."""
     found = program()
-    built = Path(found).parent / "crates" / "relint" / "out" / "relint"
-    if not (Path(found).parent / "crates.txt").is_file():
+    top = os.path.dirname(found)
+    if not os.path.isfile(os.path.join(top, "crates.txt")):
         return found
+    import subprocess
+
     try:
-        subprocess.run([found, "cost", "", ""], stdin=subprocess.DEVNULL, stdout=subprocess.DEVNULL, check=False)
+        silent = subprocess.DEVNULL
+        ran = subprocess.run([found, "cost", "", ""], stdin=silent, stdout=silent, stderr=subprocess.PIPE, check=False)
     except OSError as error:
         raise ProgramError(f"{found} can't be run: {error.strerror or error}") from error
-    return str(built) if built.is_file() else found
+    return found if ran.returncode or ran.stderr else _noted_program(top) or found
+
+
+def _noted_program(top: str) -> Optional[str]:
+    """The program that the script of a clone noted as the one that it runs; None where it can't note it there."""
+    folder = os.path.join(top, "crates", "relint", "out")
+    try:
+        with open(os.path.join(folder, "stamp"), encoding="utf-8") as stamp:
+            noted = os.path.join(top, stamp.readline().rstrip("\n"))
+    except (OSError, ValueError):
+        return None
+    is_kept = os.access(folder, os.W_OK) and os.path.isfile(noted) and os.access(noted, os.X_OK)
+    return noted if is_kept else None
 
 
 def _one_run(ready: str, given: Given, named: Sequence[bytes], options: Sequence[str]) -> int:
     if "--from" not in given.own:
         return _run_through([ready, "check", *given.relint])
-    import tempfile  # (here, since it takes as long to import as all others together)
+    import tempfile
 
     with tempfile.TemporaryDirectory() as empty:
         paths = [os.fsdecode(it) for it in named] or [empty]
@@ -203,16 +214,18 @@ def _one_run(ready: str, given: Given, named: Sequence[bytes], options: Sequence
 
 def _run_through(words: Sequence[str]) -> int:
     """Runs the program with this tool's own input and outputs."""
+    pid = 0
     try:
-        process = subprocess.Popen(words, close_fds=False)
+        with Held() as held:
+            pid = spawn([os.fsencode(it) for it in words], held)
+        _, status = os.waitpid(pid, 0)
     except OSError as error:
         raise ProgramError(f"{words[0]} can't be run: {error.strerror or error}") from error
-    try:
-        status = process.wait()
-    finally:
-        process.kill()
-        process.wait()
-    return status if status >= 0 else 128 - status
+    except Stopped:
+        if pid:
+            end([pid])
+        raise
+    return 128 + os.WTERMSIG(status) if os.WIFSIGNALED(status) else os.WEXITSTATUS(status)
 
 
 def _write(answer: Answer) -> int:
@@ -238,10 +251,12 @@ def write_lists(given: Given) -> int:
     """Writes the paths of the files to lists, and prints the names of the lists."""
     if given.options or not given.paths or not given.plain:
         raise WordsError("--list takes paths and no options of relint: give those where the lists are checked")
+    from pathlib import Path
+
     count = given.number("--list", 1)
     folder = Path(given.own.get("--into", "relint-lists"))
     try:
-        paths = [it.path for it in walk([os.fsencode(it) for it in given.paths])]
+        paths = [path for found in walk([os.fsencode(it) for it in given.paths]) for path in found]
     except TooDeep as error:
         raise WordsError(f"{error} is more than 64 levels deep, which no list can say: run relint check instead") from error
     try:
@@ -293,7 +308,7 @@ def join_reports(given: Given) -> int:
 
 def _read_piece(path: str) -> Piece:
     try:
-        return take_apart(Path(path).read_bytes())
+        return take_apart(_bytes_of(path))
     except OSError as error:
         raise WordsError(f"{path} can't be read: {error.strerror or error}") from error
     except JoinError as error:
@@ -319,10 +334,9 @@ def _act(given: Given) -> int:
 
 def main() -> int:
     """Runs the tool on the words of the command line, and returns its status."""
-    for name in SIGNALS:
-        number = getattr(signal, name, None)
+    for number in STOPPING:
         # (one that was to be passed over from the start, as by nohup, stays so)
-        if number is not None and signal.getsignal(number) != signal.SIG_IGN:
+        if signal.getsignal(number) != signal.SIG_IGN:
             signal.signal(number, _stop)
     try:
         return _act(read_words(sys.argv[1:]))

@@ -1,49 +1,73 @@
 """Runs of relint that go on at the same time, each on a part of the paths, with a progress line on a terminal."""
 from __future__ import annotations
 
+import errno
 import os
-import queue
-import subprocess
+import select
 import sys
-import threading
 import time
-from typing import Dict, Iterable, Iterator, List, NamedTuple, Optional, Sequence, Set, Tuple
 
 from .joining import JoinError, Piece, join, join_statuses, take_apart
 from .program import Answer, ProgramError
+from .spawning import Held, end, spawn_piped
 
-# A part holds at most so many files, and names of so many bytes; the first parts are smaller, so that all runs begin at once.
-FILES_OF_A_PART, NAMES_OF_A_PART, FILES_OF_THE_FIRST = 256, 100_000, 16
+TYPE_CHECKING = False
+if TYPE_CHECKING:  # (it takes as long to import as thousands of files take to list)
+    from typing import Dict, Iterable, List, Optional, Sequence, Tuple
+
+# A part holds at most so many files, and names of so many bytes.
+FILES_OF_A_PART, NAMES_OF_A_PART = 512, 100_000
+# The first parts are smaller, so that all runs begin at once; while files are still listed, the next parts grow so much.
+FILES_OF_THE_FIRST, GROWTH = 16, 4
+# Once all files are listed, a part is what is left, cut in so many for each run: so all runs end at about the same time. Parts
+# are no smaller than so many files, since to begin a run takes as long as to judge two or three.
+SHARES, LEAST_OF_A_PART = 2, 16
 # Each run reads the baseline anew, so with one the parts hold so many times more.
 MORE_WITH_A_BASELINE = 8
 SHOWN_EVERY = 0.1
+READ_AT_A_TIME = 1 << 16
+# What the system says where it has no room for one more run.
+NO_ROOM = (errno.EMFILE, errno.ENFILE, errno.EAGAIN, errno.ENOMEM)
 
 
 class NotJoined(Exception):
     """The parts can't be joined to the bytes of one run."""
 
 
-class Result(NamedTuple):
+class Result:
     """What a run over a part gave; `piece` is None where it wrote nothing."""
 
-    status: int
-    piece: Optional[Piece]
-    err: bytes
-    files: int
+    __slots__ = ("status", "piece", "err")
+
+    def __init__(self, status: int, piece: Optional[Piece], err: bytes) -> None:
+        self.status, self.piece, self.err = status, piece, err
+
+
+class Run:
+    """A run over a part, which has the given place among the parts: what it wrote, and how many of its outputs are open."""
+
+    __slots__ = ("place", "files", "pid", "out", "err", "open")
+
+    def __init__(self, place: int, files: int) -> None:
+        self.place, self.files, self.pid, self.open = place, files, 0, 2
+        self.out: List[bytes] = []
+        self.err: List[bytes] = []
 
 
 class Progress:
     """A line on standard error that says how far the work is; where that is no terminal, nothing is written."""
 
     def __init__(self) -> None:
-        self._shown = sys.stderr is not None and sys.stderr.isatty()
+        self.is_shown = sys.stderr is not None and sys.stderr.isatty()
         self._began = time.monotonic()
         self._next = self._began
 
     def show(self, done: int, total: Optional[int], findings: int) -> None:
         """Shows the counts; `total` is None while the files are still being listed."""
+        if not self.is_shown:
+            return
         now = time.monotonic()
-        if not self._shown or now < self._next:
+        if now < self._next:
             return
         self._next = now + SHOWN_EVERY
         found = f"{findings:,} finding{'' if findings == 1 else 's'}"
@@ -55,7 +79,7 @@ class Progress:
 
     def clear(self) -> None:
         """Takes the line away."""
-        if self._shown:
+        if self.is_shown:
             self._write("")
 
     def _write(self, line: str) -> None:
@@ -64,145 +88,142 @@ class Progress:
             sys.stderr.write("\r" + line[: width - 1] + "\x1b[K")
             sys.stderr.flush()
         except OSError:
-            self._shown = False
+            self.is_shown = False
 
 
 class Runs:
-    """Takes parts, and runs the program on so many at a time as it was told."""
+    """Takes paths, and runs the program on parts of them, so many at a time as it was told."""
 
-    def __init__(self, start: Sequence[str], jobs: int) -> None:
-        """`start` is the program with the words that stand before the paths."""
-        self._start = list(start)
-        self._left: "queue.Queue[Optional[int]]" = queue.Queue()
-        self._changed = threading.Condition()
-        self._running: Set["subprocess.Popen[bytes]"] = set()
-        self._stopped = False
-        self._error: Optional[Exception] = None
-        self._parts: List[List[bytes]] = []
-        self._results: Dict[int, Result] = {}
-        self._threads = [threading.Thread(target=self._work, daemon=True) for _ in range(jobs)]
-        for thread in self._threads:
-            thread.start()
+    def __init__(self, start: Sequence[str], jobs: int, more: int) -> None:
+        """`start` is the program with the words that stand before the paths; parts may be `more` times as large as else."""
+        self.results: Dict[int, Result] = {}
+        self.done = self.findings = 0
+        self.is_over = False
+        self._start = [*(os.fsencode(it) for it in start), b"--"]
+        self._jobs, self._more = jobs, more
+        self._paths: List[bytes] = []
+        self._given = self._parts = 0
+        self._running: List[Run] = []
+        self._outputs: Dict[int, Tuple[Run, List[bytes]]] = {}
+        self._poll = select.poll()
+        self._environment = dict(os.environb)
 
-    def give(self, part: List[bytes]) -> None:
-        """Takes a part, which is run as soon as one of the runs before it has ended."""
-        self._parts.append(part)
-        self._left.put(len(self._parts) - 1)
+    def add(self, paths: Sequence[bytes]) -> None:
+        """Takes paths that come behind all before."""
+        self._paths += paths
 
-    def is_over(self) -> bool:
-        """Returns whether nothing that is given now can matter: a run failed, or wrote nothing."""
-        with self._changed:
-            return self._is_over()
+    def go_on(self, total: Optional[int], wait: Optional[float]) -> bool:
+        """Reads what the runs wrote, waiting for it at most so many seconds, and begins new ones; returns whether any goes on.
 
-    def finish(self, progress: Progress) -> List[Result]:
-        """Waits for all parts, and returns what came of each in their order; of those that ended, where it was over before.
-
-        Raises ProgramError where a run couldn't be started or was ended, and NotJoined where one wrote no report.
+        `total` says how many paths there are, once that is known. Where a run wrote nothing it is over: none of the others can
+        matter. Raises ProgramError where a run can't be started or was ended, and NotJoined where one gave no report.
         """
-        total = sum(len(it) for it in self._parts)
-        with self._changed:
-            while len(self._results) < len(self._parts) and not self._is_over():
-                progress.show(*self._done(total))
-                self._changed.wait(SHOWN_EVERY)
-            if self._error:
-                raise self._error
-            return [self._results[it] for it in sorted(self._results)]
-
-    def show(self, progress: Progress) -> None:
-        """Shows how far the work is while parts are still given."""
-        with self._changed:
-            progress.show(*self._done(None))
+        if self._outputs:
+            for output, _ in self._poll.poll(None if wait is None else wait * 1000):
+                self._read(output)
+        while len(self._running) < self._jobs and not self.is_over:
+            part = self._next_part(total is not None)
+            if not part or not self._begin(part):
+                break
+        return bool(self._running) and not self.is_over
 
     def stop(self) -> None:
-        """Ends all runs that go on, and begins none again."""
-        with self._changed:
-            self._stopped = True
-            for process in self._running:
-                process.kill()
-        for _ in self._threads:
-            self._left.put(None)
-        for thread in self._threads:
-            thread.join()
+        """Ends all runs that go on."""
+        end([it.pid for it in self._running])
+        for output in self._outputs:
+            os.close(output)
+        self._running, self._outputs = [], {}
 
-    def _is_over(self) -> bool:
-        return self._error is not None or any(it.piece is None for it in self._results.values())
+    def _next_part(self, is_listed: bool) -> List[bytes]:
+        """Returns the next part, or none where the files for it aren't listed yet."""
+        left = len(self._paths) - self._given
+        if is_listed:
+            size = max(-(-left // (self._jobs * SHARES)), LEAST_OF_A_PART * self._more)
+        else:
+            size = FILES_OF_THE_FIRST * self._more * GROWTH ** min(self._parts // self._jobs, 16)
+        size = min(size, FILES_OF_A_PART * self._more)
+        if size > left and not is_listed:
+            return []
+        part = self._paths[self._given:self._given + size]
+        while len(part) > 1 and sum(map(len, part)) + len(part) > NAMES_OF_A_PART * self._more:
+            part = part[:len(part) // 2]
+        return part
 
-    def _done(self, total: Optional[int]) -> Tuple[int, Optional[int], int]:
-        results = self._results.values()
-        return sum(it.files for it in results), total, sum(it.piece.findings for it in results if it.piece)
-
-    def _work(self) -> None:
-        while True:
-            number = self._left.get()
-            if number is None or self._stopped:
-                return
-            try:
-                result = self._run(self._parts[number])
-            except (OSError, ProgramError, NotJoined) as error:
-                with self._changed:
-                    self._error = self._error or error
-                    self._changed.notify()
-                return
-            with self._changed:
-                self._results[number] = result
-                self._changed.notify()
-
-    def _run(self, part: List[bytes]) -> Result:
-        with self._changed:
-            if self._stopped:
-                raise NotJoined
-            process = self._begin(part)
-            self._running.add(process)
-        out, err = process.communicate()
-        with self._changed:
-            self._running.discard(process)
-        if process.returncode < 0:
-            raise ProgramError(f"a run of relint was ended by signal {-process.returncode}")
+    def _begin(self, part: List[bytes]) -> bool:
+        """Begins a run over the part; returns False where there is no room for one more beside those that go on."""
+        run = Run(self._parts, len(part))
         try:
-            return Result(process.returncode, take_apart(out) if out else None, err, len(part))
+            with Held() as held:
+                run.pid, out, err = spawn_piped([*self._start, *part], self._environment, held)
+                self._running.append(run)
+        except OSError as error:
+            if error.errno in NO_ROOM and self._running:
+                self._jobs = len(self._running)
+                return False
+            if error.errno == errno.E2BIG:
+                raise NotJoined from error
+            raise ProgramError(f"{os.fsdecode(self._start[0])} can't be run: {error.strerror or error}") from error
+        for output, kept in ((out, run.out), (err, run.err)):
+            self._outputs[output] = run, kept
+            self._poll.register(output, select.POLLIN)
+        self._given += len(part)
+        self._parts += 1
+        return True
+
+    def _read(self, output: int) -> None:
+        run, kept = self._outputs[output]
+        data = os.read(output, READ_AT_A_TIME)
+        if data:
+            kept.append(data)
+            return
+        self._poll.unregister(output)
+        del self._outputs[output]
+        os.close(output)
+        run.open -= 1
+        if not run.open:
+            self._take(run)
+
+    def _take(self, run: Run) -> None:
+        """Takes what a run gave that closed its outputs."""
+        _, status = os.waitpid(run.pid, 0)
+        self._running.remove(run)
+        if os.WIFSIGNALED(status):
+            raise ProgramError(f"a run of relint was ended by signal {os.WTERMSIG(status)}")
+        out = b"".join(run.out)
+        try:
+            piece = take_apart(out) if out else None
         except JoinError as error:
             raise NotJoined from error
-
-    def _begin(self, part: List[bytes]) -> "subprocess.Popen[bytes]":
-        words: List[bytes] = [*(os.fsencode(it) for it in self._start), b"--", *part]
-        try:
-            return subprocess.Popen(words, stdin=subprocess.DEVNULL, stdout=subprocess.PIPE, stderr=subprocess.PIPE)
-        except OSError as error:
-            raise ProgramError(f"{self._start[0]} can't be run: {error.strerror or error}") from error
-
-
-def split(paths: Iterable[bytes], jobs: int, more: int) -> Iterator[List[bytes]]:
-    """Yields the paths in parts, small ones first; `more` is how many times larger parts may become than they are else."""
-    part: List[bytes] = []
-    room, number = 0, 0
-    for path in paths:
-        room += len(path) + 1
-        part.append(path)
-        if len(part) >= _files_of(number, jobs) * more or room >= NAMES_OF_A_PART * more:
-            yield part
-            part, room, number = [], 0, number + 1
-    if part:
-        yield part
+        self.results[run.place] = Result(os.WEXITSTATUS(status), piece, b"".join(run.err))
+        self.done += run.files
+        if piece is None:
+            self.is_over = True
+        else:
+            self.findings += piece.findings
 
 
-def _files_of(number: int, jobs: int) -> int:
-    return min(FILES_OF_A_PART, FILES_OF_THE_FIRST << min(number // jobs, 16))
-
-
-def run_parts(start: Sequence[str], paths: Iterable[bytes], jobs: int, more: int) -> Answer:
+def run_parts(start: Sequence[str], listed: Iterable[List[bytes]], jobs: int, more: int) -> Answer:
     """Runs the program over all paths, and returns what one run answers, with no output where there are no paths.
 
-    Raises NotJoined where that can't be had from parts, and what the iterator of the paths raises.
+    The runs begin while paths are still listed. Raises NotJoined where that can't be had from parts, ProgramError where the
+    program can't be run, and what the iterator of the paths raises.
     """
     progress = Progress()
-    runs = Runs(start, jobs)
+    runs = Runs(start, jobs, more)
+    total = 0
     try:
-        for part in split(paths, jobs, more):
-            runs.give(part)
-            runs.show(progress)
-            if runs.is_over():
+        for paths in listed:
+            runs.add(paths)
+            total += len(paths)
+            runs.go_on(None, 0)
+            progress.show(runs.done, None, runs.findings)
+            if runs.is_over:
                 break
-        return _joined(runs.finish(progress))
+        wait: Optional[float] = 0
+        while runs.go_on(total, wait):
+            wait = SHOWN_EVERY if progress.is_shown else None
+            progress.show(runs.done, total, runs.findings)
+        return _joined([runs.results[it] for it in sorted(runs.results)])
     finally:
         runs.stop()
         progress.clear()

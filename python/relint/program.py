@@ -2,11 +2,11 @@
 from __future__ import annotations
 
 import os
-import shutil
-import subprocess
 import sys
-from pathlib import Path
-from typing import List, NamedTuple, Optional, Sequence
+
+TYPE_CHECKING = False
+if TYPE_CHECKING:  # (relint-many is to begin at once: so what takes long to import is imported where it is needed)
+    from typing import List, Optional, Sequence
 
 FINDING, REFUSED, TREE_FAULT, WRITE_FAULT, NO_MEMORY = 1, 2, 3, 4, 5
 ACTIONS = ("check", "class", "cost", "sample", "prove", "verify", "compare")
@@ -16,12 +16,13 @@ class ProgramError(Exception):
     """The program can't be found or run; the message says what to do."""
 
 
-class Answer(NamedTuple):
+class Answer:
     """What a run of the program gave: its status, and the bytes of both outputs."""
 
-    status: int
-    out: bytes
-    err: bytes
+    __slots__ = ("status", "out", "err")
+
+    def __init__(self, status: int, out: bytes, err: bytes) -> None:
+        self.status, self.out, self.err = status, out, err
 
 
 def program() -> str:
@@ -32,29 +33,38 @@ def program() -> str:
     """
     named = os.environ.get("RELINT")
     if named:
-        found = shutil.which(named)
+        found = named if os.path.dirname(named) and _can_run(named) else _on_path(named)
         if not found:
             raise ProgramError(f"RELINT names {named}, which can't be run")
         return os.path.abspath(found)
-    top = Path(__file__).resolve().parents[2]
-    is_clone = (top / "crates.txt").is_file() and _can_run(top / "relint")
-    if is_clone and any((top / it).is_file() for it in ("crates/relint/out/relint", "release/relint")):
-        return str(top / "relint")
-    beside = Path(sys.argv[0]).resolve().parent / "relint"
-    on_path = str(beside) if _can_run(beside) else shutil.which("relint")
+    top = os.path.dirname(os.path.dirname(os.path.dirname(os.path.realpath(__file__))))
+    script = os.path.join(top, "relint")
+    is_clone = os.path.isfile(os.path.join(top, "crates.txt")) and _can_run(script)
+    if is_clone and any(os.path.isfile(os.path.join(top, it)) for it in ("crates/relint/out/relint", "release/relint")):
+        return script
+    beside = os.path.join(os.path.dirname(os.path.realpath(sys.argv[0])), "relint")
+    on_path = beside if _can_run(beside) else _on_path("relint")
     if on_path:
         return on_path
     if is_clone:
-        raise ProgramError(f"{top / 'relint'} isn't built yet: run it once, or name another program in the variable RELINT")
+        raise ProgramError(f"{script} isn't built yet: run it once, or name another program in the variable RELINT")
     raise ProgramError("the program relint isn't on the PATH: install it, or name it in the variable RELINT")
 
 
-def _can_run(path: Path) -> bool:
-    return path.is_file() and os.access(str(path), os.X_OK)
+def _can_run(path: str) -> bool:
+    return os.path.isfile(path) and os.access(path, os.X_OK)
+
+
+def _on_path(name: str) -> Optional[str]:
+    import shutil
+
+    return shutil.which(name)
 
 
 def run(words: Sequence[str], cwd: Optional[str] = None) -> Answer:
     """Runs relint with these words, and waits for it. Raises ProgramError where it can't be started."""
+    import subprocess
+
     whole: List[str] = [program(), *words]
     try:
         ran = subprocess.run(whole, cwd=cwd, stdin=subprocess.DEVNULL, stdout=subprocess.PIPE, stderr=subprocess.PIPE)

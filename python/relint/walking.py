@@ -7,75 +7,118 @@ from __future__ import annotations
 
 import os
 import stat
-from typing import Iterator, List, NamedTuple, Sequence, Set, Tuple
+
+TYPE_CHECKING = False
+if TYPE_CHECKING:  # (it takes as long to import as thousands of files take to list)
+    from typing import Iterator, List, Sequence, Set, Tuple
 
 DEEPEST = 64
-# A path with whether it is a folder.
-Child = Tuple[bytes, bool]
+# The level of a path that is no folder.
+NO_FOLDER = -1
+# What was found is given on when there are so many paths, or when so many folders were entered since.
+PATHS_AT_A_TIME, FOLDERS_AT_A_TIME = 64, 16
 
 
-class TooDeep(Exception):
+class NotListed(Exception):
+    """The files can't be listed so that, named one by one, they give what a walk over the whole gives."""
+
+
+class TooDeep(NotListed):
     """A folder lies more than 64 levels below its named path: naming it would walk it, where relint doesn't enter it."""
 
 
-class Named(NamedTuple):
-    """A path to name: relint gives it the entries, in this place, that a walk over the whole gives it.
+class NamedAgain(NotListed):
+    """A path that isn't there, or is no file and no folder, is named twice, and has its entry each time."""
 
-    `repeats` says that it has its entry each time that it is named, since it isn't there or is no file and no folder.
+
+def walk(paths: Sequence[bytes], once: bool = False) -> Iterator[List[bytes]]:
+    """Yields what to name in place of the paths, in the order of the walk, some at a time; there may be none at a time.
+
+    relint gives what is named the entries, in this place, that a walk over the whole gives it. Raises TooDeep where a folder
+    is, and NamedAgain where every path is to come `once` and one has to come twice.
     """
-
-    path: bytes
-    repeats: bool
-
-
-def walk(paths: Sequence[bytes]) -> Iterator[Named]:
-    """Yields what to name in place of the paths, in the order of the walk. Raises TooDeep where a folder is."""
     met: Set[bytes] = set()
+    repeated: Set[bytes] = set()
+    found: List[bytes] = []
     for path in paths:
-        try:
-            mode = os.lstat(path).st_mode
-        except OSError:
-            yield Named(path, True)
-            continue
-        if not (stat.S_ISREG(mode) or stat.S_ISDIR(mode)):
-            yield Named(path, True)
-        elif stat.S_ISDIR(mode):
+        mode = _mode(path)
+        if stat.S_ISDIR(mode):
+            yield found
+            found = []
             yield from _walk_folder(path, met)
+        elif not stat.S_ISREG(mode):
+            if once and path in repeated:
+                raise NamedAgain(os.fsdecode(path))
+            repeated.add(path)
+            found.append(path)
         elif path not in met:
             met.add(path)
-            yield Named(path, False)
+            found.append(path)
+        if len(found) >= PATHS_AT_A_TIME:
+            yield found
+            found = []
+    yield found
 
 
-def _walk_folder(top: bytes, met: Set[bytes]) -> Iterator[Named]:
-    # (what is left of each folder that the walk is in; the first list holds the named folder, which is at level 0)
-    left: List[Iterator[Child]] = [iter([(top, True)])]
+def _mode(path: bytes) -> int:
+    """The mode of a path, or 0 where it isn't there."""
+    try:
+        return os.lstat(path).st_mode
+    except OSError:
+        return 0
+
+
+def _walk_folder(top: bytes, met: Set[bytes]) -> Iterator[List[bytes]]:
+    found: List[bytes] = []
+    entered = 0
+    # (what is left, each path with its level, the next one last)
+    left: List[Tuple[bytes, int]] = [(top, 0)]
     while left:
-        for path, is_folder in left[-1]:
-            if path in met:
-                continue
+        path, level = left.pop()
+        if level == NO_FOLDER:
+            found.append(path)
+        elif path not in met:
             met.add(path)
-            if not is_folder:
-                yield Named(path, False)
-            elif len(left) - 1 > DEEPEST:
+            if level > DEEPEST:
                 raise TooDeep(os.fsdecode(path))
-            else:
-                try:
-                    left.append(iter(_children(path)))
-                    break
-                except (OSError, UnicodeDecodeError):
-                    # (named by itself it fails as well, and so has the one entry `unreadable`)
-                    yield Named(path, False)
-        else:
-            left.pop()
+            entered += 1
+            _enter(path, level, met, found, left)
+        if len(found) >= PATHS_AT_A_TIME or entered >= FOLDERS_AT_A_TIME:
+            yield found
+            found, entered = [], 0
+    yield found
 
 
-def _children(folder: bytes) -> List[Child]:
-    """Returns the folder's sources and folders, sorted by name. Raises UnicodeDecodeError where a name isn't UTF-8."""
+def _enter(folder: bytes, level: int, met: Set[bytes], found: List[bytes], left: List[Tuple[bytes, int]]) -> None:
+    """Adds a folder's children to what was found, or to what is left where folders are among them."""
+    try:
+        sources, folders = _children(folder)
+    except (OSError, UnicodeDecodeError):
+        # (named by itself it fails as well, and so has the one entry `unreadable`)
+        found.append(folder)
+        return
+    sources = [it for it in sources if it not in met]
+    met.update(sources)
+    if not folders:
+        found += sorted(sources)
+        return
+    children = [(it, NO_FOLDER) for it in sources] + [(it, level + 1) for it in folders]
+    children.sort(reverse=True)
+    left += children
+
+
+def _children(folder: bytes) -> Tuple[List[bytes], List[bytes]]:
+    """Returns the folder's sources and its folders. Raises UnicodeDecodeError where a name in it isn't UTF-8."""
+    names: List[bytes] = []
+    sources: List[bytes] = []
+    folders: List[bytes] = []
     with os.scandir(folder) as entries:
-        found = list(entries)
-    names = [it.name for it in found]
+        for entry in entries:
+            name = entry.name
+            names.append(name)
+            if entry.is_dir(follow_symlinks=False):
+                folders.append(entry.path)
+            elif name[-3:] == b".py" and entry.is_file(follow_symlinks=False):
+                sources.append(entry.path)
     b"\0".join(names).decode("utf-8")
-    start = folder if folder.endswith(b"/") else folder + b"/"
-    children = [(start + it.name, True) for it in found if it.is_dir(follow_symlinks=False)]
-    children += [(start + it.name, False) for it in found if it.name[-3:] == b".py" and it.is_file(follow_symlinks=False)]
-    return sorted(children)
+    return sources, folders

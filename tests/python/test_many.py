@@ -13,7 +13,7 @@ import unittest
 from pathlib import Path
 from typing import List, NamedTuple, Optional, Sequence
 
-from relint import joining, many, parts, walking
+from relint import joining, many, walking
 from relint.program import ProgramError, program
 
 ROOT = Path(__file__).resolve().parents[2]
@@ -241,11 +241,26 @@ class SameBytes(InFolder):
         fake.chmod(0o755)
         one = ran([str(PROGRAM), "check", "src"], self.folder)
         self.assertEqual(ran([sys.executable, str(TOOL), "--jobs", "2", "src"], self.folder, RELINT=str(fake)), one)
-        self.assertEqual(sorted((self.folder / "runs").read_text().split()), ["18", "18", "30"])
+        # (60 files in parts of 16, and two words before the files of each)
+        self.assertEqual(sorted((self.folder / "runs").read_text().split()), ["14", "18", "18", "18"])
         (self.folder / "src" / "/".join(["d"] * 65)).mkdir(parents=True)
         (self.folder / "runs").unlink()
         ran([sys.executable, str(TOOL), "--jobs", "2", "src"], self.folder, RELINT=str(fake))
         self.assertEqual((self.folder / "runs").read_text().split()[-1], "2")
+
+    def test_more_runs_than_the_system_lets_be(self) -> None:
+        self.many_files(150)
+        one = ran([str(PROGRAM), "check", "src"], self.folder)
+        words = ["sh", "-c", 'ulimit -n 20; exec "$@"', "sh", sys.executable, str(TOOL), "--jobs", "100", "src"]
+        self.assertEqual(ran(words, self.folder), one)
+
+    def test_outputs_that_are_closed(self) -> None:
+        self.many_files(20)
+        one = ran([str(PROGRAM), "check", "src"], self.folder)
+        tool = ["sh", "-c", 'exec "$@" 2>&-', "sh", sys.executable, str(TOOL), "src"]
+        self.assertEqual(ran(tool, self.folder), one)
+        tool[2] = 'exec "$@" >&-'
+        self.assertEqual(ran(tool, self.folder), Ran(4, b"", b"relint: write fault\n"))
 
     def test_write_faults(self) -> None:
         self.many_files(5)
@@ -253,6 +268,45 @@ class SameBytes(InFolder):
             words = [sys.executable, str(TOOL), "src"]
             done = subprocess.run(words, cwd=self.folder, stdout=full, stderr=subprocess.PIPE)
         self.assertEqual((done.returncode, done.stderr), (4, b"relint: write fault\n"))
+
+
+@unittest.skipUnless(PROGRAM, "the program relint isn't built")
+class InClone(InFolder):
+    """The tool in a clone, whose script notes which program it runs."""
+
+    def clone(self, script: str, noted: str) -> None:
+        shutil.copytree(ROOT / "python", self.folder / "clone/python", ignore=shutil.ignore_patterns("__pycache__"))
+        (self.folder / "clone/tools").mkdir()
+        shutil.copy(TOOL, self.folder / "clone/tools")
+        self.write("clone/crates.txt", "")
+        self.write("clone/crates/relint/out/stamp", f"{noted}\ncrates.txt\n")
+        notes = f'>>"{self.folder}/runs"'
+        firsts = {"": script, "release/": f"echo released {notes}", "crates/relint/out/": f"echo built {notes}"}
+        for name, first in firsts.items():
+            self.write(f"clone/{name}relint", f'#!/bin/sh\n{first}\nexec "{PROGRAM}" "$@"\n').chmod(0o755)
+
+    def runs(self) -> List[str]:
+        tool = self.folder / "clone/tools/relint-many"
+        self.write("src/a.py")
+        env = {name: value for name, value in os.environ.items() if name != "RELINT"}
+        words = [sys.executable, "-B", str(tool), "--jobs", "2", "src"]
+        done = subprocess.run(words, cwd=self.folder, env=env, stdout=subprocess.PIPE, check=False)
+        one = ran([str(PROGRAM), "check", "src"], self.folder)
+        self.assertEqual((done.returncode, done.stdout), (one.status, one.out))
+        noted = self.folder / "runs"
+        return noted.read_text().split() if noted.exists() else []
+
+    def test_the_program_that_the_script_noted(self) -> None:
+        self.clone("", "release/relint")
+        self.assertEqual(self.runs(), ["released"])
+
+    def test_a_script_that_warns_runs_itself(self) -> None:
+        self.clone("echo warning >&2", "crates/relint/out/relint")
+        self.assertEqual(self.runs(), [])
+
+    def test_a_note_that_names_no_program(self) -> None:
+        self.clone("", "none")
+        self.assertEqual(self.runs(), [])
 
 
 class Words(InFolder):
@@ -380,17 +434,22 @@ class Pieces(unittest.TestCase):
         for statuses, joined in (((0, 1, 0), 1), ((1, 3), 3), ((3, 4), 4), ((4, 5), 5), ((5, 2), 2), ((), 0), ((0, 6), 6)):
             self.assertEqual(joining.join_statuses(statuses), joined)
 
-    def test_parts_hold_all_paths_in_order(self) -> None:
-        paths = [b"p%d" % it for it in range(5000)]
-        found = list(parts.split(iter(paths), 4, 1))
-        self.assertEqual([it for part in found for it in part], paths)
-        self.assertTrue(all(len(it) <= parts.FILES_OF_A_PART for it in found))
-        self.assertEqual(len(found[0]), parts.FILES_OF_THE_FIRST)
-
     def test_a_file_that_is_named_is_read_whatever_its_name(self) -> None:
         here = os.fsencode(__file__)
-        self.assertEqual(list(walking.walk([here, here])), [walking.Named(here, False)])
-        self.assertEqual(list(walking.walk([b"/dev/null"] * 2)), [walking.Named(b"/dev/null", True)] * 2)
+        self.assertEqual(list(walking.walk([here, here])), [[here]])
+        self.assertEqual(list(walking.walk([b"/dev/null"] * 2)), [[b"/dev/null"] * 2])
+        with self.assertRaises(walking.NamedAgain):
+            list(walking.walk([b"/dev/null"] * 2, once=True))
+
+    def test_counts_that_are_none(self) -> None:
+        start, end = b'{"entries":[],"findings":', b',"refused":0,"undecided":0,"version":2}\n'
+        self.assertEqual(joining.take_apart(start + b"1" + end).counts, (1, 0, 0))
+        for number in (b"", b"-1", b"1.0", b" 1", b"\xb9"):
+            with self.assertRaises(joining.JoinError):
+                joining.take_apart(start + number + end)
+        for text in (b"1 entries, 0 findings, 0 refused, 0 undecided", b"1 entries, 0 findings, 0 refused\n", b"", b"\n"):
+            with self.assertRaises(joining.JoinError):
+                joining.take_apart(text)
 
     def test_sarif_counts(self) -> None:
         report = (

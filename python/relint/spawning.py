@@ -1,0 +1,80 @@
+"""Begins and ends processes. It has none of the imports of `subprocess`, which take as long as relint takes for many files."""
+from __future__ import annotations
+
+import os
+import signal
+
+TYPE_CHECKING = False
+if TYPE_CHECKING:  # (it takes as long to import as thousands of files take to list)
+    from typing import Dict, Iterable, List, Set, Tuple
+
+# The signals at which a tool ends what it began.
+STOPPING = [getattr(signal, it) for it in ("SIGINT", "SIGTERM", "SIGHUP") if hasattr(signal, it)]
+# Those that Python passes over, and that others are to have as they are at first.
+PASSED_OVER = [getattr(signal, it) for it in ("SIGPIPE", "SIGXFZ", "SIGXFSZ") if hasattr(signal, it)]
+
+
+class Held:
+    """While this is entered, the signals at which a tool ends wait: so none comes before a process that began is noted."""
+
+    def __enter__(self) -> Set[int]:
+        """Returns the signals that waited before."""
+        self._before: Set[int] = set(signal.pthread_sigmask(signal.SIG_BLOCK, STOPPING))
+        return self._before
+
+    def __exit__(self, *_: object) -> None:
+        """Lets the signals come that waited meanwhile."""
+        signal.pthread_sigmask(signal.SIG_SETMASK, self._before)
+
+
+def spawn(words: List[bytes], held: Set[int]) -> int:
+    """Begins a process with the inputs and outputs of this one, and returns its number. Raises OSError."""
+    return os.posix_spawn(words[0], words, os.environ, setsigmask=held, setsigdef=PASSED_OVER)
+
+
+def spawn_piped(words: List[bytes], environment: Dict[bytes, bytes], held: Set[int]) -> Tuple[int, int, int]:
+    """Begins a process with an empty input; returns its number and where to read what it writes to 1 and 2. Raises OSError."""
+    opened: List[int] = []
+    try:
+        out, out_end = _pipe(opened)
+        err, err_end = _pipe(opened)
+        inputs = (os.POSIX_SPAWN_OPEN, 0, os.devnull, os.O_RDONLY, 0)
+        outputs = [(os.POSIX_SPAWN_DUP2, out_end, 1), (os.POSIX_SPAWN_DUP2, err_end, 2)]
+        pid = os.posix_spawn(
+            words[0], words, environment, file_actions=[inputs, *outputs], setsigmask=held, setsigdef=PASSED_OVER
+        )
+    except OSError:
+        for it in opened:
+            os.close(it)
+        raise
+    os.close(out_end)
+    os.close(err_end)
+    return pid, out, err
+
+
+def _pipe(opened: List[int]) -> Tuple[int, int]:
+    """Opens a pipe, whose second end is none of the numbers that a process begins with; adds both ends to those opened."""
+    reading, writing = os.pipe()
+    low: List[int] = []
+    while writing <= 2:
+        low.append(writing)
+        writing = os.dup(writing)
+    for it in low:
+        os.close(it)
+    opened += [reading, writing]
+    return reading, writing
+
+
+def end(pids: Iterable[int]) -> None:
+    """Ends processes that this one began, and waits until they are."""
+    left = list(pids)
+    for pid in left:
+        try:
+            os.kill(pid, signal.SIGKILL)
+        except ProcessLookupError:
+            pass
+    for pid in left:
+        try:
+            os.waitpid(pid, 0)
+        except ChildProcessError:
+            pass
