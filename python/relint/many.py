@@ -177,8 +177,8 @@ def _can_be_read_again(given: Given) -> bool:
 def _ready_program() -> str:
     """The program to run. The script of a clone is run once, and builds it where need be; then it is the one behind it."""
     found = program()
-    top = os.path.dirname(found)
-    if not os.path.isfile(os.path.join(top, "crates.txt")):
+    top, name = os.path.split(found)
+    if name != "relint" or not os.path.isfile(os.path.join(top, "crates.txt")):
         return found
     import subprocess
 

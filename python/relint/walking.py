@@ -108,7 +108,7 @@ def _enter(folder: bytes, level: int, met: Set[bytes], found: List[bytes], left:
 
 
 def _children(folder: bytes) -> Tuple[List[bytes], List[bytes]]:
-    """Returns the folder's sources and its folders. Raises UnicodeDecodeError where a name in it isn't UTF-8."""
+    """Returns the folder's sources and its folders. Raises OSError or UnicodeDecodeError where relint can't list it."""
     names: List[bytes] = []
     sources: List[bytes] = []
     folders: List[bytes] = []
@@ -121,4 +121,7 @@ def _children(folder: bytes) -> Tuple[List[bytes], List[bytes]]:
             elif name[-3:] == b".py" and entry.is_file(follow_symlinks=False):
                 sources.append(entry.path)
     b"\0".join(names).decode("utf-8")
+    if names:
+        # (relint looks at each: it fails where the folder may not be searched, and where a path becomes too long)
+        os.lstat(os.path.join(folder, max(names, key=len)))
     return sources, folders

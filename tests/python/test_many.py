@@ -136,6 +136,19 @@ class SameBytes(InFolder):
             for name, _ in modes:
                 (self.folder / name).chmod(0o700)
 
+    def test_paths_that_are_too_long_for_the_system(self) -> None:
+        self.many_files(5)
+        folder = os.open(self.folder / "src", os.O_RDONLY)
+        for _ in range(16):
+            os.mkdir("d" * 250, dir_fd=folder)
+            inner = os.open("d" * 250, os.O_RDONLY, dir_fd=folder)
+            os.close(folder)
+            folder = inner
+        for name in ("a.py", "b" * 100 + ".py"):
+            os.close(os.open(name, os.O_WRONLY | os.O_CREAT, dir_fd=folder))
+        os.close(folder)
+        self.same_in_all_layouts("src")
+
     def test_deep_folders(self) -> None:
         self.many_files(5)
         deep = self.folder / "src" / "/".join(["d"] * 63)
@@ -290,7 +303,7 @@ class InClone(InFolder):
         self.write("src/a.py")
         env = {name: value for name, value in os.environ.items() if name != "RELINT"}
         words = [sys.executable, "-B", str(tool), "--jobs", "2", "src"]
-        done = subprocess.run(words, cwd=self.folder, env=env, stdout=subprocess.PIPE, check=False)
+        done = subprocess.run(words, cwd=self.folder, env=env, capture_output=True)
         one = ran([str(PROGRAM), "check", "src"], self.folder)
         self.assertEqual((done.returncode, done.stdout), (one.status, one.out))
         noted = self.folder / "runs"
