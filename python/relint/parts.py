@@ -112,17 +112,17 @@ class Runs:
         """Takes paths that come behind all before."""
         self._paths += paths
 
-    def go_on(self, total: Optional[int], wait: Optional[float]) -> bool:
+    def go_on(self, is_listed: bool, wait: Optional[float]) -> bool:
         """Reads what the runs wrote, waiting for it at most so many seconds, and begins new ones; returns whether any goes on.
 
-        `total` says how many paths there are, once that is known. Where a run wrote nothing it is over: none of the others can
-        matter. Raises ProgramError where a run can't be started or was ended, and NotJoined where one gave no report.
+        `is_listed` says that no paths are to come. Where a run wrote nothing it is over: none of the others can matter. Raises
+        ProgramError where a run can't be started or was ended, and NotJoined where one gave no report.
         """
         if self._outputs:
             for output, _ in self._poll.poll(None if wait is None else wait * 1000):
                 self._read(output)
         while len(self._running) < self._jobs and not self.is_over:
-            part = self._next_part(total is not None)
+            part = self._next_part(is_listed)
             if not part or not self._begin(part):
                 break
         return bool(self._running) and not self.is_over
@@ -215,12 +215,12 @@ def run_parts(start: Sequence[str], listed: Iterable[List[bytes]], jobs: int, mo
         for paths in listed:
             runs.add(paths)
             total += len(paths)
-            runs.go_on(None, 0)
+            runs.go_on(False, 0)
             progress.show(runs.done, None, runs.findings)
             if runs.is_over:
                 break
         wait: Optional[float] = 0
-        while runs.go_on(total, wait):
+        while runs.go_on(True, wait):
             wait = SHOWN_EVERY if progress.is_shown else None
             progress.show(runs.done, total, runs.findings)
         return _joined([runs.results[it] for it in sorted(runs.results)])
