@@ -6,8 +6,8 @@ use Rattle.rl_ranges.specs.declared.universe.Universe.{Universe}
 use Rattle.rl_ranges.specs.Text.{IsText, code_count}
 use Rattle.rl_syntax.specs.declared.span.Span.{Span}
 use Rattle.rl_pattern.specs.Placed.{ArePlaced}
-use Rattle.rl_judge.specs.internal.Asked.{LiesIn}
-use Rattle.rl_judge.specs.Sites.{codes_of}
+use Rattle.rl_judge.specs.internal.Conditions.{LiesIn}
+use Rattle.rl_judge.specs.Analysis.{codes_of}
 
 pub span_text : (u : Universe) (span : Span) (codes : List ℕ) → IsText u codes → IsText u (codes_of span codes)
 span_text u span codes h =

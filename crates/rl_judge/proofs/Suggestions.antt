@@ -18,12 +18,12 @@ use Rattle.rl_pattern.specs.Parsed.{IsParsed}
 use Rattle.rl_pairs.specs.RightVerdict.{Question, IsSmall, RightVerdict}
 use Rattle.rl_rewrite.specs.Plain.{empty_suggestion}
 use Rattle.rl_rewrite.specs.RightSuggestion.{IsRightSuggestion, ReadsAlike}
-use Rattle.rl_judge.specs.internal.Asked.{is_beside, IsReadable, HasReadable, IsSuggestionOf, PartsLieIn}
-use Rattle.rl_judge.specs.declared.beside.Terms.{Terms}
-use Rattle.rl_judge.specs.Sites.{question_of, IsSuggested, IsTextVerdict}
+use Rattle.rl_judge.specs.internal.Conditions.{has_suggestion, IsReadable, HasReadable, IsSuggestionOf, PartsLieIn}
+use Rattle.rl_judge.specs.declared.options.AnalysisOptions.{AnalysisOptions}
+use Rattle.rl_judge.specs.Analysis.{question_of, IsSuggested, IsTextVerdict}
 
 -- a suggestion stands beside no verdict that the size, the letters or the moves are too many
-pub small_beside : (q : Question) (v : Verdict) → RightVerdict q v → is_beside v ≡ true → IsSmall q
+pub small_beside : (q : Question) (v : Verdict) → RightVerdict q v → has_suggestion v ≡ true → IsSmall q
 small_beside q (Degree d f) h b = record { size = h.0.within Size; letters = h.0.within Letters; moves = h.0.within Moves }
 small_beside q (Expo f) h b = record { size = h.within Size; letters = h.within Letters; moves = h.within Moves }
 small_beside q (Undecided Size) h b = absurd (false≢true b)
@@ -32,7 +32,7 @@ small_beside q (Undecided Moves) h b = absurd (false≢true b)
 small_beside q (Undecided Sets) h b = h.0
 small_beside q (Undecided Pairs) h b = h.0
 
-pub one_beside : (flags : Flags) (p : Pattern) (codes : List ℕ) (v : Verdict) (s : Suggestion) → is_beside v ≡ true → IsRightSuggestion flags p codes 20000 s
+pub one_beside : (flags : Flags) (p : Pattern) (codes : List ℕ) (v : Verdict) (s : Suggestion) → has_suggestion v ≡ true → IsRightSuggestion flags p codes 20000 s
     → IsSuggested flags p codes v (Some s)
 one_beside flags p codes (Degree d f) s b h = (s, refl, h)
 one_beside flags p codes (Expo f) s b h = (s, refl, h)
@@ -42,7 +42,7 @@ one_beside flags p codes (Undecided Moves) s b h = absurd (false≢true b)
 one_beside flags p codes (Undecided Sets) s b h = (s, refl, h)
 one_beside flags p codes (Undecided Pairs) s b h = (s, refl, h)
 
-pub none_beside : (flags : Flags) (p : Pattern) (codes : List ℕ) (v : Verdict) → is_beside v ≡ false → IsSuggested flags p codes v None
+pub none_beside : (flags : Flags) (p : Pattern) (codes : List ℕ) (v : Verdict) → has_suggestion v ≡ false → IsSuggested flags p codes v None
 none_beside flags p codes (Degree d f) b = absurd (false≢true (sym b))
 none_beside flags p codes (Expo f) b = absurd (false≢true (sym b))
 none_beside flags p codes (Undecided Size) b = refl
@@ -88,7 +88,7 @@ empty_reads flags u s e = subst (HasReadable flags u) (sym e) tt
 pub ruleset empty_parts = (empty_within, empty_text, empty_reads)
 
 -- a right verdict on the pattern that a text gives is one on the text
-pub text_verdict : {E : Type 0} (flags : Flags) (terms : Terms) (u : Universe) (text : List ℕ) (p : Pattern) (r : Result Verdict E) → IsParsed flags u text (Ok p)
-    → IfOk r (RightVerdict (question_of p terms)) → IfOk r (IsTextVerdict flags terms u text)
-text_verdict flags terms u text p (Ok v) parsed h = (p, parsed, h)
-text_verdict flags terms u text p (Err e) parsed h = tt
+pub text_verdict : {E : Type 0} (flags : Flags) (options : AnalysisOptions) (u : Universe) (text : List ℕ) (p : Pattern) (r : Result Verdict E) → IsParsed flags u text (Ok p)
+    → IfOk r (RightVerdict (question_of p options)) → IfOk r (IsTextVerdict flags options u text)
+text_verdict flags options u text p (Ok v) parsed h = (p, parsed, h)
+text_verdict flags options u text p (Err e) parsed h = tt

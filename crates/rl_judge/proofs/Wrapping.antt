@@ -27,9 +27,9 @@ use Rattle.rl_prio.specs.Letters.{all_sets}
 use Rattle.rl_prio.proofs.WidthLemmas.{width-both_left, width-both_right, width-longest, longest-width}
 use Rattle.rl_pairs.specs.RightVerdict.{Question, IsSmall}
 use Rattle.rl_rewrite.specs.Verdicts.{PassesLimit}
-use Rattle.rl_judge.specs.declared.beside.Terms.{Terms}
-use Rattle.rl_judge.specs.Sites.{question_of}
-use Rattle.rl_judge.specs.internal.Asked.{IsSmallWhole}
+use Rattle.rl_judge.specs.declared.options.AnalysisOptions.{AnalysisOptions}
+use Rattle.rl_judge.specs.Analysis.{question_of}
+use Rattle.rl_judge.specs.internal.Conditions.{IsSmallWhole}
 
 -- ---- the numbers of places leave the lengths of the lists
 
@@ -184,6 +184,6 @@ no_limit q s h small Moves p = small.moves (omega (arith, h.width, longest-width
 no_limit q s h small Sets p = p
 no_limit q s h small Pairs p = p
 
-pub small_whole : (p : Pattern) (terms : Terms) → IsSmall (question_of p terms) → IsSmallWhole p
-small_whole p terms small l passed =
-    no_limit (question_of p terms) (lowered (body_of p)) (within_wrapped terms.mode (universe_of p) (is_anchored p) (trail_of p) (lowered (body_of p))) small l passed
+pub small_whole : (p : Pattern) (options : AnalysisOptions) → IsSmall (question_of p options) → IsSmallWhole p
+small_whole p options small l passed =
+    no_limit (question_of p options) (lowered (body_of p)) (within_wrapped options.mode (universe_of p) (is_anchored p) (trail_of p) (lowered (body_of p))) small l passed

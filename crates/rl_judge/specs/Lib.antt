@@ -1,5 +1,5 @@
 pub mod Faults
-pub mod Sites
+pub mod Analysis
 pub mod RightEntries
 pub mod RightReport
 pub mod internal

@@ -1,5 +1,5 @@
 -- Which entries are right for a source, given its path, its bytes and the settings.
-use Rattle.std.specs.Prelude.{◌≡◌, ◌≢◌, ◌⊎◌, ◌≤◌, ℕ, List, [], ◌∷◌, map, slice_get, Some, None, option_map, if◌then◌else◌}
+use Rattle.std.specs.Prelude.{◌≡◌, ◌≢◌, ◌⊎◌, ◌≤◌, ℕ, List, [], ◌∷◌, map, slice_get, Option, Some, None, option_map, if◌then◌else◌}
 use Rattle.std.specs.List.{AllZip, list_any}
 use Rattle.rl_ranges.specs.declared.universe.Universe.TheVariants as universe
 use Rattle.rl_syntax.specs.declared.re.Mode.{Mode}
@@ -12,20 +12,21 @@ use Rattle.rl_sites.specs.declared.call.Call.{Call}
 use Rattle.rl_sites.specs.declared.call.Call.TheVariants as call
 use Rattle.rl_sites.specs.declared.site.Site.{Site}
 use Rattle.rl_sites.specs.Sites.{sites_of}
-use Rattle.rl_sites.specs.Runs.{run_of}
 use Rattle.rl_report.specs.declared.report.Entry.{Entry}
 use Rattle.rl_report.specs.declared.report.Mark.{Mark}
 use Rattle.rl_report.specs.declared.report.Marks.{Marks}
+use Rattle.rl_report.specs.declared.report.Outcome.{Outcome}
 use Rattle.rl_report.specs.declared.report.Outcome.TheVariants as outcome
+use Rattle.rl_report.specs.declared.places.Place.{Place}
 use Rattle.rl_report.specs.Findings.{is_finding}
 use Rattle.rl_report.specs.Places.{place_of}
-use Rattle.rl_judge.specs.declared.settings.Settings.{Settings}
+use Rattle.rl_judge.specs.declared.analysis.Analysis.{Analysis}
+use Rattle.rl_judge.specs.declared.options.AnalysisOptions.{AnalysisOptions}
 use Rattle.rl_judge.specs.declared.parts.Part.{Part}
 use Rattle.rl_judge.specs.declared.parts.Parts.{Parts}
-use Rattle.rl_judge.specs.declared.told.Told.{Told}
-use Rattle.rl_judge.specs.declared.beside.Terms.{Terms}
+use Rattle.rl_judge.specs.declared.settings.Settings.{Settings}
 use Rattle.rl_judge.specs.Faults.{source_fault}
-use Rattle.rl_judge.specs.Sites.{IsOfArgument}
+use Rattle.rl_judge.specs.Analysis.{IsAnalysisOf}
 
 -- settings that a report can be made with
 pub record IsValid (s : Settings) : Type 0 where
@@ -45,24 +46,29 @@ mode_of s call.Split = Search
 mode_of s call.Sub = Search
 mode_of s call.Subn = Search
 
-abbrev pub terms_of : Settings → Call → Terms
-terms_of s c = record { mode = mode_of s c; max_pairs = s.max_pairs; report = s.report }
+-- how the pattern of a call is judged
+abbrev pub options_of : Settings → Call → AnalysisOptions
+options_of s c = record { mode = mode_of s c; max_pairs = s.max_pairs; report = s.report }
 
--- marks are of suggestions
+-- an entry without a suggestion has no marks
 abbrev pub no_marks : Marks
 no_marks = record { dropped = []; merged = []; passed = [] }
 
--- the entry of a source without tokens
-abbrev pub fault_entry : List ℕ → List ℕ → LexError → Entry
-fault_entry path source e = record {
+-- the entry of a path without sites, with the place in its source where there is one
+abbrev pub path_entry : List ℕ → Option Place → Outcome → Entry
+path_entry path at o = record {
   path = path;
-  at = option_map (place_of source) (source_fault e);
+  at = at;
   call = None;
   universe = universe.Str;
   fault = None;
-  outcome = outcome.Source e;
+  outcome = o;
   marks = no_marks;
 }
+
+-- the entry of a source without tokens
+abbrev pub fault_entry : List ℕ → List ℕ → LexError → Entry
+fault_entry path source e = path_entry path (option_map (place_of source) (source_fault e)) (outcome.Source e)
 
 -- a part with the line and the column where it begins
 abbrev pub mark_of : List ℕ → Part → Mark
@@ -75,28 +81,23 @@ marks_of source parts = record {
   passed = map (mark_of source) parts.passed;
 }
 
--- the entry of a site of which this is told
-abbrev pub site_entry : List ℕ → List ℕ → List Token → Site → Told → Entry
-site_entry path source tokens site told = record {
+-- the entry of a site with this analysis
+abbrev pub site_entry : List ℕ → List ℕ → List Token → Site → Analysis → Entry
+site_entry path source tokens site a = record {
   path = path;
   at = option_map (λ token. place_of source token.from) (slice_get tokens site.first);
   call = Some site.call;
-  universe = told.universe;
-  fault = option_map (place_of source) told.fault;
-  outcome = told.outcome;
-  marks = marks_of source told.parts;
+  universe = a.universe;
+  fault = option_map (place_of source) a.fault;
+  outcome = a.outcome;
+  marks = marks_of source a.parts;
 }
-
--- this is to be told of a site
-abbrev pub IsTold : List ℕ → List Token → Settings → Site → Told → Type 0
-IsTold source tokens s site told =
-    IsOfArgument site.whole source (run_of tokens site) site.flags (terms_of s site.call) told
 
 -- the entry is right for the site
 pub record IsSiteEntry (path source : List ℕ) (tokens : List Token) (s : Settings) (site : Site) (entry : Entry) : Type 0 where
-  pub told : Told
-  pub right : IsTold source tokens s site told
-  pub is : entry ≡ site_entry path source tokens site told
+  pub analysis : Analysis
+  pub right : IsAnalysisOf source tokens (options_of s site.call) site analysis
+  pub is : entry ≡ site_entry path source tokens site analysis
 
 -- the source has no tokens: one entry says why
 pub record IsFaultEntry (path source : List ℕ) (entries : List Entry) : Type 0 where

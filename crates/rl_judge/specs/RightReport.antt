@@ -1,34 +1,20 @@
 -- Which entries are right for the visits of a walk.
-use Rattle.std.specs.Prelude.{◌≡◌, ℕ, Bool, List, [], ◌∷◌, ◌++◌, All, None}
-use Rattle.rl_ranges.specs.declared.universe.Universe.TheVariants as universe
+use Rattle.std.specs.Prelude.{◌≡◌, Bool, List, [], ◌∷◌, ◌++◌, All, None}
 use Rattle.rl_report.specs.declared.report.Entry.{Entry}
-use Rattle.rl_report.specs.declared.report.Outcome.{Outcome}
 use Rattle.rl_report.specs.declared.report.Outcome.TheVariants as outcome
 use Rattle.rl_report.specs.Layouts.{IsOfItsUniverse}
 use Rattle.rl_walk.specs.declared.visits.Visit.{Visit}
 use Rattle.rl_walk.specs.declared.visits.Visit.TheVariants.{Source, Unreadable, TooDeep, NotPlain}
 use Rattle.rl_walk.specs.Visits.{has_unreadable}
 use Rattle.rl_judge.specs.declared.settings.Settings.{Settings}
-use Rattle.rl_judge.specs.RightEntries.{no_marks, AreRight}
-
--- the entry of a path of which nothing else is told
-abbrev pub path_entry : List ℕ → Outcome → Entry
-path_entry path o = record {
-  path = path;
-  at = None;
-  call = None;
-  universe = universe.Str;
-  fault = None;
-  outcome = o;
-  marks = no_marks;
-}
+use Rattle.rl_judge.specs.RightEntries.{path_entry, AreRight}
 
 -- the entries are right for the visit: for a source by its path and its bytes, and one for any other
 abbrev pub IsRightFor : Settings → Visit → List Entry → Type 0
 IsRightFor s (Source path content) entries = AreRight path content s entries
-IsRightFor s (Unreadable path) entries = entries ≡ path_entry path outcome.Unreadable ∷ []
-IsRightFor s (TooDeep path) entries = entries ≡ path_entry path outcome.TooDeepFolder ∷ []
-IsRightFor s (NotPlain path) entries = entries ≡ path_entry path outcome.NotPlain ∷ []
+IsRightFor s (Unreadable path) entries = entries ≡ path_entry path None outcome.Unreadable ∷ []
+IsRightFor s (TooDeep path) entries = entries ≡ path_entry path None outcome.TooDeepFolder ∷ []
+IsRightFor s (NotPlain path) entries = entries ≡ path_entry path None outcome.NotPlain ∷ []
 
 -- the entries are right for the visits, in their order
 pub data AreRightFor (s : Settings) : List Visit → List Entry → Type 0 where

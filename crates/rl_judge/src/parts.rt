@@ -1,10 +1,10 @@
 //! The parts of a pattern that a suggestion speaks of, by their byte places in the source.
-ghost use Rattle.std.specs.Prelude.{◌≡◌, All, Some, length, map, option_map, IfOk, IfSome};
+ghost use Rattle.std.specs.Prelude.{◌≡◌, All, length, map, option_map, IfOk, IfSome};
 ghost use Rattle.rl_ranges.specs.Text.{IsText};
 ghost use Rattle.rl_report.specs.Verdicts.{quoted_text};
-ghost use Rattle.rl_judge.specs.internal.Asked.{LiesIn, PartsLieIn};
+ghost use Rattle.rl_judge.specs.internal.Conditions.{LiesIn, PartsLieIn};
 ghost use Rattle.rl_judge.specs.Faults.{code_place};
-ghost use Rattle.rl_judge.specs.Sites.{codes_of, bare_part, quoted_part, no_parts, parts_of};
+ghost use Rattle.rl_judge.specs.Analysis.{codes_of, bare_part, quoted_part, no_parts, parts_of};
 
 use rl_lists::{Bytes, Codes, Items, OutOfMemory};
 use rl_pystr::{Literal, quote};
@@ -105,26 +105,6 @@ fn bare_parts(alloc: Global, literal: &Literal, spans: &[Span]) -> Result<PartLi
     Ok(parts)
 }
 
-/// The parts that the suggestion speaks of.
-fn parts_of_one(
-    alloc: Global,
-    literal: &Literal,
-    suggestion: &Suggestion,
-) -> Result<Parts, OutOfMemory>
-    requires text { IsText literal.now.universe literal.now.codes }
-    requires within { PartsLieIn (length literal.now.codes) suggestion.now }
-    ensures { IfOk result (λ parts. parts ≡ parts_of literal.now (Some suggestion.now)) }
-{
-    let dropped = quoted_parts(alloc, literal, suggestion.dropped.as_slice())?;
-    let merged = bare_parts(alloc, literal, suggestion.merged.as_slice())?;
-    let passed = quoted_parts(alloc, literal, suggestion.passed.as_slice())?;
-    Ok(Parts {
-        dropped,
-        merged,
-        passed,
-    })
-}
-
 /// The parts that the suggestion speaks of; none where there is no suggestion.
 pub fn parts_of(
     alloc: Global,
@@ -135,8 +115,15 @@ pub fn parts_of(
     requires within { IfSome suggestion (λ s. PartsLieIn (length literal.now.codes) s.now) }
     ensures { IfOk result (λ parts. parts ≡ parts_of literal.now (option_map (λ s. s.now) suggestion.entry)) }
 {
-    match suggestion {
-        Some(suggestion) => parts_of_one(alloc, literal, suggestion),
-        None => Ok(no_parts(alloc)),
-    }
+    let Some(suggestion) = suggestion else {
+        return Ok(no_parts(alloc));
+    };
+    let dropped = quoted_parts(alloc, literal, suggestion.dropped.as_slice())?;
+    let merged = bare_parts(alloc, literal, suggestion.merged.as_slice())?;
+    let passed = quoted_parts(alloc, literal, suggestion.passed.as_slice())?;
+    Ok(Parts {
+        dropped,
+        merged,
+        passed,
+    })
 }

@@ -115,18 +115,18 @@ fn drops_and_merges(alloc: Global, report: u32) -> Result<bool, OutOfMemory> {
     let source =
         "import re\nre.fullmatch(r\"(?:ab|a|ab)c\", s)\nre.fullmatch(r\"(?:a|[ab])\", s)\nre.fullmatch(r\"(?:x*)*y\", s)\n";
     let entries = entries_of(alloc, source, report)?;
-    let told = report == 2;
+    let is_new = report == 2;
     match entries.as_slice() {
         [first, second, third] => Ok(
             is_one(first.marks.dropped.as_slice(), 2, 24, "r\"ab\"")
                 && suggests(first, "(?:ab|a)c")
-                && becomes(first, told.then_some(0))
+                && becomes(first, is_new.then_some(0))
                 && is_one(second.marks.dropped.as_slice(), 3, 19, "r\"a\"")
                 && suggests(second, "(?:[ab])")
-                && becomes(second, told.then_some(0))
+                && becomes(second, is_new.then_some(0))
                 && is_one(third.marks.merged.as_slice(), 4, 20, "")
                 && suggests(third, "(?:x)*y")
-                && becomes(third, told.then_some(1)),
+                && becomes(third, is_new.then_some(1)),
         ),
         _ => Ok(false),
     }
@@ -136,6 +136,24 @@ fn drops_and_merges(alloc: Global, report: u32) -> Result<bool, OutOfMemory> {
 fn branches_and_a_quantifier_go(rt: HostRuntime) -> Result<(), OutOfMemory> {
     assert!(rt; drops_and_merges(rt.alloc(), 1)?);
     assert!(rt; drops_and_merges(rt.alloc(), 2)?);
+    Ok(())
+}
+
+#[test]
+fn the_example_of_the_crate_page(rt: HostRuntime) -> Result<(), OutOfMemory> {
+    let source = "import re\nre.fullmatch(r\"(?:x*)*y\", s)\n";
+    let entries = entries_of(rt.alloc(), source, 2)?;
+    match entries.as_slice() {
+        [entry] => {
+            assert!(rt; stands(entry, 2, 14));
+            assert!(rt; matches!(entry.outcome.verdict(), Some(Verdict::Expo(_))));
+            assert!(rt; is_one(entry.marks.merged.as_slice(), 2, 20, ""));
+            assert!(rt; suggests(entry, "(?:x)*y"));
+            assert!(rt; becomes(entry, Some(1)));
+        }
+        _ => assert!(rt; false),
+    }
+    assert_eq!(rt; status_of(&entries, &in_version(2)), 1);
     Ok(())
 }
 

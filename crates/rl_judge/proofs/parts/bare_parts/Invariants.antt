@@ -1,6 +1,6 @@
 -- The parts of the spans so far.
 use Rattle.std.proofs.Common.{◌≡◌, map, take}
-use Rattle.rl_judge.specs.Sites.{bare_part}
+use Rattle.rl_judge.specs.Analysis.{bare_part}
 use Rattle.rl_judge.proofs.parts.bare_parts.Given as goal
 
 abbrev pub invariant-loop-span : goal.invariant-loop-span

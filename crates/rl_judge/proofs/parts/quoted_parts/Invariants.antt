@@ -1,6 +1,6 @@
 -- The parts of the spans so far.
 use Rattle.std.proofs.Common.{◌≡◌, map, take}
-use Rattle.rl_judge.specs.Sites.{quoted_part}
+use Rattle.rl_judge.specs.Analysis.{quoted_part}
 use Rattle.rl_judge.proofs.parts.quoted_parts.Given as goal
 
 abbrev pub invariant-loop-span : goal.invariant-loop-span

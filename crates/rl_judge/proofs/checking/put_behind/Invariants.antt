@@ -1,6 +1,0 @@
-use Rattle.std.proofs.Common.{◌≡◌, ◌++◌}
-use Rattle.rl_judge.proofs.checking.put_behind.Given as goal
-
--- the items so far stand behind the others
-abbrev pub invariant-loop-entry : goal.invariant-loop-entry
-invariant-loop-entry l = l.entries ≡ l.initial.entries ++ l.yielded

@@ -1,4 +1,0 @@
-use Rattle.rl_judge.proofs.told.universe_of_run.Goals as goal
-
-pub value-requires-clause-run : goal.value-requires-clause-run
-value-requires-clause-run c = c.requires.run.run

@@ -1,0 +1,155 @@
+-- The analysis of a site. What holds first decides it: the first argument is more than literals, the literals have no value, the
+-- flags aren't known, the codes spell no pattern that is judged, or the pattern has a verdict. Out of memory is no outcome.
+use Rattle.std.specs.Prelude.{◌≡◌, ◌≢◌, ◌⊎◌, ◌==◌, ℕ, Bool, true, false, List, [], map, take, drop, ◌-◌, Option, Some, None, Ok, Err, if◌then◌else◌}
+use Rattle.rl_ranges.specs.declared.universe.Universe.{Universe}
+use Rattle.rl_ranges.specs.declared.universe.Universe.TheVariants as universe
+use Rattle.rl_syntax.specs.declared.pattern.Pattern.{Pattern}
+use Rattle.rl_syntax.specs.declared.span.Span.{Span}
+use Rattle.rl_syntax.specs.declared.verdict.Limit.TheVariants.{Size, Letters, Moves}
+use Rattle.rl_syntax.specs.declared.verdict.Suggestion.{Suggestion}
+use Rattle.rl_syntax.specs.declared.verdict.Verdict.{Verdict}
+use Rattle.rl_syntax.specs.declared.verdict.Verdict.TheVariants.{Undecided}
+use Rattle.rl_syntax.specs.Pattern.{pattern_tree, pattern_ending, universe_of}
+use Rattle.rl_pattern.specs.declared.flags.Flags.{Flags}
+use Rattle.rl_pattern.specs.declared.parsing.PatError.{PatError}
+use Rattle.rl_pattern.specs.declared.parsing.PatError.TheVariants as parsing
+use Rattle.rl_pattern.specs.Parsed.{IsParsed}
+use Rattle.rl_pylex.specs.declared.token_list.Token.{Token}
+use Rattle.rl_pystr.specs.declared.fault.StrError.{StrError}
+use Rattle.rl_pystr.specs.declared.fault.StrError.TheVariants as valuing
+use Rattle.rl_pystr.specs.declared.literal.Literal.{Literal}
+use Rattle.rl_pystr.specs.Runs.{value_of_run, IsValue}
+use Rattle.rl_pairs.specs.RightVerdict.{Question, RightVerdict}
+use Rattle.rl_rewrite.specs.RightSuggestion.{IsRightSuggestion}
+use Rattle.rl_sites.specs.declared.site.Site.{Site}
+use Rattle.rl_sites.specs.declared.site.SiteFlags.{SiteFlags}
+use Rattle.rl_sites.specs.declared.site.SiteFlags.TheVariants.{Known, Unknown}
+use Rattle.rl_sites.specs.Runs.{run_of}
+use Rattle.rl_report.specs.declared.report.Outcome.{Outcome}
+use Rattle.rl_report.specs.declared.report.Outcome.TheVariants as outcome
+use Rattle.rl_report.specs.Verdicts.{quoted_text}
+use Rattle.rl_judge.specs.declared.analysis.Analysis.{Analysis}
+use Rattle.rl_judge.specs.declared.options.AnalysisOptions.{AnalysisOptions}
+use Rattle.rl_judge.specs.declared.parts.Part.{Part}
+use Rattle.rl_judge.specs.declared.parts.Parts.{Parts}
+use Rattle.rl_judge.specs.Faults.{code_place, literal_fault, pattern_fault}
+
+-- ---- the verdict on a pattern, and what stands beside it
+
+-- how the texts of a pattern cost in the mode, where so many live pairs are looked at
+abbrev pub question_of : Pattern → AnalysisOptions → Question
+question_of p options = record {
+  tree = pattern_tree p options.mode;
+  ending = pattern_ending p options.mode;
+  universe = universe_of p;
+  max_pairs = options.max_pairs;
+}
+
+-- a suggestion stands beside every verdict but that size, letters or moves are passed, and it is right with the limit 20,000
+abbrev pub IsSuggested : Flags → Pattern → List ℕ → Verdict → Option Suggestion → Type 0
+IsSuggested flags p codes (Undecided Size) suggestion = suggestion ≡ None
+IsSuggested flags p codes (Undecided Letters) suggestion = suggestion ≡ None
+IsSuggested flags p codes (Undecided Moves) suggestion = suggestion ≡ None
+IsSuggested flags p codes v suggestion = (s : Suggestion) × (suggestion ≡ Some s) × IsRightSuggestion flags p codes 20000 s
+
+-- the text whose pattern is judged too: that of the suggestion, under report version 2
+abbrev pub text_to_judge : AnalysisOptions → Option Suggestion → Option (List ℕ)
+text_to_judge options None = None
+text_to_judge options (Some s) = if options.report == 2 then s.text else None
+
+-- the verdict, by the same options, is right on the pattern that the text gives under the same flags
+abbrev pub IsTextVerdict : Flags → AnalysisOptions → Universe → List ℕ → Verdict → Type 0
+IsTextVerdict flags options u text v = (p : Pattern) × IsParsed flags u text (Ok p) × RightVerdict (question_of p options) v
+
+-- the verdict on the suggested pattern, where there is a text that is judged
+abbrev pub IsSuggestedVerdict : Flags → AnalysisOptions → Universe → Option (List ℕ) → Option Verdict → Type 0
+IsSuggestedVerdict flags options u None becomes = becomes ≡ None
+IsSuggestedVerdict flags options u (Some text) becomes = (v : Verdict) × (becomes ≡ Some v) × IsTextVerdict flags options u text v
+
+-- ---- the parts that a suggestion speaks of
+
+-- the codes of a span
+abbrev pub codes_of : Span → List ℕ → List ℕ
+codes_of span codes = take (span.upto - span.from) (drop span.from codes)
+
+-- where a part of a pattern begins in the source: where its first code stands
+abbrev pub bare_part : Literal → Span → Part
+bare_part literal span = record { byte = code_place literal span.from; text = None }
+
+-- the same with the part's codes as a literal
+abbrev pub quoted_part : Literal → Span → Part
+quoted_part literal span = record { byte = code_place literal span.from; text = Some (quoted_text literal.universe (codes_of span literal.codes)) }
+
+abbrev pub no_parts : Parts
+no_parts = record { dropped = []; merged = []; passed = [] }
+
+-- dropped and passed branches with their texts, and quantifiers that were taken out
+abbrev pub parts_of : Literal → Option Suggestion → Parts
+parts_of literal None = no_parts
+parts_of literal (Some s) = record {
+  dropped = map (quoted_part literal) s.dropped;
+  merged = map (bare_part literal) s.merged;
+  passed = map (quoted_part literal) s.passed;
+}
+
+-- ---- sites
+
+-- the analysis of a site without a verdict
+abbrev pub refusal : Universe → Option ℕ → Outcome → Analysis
+refusal u fault o = record { universe = u; fault = fault; outcome = o; parts = no_parts }
+
+-- the universe of a run of literals is that of its value, and text where it has none
+abbrev pub IsUniverseOfRun : List ℕ → List Token → Universe → Type 0
+IsUniverseOfRun source run u =
+    ((literal : Literal) × IsValue source run literal × (u ≡ literal.universe))
+    ⊎ ((e : StrError) × (value_of_run source run ≡ Err e) × (e ≢ valuing.OutOfMemory) × (u ≡ universe.Str))
+
+-- the first argument is more than the run of literals
+abbrev pub IsNotWhole : List ℕ → List Token → Analysis → Type 0
+IsNotWhole source run a = (u : Universe) × IsUniverseOfRun source run u × (a ≡ refusal u None outcome.NotWhole)
+
+-- the literals have no value
+pub record IsWithoutValue (source : List ℕ) (run : List Token) (a : Analysis) (e : StrError) : Type 0 where
+  pub refused : value_of_run source run ≡ Err e
+  pub some : e ≢ valuing.OutOfMemory
+  pub is : a ≡ refusal universe.Str (literal_fault e) (outcome.Literal e)
+
+-- the codes give no pattern under the flags
+pub record IsWithoutPattern (flags : Flags) (literal : Literal) (a : Analysis) (e : PatError) : Type 0 where
+  pub refused : IsParsed flags literal.universe literal.codes (Err e)
+  pub some : e ≢ parsing.OutOfMemory
+  pub is : a ≡ refusal literal.universe (pattern_fault literal e) (outcome.Pattern e)
+
+-- the codes give this pattern under the flags; the verdict on it is right, and so is what stands beside it
+pub record IsJudged (flags : Flags) (options : AnalysisOptions) (literal : Literal) (a : Analysis) (p : Pattern) : Type 0 where
+  pub verdict : Verdict
+  pub suggestion : Option Suggestion
+  pub becomes : Option Verdict
+  pub parsed : IsParsed flags literal.universe literal.codes (Ok p)
+  pub right : RightVerdict (question_of p options) verdict
+  pub suggested : IsSuggested flags p literal.codes verdict suggestion
+  pub next : IsSuggestedVerdict flags options literal.universe (text_to_judge options suggestion) becomes
+  pub is : a ≡ record {
+    universe = literal.universe;
+    fault = None;
+    outcome = outcome.Judged verdict suggestion becomes;
+    parts = parts_of literal suggestion;
+  }
+
+-- of literals with this value
+abbrev pub IsAnalysisOfValue : SiteFlags → AnalysisOptions → Literal → Analysis → Type 0
+IsAnalysisOfValue Unknown options literal a = a ≡ refusal literal.universe None outcome.FlagsUnknown
+IsAnalysisOfValue (Known flags) options literal a =
+    ((e : PatError) × IsWithoutPattern flags literal a e)
+    ⊎ ((p : Pattern) × IsJudged flags options literal a p)
+
+-- of a first argument that begins with this run of literals; the flag says whether the run is the whole of it
+abbrev pub IsAnalysisOfArgument : Bool → List ℕ → List Token → SiteFlags → AnalysisOptions → Analysis → Type 0
+IsAnalysisOfArgument false source run flags options a = IsNotWhole source run a
+IsAnalysisOfArgument true source run flags options a =
+    ((e : StrError) × IsWithoutValue source run a e)
+    ⊎ ((literal : Literal) × IsValue source run literal × IsAnalysisOfValue flags options literal a)
+
+-- of a site of the source with these tokens
+abbrev pub IsAnalysisOf : List ℕ → List Token → AnalysisOptions → Site → Analysis → Type 0
+IsAnalysisOf source tokens options site a = IsAnalysisOfArgument site.whole source (run_of tokens site) site.flags options a

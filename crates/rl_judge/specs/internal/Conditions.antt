@@ -1,0 +1,61 @@
+-- Conditions on verdicts and suggestions, which the steps of an analysis pass on to each other.
+use Rattle.std.specs.Prelude.{◌≡◌, ◌≤◌, ℕ, Bool, true, false, List, All, IfSome, Err}
+use Rattle.rl_ranges.specs.declared.universe.Universe.{Universe}
+use Rattle.rl_ranges.specs.Text.{IsText}
+use Rattle.rl_syntax.specs.declared.span.Span.{Span}
+use Rattle.rl_syntax.specs.declared.re.Mode.TheVariants.{Fullmatch}
+use Rattle.rl_syntax.specs.declared.pattern.Pattern.{Pattern}
+use Rattle.rl_syntax.specs.Pattern.{pattern_tree, universe_of}
+use Rattle.rl_syntax.specs.declared.verdict.Limit.{Limit}
+use Rattle.rl_syntax.specs.declared.verdict.Limit.TheVariants.{Size, Letters, Moves, Sets, Pairs}
+use Rattle.rl_syntax.specs.declared.verdict.Suggestion.{Suggestion}
+use Rattle.rl_syntax.specs.declared.verdict.Verdict.{Verdict}
+use Rattle.rl_syntax.specs.declared.verdict.Verdict.TheVariants.{Degree, Expo, Undecided}
+use Rattle.rl_pattern.specs.declared.flags.Flags.{Flags}
+use Rattle.rl_pattern.specs.declared.parsing.PatError.{PatError}
+use Rattle.rl_pattern.specs.declared.parsing.PatError.TheVariants as parsing
+use Rattle.rl_pattern.specs.Parsed.{IsParsed}
+use Rattle.rl_rewrite.specs.Verdicts.{PassesLimit}
+use Rattle.rl_report.specs.declared.report.Outcome.{Outcome}
+use Rattle.rl_report.specs.Findings.{verdict_of, suggestion_of}
+use Rattle.rl_report.specs.Verdicts.{IsVerdictOf}
+
+-- the suggestion's text is one of the universe
+abbrev pub IsSuggestionOf : Universe → Suggestion → Type 0
+IsSuggestionOf u s = IfSome s.text (IsText u)
+
+-- the texts of the outcome's verdict and suggestion are of the universe
+pub record IsOfUniverse (u : Universe) (o : Outcome) : Type 0 where
+  pub verdict : IfSome (verdict_of o) (IsVerdictOf u)
+  pub suggestion : IfSome (suggestion_of o) (IsSuggestionOf u)
+
+-- the span lies in so many codes
+abbrev pub LiesIn : ℕ → Span → Type 0
+LiesIn count span = (span.from ≤ span.upto) × (span.upto ≤ count)
+
+-- the branches that the suggestion speaks of lie in so many codes
+pub record PartsLieIn (count : ℕ) (s : Suggestion) : Type 0 where
+  pub dropped : All (LiesIn count) s.dropped
+  pub passed : All (LiesIn count) s.passed
+
+-- the text is read as a pattern, unless memory runs out
+abbrev pub IsReadable : Flags → Universe → List ℕ → Type 0
+IsReadable flags u text = (e : PatError) → IsParsed flags u text (Err e) → e ≡ parsing.OutOfMemory
+
+-- the suggestion's text is read as a pattern
+abbrev pub HasReadable : Flags → Universe → Suggestion → Type 0
+HasReadable flags u s = IfSome s.text (IsReadable flags u)
+
+-- the body as fullmatch passes no limit
+abbrev pub IsSmallWhole : Pattern → Type 0
+IsSmallWhole p = (l : Limit) → PassesLimit (universe_of p) (pattern_tree p Fullmatch) l → ⊥
+
+-- whether a suggestion stands beside the verdict
+abbrev pub has_suggestion : Verdict → Bool
+has_suggestion (Undecided Size) = false
+has_suggestion (Undecided Letters) = false
+has_suggestion (Undecided Moves) = false
+has_suggestion (Undecided Sets) = true
+has_suggestion (Undecided Pairs) = true
+has_suggestion (Degree d family) = true
+has_suggestion (Expo family) = true

@@ -1,0 +1,176 @@
+//! The analysis of a site: the outcome of its pattern, and the parts of it that the suggestion speaks of.
+ghost use Rattle.std.specs.Prelude.{◌≡◌, ◌≢◌, ◌≤◌, None, IfOk, OnOk};
+ghost use Rattle.rl_ranges.specs.declared.universe.Universe.TheVariants as universe;
+ghost use Rattle.rl_pylex.specs.Source.{IsTokenList};
+ghost use Rattle.rl_pystr.specs.declared.fault.StrError.TheVariants as valuing;
+ghost use Rattle.rl_pattern.specs.declared.parsing.PatError.TheVariants as parsing;
+ghost use Rattle.rl_report.specs.declared.report.Outcome.TheVariants as outcome;
+ghost use Rattle.rl_report.specs.Findings.{verdict_of, suggestion_of};
+ghost use Rattle.rl_sites.specs.Runs.{run_of, HasRun};
+ghost use Rattle.rl_judge.specs.Faults.{literal_fault, pattern_fault};
+ghost use Rattle.rl_judge.specs.Analysis.{refusal, IsNotWhole, IsAnalysisOf};
+ghost use Rattle.rl_judge.specs.internal.Conditions.{IsOfUniverse};
+
+use crate::options::AnalysisOptions;
+use crate::parts::{Parts, code_place, no_parts, parts_of};
+use crate::suggestion::{suggested_verdict, suggestion_beside};
+use crate::verdict::verdict_on;
+use rl_lists::OutOfMemory;
+use rl_pattern::{PatError, parse};
+use rl_pylex::TokenList;
+use rl_pystr::{Literal, StrError, value};
+use rl_report::Outcome;
+use rl_sites::{Site, SiteFlags};
+use rl_syntax::Universe;
+use std::alloc::Global;
+
+/// What is found of a site.
+#[derive(Drop)]
+pub struct Analysis {
+    /// Whether the pattern is text or bytes; text where the literals have no value.
+    pub universe: Universe,
+    /// The byte place of a fault of the literals or of the pattern.
+    pub fault: Option<u32>,
+    /// The outcome.
+    pub outcome: Outcome,
+    /// The parts of the pattern that the suggestion speaks of.
+    pub parts: Parts,
+}
+
+/// The byte place of a fault of the literals.
+fn literal_fault(error: StrError) -> Option<u32>
+    ensures { result ≡ literal_fault error }
+{
+    match error {
+        StrError::BadEscape(byte) => Some(byte),
+        StrError::NamedEscape(byte) => Some(byte),
+        StrError::NotAscii(byte) => Some(byte),
+        StrError::FString => None,
+        StrError::Mixed => None,
+        StrError::OutOfMemory => None,
+    }
+}
+
+/// The byte place of a fault of the codes.
+fn pattern_fault(literal: &Literal, error: PatError) -> Option<u32>
+    ensures { result ≡ pattern_fault literal.now error }
+{
+    match error {
+        PatError::Syntax(code) => Some(code_place(literal, code)),
+        PatError::TooDeep(code) => Some(code_place(literal, code)),
+        PatError::TooLong => None,
+        PatError::Outside(code, _) => Some(code_place(literal, code)),
+        PatError::OutOfMemory => None,
+    }
+}
+
+/// The analysis of a site without a verdict.
+fn refusal(alloc: Global, universe: Universe, fault: Option<u32>, outcome: Outcome) -> Analysis
+    ensures { result ≡ refusal universe fault outcome }
+{
+    Analysis {
+        universe,
+        fault,
+        outcome,
+        parts: no_parts(alloc),
+    }
+}
+
+/// The analysis of a site whose first argument is more than literals. Its pattern is text where the literals have no value.
+fn not_whole(
+    alloc: Global,
+    source: &[u8],
+    tokens: &TokenList,
+    site: Site,
+) -> Result<Analysis, OutOfMemory>
+    requires tokens { IsTokenList source.now tokens.now }
+    requires run { HasRun tokens.now site }
+    ensures right { IfOk result (IsNotWhole source.now (run_of tokens.now site)) }
+    ensures texts { IfOk result (λ a. IsOfUniverse a.universe a.outcome) }
+{
+    let universe = match value(alloc, source, tokens, site.first, site.count) {
+        Ok(literal) => literal.universe,
+        Err(StrError::OutOfMemory) => return Err(OutOfMemory),
+        Err(_) => Universe::Str,
+    };
+    Ok(refusal(alloc, universe, None, Outcome::NotWhole))
+}
+
+/// The analysis of a site whose literals have no value.
+fn without_value(alloc: Global, error: StrError) -> Result<Analysis, OutOfMemory>
+    ensures is { IfOk result (λ a. a ≡ refusal universe.Str (literal_fault error) (outcome.Literal error)) }
+    ensures some { OnOk result (error ≢ valuing.OutOfMemory) }
+{
+    match error {
+        StrError::OutOfMemory => Err(OutOfMemory),
+        _ => Ok(refusal(
+            alloc,
+            Universe::Str,
+            literal_fault(error),
+            Outcome::Literal(error),
+        )),
+    }
+}
+
+/// The analysis of a site whose codes spell no pattern that is judged.
+fn without_pattern(
+    alloc: Global,
+    literal: &Literal,
+    error: PatError,
+) -> Result<Analysis, OutOfMemory>
+    ensures is { IfOk result (λ a. a ≡ refusal literal.now.universe (pattern_fault literal.now error) (outcome.Pattern error)) }
+    ensures some { OnOk result (error ≢ parsing.OutOfMemory) }
+{
+    match error {
+        PatError::OutOfMemory => Err(OutOfMemory),
+        _ => Ok(refusal(
+            alloc,
+            literal.universe,
+            pattern_fault(literal, error),
+            Outcome::Pattern(error),
+        )),
+    }
+}
+
+/// The analysis of a site of the source with these tokens: the first of five outcomes that holds.
+#[tactic(auto, using(crate::proofs::Parsing::parsing))]
+pub fn analyze(
+    alloc: Global,
+    source: &[u8],
+    tokens: &TokenList,
+    site: Site,
+    options: AnalysisOptions,
+) -> Result<Analysis, OutOfMemory>
+    requires some { 1 ≤ options.max_pairs }
+    requires few { options.max_pairs ≤ 1000 }
+    requires tokens { IsTokenList source.now tokens.now }
+    requires run { HasRun tokens.now site }
+    ensures right { IfOk result (IsAnalysisOf source.now tokens.now options site) }
+    ensures texts { IfOk result (λ a. IsOfUniverse a.universe a.outcome) }
+{
+    if !site.whole {
+        return not_whole(alloc, source, tokens, site);
+    }
+    let literal = match value(alloc, source, tokens, site.first, site.count) {
+        Ok(literal) => literal,
+        Err(error) => return without_value(alloc, error),
+    };
+    let universe = literal.universe;
+    let SiteFlags::Known(flags) = site.flags else {
+        return Ok(refusal(alloc, universe, None, Outcome::FlagsUnknown));
+    };
+    let pattern = match parse(alloc, &literal.codes, flags, universe) {
+        Ok(pattern) => pattern,
+        Err(error) => return without_pattern(alloc, &literal, error),
+    };
+    let verdict = verdict_on(alloc, &pattern, options)?;
+    let suggestion = suggestion_beside(alloc, &pattern, &literal.codes, flags, options, &verdict)?;
+    let becomes = suggested_verdict(alloc, suggestion.as_ref(), universe, flags, options)?;
+    let parts = parts_of(alloc, &literal, suggestion.as_ref())?;
+    Ok(Analysis {
+        universe,
+        fault: None,
+        outcome: Outcome::Judged(verdict, suggestion, becomes),
+        parts,
+    })
+}

@@ -1,0 +1,121 @@
+//! The checker: a visitor of a walk, which keeps the entries of its visits.
+ghost use Rattle.std.specs.Prelude.{◌≡◌, ◌||◌, ◌++◌, [], All, IfOk, OnOk};
+ghost use Rattle.rl_report.specs.Layouts.{IsOfItsUniverse};
+ghost use Rattle.rl_walk.specs.Visits.{is_unreadable};
+ghost use Rattle.rl_judge.specs.RightEntries.{IsValid};
+ghost use Rattle.rl_judge.specs.RightReport.{IsRightFor, HasChecked};
+
+use crate::entries::{judge, path_entries};
+use crate::settings::Settings;
+use rl_lists::OutOfMemory;
+use rl_report::{Entries, Outcome};
+use rl_source::Name;
+use rl_walk::{Visit, Visitor};
+use std::alloc::Global;
+use std::marker::Model;
+
+/// The entries of a visit.
+fn visit_entries(alloc: Global, visit: &Visit, settings: &Settings) -> Result<Entries, OutOfMemory>
+    requires { IsValid settings.now }
+    ensures right { IfOk result (IsRightFor settings.now visit.now) }
+    ensures universe { IfOk result (All IsOfItsUniverse) }
+{
+    match visit {
+        Visit::Source(path, content) => Ok(judge(alloc, path, content.as_slice(), settings)?),
+        Visit::Unreadable(path) => path_entries(alloc, path, None, Outcome::Unreadable),
+        Visit::TooDeep(path) => path_entries(alloc, path, None, Outcome::TooDeepFolder),
+        Visit::NotPlain(path) => path_entries(alloc, path, None, Outcome::NotPlain),
+    }
+}
+
+/// Whether a call of the tree failed before, or for the visit's path.
+fn is_unread(before: bool, visit: &Visit) -> bool
+    ensures { result ≡ (before || is_unreadable visit.now) }
+{
+    before || matches!(visit, Visit::Unreadable(_))
+}
+
+/// Appends entries.
+fn append(entries: &mut Entries, later: Entries) -> Result<(), OutOfMemory>
+    ensures { OnOk result (entries.new ≡ entries.old ++ later) }
+{
+    for entry in later.into_vec() {
+        entries.push(entry)?;
+    }
+    Ok(())
+}
+
+/// The entries of the visits so far.
+#[derive(Drop)]
+pub struct Checker {
+    alloc: Global,
+    settings: Settings,
+    entries: Entries,
+    has_unread: bool,
+}
+
+impl Model for Checker {
+    ghost use Rattle.rl_judge.specs.RightReport.{Checked};
+    ghost use Rattle.rl_judge.specs.RightEntries.{IsValid};
+
+    ghost Value = { Checked };
+
+    ghost view = { λ c. record { settings = c.settings; entries = c.entries; has_unread = c.has_unread } };
+
+    ghost invariant = { λ c. IsValid c.settings };
+}
+
+impl Checker {
+    /// A checker that has seen no visit.
+    pub fn new(alloc: Global, settings: Settings) -> Checker
+        requires { IsValid settings }
+        ensures told { HasChecked result [] }
+        ensures settings { result.settings ≡ settings }
+    {
+        Checker {
+            alloc,
+            settings,
+            entries: Entries::new(alloc),
+            has_unread: false,
+        }
+    }
+
+    /// The entries of the visits so far.
+    pub fn entries(&self) -> &Entries
+        ensures { result.now ≡ self.now.entries }
+    {
+        &self.entries
+    }
+
+    /// The entries of the visits, as a list of their own.
+    pub fn into_entries(self) -> Entries
+        ensures { result ≡ self.entries }
+    {
+        self.entries
+    }
+
+    /// Whether a call of the tree failed so far.
+    pub fn has_unread(&self) -> bool
+        ensures { result ≡ self.now.has_unread }
+    {
+        self.has_unread
+    }
+}
+
+impl Visitor for Checker {
+    ghost use Rattle.rl_judge.specs.declared.settings.Settings.{Settings};
+
+    ghost was_told = { HasChecked };
+
+    ghost Terms = { Settings };
+
+    ghost terms = { λ c. c.settings };
+
+    fn visit(&mut self, visit: Visit) -> Result<(), OutOfMemory> {
+        let later = visit_entries(self.alloc, &visit, &self.settings)?;
+        let has_unread = is_unread(self.has_unread, &visit);
+        append(&mut self.entries, later)?;
+        self.has_unread = has_unread;
+        Ok(())
+    }
+}

@@ -1,0 +1,221 @@
+//! The entries of a source.
+ghost use Rattle.std.specs.Prelude.{◌≡◌, ◌≤◌, ◌∷◌, [], All, length, slice_get, option_map, IfOk};
+ghost use Rattle.std.specs.List.{list_any};
+ghost use Rattle.rl_ranges.specs.declared.universe.Universe.TheVariants as universe;
+ghost use Rattle.rl_pylex.specs.Source.{IsTokenList, IsFault};
+ghost use Rattle.rl_report.specs.Findings.{is_finding};
+ghost use Rattle.rl_report.specs.Layouts.{IsOfItsUniverse};
+ghost use Rattle.rl_report.specs.Places.{IsAt};
+ghost use Rattle.rl_judge.specs.internal.Conditions.{IsOfUniverse};
+ghost use Rattle.rl_judge.specs.Faults.{source_fault};
+ghost use Rattle.rl_judge.specs.RightEntries.{IsValid, path_entry, site_entry, IsFaultEntry, AreSiteEntries, AreRight, status_of};
+
+use crate::analysis::{Analysis, analyze};
+use crate::options::options_of;
+use crate::places::{fault_place, marks_of, no_marks, some_place_at};
+use crate::settings::Settings;
+use rl_lists::OutOfMemory;
+use rl_pylex::{LexError, TokenList, tokens};
+use rl_report::{Cursor, Entries, Entry, Outcome, Place};
+use rl_sites::{Site, has_no_sites, sites};
+use rl_source::Name;
+use rl_syntax::Universe;
+use std::alloc::Global;
+
+/// The byte place of the fault of a source.
+fn source_fault(fault: LexError) -> Option<u32>
+    ensures { result ≡ source_fault fault }
+{
+    match fault {
+        LexError::NotUtf8(byte) => Some(byte),
+        LexError::Coding(byte) => Some(byte),
+        LexError::Unterminated(byte) => Some(byte),
+        LexError::StrayCode(byte) => Some(byte),
+        LexError::FileTooLong => None,
+        LexError::OutOfMemory => None,
+    }
+}
+
+/// Where a token begins.
+fn start_of(tokens: &TokenList, number: u32) -> Option<u32>
+    ensures { result ≡ option_map (λ token. token.from) (slice_get tokens.now number) }
+{
+    match tokens.as_slice().get(number as usize) {
+        Some(token) => Some(token.from),
+        None => None,
+    }
+}
+
+/// The one entry of a path without sites, with the place in its source where there is one.
+pub fn path_entries(
+    alloc: Global,
+    path: &Name,
+    at: Option<Place>,
+    outcome: Outcome,
+) -> Result<Entries, OutOfMemory>
+    requires { IsOfUniverse universe.Str outcome }
+    ensures entry { IfOk result (λ entries. entries ≡ path_entry path.now at outcome ∷ []) }
+    ensures universe { IfOk result (All IsOfItsUniverse) }
+{
+    let path = path.clone()?;
+    let mut entries = Entries::new(alloc);
+    entries.push(Entry {
+        path,
+        at,
+        call: None,
+        universe: Universe::Str,
+        fault: None,
+        outcome,
+        marks: no_marks(alloc),
+    })?;
+    Ok(entries)
+}
+
+/// The entries of a source without tokens.
+fn fault_entries(
+    alloc: Global,
+    path: &Name,
+    source: &[u8],
+    fault: LexError,
+) -> Result<Entries, OutOfMemory>
+    requires { IsFault source.now fault }
+    ensures right { IfOk result (IsFaultEntry path.now source.now) }
+    ensures universe { IfOk result (All IsOfItsUniverse) }
+{
+    if fault == LexError::OutOfMemory {
+        return Err(OutOfMemory);
+    }
+    let at = fault_place(source, source_fault(fault));
+    path_entries(alloc, path, at, Outcome::Source(fault))
+}
+
+/// The entry of a site with this analysis.
+fn site_entry(
+    alloc: Global,
+    path: &Name,
+    source: &[u8],
+    tokens: &TokenList,
+    site: Site,
+    analysis: Analysis,
+    cursor: &mut Cursor,
+) -> Result<Entry, OutOfMemory>
+    requires at { IsAt source.now cursor.old }
+    requires short { length source.now ≤ 4194304 }
+    requires texts { IsOfUniverse analysis.universe analysis.outcome }
+    ensures entry { IfOk result (λ entry. entry ≡ site_entry path.now source.now tokens.now site analysis) }
+    ensures universe { IfOk result IsOfItsUniverse }
+    ensures at { IsAt source.now cursor.new }
+{
+    let path = path.clone()?;
+    let at = some_place_at(cursor, source, start_of(tokens, site.first));
+    let fault = some_place_at(cursor, source, analysis.fault);
+    let marks = marks_of(alloc, source, analysis.parts, *cursor)?;
+    Ok(Entry {
+        path,
+        at,
+        call: Some(site.call),
+        universe: analysis.universe,
+        fault,
+        outcome: analysis.outcome,
+        marks,
+    })
+}
+
+/// The entries of the sites of a source, in their order.
+fn site_entries(
+    alloc: Global,
+    path: &Name,
+    source: &[u8],
+    tokens: &TokenList,
+    settings: &Settings,
+) -> Result<Entries, OutOfMemory>
+    requires settings { IsValid settings.now }
+    requires tokens { IsTokenList source.now tokens.now }
+    ensures right { IfOk result (AreSiteEntries path.now source.now settings.now) }
+    ensures universe { IfOk result (All IsOfItsUniverse) }
+{
+    let sites = sites(alloc, source, tokens)?;
+    let mut entries = Entries::new(alloc);
+    let mut cursor = Cursor::start();
+    for site in sites.as_slice() {
+        let options = options_of(settings, site.call);
+        let analysis = analyze(alloc, source, tokens, *site, options)?;
+        let entry = site_entry(alloc, path, source, tokens, *site, analysis, &mut cursor)?;
+        entries.push(entry)?;
+    }
+    Ok(entries)
+}
+
+/// Why a source isn't judged.
+#[derive(Clone, Copy, Debug, PartialEq, Eq)]
+pub enum JudgeError {
+    /// Out of memory.
+    OutOfMemory,
+}
+
+impl From<OutOfMemory> for JudgeError {
+    ghost use Rattle.std.specs.Prelude.{◌≡◌};
+    ghost use Rattle.rl_judge.specs.declared.entries.JudgeError.TheVariants as error;
+
+    ghost from_gives = { λ _ e. e ≡ error.OutOfMemory };
+
+    fn from(_: OutOfMemory) -> Self {
+        JudgeError::OutOfMemory
+    }
+}
+
+impl From<JudgeError> for OutOfMemory {
+    fn from(error: JudgeError) -> Self {
+        match error {
+            JudgeError::OutOfMemory => OutOfMemory,
+        }
+    }
+}
+
+/// The entries of one source: one that says why it has no tokens, or one for each of its sites, in their order.
+///
+/// A site's outcome is the first that holds: its first argument is more than literals, the literals have no value, the
+/// flags aren't known, the value is no pattern that is judged, or the verdict on the pattern in the mode of its call. A
+/// suggestion stands beside every verdict but that the size, the letters or the moves are too many, and under report version 2
+/// the verdict on the suggested pattern.
+///
+/// # Errors
+/// [`JudgeError::OutOfMemory`] when out of memory.
+#[tactic(auto, using(crate::proofs::NoEntries::no_entries))]
+pub fn judge(
+    alloc: Global,
+    path: &Name,
+    source: &[u8],
+    settings: &Settings,
+) -> Result<Entries, JudgeError>
+    requires { IsValid settings.now }
+    ensures right { IfOk result (AreRight path.now source.now settings.now) }
+    ensures universe { IfOk result (All IsOfItsUniverse) }
+{
+    if has_no_sites(source) {
+        return Ok(Entries::new(alloc));
+    }
+    let entries = match tokens(alloc, source) {
+        Ok(tokens) => site_entries(alloc, path, source, &tokens, settings)?,
+        Err(fault) => fault_entries(alloc, path, source, fault)?,
+    };
+    Ok(entries)
+}
+
+/// The status of a report on these entries: 1 where one of them is a finding, else 0. It takes no memory.
+pub fn status_of(entries: &Entries, settings: &Settings) -> u8
+    ensures { result ≡ status_of settings.now entries.now }
+{
+    if has_finding(entries.as_slice(), settings.max_degree) {
+        1
+    } else {
+        0
+    }
+}
+
+/// Whether one of the entries is a finding.
+fn has_finding(entries: &[Entry], max_degree: u32) -> bool
+    ensures { result ≡ list_any (is_finding max_degree) entries.now }
+{
+    entries.iter().any(|entry| entry.is_finding(max_degree))
+}

@@ -1,0 +1,42 @@
+//! How the pattern of a call is judged.
+ghost use Rattle.std.specs.Prelude.{◌≡◌};
+ghost use Rattle.rl_judge.specs.RightEntries.{mode_of, options_of};
+
+use crate::settings::Settings;
+use rl_sites::Call;
+use rl_syntax::Mode;
+
+/// How a pattern is judged: in this mode, with so many live pairs looked at, for a report of this version.
+#[derive(Clone, Copy, Debug, PartialEq, Eq)]
+pub struct AnalysisOptions {
+    /// The mode.
+    pub mode: Mode,
+    /// How many live pairs are looked at.
+    pub max_pairs: u32,
+    /// The version of the report, 1 or 2.
+    pub report: u32,
+}
+
+/// The mode that a call counts as.
+fn mode_of(settings: &Settings, call: Call) -> Mode
+    ensures { result ≡ mode_of settings.now call }
+{
+    match call {
+        Call::Compile => settings.compile_as,
+        Call::Match => Mode::Match,
+        Call::Fullmatch => Mode::Fullmatch,
+        Call::Search | Call::Findall | Call::Finditer | Call::Split | Call::Sub | Call::Subn =>
+            Mode::Search,
+    }
+}
+
+/// How the pattern of a call is judged under the settings.
+pub fn options_of(settings: &Settings, call: Call) -> AnalysisOptions
+    ensures { result ≡ options_of settings.now call }
+{
+    AnalysisOptions {
+        mode: mode_of(settings, call),
+        max_pairs: settings.max_pairs,
+        report: settings.report,
+    }
+}

@@ -1,0 +1,135 @@
+//! The suggestion beside the verdict on a pattern, and the verdict on the suggested pattern.
+ghost use Rattle.std.specs.Prelude.{◌≡◌, ◌≤◌, Ok, IfOk, IfSome, length, option_map};
+ghost use Rattle.rl_ranges.specs.Text.{IsText};
+ghost use Rattle.rl_syntax.specs.Pattern.{universe_of};
+ghost use Rattle.rl_pairs.specs.RightVerdict.{RightVerdict};
+ghost use Rattle.rl_pattern.specs.Parsed.{IsParsed};
+ghost use Rattle.rl_rewrite.specs.RightSuggestion.{IsRightSuggestion};
+ghost use Rattle.rl_judge.specs.Analysis.{question_of, text_to_judge, IsSuggested, IsSuggestedVerdict, IsTextVerdict};
+ghost use Rattle.rl_judge.specs.internal.Conditions.{has_suggestion, IsSmallWhole, PartsLieIn, IsSuggestionOf, HasReadable, IsReadable};
+
+use crate::options::AnalysisOptions;
+use crate::verdict::verdict_on;
+use rl_lists::{Codes, OutOfMemory};
+use rl_pattern::{Flags, PatError, parse};
+use rl_rewrite::{SuggestError, plain_suggestion, suggest};
+use rl_syntax::{Limit, Pattern, Suggestion, Universe, Verdict};
+use std::alloc::Global;
+
+/// How many set pairs are looked at to compare two languages.
+const MOST_SET_PAIRS: u32 = 20_000;
+
+/// Whether a suggestion stands beside the verdict.
+fn has_suggestion(verdict: &Verdict) -> bool
+    ensures { result ≡ has_suggestion verdict.now }
+{
+    !matches!(
+        verdict,
+        Verdict::Undecided(Limit::Size | Limit::Letters | Limit::Moves)
+    )
+}
+
+/// The suggestion for a pattern that passes no limit of the comparison.
+#[tactic(auto, using(crate::proofs::Suggestions::empty_parts))]
+fn suggestion_for(
+    alloc: Global,
+    pattern: &Pattern,
+    codes: &Codes,
+    flags: Flags,
+) -> Result<Suggestion, OutOfMemory>
+    requires parsed { IsParsed flags (universe_of pattern.now) codes.now (Ok pattern.now) }
+    requires text { IsText (universe_of pattern.now) codes.now }
+    requires small { IsSmallWhole pattern.now }
+    ensures right { IfOk result (IsRightSuggestion flags pattern.now codes.now 20000) }
+    ensures within { IfOk result (PartsLieIn (length codes.now)) }
+    ensures texts { IfOk result (IsSuggestionOf (universe_of pattern.now)) }
+    ensures readable { IfOk result (HasReadable flags (universe_of pattern.now)) }
+{
+    if let Some(suggestion) = plain_suggestion(alloc, pattern)? {
+        return Ok(suggestion);
+    }
+    match suggest(alloc, pattern, codes, flags, MOST_SET_PAIRS) {
+        Ok(suggestion) => Ok(suggestion),
+        Err(SuggestError::OutOfMemory) => Err(OutOfMemory),
+        Err(SuggestError::Limit(_)) => unreachable!(),
+    }
+}
+
+/// The suggestion beside the verdict on a pattern.
+pub fn suggestion_beside(
+    alloc: Global,
+    pattern: &Pattern,
+    codes: &Codes,
+    flags: Flags,
+    options: AnalysisOptions,
+    verdict: &Verdict,
+) -> Result<Option<Suggestion>, OutOfMemory>
+    requires parsed { IsParsed flags (universe_of pattern.now) codes.now (Ok pattern.now) }
+    requires text { IsText (universe_of pattern.now) codes.now }
+    requires verdict { RightVerdict (question_of pattern.now options) verdict.now }
+    ensures right { IfOk result (IsSuggested flags pattern.now codes.now verdict.now) }
+    ensures within { IfOk result (λ s. IfSome s (PartsLieIn (length codes.now))) }
+    ensures texts { IfOk result (λ s. IfSome s (IsSuggestionOf (universe_of pattern.now))) }
+    ensures readable { IfOk result (λ s. IfSome s (HasReadable flags (universe_of pattern.now))) }
+{
+    if !has_suggestion(verdict) {
+        return Ok(None);
+    }
+    let suggestion = suggestion_for(alloc, pattern, codes, flags)?;
+    Ok(Some(suggestion))
+}
+
+/// The text whose pattern is judged too.
+fn text_to_judge(options: AnalysisOptions, suggestion: Option<&Suggestion>) -> Option<&Codes>
+    ensures { option_map (λ text. text.now) result ≡ text_to_judge options (option_map (λ s. s.now) suggestion.entry) }
+{
+    match suggestion {
+        Some(suggestion) if options.report == 2 => suggestion.text.as_ref(),
+        _ => None,
+    }
+}
+
+/// The verdict on the pattern that a text gives.
+#[tactic(auto, using(crate::proofs::Parsing::parsing))]
+fn verdict_on_text(
+    alloc: Global,
+    text: &Codes,
+    universe: Universe,
+    flags: Flags,
+    options: AnalysisOptions,
+) -> Result<Verdict, OutOfMemory>
+    requires some { 1 ≤ options.max_pairs }
+    requires few { options.max_pairs ≤ 1000 }
+    requires text { IsText universe text.now }
+    requires readable { IsReadable flags universe text.now }
+    ensures { IfOk result (IsTextVerdict flags options universe text.now) }
+{
+    match parse(alloc, text, flags, universe) {
+        Ok(pattern) => verdict_on(alloc, &pattern, options),
+        Err(PatError::OutOfMemory) => Err(OutOfMemory),
+        Err(_) => unreachable!(),
+    }
+}
+
+/// The verdict on the suggested pattern, where it is judged.
+pub fn suggested_verdict(
+    alloc: Global,
+    suggestion: Option<&Suggestion>,
+    universe: Universe,
+    flags: Flags,
+    options: AnalysisOptions,
+) -> Result<Option<Verdict>, OutOfMemory>
+    requires some { 1 ≤ options.max_pairs }
+    requires few { options.max_pairs ≤ 1000 }
+    requires texts { IfSome suggestion (λ s. IsSuggestionOf universe s.now) }
+    requires readable { IfSome suggestion (λ s. HasReadable flags universe s.now) }
+    ensures { IfOk result (IsSuggestedVerdict flags options universe (text_to_judge options (option_map (λ s. s.now) suggestion.entry))) }
+{
+    match text_to_judge(options, suggestion) {
+        Some(text) => {
+            let verdict = verdict_on_text(alloc, text, universe, flags, options)?;
+            Ok(Some(verdict))
+        }
+        None => Ok(None),
+    }
+}
