@@ -8,6 +8,7 @@ ghost use Rattle.rl_equiv.specs.Regions.{AreRegions};
 ghost use Rattle.rl_compare.specs.Matched.{matched_tree};
 ghost use Rattle.rl_compare.specs.Passed.{IsComparePassed};
 ghost use Rattle.rl_compare.specs.Told.{AreTold};
+ghost use Rattle.rl_syntax.specs.declared.limits.TheConstants.{MOST_SET_PAIRS};
 
 use crate::error::CompareError;
 use rl_equiv::{Compared, regions};
@@ -46,7 +47,7 @@ pub fn compare(
     requires first_inside { IsOver u (tree_of a.tree) }
     requires second_inside { IsOver u (tree_of b.tree) }
     requires some { 1 ≤ limit }
-    requires low { limit ≤ 20000 }
+    requires low { limit ≤ MOST_SET_PAIRS }
     ensures within { OnOk result (AreWithin u (matched_tree u (tree_of a.tree) a.ending) (matched_tree u (tree_of b.tree) b.ending)) }
     ensures passed { IfErr result (IsComparePassed u (matched_tree u (tree_of a.tree) a.ending) (matched_tree u (tree_of b.tree) b.ending)) }
     ensures regions { IfOk result (AreRegions u (matched_tree u (tree_of a.tree) a.ending) (matched_tree u (tree_of b.tree) b.ending) limit) }

@@ -33,6 +33,7 @@ use Rattle.rl_judge.specs.declared.options.AnalysisOptions.{AnalysisOptions}
 use Rattle.rl_judge.specs.declared.parts.Part.{Part}
 use Rattle.rl_judge.specs.declared.parts.Parts.{Parts}
 use Rattle.rl_judge.specs.Faults.{code_place, literal_fault, pattern_fault}
+use Rattle.rl_syntax.specs.declared.limits.TheConstants.{MOST_SET_PAIRS}
 
 -- ---- the verdict on a pattern, and what stands beside it
 
@@ -50,7 +51,7 @@ abbrev pub IsSuggested : Flags → Pattern → List ℕ → Verdict → Option S
 IsSuggested flags p codes (Undecided Size) suggestion = suggestion ≡ None
 IsSuggested flags p codes (Undecided Letters) suggestion = suggestion ≡ None
 IsSuggested flags p codes (Undecided Moves) suggestion = suggestion ≡ None
-IsSuggested flags p codes v suggestion = (s : Suggestion) × (suggestion ≡ Some s) × IsRightSuggestion flags p codes 20000 s
+IsSuggested flags p codes v suggestion = (s : Suggestion) × (suggestion ≡ Some s) × IsRightSuggestion flags p codes MOST_SET_PAIRS s
 
 -- the text whose pattern is judged too: that of the suggestion, under report version 2
 abbrev pub text_to_judge : AnalysisOptions → Option Suggestion → Option (List ℕ)

@@ -9,6 +9,7 @@ ghost use Rattle.rl_report.specs.Places.{IsAt};
 ghost use Rattle.rl_judge.specs.internal.Conditions.{IsOfUniverse};
 ghost use Rattle.rl_judge.specs.Faults.{source_fault};
 ghost use Rattle.rl_judge.specs.RightEntries.{IsValid, path_entry, site_entry, IsFaultEntry, AreSiteEntries, AreRight, status_of};
+ghost use Rattle.rl_lists.specs.declared.limits.TheConstants.{MOST_BYTES};
 
 use crate::analysis::{Analysis, analyze};
 use crate::options::options_of;
@@ -100,7 +101,7 @@ fn site_entry(
     cursor: &mut Cursor,
 ) -> Result<Entry, OutOfMemory>
     requires at { IsAt source.now cursor.old }
-    requires short { length source.now ≤ 4194304 }
+    requires short { length source.now ≤ MOST_BYTES }
     requires texts { IsOfUniverse analysis.universe analysis.outcome }
     ensures entry { IfOk result (λ entry. entry ≡ site_entry path.now source.now tokens.now site analysis) }
     ensures universe { IfOk result IsOfItsUniverse }

@@ -2,6 +2,7 @@
 ghost use Rattle.std.specs.Prelude.{◌≡◌, ◌≢◌, ◌≤◌, List, ℕ, length, map, None, option_map, IfOk};
 ghost use Rattle.rl_report.specs.Places.{IsAt, place_of};
 ghost use Rattle.rl_judge.specs.RightEntries.{no_marks, mark_of, marks_of};
+ghost use Rattle.rl_lists.specs.declared.limits.TheConstants.{MOST_BYTES};
 
 use crate::parts::{PartList, Parts};
 use rl_lists::OutOfMemory;
@@ -24,7 +25,7 @@ fn at_or_before(cursor: Cursor, byte: u32) -> Cursor
 #[tactic(auto, using(crate::proofs::Placing::placing))]
 fn place_at(cursor: &mut Cursor, source: &[u8], byte: u32) -> Place
     requires at { IsAt source.now cursor.old }
-    requires short { length source.now ≤ 4194304 }
+    requires short { length source.now ≤ MOST_BYTES }
     ensures place { result ≡ place_of source.now byte }
     ensures at { IsAt source.now cursor.new }
 {
@@ -36,7 +37,7 @@ fn place_at(cursor: &mut Cursor, source: &[u8], byte: u32) -> Place
 /// The line and the column of a byte place, where there is one.
 pub fn some_place_at(cursor: &mut Cursor, source: &[u8], byte: Option<u32>) -> Option<Place>
     requires at { IsAt source.now cursor.old }
-    requires short { length source.now ≤ 4194304 }
+    requires short { length source.now ≤ MOST_BYTES }
     ensures place { result ≡ option_map (place_of source.now) byte }
     ensures at { IsAt source.now cursor.new }
 {
@@ -48,7 +49,7 @@ pub fn some_place_at(cursor: &mut Cursor, source: &[u8], byte: Option<u32>) -> O
 
 /// The line and the column of a byte place of a source, where there is one.
 pub fn fault_place(source: &[u8], byte: Option<u32>) -> Option<Place>
-    requires { byte ≢ None → length source.now ≤ 4194304 }
+    requires { byte ≢ None → length source.now ≤ MOST_BYTES }
     ensures { result ≡ option_map (place_of source.now) byte }
 {
     match byte {
@@ -76,7 +77,7 @@ fn mark_list(
     cursor: Cursor,
 ) -> Result<MarkList, OutOfMemory>
     requires at { IsAt source.now cursor }
-    requires short { length source.now ≤ 4194304 }
+    requires short { length source.now ≤ MOST_BYTES }
     ensures { IfOk result (λ marks. marks ≡ map (mark_of source.now) parts) }
 {
     let mut cursor = cursor;
@@ -99,7 +100,7 @@ pub fn marks_of(
     cursor: Cursor,
 ) -> Result<Marks, OutOfMemory>
     requires at { IsAt source.now cursor }
-    requires short { length source.now ≤ 4194304 }
+    requires short { length source.now ≤ MOST_BYTES }
     ensures { IfOk result (λ marks. marks ≡ marks_of source.now parts) }
 {
     let dropped = mark_list(alloc, source, parts.dropped, cursor)?;

@@ -7,17 +7,15 @@ ghost use Rattle.rl_pattern.specs.Parsed.{IsParsed};
 ghost use Rattle.rl_rewrite.specs.RightSuggestion.{IsRightSuggestion};
 ghost use Rattle.rl_judge.specs.Analysis.{question_of, text_to_judge, IsSuggested, IsSuggestedVerdict, IsTextVerdict};
 ghost use Rattle.rl_judge.specs.internal.Conditions.{has_suggestion, IsSmallWhole, PartsLieIn, IsSuggestionOf, HasReadable, IsReadable};
+ghost use Rattle.rl_syntax.specs.declared.limits.TheConstants.{MOST_SET_PAIRS};
 
 use crate::options::AnalysisOptions;
 use crate::verdict::verdict_on;
 use rl_lists::{Codes, OutOfMemory};
 use rl_pattern::{Flags, PatError, parse};
 use rl_rewrite::{SuggestError, plain_suggestion, suggest};
-use rl_syntax::{Limit, Pattern, Suggestion, Universe, Verdict};
+use rl_syntax::{Limit, MOST_SET_PAIRS, Pattern, Suggestion, Universe, Verdict};
 use std::alloc::Global;
-
-/// How many set pairs are looked at to compare two languages.
-const MOST_SET_PAIRS: u32 = 20_000;
 
 /// Whether a suggestion stands beside the verdict.
 fn has_suggestion(verdict: &Verdict) -> bool
@@ -40,7 +38,7 @@ fn suggestion_for(
     requires parsed { IsParsed flags (universe_of pattern.now) codes.now (Ok pattern.now) }
     requires text { IsText (universe_of pattern.now) codes.now }
     requires small { IsSmallWhole pattern.now }
-    ensures right { IfOk result (IsRightSuggestion flags pattern.now codes.now 20000) }
+    ensures right { IfOk result (IsRightSuggestion flags pattern.now codes.now MOST_SET_PAIRS) }
     ensures within { IfOk result (PartsLieIn (length codes.now)) }
     ensures texts { IfOk result (IsSuggestionOf (universe_of pattern.now)) }
     ensures readable { IfOk result (HasReadable flags (universe_of pattern.now)) }

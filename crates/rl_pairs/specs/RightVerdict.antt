@@ -19,6 +19,8 @@ use Rattle.rl_prio.specs.StandsFor.{StandsFor}
 use Rattle.rl_graph.specs.Bounds.{bound_c}
 use Rattle.rl_pairs.specs.LivePairs.{LivePair}
 use Rattle.rl_pairs.specs.Counted.{CountedSet, MoreThan}
+use Rattle.rl_ranges.specs.declared.letters.TheConstants.{MOST_LETTERS}
+use Rattle.rl_syntax.specs.declared.limits.TheConstants.{MOST_NODES, MOST_MOVES, MOST_COUNTED_SETS}
 
 -- a tree with an ending, the universe of its texts, and how many live pairs it may have
 pub record Question : Type 0 where
@@ -32,14 +34,13 @@ pub record IsMachine (q : Question) (a : Automaton) : Type 0 where
   pub stands : StandsFor a q.tree q.ending
   pub same_codes : a.table.codes ≡ code_count q.universe
 
--- the tree has more than 4,000 nodes; more than 128 letters; a list of more than 256 items; its automaton more than so many live
--- pairs; more than 20,000 counted sets
+-- more nodes, letters or items of a list than a tree may have; more live pairs than asked for; more sets than are counted
 abbrev pub IsPassed : Question → Limit → Type 0
-IsPassed q Size = 4000 < size q.tree
-IsPassed q Letters = 128 < length (letters q.tree (code_count q.universe))
-IsPassed q Moves = 256 < longest q.tree
+IsPassed q Size = MOST_NODES < size q.tree
+IsPassed q Letters = MOST_LETTERS < length (letters q.tree (code_count q.universe))
+IsPassed q Moves = MOST_MOVES < longest q.tree
 IsPassed q Pairs = (a : Automaton) × IsMachine q a × MoreThan q.max_pairs (LivePair a)
-IsPassed q Sets = (a : Automaton) × IsMachine q a × MoreThan 20000 (CountedSet a)
+IsPassed q Sets = (a : Automaton) × IsMachine q a × MoreThan MOST_COUNTED_SETS (CountedSet a)
 
 -- none of the limits that are judged before the automaton is made is passed
 pub record IsSmall (q : Question) : Type 0 where

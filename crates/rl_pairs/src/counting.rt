@@ -12,17 +12,15 @@ use crate::error::PairsError;
 use rl_lists::Word;
 use rl_prio::Prio;
 use rl_sets::SetWalk;
+use rl_syntax::MOST_COUNTED_SETS;
 use std::alloc::Global;
-
-/// How many counted sets there may be.
-const SETS: u32 = 20_000;
 
 /// A walk with the empty set alone.
 pub(crate) fn start(alloc: Global, a: &Prio) -> Result<SetWalk, PairsError>
     ensures counting { IfOk result (IsCounting a.now) }
     ensures errors { (limit : ℕ) → IfErr result (IsRightError a.now limit) }
 {
-    let mut walk = SetWalk::new(alloc, a, SETS)?;
+    let mut walk = SetWalk::new(alloc, a, MOST_COUNTED_SETS)?;
     walk.intern(a, &Vec::new(alloc))?;
     Ok(walk)
 }

@@ -24,6 +24,7 @@ ghost use Rattle.rl_pairs.specs.PairGraph.{IsPairGraph, IsNumbered};
 ghost use Rattle.rl_pairs.specs.Counted.{CountedSet, MoreThan};
 ghost use Rattle.rl_pairs.specs.Families.{Chained, chain_heads, chain_pumps, to_end, Reads, Spells};
 ghost use Rattle.rl_pairs.specs.RightVerdict.{Question, IsMachine, IsPassed, HasDegree, IsExpo, IsBounded, RightVerdict};
+ghost use Rattle.rl_syntax.specs.declared.limits.TheConstants.{MOST_COUNTED_SETS};
 
 /// The cost is one and the number of non-empty paths of live pairs along a beginning of the letters and the end letter, whose
 /// last set refuses what is left. So says `words` of the walk of an automaton, and `texts` of the cost of a tree.
@@ -137,7 +138,7 @@ pub fn live_pairs_are_few()
 /// limits on these may be read from any one of them, and the one on pairs from its graph.
 pub fn one_automaton_decides()
     ensures pairs { (q : Question) (a : Automaton) → IsMachine q a → IsPassed q Limit.Pairs → MoreThan q.max_pairs (LivePair a) }
-    ensures sets { (q : Question) (a : Automaton) → IsMachine q a → IsPassed q Limit.Sets → MoreThan 20000 (CountedSet a) }
+    ensures sets { (q : Question) (a : Automaton) → IsMachine q a → IsPassed q Limit.Sets → MoreThan MOST_COUNTED_SETS (CountedSet a) }
     ensures graph { (q : Question) (a : Automaton) (next : ℕ → ℕ → List ℕ) (at : ℕ → Pair) (n : ℕ) → IsMachine q a → IsPairGraph a next at n
         → n ≤ q.max_pairs → IsPassed q Limit.Pairs → ⊥ }
 {}

@@ -11,6 +11,7 @@ ghost use Rattle.rl_pairs.specs.PairTable.{moves_in, pair_in, lead_in, rest_in, 
 ghost use Rattle.rl_pairs.specs.internal.Rows.{IsBuilt};
 ghost use Rattle.rl_pairs.specs.declared.error.PairsError.TheVariants as error;
 ghost use Rattle.rl_pairs.specs.internal.Finding.{found_of, pair_of};
+ghost use Rattle.rl_syntax.specs.declared.limits.TheConstants.{MOST_COUNTED_SETS};
 
 use crate::counting::{close, start};
 use crate::error::PairsError;
@@ -141,14 +142,14 @@ pub fn pairs(alloc: Global, a: &Prio, max_pairs: u32) -> Result<PairGraph, Pairs
     ensures graph { IfOk result (λ g. IsPairGraph a.now (moves_in g) (pair_in g) g.graph.states) }
     ensures numbered { IfOk result (λ g. IsNumbered a.now (moves_in g) (pair_in g) g.graph.states) }
     ensures few_pairs { IfOk result (λ g. g.graph.states ≤ max_pairs) }
-    ensures few_sets { IfOk result (λ _. MoreThan 20000 (CountedSet a.now) → ⊥) }
+    ensures few_sets { IfOk result (λ _. MoreThan MOST_COUNTED_SETS (CountedSet a.now) → ⊥) }
     ensures letters { IfOk result (λ g. g.graph.letters ≡ letters_count a.now + 1) }
     ensures leads { IfOk result (λ g. (i : ℕ) → i < g.graph.states → 1 ≤ paths (moves_in g) 0 i (lead_in g i)) }
     ensures rests { IfOk result (λ g. (i : ℕ) → i < g.graph.states → IsRest a.now (rest_in g i)) }
     ensures refused { IfOk result (λ g. (i : ℕ) → i < g.graph.states → refused a.now (pair_in g) i (rest_in g i) ≡ true) }
     ensures lists { IfOk result IsFull }
     ensures too_many_pairs { IfErr result (λ e. e ≡ error.Pairs → MoreThan max_pairs (LivePair a.now)) }
-    ensures too_many_sets { IfErr result (λ e. e ≡ error.Sets → MoreThan 20000 (CountedSet a.now)) }
+    ensures too_many_sets { IfErr result (λ e. e ≡ error.Sets → MoreThan MOST_COUNTED_SETS (CountedSet a.now)) }
 {
     let Some(letters) = a.letters().count().checked_add(1) else {
         return Err(PairsError::OutOfMemory);

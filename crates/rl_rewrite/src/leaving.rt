@@ -9,6 +9,7 @@ ghost use Rattle.rl_syntax.specs.Tree.{tree_of, size, IsOver};
 ghost use Rattle.rl_pattern.specs.Cut.{choice_of as is_choice_of, left};
 ghost use Rattle.rl_rewrite.specs.internal.LeftLists.{all_left, some_left};
 ghost use Rattle.rl_pattern.specs.Suggested.{among as lies_among, no_span, holds_guard, without};
+ghost use Rattle.rl_syntax.specs.declared.limits.TheConstants.{MOST_NODES};
 
 use crate::parts::among;
 use rl_lists::OutOfMemory;
@@ -169,7 +170,7 @@ fn branches_left(
 /// The tree of a pattern's body without the branches of these spans, as fullmatch.
 pub(crate) fn tree_without(alloc: Global, p: &Pattern, dropped: &[Span]) -> Result<Re, OutOfMemory>
     requires guardless { holds_guard (body_of p.now) ≡ false }
-    requires small { size (without dropped.now (body_of p.now)) ≤ 4000 }
+    requires small { size (without dropped.now (body_of p.now)) ≤ MOST_NODES }
     ensures tree { IfOk result (λ re. tree_of re ≡ without dropped.now (body_of p.now)) }
     ensures over { IfOk result (λ re. IsOver (universe_of p.now) (tree_of re)) }
 {

@@ -9,6 +9,7 @@ ghost use Rattle.rl_syntax.specs.declared.verdict.Limit.{Limit as AnyLimit};
 ghost use Rattle.rl_rewrite.specs.Verdicts.{PassesLimit};
 ghost use Rattle.rl_equiv.specs.Limits.{IsWithin};
 ghost use Rattle.rl_rewrite.specs.declared.suggesting.SuggestError.TheVariants as error;
+ghost use Rattle.rl_syntax.specs.declared.limits.TheConstants.{MOST_NODES};
 
 use crate::suggesting::SuggestError;
 use rl_equiv::{Baseline, SameError};
@@ -18,7 +19,7 @@ use std::alloc::Global;
 /// The tree of a body as fullmatch, which has no more nodes than the limit.
 fn small_tree(alloc: Global, p: &Pattern) -> Result<Re, SuggestError>
     ensures tree { IfOk result (λ re. tree_of re ≡ pattern_tree p.now Fullmatch) }
-    ensures small { IfOk result (λ re. size (tree_of re) ≤ 4000) }
+    ensures small { IfOk result (λ re. size (tree_of re) ≤ MOST_NODES) }
     ensures over { IfOk result (λ re. IsOver (universe_of p.now) (tree_of re)) }
     ensures passed { IfErr result (λ e. (l : AnyLimit) → e ≡ error.Limit l → PassesLimit (universe_of p.now) (pattern_tree p.now Fullmatch) l) }
 {

@@ -10,6 +10,7 @@ ghost use Rattle.rl_rewrite.specs.Verdicts.{PassesLimit};
 ghost use Rattle.rl_pattern.specs.Placed.{ArePlaced};
 ghost use Rattle.rl_rewrite.specs.RightSuggestion.{IsRightSuggestion};
 ghost use Rattle.rl_rewrite.specs.declared.suggesting.SuggestError.TheVariants as error;
+ghost use Rattle.rl_syntax.specs.declared.limits.TheConstants.{MOST_SET_PAIRS};
 
 use crate::leaving::left_part;
 use crate::limits::baseline_of;
@@ -55,7 +56,7 @@ pub fn suggest(
 ) -> Result<Suggestion, SuggestError>
     requires parsed { IsParsed flags (universe_of p.now) codes.now (Ok p.now) }
     requires some { 1 ≤ limit }
-    requires low { limit ≤ 20000 }
+    requires low { limit ≤ MOST_SET_PAIRS }
     ensures right { IfOk result (IsRightSuggestion flags p.now codes.now limit) }
     ensures within { OnOk result ((l : AnyLimit) → PassesLimit (universe_of p.now) (pattern_tree p.now Fullmatch) l → ⊥) }
     ensures passed { IfErr result (λ e. (l : AnyLimit) → e ≡ error.Limit l → PassesLimit (universe_of p.now) (pattern_tree p.now Fullmatch) l) }

@@ -6,6 +6,7 @@ ghost use Rattle.rl_equiv.specs.Bases.{TellsNoMore};
 ghost use Rattle.rl_equiv.specs.Limits.{AreWithin, IsWithin};
 ghost use Rattle.rl_rewrite.specs.Verdicts.{IsVerdict};
 ghost use Rattle.rl_rewrite.specs.internal.Trials.{verdict_of, IsTold};
+ghost use Rattle.rl_syntax.specs.declared.limits.TheConstants.{MOST_SET_PAIRS};
 
 use rl_equiv::{Baseline, SameError, Sameness};
 use rl_lists::OutOfMemory;
@@ -35,7 +36,7 @@ pub(crate) fn run_trial(
     requires letters { TellsNoMore (tree_of before.old.tree) (tree_of after.now) }
     requires within { AreWithin before.old.universe (tree_of before.old.tree) (tree_of after.now) }
     requires some { 1 ≤ limit }
-    requires low { limit ≤ 20000 }
+    requires low { limit ≤ MOST_SET_PAIRS }
     ensures verdict { IfOk result (λ t. IsVerdict before.old.universe limit (tree_of before.old.tree) (tree_of after.now) (verdict_of t)) }
     ensures told { IfOk result (IsTold before.old.universe (tree_of before.old.tree) (tree_of after.now)) }
     ensures unchanged { before.new ≡ before.old }

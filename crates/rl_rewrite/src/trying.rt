@@ -10,6 +10,7 @@ ghost use Rattle.rl_equiv.specs.Bases.{IsBase};
 ghost use Rattle.rl_equiv.specs.Limits.{IsWithin};
 ghost use Rattle.rl_rewrite.specs.Verdicts.{IsVerdict};
 ghost use Rattle.rl_rewrite.specs.internal.Trials.{verdict_of, trial_told, IsTold, AreTried};
+ghost use Rattle.rl_syntax.specs.declared.limits.TheConstants.{MOST_SET_PAIRS};
 
 use crate::going::{may_go, with_branches};
 use crate::keeping::kept_places;
@@ -122,7 +123,7 @@ fn compare_branch(
     requires tree { tree_of base.old.tree ≡ without dropped.now (body_of p.now) }
     requires universe { base.old.universe ≡ universe_of p.now }
     requires some { 1 ≤ limit }
-    requires low { limit ≤ 20000 }
+    requires low { limit ≤ MOST_SET_PAIRS }
     ensures verdict { IfOk result (λ t. IsVerdict (universe_of p.now) limit (without dropped.now (body_of p.now)) (without (branch ∷ dropped.now) (body_of p.now)) (verdict_of t)) }
     ensures told { IfOk result (IsTold (universe_of p.now) (without dropped.now (body_of p.now)) (without (branch ∷ dropped.now) (body_of p.now))) }
     ensures unchanged { base.new ≡ base.old }
@@ -163,7 +164,7 @@ fn trial_of(
     requires universe { tries.old.base.universe ≡ universe_of p.now }
     requires base { IfSome trimmer.old (IsBase (universe_of p.now) (without tries.old.dropped (body_of p.now))) }
     requires some { 1 ≤ limit }
-    requires low { limit ≤ 20000 }
+    requires low { limit ≤ MOST_SET_PAIRS }
     ensures verdict { IfOk result (λ t. IsVerdict (universe_of p.now) limit (without tries.old.dropped (body_of p.now)) (without (branch ∷ tries.old.dropped) (body_of p.now)) (verdict_of t)) }
     ensures told { IfOk result (IsTold (universe_of p.now) (without tries.old.dropped (body_of p.now)) (without (branch ∷ tries.old.dropped) (body_of p.now))) }
     ensures dropped { tries.new.dropped ≡ tries.old.dropped }
@@ -202,7 +203,7 @@ fn try_branch(
     requires universe { tries.base.universe ≡ universe_of p.now }
     requires base { IfSome trimmer.old (IsBase (universe_of p.now) (without tries.dropped (body_of p.now))) }
     requires some { 1 ≤ limit }
-    requires low { limit ≤ 20000 }
+    requires low { limit ≤ MOST_SET_PAIRS }
     ensures tried { IfOk result (λ all. (bs : List AnySpan) → AreTried (universe_of p.now) limit (body_of p.now) bs tries.dropped tries.passed
         → AreTried (universe_of p.now) limit (body_of p.now) (branch ∷ bs) all.dropped all.passed) }
     ensures tree { IfOk result (λ all. tree_of all.base.tree ≡ without all.dropped (body_of p.now)) }
@@ -252,7 +253,7 @@ fn try_next(
     requires universe { tries.base.universe ≡ universe_of p.now }
     requires base { IfSome trimmer.old (IsBase (universe_of p.now) (without tries.dropped (body_of p.now))) }
     requires some { 1 ≤ limit }
-    requires low { limit ≤ 20000 }
+    requires low { limit ≤ MOST_SET_PAIRS }
     ensures tried { IfOk result (λ all. (bs : List AnySpan) → AreTried (universe_of p.now) limit (body_of p.now) bs tries.dropped tries.passed
         → AreTried (universe_of p.now) limit (body_of p.now) (branch ∷ bs) all.dropped all.passed) }
     ensures tree { IfOk result (λ all. tree_of all.base.tree ≡ without all.dropped (body_of p.now)) }
@@ -281,7 +282,7 @@ fn try_branches(
     requires universe { base.universe ≡ universe_of p.now }
     requires before { goes (among []) (body_of p.now) ≡ true }
     requires some { 1 ≤ limit }
-    requires low { limit ≤ 20000 }
+    requires low { limit ≤ MOST_SET_PAIRS }
     ensures { IfOk result (λ all. AreTried (universe_of p.now) limit (body_of p.now) (branches_in (body_of p.now)) all.dropped all.passed) }
 {
     let branches = with_branches(alloc, p.body(), Spans::new(alloc))?;
@@ -310,7 +311,7 @@ pub(crate) fn tries_of(
     requires universe { base.universe ≡ universe_of p.now }
     requires before { goes (among []) (body_of p.now) ≡ true }
     requires some { 1 ≤ limit }
-    requires low { limit ≤ 20000 }
+    requires low { limit ≤ MOST_SET_PAIRS }
     ensures guarded { IfOk result (λ all. guard_in (body_of p.now) ≡ true → (all.dropped ≡ []) × (all.passed ≡ [])) }
     ensures tried { IfOk result (λ all. guard_in (body_of p.now) ≡ false → AreTried (universe_of p.now) limit (body_of p.now) (branches_in (body_of p.now)) all.dropped all.passed) }
 {

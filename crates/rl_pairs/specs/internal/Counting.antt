@@ -5,6 +5,7 @@ use Rattle.rl_graph.specs.Paths.{Has}
 use Rattle.rl_sets.specs.Live.{image}
 use Rattle.rl_sets.specs.Walk.{Walk, set_at, IsMadeFor}
 use Rattle.rl_pairs.specs.Counted.{CountedSet}
+use Rattle.rl_syntax.specs.declared.limits.TheConstants.{MOST_COUNTED_SETS}
 
 -- the set is counted, or is the set of the first pair
 abbrev pub IsCounted : Automaton → List ℕ → Type 0
@@ -13,7 +14,7 @@ IsCounted a set = (set ≡ []) ⊎ CountedSet a set
 -- a walk over counted sets and the empty one, which comes first; there may be 20,000 of them
 pub record IsCounting (a : Automaton) (w : Walk) : Type 0 where
   pub made : IsMadeFor w a
-  pub limit : w.limit ≡ 20000
+  pub limit : w.limit ≡ MOST_COUNTED_SETS
   pub some : 0 < length w.sets
   pub empty : set_at w 0 ≡ []
   pub counted : (n : ℕ) → n < length w.sets → IsCounted a (set_at w n)
