@@ -1,4 +1,4 @@
-//! Tests of `rl_lint`: the worked rows of `relint_main`, over a tree and sinks in memory.
+//! Tests of `rl_lint` that no worked row can say: the rows are the data of the program `rows`.
 #![tactic(auto)]
 
 #[cfg(test)]
