@@ -30,7 +30,8 @@ class Texts(unittest.TestCase):
 
     def test_other_forms_are_refused(self) -> None:
         more = {"times": 2, "text": "a", "more": 1}
-        for value in (1, None, ["a"], {"text": "a"}, {"hex": "6"}, more, {"from": "a", "upto": 2}):
+        nested = {"parts": [{"parts": ["a"]}]}
+        for value in (1, None, ["a"], {"text": "a"}, {"hex": "6"}, more, {"from": "a", "upto": 2}, nested):
             with self.subTest(value=value), self.assertRaises(texts.BadText):
                 texts.text_bytes(value)
 
@@ -54,6 +55,7 @@ class Rows(unittest.TestCase):
         self.refused('[[row]]\nname = "a"\nwords = "cost"\n', "a: the value of words is of another kind")
         self.refused('[[row]]\nname = "A row"\nwords = []\n', "lower-case words")
         self.refused('[[row]]\nname = "a"\nwords = [1]\n', "1 is no text")
+        self.refused('[[row]]\nname = "a"\nwords = []\nstable = true\nround = true\n', "only one of stable, round")
         self.refused('[[row]]\nname = "a"\nwords = []\n[[row]]\nname = "a"\nwords = []\n', "a row of this name too")
         self.refused('x = 1\n', "something other than")
         self.refused('[[row]\n', "some.toml: ")

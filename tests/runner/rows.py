@@ -1,4 +1,4 @@
-"""The part `rows`: the worked rows of `tests/rows/*.toml`, over real folders."""
+"""The part `rows`: the worked rows of `crates/rows/data/*.toml`, over real folders."""
 from __future__ import annotations
 
 import concurrent.futures
@@ -15,7 +15,7 @@ from runner.results import Failed, Result, Skipped, shortened
 from runner.texts import BadText, link_target, text_bytes
 from runner.toml import parse_toml
 
-ROWS = TREE / "tests" / "rows"
+ROWS = TREE / "crates" / "rows" / "data"
 _NAME = re.compile(r"[a-z0-9]+(?:-[a-z0-9]+)*")
 _GREATEST_K = 6
 
@@ -42,7 +42,7 @@ class Printed:
 
 @dataclass(frozen=True)
 class Row:
-    """A worked row; README.md beside the rows says what each field means."""
+    """A worked row; `crates/rows/data/README.md` says what each field means."""
 
     name: str
     words: List[Any]
@@ -89,6 +89,8 @@ def _checked(table: Dict[str, Any]) -> None:
     for key in ("name", "words"):
         if key not in table:
             raise BadRow("the field %s is missing" % key)
+    if sum(table.get(key, False) for key in ("stable", "round", "every_call")) > 1:
+        raise BadRow("only one of stable, round and every_call may be set")
     if not _NAME.fullmatch(table["name"]):
         raise BadRow("the name isn't made of lower-case words joined by -")
 

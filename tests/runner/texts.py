@@ -8,11 +8,19 @@ class BadText(ValueError):
     """A value isn't one of the forms of a text."""
 
 
+def _string(table: Dict[str, Any]) -> bytes:
+    if not isinstance(table["text"], str):
+        raise TypeError("text is no string")
+    return table["text"].encode("utf-8")
+
+
 def _times(table: Dict[str, Any]) -> bytes:
-    return text_bytes(table["text"]) * int(table["times"])
+    return _string(table) * int(table["times"])
 
 
 def _parts(table: Dict[str, Any]) -> bytes:
+    if any(isinstance(part, dict) and "parts" in part for part in table["parts"]):
+        raise TypeError("a part has parts")
     return b"".join(text_bytes(part) for part in table["parts"])
 
 
@@ -25,7 +33,7 @@ def _range(table: Dict[str, Any]) -> bytes:
 
 
 def _first(table: Dict[str, Any]) -> bytes:
-    return text_bytes(table["text"])[:table["first"]]
+    return _string(table)[:table["first"]]
 
 
 _FORMS = {

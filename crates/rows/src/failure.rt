@@ -1,0 +1,72 @@
+//! Why a row fails.
+
+use rl_lists::OutOfMemory;
+use rl_source::MemTreeError;
+use std::alloc::{AllocError, AllocFailed, Global};
+use std::fmt;
+
+/// Why a row fails: it can't be read, or it is answered otherwise than it says.
+#[derive(Debug, Drop)]
+pub enum Failure {
+    Told(String),
+    OutOfMemory,
+}
+
+impl Failure {
+    /// The failure that this text tells of.
+    pub fn told<T>(alloc: Global, text: &str) -> Result<T, Failure> {
+        Err(Failure::Told(String::from_str(alloc, text)?))
+    }
+}
+
+impl fmt::Display for Failure {
+    fn fmt<W: fmt::Write>(&self, f: &mut fmt::Formatter<W>) -> fmt::Result {
+        match self {
+            Failure::Told(text) => write!(f, "{text}"),
+            Failure::OutOfMemory => write!(f, "out of memory"),
+        }
+    }
+}
+
+impl From<AllocError> for Failure {
+    fn from(_: AllocError) -> Failure {
+        Failure::OutOfMemory
+    }
+}
+
+impl<T: Drop> From<AllocFailed<T>> for Failure {
+    fn from(_: AllocFailed<T>) -> Failure {
+        Failure::OutOfMemory
+    }
+}
+
+impl From<OutOfMemory> for Failure {
+    fn from(_: OutOfMemory) -> Failure {
+        Failure::OutOfMemory
+    }
+}
+
+// The paths of a tree are the keys of a map, so none of them stands there twice.
+impl From<MemTreeError> for Failure {
+    fn from(_: MemTreeError) -> Failure {
+        Failure::OutOfMemory
+    }
+}
+
+/// Refuses bytes that aren't those that should come.
+pub fn same(alloc: Global, what: &str, got: &[u8], wanted: &[u8]) -> Result<(), Failure> {
+    if got == wanted {
+        return Ok(());
+    }
+    let got = String::from_utf8_lossy(alloc, got)?;
+    let wanted = String::from_utf8_lossy(alloc, wanted)?;
+    Err(Failure::Told(format!(in alloc; "{what} is {got:?} and should be {wanted:?}")?))
+}
+
+/// Refuses a number that isn't the one that should come.
+pub fn same_number(alloc: Global, what: &str, got: u64, wanted: u64) -> Result<(), Failure> {
+    if got == wanted {
+        return Ok(());
+    }
+    Err(Failure::Told(format!(in alloc; "{what} is {got} and should be {wanted}")?))
+}

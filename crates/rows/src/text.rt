@@ -1,0 +1,108 @@
+//! The texts of a row, which spell bytes.
+
+use crate::failure::Failure;
+use std::alloc::Global;
+use toml::{Table, Value};
+
+/// The bytes of a text: a string, or a table that spells a longer one.
+pub fn bytes_of(alloc: Global, value: &Value) -> Result<Vec<u8>, Failure> {
+    let mut bytes = Vec::new(alloc);
+    match value.get("parts") {
+        Some(Value::Array(parts)) => {
+            for part in parts {
+                add_part(alloc, part, &mut bytes)?;
+            }
+        }
+        _ => add_part(alloc, value, &mut bytes)?,
+    }
+    Ok(bytes)
+}
+
+/// The string that a text stands for.
+pub fn string_of(alloc: Global, value: &Value) -> Result<String, Failure> {
+    let bytes = bytes_of(alloc, value)?;
+    match str::from_utf8(bytes.as_slice()) {
+        Ok(text) => Ok(String::from_str(alloc, text)?),
+        Err(_) => Failure::told(alloc, "a word isn't UTF-8"),
+    }
+}
+
+fn add_part(alloc: Global, value: &Value, bytes: &mut Vec<u8>) -> Result<(), Failure> {
+    match value {
+        Value::String(text) => Ok(bytes.extend_from_slice(text.as_bytes())?),
+        Value::Table(table) => add_spelled(alloc, table, bytes),
+        _ => Failure::told(alloc, "a text is neither a string nor a table"),
+    }
+}
+
+/// The string at a key.
+fn string_at<'a>(table: &'a Table, key: &str) -> Option<&'a str> {
+    match table.get(key) {
+        Some(value) => value.as_str(),
+        None => None,
+    }
+}
+
+/// The number at a key.
+fn number_at(table: &Table, key: &str) -> Option<u32> {
+    match table.get(key) {
+        Some(value) => u32::try_from(value.as_integer()?).ok(),
+        None => None,
+    }
+}
+
+/// Adds the bytes that a table spells.
+fn add_spelled(alloc: Global, table: &Table, bytes: &mut Vec<u8>) -> Result<(), Failure> {
+    if let (Some(from), Some(upto)) = (number_at(table, "from"), number_at(table, "upto")) {
+        return add_characters(alloc, from, upto, bytes);
+    }
+    if let Some(hex) = string_at(table, "hex") {
+        return add_hex(alloc, hex, bytes);
+    }
+    match (
+        string_at(table, "text"),
+        number_at(table, "times"),
+        number_at(table, "first"),
+    ) {
+        (Some(text), Some(times), None) => add_copies(text, times, bytes),
+        (Some(text), None, Some(first)) => add_first(text, first, bytes),
+        _ => Failure::told(alloc, "a table spells no text"),
+    }
+}
+
+fn add_copies(text: &str, times: u32, bytes: &mut Vec<u8>) -> Result<(), Failure> {
+    for _ in 0..times {
+        bytes.extend_from_slice(text.as_bytes())?;
+    }
+    Ok(())
+}
+
+fn add_first(text: &str, first: u32, bytes: &mut Vec<u8>) -> Result<(), Failure> {
+    let first = text.len().min(first as usize);
+    bytes.extend_from_slice(&text.as_bytes()[..first])?;
+    Ok(())
+}
+
+/// Adds the characters of these numbers, in order.
+fn add_characters(alloc: Global, from: u32, upto: u32, bytes: &mut Vec<u8>) -> Result<(), Failure> {
+    let mut text = String::new(alloc);
+    for number in from..=upto {
+        let Some(character) = char::from_u32(number) else {
+            return Failure::told(alloc, "a number from `from` to `upto` is no character");
+        };
+        text.push(character)?;
+    }
+    bytes.extend_from_slice(text.as_bytes())?;
+    Ok(())
+}
+
+/// Adds bytes that are written as pairs of digits with blanks between them.
+fn add_hex(alloc: Global, hex: &str, bytes: &mut Vec<u8>) -> Result<(), Failure> {
+    for pair in hex.split_ascii_whitespace() {
+        let Ok(byte) = u8::from_str_radix(pair, 16) else {
+            return Failure::told(alloc, "`hex` isn't bytes with blanks between them");
+        };
+        bytes.push(byte)?;
+    }
+    Ok(())
+}
