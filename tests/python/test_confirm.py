@@ -193,10 +193,11 @@ class OneTrial(unittest.TestCase):
     """A trial of a pattern that stands in no file."""
 
     def outcome(
-        self, pattern: Text, family: Family, memory: int = 1024, longest: int = 10_000, flags: int = 0
+        self, pattern: Text, family: Family, memory: int = 1024, longest: int = 10_000, flags: int = 0,
+        seconds: float = 0.05,
     ) -> confirm.Outcome:
         entry = Entry("m.py", "exponential", Place(1, 1), "fullmatch", family=family)
-        limits = confirm.Limits(0.05, longest, memory * 1_000_000)
+        limits = confirm.Limits(seconds, longest, memory * 1_000_000)
         return confirm.Trials("search", limits).outcome(confirm.Job(entry, Site((), pattern, flags)))
 
     def test_patterns_that_this_python_refuses(self) -> None:
@@ -205,7 +206,8 @@ class OneTrial(unittest.TestCase):
         self.assertIn("this Python doesn't take the pattern: missing )", outcome.why)
 
     def test_want_of_memory(self) -> None:
-        outcome = self.outcome("(?:ab|a)*c", Family(("", "b"), ("a",)), memory=64, longest=50_000_000)
+        # (a busy machine may need long for a text that is too large)
+        outcome = self.outcome("(?:ab|a)*c", Family(("", "b"), ("a",)), memory=64, longest=50_000_000, seconds=60)
         self.assertEqual((outcome.result, outcome.why), (confirm.NOT_SEEN, "the match needs more than 64 MB of memory"))
 
     def test_a_first_text_that_is_too_long(self) -> None:
