@@ -24,6 +24,7 @@ STATUS_WORDS = {
     6: "a word isn't UTF-8, so relint can't be given it",
 }
 ENVIRONMENTS = (".venv", ".tox", ".nox", "site-packages")
+INTERRUPTED = 130
 MOST_WORD_BYTES = 1_000_000
 # What the system keeps for a pointer and the end of each word, with room to spare.
 BYTES_A_WORD = 16
@@ -313,3 +314,17 @@ def _in_environment(folder: str, known: Dict[str, bool]) -> bool:
         here = os.path.basename(folder) in ENVIRONMENTS or os.path.isfile(os.path.join(folder, "pyvenv.cfg"))
         known[folder] = here or (above != folder and folder != "" and _in_environment(above, known))
     return known[folder]
+
+
+def ended(name: str, work: Callable[[], int]) -> int:
+    """Runs the work of the tool of this name, and answers the exit status. An error goes to standard error in one line."""
+    try:
+        return work()
+    except GatherError as error:
+        print(f"{name}: {error}", file=sys.stderr)
+        return error.status
+    except program.ProgramError as error:
+        print(f"{name}: {error}", file=sys.stderr)
+        return program.REFUSED
+    except KeyboardInterrupt:
+        return INTERRUPTED

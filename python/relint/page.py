@@ -26,8 +26,6 @@ MOST_LINES = 16
 MOST_PLACES = 50
 MOST_CARDS = 300
 MOST_CODES_OF_A_LINE = 400
-WRITE_FAULT = 4
-INTERRUPTED = 130
 LINK = re.compile(r"(?!(?:javascript|data|vbscript):)[a-z][a-z0-9+.-]*:[^\s\x00-\x1f]+", re.I)
 
 
@@ -402,22 +400,13 @@ def _written(text: str, output: Optional[str]) -> int:
         print(f"relint-page: {output or 'standard output'} can't be written: {error.strerror}", file=sys.stderr)
         if not output:
             os.dup2(os.open(os.devnull, os.O_WRONLY), sys.stdout.fileno())
-        return WRITE_FAULT
+        return program.WRITE_FAULT
 
 
 def main(words: Optional[Sequence[str]] = None) -> int:
     """Runs the tool with the words of the command line, and answers the exit status."""
     given = gather.parsed(_parser(), words)
-    try:
-        return _written(_made(given), given.output)
-    except gather.GatherError as error:
-        print(f"relint-page: {error}", file=sys.stderr)
-        return error.status
-    except program.ProgramError as error:
-        print(f"relint-page: {error}", file=sys.stderr)
-        return program.REFUSED
-    except KeyboardInterrupt:
-        return INTERRUPTED
+    return gather.ended("relint-page", lambda: _written(_made(given), given.output))
 
 
 if __name__ == "__main__":

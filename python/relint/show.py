@@ -15,8 +15,6 @@ from .sites import Source
 MOST_LINES = 8
 TAB = 4
 COLOURS = {"error": "1;31", "warning": "1;33", "place": "1", "dim": "2", "mark": "1;31", "part": "1;36", "good": "32"}
-WRITE_FAULT = 4
-INTERRUPTED = 130
 MENDING = "docs/MENDING.md shows how such patterns are rewritten"
 
 
@@ -214,17 +212,12 @@ def main(words: Optional[Sequence[str]] = None) -> int:
     out = sys.stdout
     if hasattr(out, "reconfigure"):
         out.reconfigure(errors="backslashreplace")
-    try:
+
+    def work() -> int:
         lines, status = _lines(given, out)
-        return status if _written(lines, out) else WRITE_FAULT
-    except gather.GatherError as error:
-        print(f"relint-show: {error}", file=sys.stderr)
-        return error.status
-    except program.ProgramError as error:
-        print(f"relint-show: {error}", file=sys.stderr)
-        return program.REFUSED
-    except KeyboardInterrupt:
-        return INTERRUPTED
+        return status if _written(lines, out) else program.WRITE_FAULT
+
+    return gather.ended("relint-show", work)
 
 
 if __name__ == "__main__":

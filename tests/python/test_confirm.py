@@ -12,31 +12,15 @@ import tempfile
 import time
 import unittest
 from pathlib import Path
-from typing import Any, Dict, NamedTuple, Optional
+from typing import Any, Dict, NamedTuple
 
 from relint import confirm, trial
-from relint.program import ProgramError, program
 from relint.reports import Entry, Family, Place, Text
 from relint.sites import Site
+from support import DEFAULT_INTERRUPT, ROOT, built
 
-ROOT = Path(__file__).resolve().parents[2]
 TOOL = ROOT / "tools" / "relint-confirm"
-# Runs a command that an interrupt ends, also where the tests run in the background.
-DEFAULT_INTERRUPT = "import os, signal, sys; signal.signal(signal.SIGINT, signal.SIG_DFL); os.execv(sys.argv[1], sys.argv[1:])"
 QUICK = ("--seconds", "0.05", "--longest", "20000")
-
-
-def built() -> Optional[str]:
-    """The program, or None where it isn't built: no test begins a build."""
-    try:
-        found = program()
-    except ProgramError:
-        return None
-    if found == str(ROOT / "relint") and not (ROOT / "crates/relint/out/relint").is_file():
-        return None
-    return found
-
-
 PROGRAM = built()
 
 

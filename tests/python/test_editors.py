@@ -12,11 +12,10 @@ import subprocess
 import tempfile
 import unittest
 from pathlib import Path
-from typing import Dict, List, Optional
+from typing import Dict, List
 
-from relint.program import ProgramError, program
+from support import ROOT, built
 
-ROOT = Path(__file__).resolve().parents[2]
 EDITORS = ROOT / "examples" / "editors"
 SOURCES = {
     "src/slow.py": 'import re\nROWS = re.compile(r"(\\w+\\s?)*$")\nif ROWS:\n    re.search(r"a*a*a*b", s)\n',
@@ -45,17 +44,6 @@ LISP = """
                          (line-number-at-pos) (1+ (- (point) (line-beginning-position)))))))
     (user-error nil)))
 """
-
-
-def built() -> Optional[str]:
-    """The program, or None where it isn't built: no test begins a build."""
-    try:
-        found = program()
-    except ProgramError:
-        return None
-    if found == str(ROOT / "relint") and not (ROOT / "crates/relint/out/relint").is_file():
-        return None
-    return found
 
 
 @unittest.skipUnless(built(), "the program relint isn't built")

@@ -14,27 +14,11 @@ from pathlib import Path
 from typing import List, NamedTuple, Optional, Sequence
 
 from relint import joining, many, walking
-from relint.program import ProgramError, program
+from support import DEFAULT_INTERRUPT, ROOT, built
 
-ROOT = Path(__file__).resolve().parents[2]
 TOOL = ROOT / "tools" / "relint-many"
 LAYOUTS = ("text", "brief", "json", "sarif")
-# Runs a command that an interrupt ends, also where the tests run in the background.
-DEFAULT_INTERRUPT = "import os, signal, sys; signal.signal(signal.SIGINT, signal.SIG_DFL); os.execv(sys.argv[1], sys.argv[1:])"
 SLOW = 'import re\nre.fullmatch(r"(?:x*)*y", s)\nre.search(r"\\s+$", s)\nre.match(r"(a)\\1", s)\n'
-
-
-def built() -> Optional[str]:
-    """The program, or None where it isn't built: no test begins a build."""
-    try:
-        found = program()
-    except ProgramError:
-        return None
-    if found == str(ROOT / "relint") and not (ROOT / "crates/relint/out/relint").is_file():
-        return None
-    return found
-
-
 PROGRAM = built()
 
 

@@ -15,9 +15,8 @@ import unittest
 from pathlib import Path
 from typing import Dict, List, Optional
 
-from relint.program import ProgramError, program
+from support import ROOT, built
 
-ROOT = Path(__file__).resolve().parents[2]
 SCALE = ROOT / "examples" / "scale"
 HOSTS = ("one", "two")
 # Stands in for ssh: the login of the host NAME is in the folder NAME beside it, and its shell is sh.
@@ -33,17 +32,6 @@ shift
 [ "$1" = -- ] && shift
 cd "$HOME" && exec sh -c "$*"
 """
-
-
-def built() -> Optional[str]:
-    """The program, or None where it isn't built: no test begins a build."""
-    try:
-        found = program()
-    except ProgramError:
-        return None
-    if found == str(ROOT / "relint") and not (ROOT / "crates/relint/out/relint").is_file():
-        return None
-    return found
 
 
 def has_parallel() -> bool:
