@@ -14,9 +14,10 @@ overflow_add-result c =
 pub returns-then-row-len : goal.returns-then-row-len
 returns-then-row-len c =
     let ends = c.self.inside.ends.items in
-    let within : c.args.row < length ends = omega (arith, c.if-row-len.true, c.len.ensures, c.self.inside.ends.ok.0) in
-    subst (IsRun c.args.self.now c.args.row) (sym (get_or_read ends c.args.row c.index.result.now within c.index.ensures 0))
-    (subst (λ t. IsRun t c.args.row (get_or ends c.args.row 0)) c.self.view_is (c.self.invariant.runs c.args.row within))
+    let place = c.args.row in
+    let within : place < length ends = omega (arith, c.if-row-len.true, c.len.ensures, c.self.inside.ends.ok.0) in
+    subst (IsRun c.args.self.now place) (sym (get_or_read ends place c.index.result.now within c.index.ensures 0))
+    (subst (λ t. IsRun t place (get_or ends place 0)) c.self.view_is (c.self.invariant.runs place within))
 
 pub returns-else-row-len : goal.returns-else-row-len
 returns-else-row-len c = IsRun-alone c.args.self.now c.args.row c.requires
