@@ -33,9 +33,10 @@ _FIRST = ("packaging", "python", "launcher", "hook")
 def parsed(words: List[str]) -> argparse.Namespace:
     """The options of the call."""
     reader = argparse.ArgumentParser(
-        prog="./test", description="Runs the tests that need no proof, in about a minute.",
+        prog="./test", description="Runs the tests that need no proof, in a minute or two.",
         epilog="RELINT=program ./test tries another program than ./relint. The parts: " + ", ".join(PARTS) + ".")
-    reader.add_argument("--only", metavar="PART", choices=list(PARTS), action="append", help="one part; may be given again")
+    reader.add_argument("--only", metavar="PART", choices=list(PARTS), action="append",
+                        help="only this part; you can give it several times")
     reader.add_argument("--list", action="store_true", help="print the names of the parts")
     return reader.parse_args(words)
 

@@ -272,18 +272,20 @@ def _json_of(entry: Entry, outcome: Outcome) -> Dict[str, Any]:
 def _options() -> argparse.ArgumentParser:
     options = argparse.ArgumentParser(
         prog="relint-confirm",
-        description="Tries the findings of a report of relint on the Python that runs this, each in a process of its own.",
-        epilog="Without PATH a report (relint check --format json) is read from standard input.",
+        description="Tries the findings of a report of relint on the Python that runs it, each in a process of its own.",
+        epilog="Without PATH, a report (relint check --format json) is read from standard input.",
         allow_abbrev=False,
     )
     options.add_argument("paths", metavar="PATH", nargs="*", help="files and folders that relint check judges first")
-    options.add_argument("--seconds", type=_positive, default=1.0, help="the processor time to be exceeded (default: 1)")
-    options.add_argument("--longest", type=_count, default=100_000, help="the longest text to try (default: 100000)")
-    options.add_argument("--memory", type=_count, default=1024, help="megabytes that a trial may take (default: 1024)")
-    options.add_argument("--jobs", type=_count, default=1, help="trials at the same time (default: 1)")
+    options.add_argument("--seconds", type=_positive, default=1.0,
+                         help="the processor time, in seconds, that a match must exceed (default: 1)")
+    options.add_argument("--longest", type=_count, default=100_000,
+                         help="the longest text to try, in characters (default: 100000)")
+    options.add_argument("--memory", type=_count, default=1024, help="the megabytes that a trial may take (default: 1024)")
+    options.add_argument("--jobs", type=_count, default=1, help="the number of trials at the same time (default: 1)")
     options.add_argument("--format", choices=("text", "json"), default="text")
     options.add_argument("--mode", choices=("search", "match", "fullmatch"), default="search", help="what compile counts as")
-    options.add_argument("--max-degree", type=_degree, default=2, help="degrees above it are findings (default: 2)")
+    options.add_argument("--max-degree", type=_degree, default=2, help="degrees above this are findings (default: 2)")
     return options
 
 

@@ -76,15 +76,15 @@ def number(least: int, most: int) -> Callable[[str], int]:
 def add_options(parser: argparse.ArgumentParser) -> None:
     """Adds the paths and the options that say which report is shown."""
     parser.add_argument("paths", nargs="*", metavar="PATH",
-                        help="files and folders for relint check; without one, or for -, a JSON report on standard input")
+                        help="files and folders for relint check; without any, or with -, a JSON report on standard input")
     parser.add_argument("--tracked", action="store_true",
                         help="only the Python files that git tracks below the paths, or below this folder")
     parser.add_argument("--exclude", action="append", default=[], metavar="GLOB",
-                        help="leave out what a pattern such as build or '*/migrations/*' names; may stand several times")
+                        help="leave out what GLOB matches, such as build or '*/migrations/*'; you can give it several times")
     parser.add_argument("--mode", choices=("fullmatch", "match", "search"), help="what compile counts as (search)")
     parser.add_argument("--max-degree", type=number(0, 999999), metavar="N",
-                        help="the greatest degree that is no finding (2)")
-    parser.add_argument("--max-pairs", type=number(1, 1000), metavar="N", help="how many live pairs relint looks at (600)")
+                        help="the highest degree that isn't a finding (2)")
+    parser.add_argument("--max-pairs", type=number(1, 1000), metavar="N", help="how many live pairs relint explores (600)")
     parser.add_argument("--settings", metavar="FILE", help="a settings file of relint")
     parser.add_argument("--baseline", metavar="FILE", help="a report whose entries are hidden")
 

@@ -27,12 +27,12 @@ usage: relint-many [--jobs N] [OPTIONS] PATH..
        relint-many --list N [--into FOLDER] PATH..
        relint-many --join REPORT..
 
-Writes the report of `relint check` on the paths, made by several runs at the same time. OPTIONS are those of relint check.
+Writes the report of `relint check` on the paths, but several runs make it at the same time. OPTIONS are those of relint check.
 
-  --jobs N       so many runs at a time (default: as many as there are processors)
-  --from FILE    take the paths from FILE, each ended by a byte 0; - is standard input
+  --jobs N       how many runs there are at a time (default: as many as processors)
+  --from FILE    take the paths from FILE, where each path ends with a byte 0; - is standard input
   --list N       write the paths of the files to at most N lists of about the same work, and print the names of the lists
-  --into FOLDER  the folder that the lists are written to (default: relint-lists); it is made, or is empty
+  --into FOLDER  the folder for the lists (default: relint-lists); it is made if it isn't there, and must be empty
   --join         join reports of relint check, in the order given, into the one report of all
   --help         show this text
 """

@@ -363,15 +363,15 @@ def page(given: gather.Gathered, found: Sequence[Finding], link: Link, title: st
 def _parser() -> argparse.ArgumentParser:
     parser = gather.OneLineParser(
         prog="relint-page",
-        description="Writes the report of relint check as one HTML page, which needs nothing else.",
-        epilog="The exit status is 0 where the page was written, also where it shows findings; else 2 to 6.",
+        description="Writes the report of relint check as one HTML page that needs no other file.",
+        epilog="The exit status is 0 if the page was written, even if it shows findings; otherwise 2 to 6.",
         allow_abbrev=False,
     )
     gather.add_options(parser)
-    parser.add_argument("--output", "-o", metavar="FILE", help="the file to write, in place of standard output")
+    parser.add_argument("--output", "-o", metavar="FILE", help="the file to write, instead of standard output")
     parser.add_argument("--title", default="relint report", help="the page's heading")
     parser.add_argument("--link", metavar="ADDRESS",
-                        help="what a place leads to, as 'vscode://file/{path}:{line}:{column}'")
+                        help="what a place links to, for example 'vscode://file/{path}:{line}:{column}'")
     parser.add_argument("--cards", type=gather.number(0, 999999), default=MOST_CARDS, metavar="N",
                         help=f"how many findings get a card with source and chart ({MOST_CARDS})")
     parser.add_argument("--mend", action="store_true", help="also show a cure that relint-mend finds")

@@ -11,7 +11,7 @@ NAMES_OF_DEGREES = {0: "bounded", 1: "linear", 2: "quadratic", 3: "cubic"}
 SCALES = ((10**12, "trillion"), (10**9, "billion"), (10**6, "million"))
 FLAG_LETTERS = (("A", re.A), ("I", re.I), ("M", re.M), ("S", re.S), ("X", re.X))
 LAST_WITH_WORDS = 10**15
-PATTERN = "docs/USAGE.md, Refused patterns"
+PATTERN = "docs/USAGE.md, Patterns that aren't analysed"
 SOURCE = "docs/USAGE.md, Entries that aren't verdicts"
 
 # What each cause means, and the page that helps.

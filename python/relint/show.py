@@ -32,15 +32,15 @@ def _parser() -> argparse.ArgumentParser:
     parser = gather.OneLineParser(
         prog="relint-show",
         description="Shows the findings of relint check with their source lines, in plain words.",
-        epilog="The exit status is that of relint: 0 no finding, 1 findings, 2 to 6 errors.",
+        epilog="The exit status is that of relint: 0 without a finding, 1 with findings, 2 to 6 for errors.",
         allow_abbrev=False,
     )
     gather.add_options(parser)
-    parser.add_argument("--all", action="store_true", help="also name each entry that is no finding, in one line")
+    parser.add_argument("--all", action="store_true", help="also name each entry that isn't a finding, in one line")
     parser.add_argument("--format", choices=("terminal", "github", "sarif"), default="terminal",
-                        help="for a terminal, lines that build servers show in place, or SARIF with rules (terminal)")
+                        help="for a terminal, for build servers that show findings in place, or SARIF with rules (terminal)")
     parser.add_argument("--color", choices=("always", "never", "auto"), default="auto",
-                        help="auto: on a terminal, where NO_COLOR isn't set")
+                        help="auto: on a terminal, unless NO_COLOR is set")
     parser.add_argument("--mend", action="store_true", help="also show a cure that relint-mend finds")
     return parser
 

@@ -184,7 +184,7 @@ class Whole(unittest.TestCase):
 
     def test_refused_and_undecided(self) -> None:
         self.assertIn("<b>1</b> lookaround: a lookahead or lookbehind, as (?=a). ", self.page)
-        self.assertIn("See docs/USAGE.md, Refused patterns.", self.page)
+        self.assertIn("See docs/USAGE.md, Patterns that aren&#x27;t analysed.", self.page)
         self.assertIn("<b>1</b> pairs over 600: ", self.page)
 
     def test_snippets_run(self) -> None:

@@ -53,20 +53,24 @@ def arguments() -> argparse.ArgumentParser:
     """Returns the reader of the command's words."""
     parser = argparse.ArgumentParser(
         prog="relint-mend",
-        description="Proposes patterns in the place of costly ones; keeps those that relint proves to match the same texts.",
+        description="Proposes patterns to replace costly ones, and keeps those that relint proves to match the same texts.",
     )
-    parser.add_argument("patterns", nargs="*", metavar="PATTERN", help="a pattern; after -- where it begins with -")
+    parser.add_argument("patterns", nargs="*", metavar="PATTERN", help="a pattern; put -- before one that begins with -")
     parser.add_argument("--report", metavar="FILE", help="mend the findings of this JSON report of relint check")
     parser.add_argument("--diff", action="store_true", help="with --report: write the cures as a unified diff")
     parser.add_argument("--apply", action="store_true", help="with --report: write the cures into the files")
-    parser.add_argument("--tier", choices=TIERS, default="a", help="the last tier for --diff and --apply (default: a)")
+    parser.add_argument("--tier", choices=TIERS, default="a", help="the lowest tier for --diff and --apply (default: a)")
     parser.add_argument("--call", choices=CALLS, default="compile", help="the call that PATTERN stands in (default: compile)")
     parser.add_argument("--flags", default="", metavar="LETTERS", help="the flags of that call: a, i, m, s, x")
     parser.add_argument("--mode", choices=MODES, help="what compile counts as (default: the costliest; with --report: search)")
-    parser.add_argument("--max-degree", type=_whole, default=2, metavar="N", help="a finding is above it (default: 2)")
-    parser.add_argument("--tries", type=_whole, default=50, metavar="N", help="most comparisons for a pattern (default: 50)")
-    parser.add_argument("--steps", type=_whole, default=3, metavar="N", help="most rules one after another (default: 3)")
-    parser.add_argument("--seconds", type=_seconds, default=30.0, metavar="S", help="most time for a pattern (default: 30)")
+    parser.add_argument("--max-degree", type=_whole, default=2, metavar="N",
+                        help="degrees above this are findings (default: 2)")
+    parser.add_argument("--tries", type=_whole, default=50, metavar="N",
+                        help="the most comparisons for one pattern (default: 50)")
+    parser.add_argument("--steps", type=_whole, default=3, metavar="N",
+                        help="the most rules one after another (default: 3)")
+    parser.add_argument("--seconds", type=_seconds, default=30.0, metavar="S",
+                        help="the most time for one pattern (default: 30)")
     parser.add_argument("--format", choices=("text", "json"), default="text", help="the layout of the answers (default: text)")
     return parser
 
