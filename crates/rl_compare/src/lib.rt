@@ -30,5 +30,3 @@ pub use comparing::compare;
 pub use error::CompareError;
 pub use rl_equiv::Compared;
 
-#[cfg(test)]
-mod tests;

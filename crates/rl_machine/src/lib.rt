@@ -29,5 +29,3 @@ pub use columns::Columns;
 pub use steps::{Counted, Steps};
 pub use texts::cost;
 
-#[cfg(test)]
-mod tests;

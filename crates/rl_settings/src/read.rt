@@ -40,5 +40,3 @@ pub fn read_settings(alloc: Global, bytes: &[u8]) -> Result<PartialSettings, Set
     }
 }
 
-#[cfg(test)]
-mod tests;

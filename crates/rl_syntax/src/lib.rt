@@ -53,7 +53,3 @@ pub use sizes::size_after;
 pub use span::{Span, Spans};
 pub use verdict::{Family, Limit, Suggestion, Texts, Verdict};
 
-#[cfg(test)]
-mod lowering_tests;
-#[cfg(test)]
-mod tests;

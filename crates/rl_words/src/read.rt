@@ -69,5 +69,3 @@ pub fn read_words<'a>(alloc: Global, words: &'a Vec<String>) -> Result<Words<'a>
     }
 }
 
-#[cfg(test)]
-mod tests;
