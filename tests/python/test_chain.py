@@ -13,6 +13,7 @@ from typing import Dict, List, Union
 
 from show_support import TOP, Ran, folder, tool
 
+Line = Dict[str, Union[str, float]]
 # Seconds of provers: their words, their folders, and what their seconds are.
 LOG = (
     ("rattle build --crate-name rl_lists src/lib.rt -o", "/top/crates/rl_lists", 4.0),
@@ -27,7 +28,7 @@ LOG = (
 )
 
 
-def reported(*lines: Dict[str, Union[str, float]]) -> Ran:
+def reported(lines: List[Line]) -> Ran:
     """The report on a log."""
     with folder({"log": "".join(json.dumps(line) + "\n" for line in lines)}):
         return tool("chain", "log")
@@ -48,7 +49,8 @@ class Report(unittest.TestCase):
 
     def test_seconds_and_chain(self) -> None:
         """Proofs, tests and wrong bodies are told apart; a check by hand and a crate of another checkout count for nothing."""
-        ran = reported(*({"first": 1, "last": 2, "cpu": cpu, "args": args, "cwd": cwd} for args, cwd, cpu in LOG))
+        lines: List[Line] = [{"first": 1, "last": 2, "cpu": cpu, "args": args, "cwd": cwd} for args, cwd, cpu in LOG]
+        ran = reported(lines)
         self.assertEqual((ran.status, ran.err), (0, ""))
         self.assertIn("| `rl_graph` | 100 | 7 | 23 | 130 |\n", ran.out)
         self.assertIn("| all | 224 | 7 | 23 | 254 |\n", ran.out)
@@ -59,7 +61,7 @@ class Report(unittest.TestCase):
 
     def test_a_log_that_is_none(self) -> None:
         """A line without the fields, and a file that isn't there, end with status 2."""
-        self.assertEqual(reported({"first": 1}).status, 2)
+        self.assertEqual(reported([{"first": 1}]).status, 2)
         with folder({}):
             self.assertEqual(tool("chain", "none").status, 2)
 
