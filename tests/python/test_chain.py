@@ -23,8 +23,8 @@ LOG = (
     ("rattle build --crate-name rl_graph src/lib.rt --test -o", "/top/crates/rl_graph", 7.0),
     ("rattle check --crate-name rl_graph src/lib.rt", "/tmp/rt-edit-12-abc", 20.0),
     ("rattle check --crate-name rl_graph src/lib.rt", "/tmp/rt-edit-12-def", 3.0),
-    ("rattle check --crate-name rl_graph src/lib.rt", "/top/crates/rl_graph", 1000.0),
-    ("rattle build --crate-name of_another_checkout src/lib.rt -o", "/other", 1000.0),
+    ("rattle check --crate-name rl_bench src/main.rt", "/top/crates/rl_bench", 9.0),
+    ("rattle build --crate-name another_crate src/lib.rt -o", "/other", 1000.0),
 )
 
 
@@ -48,13 +48,14 @@ class Report(unittest.TestCase):
     """What is printed of a log."""
 
     def test_seconds_and_chain(self) -> None:
-        """Proofs, tests and wrong bodies are told apart; a check by hand and a crate of another checkout count for nothing."""
+        """Proofs, tests and wrong bodies are told apart, and a crate that the checkout doesn't have counts for nothing."""
         lines: List[Line] = [{"first": 1, "last": 2, "cpu": cpu, "args": args, "cwd": cwd} for args, cwd, cpu in LOG]
         ran = reported(lines)
         self.assertEqual((ran.status, ran.err), (0, ""))
         self.assertIn("| `rl_graph` | 100 | 7 | 23 | 130 |\n", ran.out)
-        self.assertIn("| all | 224 | 7 | 23 | 254 |\n", ran.out)
-        self.assertIn("Together 4.2 processor minutes.\n", ran.out)
+        self.assertIn("| `rl_bench` | 9 | 0 | 0 | 9 |\n", ran.out)
+        self.assertIn("| all | 234 | 7 | 23 | 264 |\n", ran.out)
+        self.assertIn("Together 4.4 processor minutes.\n", ran.out)
         self.assertIn("takes 124 seconds:\n", ran.out)
         rows = ["| `rl_lists` | 4 | 4 |", "| `rl_ranges` | 70 | 74 |", "| `rl_syntax` | 50 | 124 |"]
         self.assertIn("\n".join(rows), ran.out)
