@@ -29,4 +29,3 @@ pub mod laws;
 pub use comparing::compare;
 pub use error::CompareError;
 pub use rl_equiv::Compared;
-
