@@ -29,6 +29,3 @@ pub mod laws;
 pub use comparing::compare;
 pub use error::CompareError;
 pub use rl_equiv::Compared;
-
-#[cfg(test)]
-mod tests;

@@ -38,6 +38,3 @@ pub fn line_of(alloc: Global, value: &Value) -> Result<Bytes, OutOfMemory>
     line.push(b'\n')?;
     Ok(Bytes::from_vec(line))
 }
-
-#[cfg(test)]
-mod tests;

@@ -30,8 +30,6 @@
 mod bits;
 pub mod row;
 pub mod table;
-#[cfg(test)]
-mod tests;
 mod words;
 
 pub use row::BitRow;

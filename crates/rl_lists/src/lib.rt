@@ -64,6 +64,3 @@ pub type Members = Items<u32>;
 
 /// A list of bytes.
 pub type Bytes = Items<u8>;
-
-#[cfg(test)]
-mod tests;

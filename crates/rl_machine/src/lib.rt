@@ -28,6 +28,3 @@ pub mod texts;
 pub use columns::Columns;
 pub use steps::{Counted, Steps};
 pub use texts::cost;
-
-#[cfg(test)]
-mod tests;

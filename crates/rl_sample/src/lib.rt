@@ -22,7 +22,5 @@
 
 mod patterns;
 mod source;
-#[cfg(test)]
-mod tests;
 
 pub use source::sample_source;

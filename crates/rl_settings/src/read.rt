@@ -39,6 +39,3 @@ pub fn read_settings(alloc: Global, bytes: &[u8]) -> Result<PartialSettings, Set
         None => Err(SettingsError::Refused),
     }
 }
-
-#[cfg(test)]
-mod tests;

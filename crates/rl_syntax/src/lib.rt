@@ -52,8 +52,3 @@ pub use rl_ranges::{
 pub use sizes::size_after;
 pub use span::{Span, Spans};
 pub use verdict::{Family, Limit, Suggestion, Texts, Verdict};
-
-#[cfg(test)]
-mod lowering_tests;
-#[cfg(test)]
-mod tests;

@@ -26,8 +26,6 @@
 mod children;
 mod laws;
 mod met;
-#[cfg(test)]
-mod tests;
 mod visits;
 mod walking;
 

@@ -68,6 +68,3 @@ pub fn read_words<'a>(alloc: Global, words: &'a Vec<String>) -> Result<Words<'a>
         Err(OutOfMemory) => Err(WordsError::OutOfMemory),
     }
 }
-
-#[cfg(test)]
-mod tests;
