@@ -12,15 +12,17 @@ use Rattle.std.proofs.lemmas.Slice.Eq.{bytes_eq-Decides}
 use Rattle.rl_pylex.specs.declared.token_list.Token.{Token}
 use Rattle.rl_pylex.specs.declared.token_list.TokenKind.{TokenKind}
 use Rattle.rl_pylex.specs.declared.token_list.TokenKind.TheVariants as kind
+use Rattle.rl_pylex.specs.Source.{same_kind}
 use Rattle.rl_sites.specs.declared.call.Call.{Call}
 use Rattle.rl_sites.specs.declared.heads.Head.{Head}
 use Rattle.rl_sites.specs.declared.imports.Alias.{Alias}
 use Rattle.rl_sites.specs.declared.mark.Mark.{Mark}
 use Rattle.rl_sites.specs.declared.site.Site.{Site}
 use Rattle.rl_sites.specs.declared.site.SiteFlags.{SiteFlags}
-use Rattle.rl_sites.specs.Marks.{marks_from, is_literal, is_name, is_op, is_word, is_comment_kind, is_name_kind, is_op_kind, is_literal_kind, word_of, stands}
+use Rattle.rl_sites.specs.Marks.{marks_from, is_literal, is_name, is_op, is_word, word_of, stands}
 use Rattle.rl_sites.specs.Names.{names_any_module, first_call, is_module, call_named, call_aliased}
-use Rattle.rl_sites.specs.Sites.{head, call_by, dotted_head, bare_head, head_of, pattern_size, site_of_run, ends_whole, flags_if, site_behind, site_by, site_here, hides, sites_from}
+use Rattle.rl_sites.specs.Sites.{dotted_head, bare_head, head_of, pattern_size, site_of_run, ends_whole, site_behind, site_here, hides, sites_from}
+use Rattle.rl_sites.specs.internal.Parts.{call_by, head, flags_if, site_by}
 use Rattle.rl_sites.specs.Runs.{AreInOrder}
 use Rattle.rl_sites.proofs.Runs.{Literals, literals_front, prefix_within, get_take}
 
@@ -43,7 +45,7 @@ rise_drop (suc k) n (m ∷ ms) h = rise_drop k n ms (rise_lower n (suc m.number)
 marks_rise : (n : ℕ) (ts : List Token) → Rise n (marks_from n ts)
 marks_rise n [] = tt
 marks_rise n (t ∷ ts) =
-    elim (is_comment_kind t.kind) as (λ b. Rise n (cond b (marks_from (n + 1) ts) (record { number = n; token = t } ∷ marks_from (n + 1) ts))) [
+    elim (same_kind kind.Comment t.kind) as (λ b. Rise n (cond b (marks_from (n + 1) ts) (record { number = n; token = t } ∷ marks_from (n + 1) ts))) [
       | true ↦ rise_lower n (n + 1) (marks_from (n + 1) ts) (omega arith) (marks_rise (n + 1) ts)
       | false ↦ (omega arith, rise_lower (suc n) (n + 1) (marks_from (n + 1) ts) (omega arith) (marks_rise (n + 1) ts))
     ]
@@ -195,7 +197,7 @@ no_such : (s : List ℕ) (al : List Alias) (m e : Mark) (ms : List Mark) → is_
     → site_here s al (m ∷ e ∷ ms) ≡ None
 no_such s al m e ms d p = no_head s al (m ∷ e ∷ ms) (no_such_dotted s al m e ms d) (no_such_bare s al m e ms p)
 
-op_no_name : (k : TokenKind) → is_op_kind k ≡ true → is_name_kind k ≡ false
+op_no_name : (k : TokenKind) → same_kind kind.Op k ≡ true → same_kind kind.Name k ≡ false
 op_no_name kind.Name h = absurd (false≢true h)
 op_no_name kind.Number h = refl
 op_no_name kind.Literal h = refl
@@ -203,7 +205,7 @@ op_no_name kind.Op h = refl
 op_no_name kind.Comment h = refl
 op_no_name kind.LineEnd h = refl
 
-literal_no_name : (k : TokenKind) → is_literal_kind k ≡ true → is_name_kind k ≡ false
+literal_no_name : (k : TokenKind) → same_kind kind.Literal k ≡ true → same_kind kind.Name k ≡ false
 literal_no_name kind.Name h = absurd (false≢true h)
 literal_no_name kind.Number h = refl
 literal_no_name kind.Literal h = refl
@@ -215,13 +217,13 @@ literal_no_name kind.LineEnd h = refl
 no_op : (s : List ℕ) (al : List Alias) (op : List ℕ) (m : Mark) (ms : List Mark) → is_op s op m ≡ true → site_here s al (m ∷ ms) ≡ None
 unfolding is_op
 no_op s al op m ms h =
-    no_name s al m ms (op_no_name m.token.kind (and_parts (is_op_kind m.token.kind) (bytes_eq (word_of s m) op) h).0)
+    no_name s al m ms (op_no_name m.token.kind (and_parts (same_kind kind.Op m.token.kind) (bytes_eq (word_of s m) op) h).0)
 
 op_apart : (s a b : List ℕ) (m : Mark) → bytes_eq a b ≡ false → is_op s a m ≡ true → is_op s b m ≡ false
 unfolding is_op
 op_apart s a b m apart h =
-    let word : word_of s m ≡ a = (bytes_eq-Decides (word_of s m) a).0 (and_parts (is_op_kind m.token.kind) (bytes_eq (word_of s m) a) h).1 in
-    and_right (is_op_kind m.token.kind) (bytes_eq (word_of s m) b) (ap (λ (w : List ℕ). bytes_eq w b) word ∙ apart)
+    let word : word_of s m ≡ a = (bytes_eq-Decides (word_of s m) a).0 (and_parts (same_kind kind.Op m.token.kind) (bytes_eq (word_of s m) a) h).1 in
+    and_right (same_kind kind.Op m.token.kind) (bytes_eq (word_of s m) b) (ap (λ (w : List ℕ). bytes_eq w b) word ∙ apart)
 
 dot_hides : (s : List ℕ) (m : Mark) → is_op s (codes ".") m ≡ true → hides s m ≡ true
 unfolding hides

@@ -7,7 +7,8 @@ use Rattle.rl_sites.specs.declared.heads.Head.{Head}
 use Rattle.rl_sites.specs.declared.site.Site.{Site}
 use Rattle.rl_sites.specs.Marks.{is_name, is_op, stands}
 use Rattle.rl_sites.specs.Names.{names_any_module, names_any_member, first_call, is_module, call_named, call_aliased}
-use Rattle.rl_sites.specs.Sites.{head, call_by, dotted_head, bare_head, head_of, site_by, site_here, sites_from, hides}
+use Rattle.rl_sites.specs.Sites.{dotted_head, bare_head, head_of, site_here, sites_from, hides}
+use Rattle.rl_sites.specs.internal.Parts.{call_by, head, site_by}
 
 never : (b : Bool) → (b && false) ≡ false
 never true = refl

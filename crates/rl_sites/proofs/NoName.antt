@@ -6,12 +6,12 @@ use Rattle.std.proofs.lemmas.Slice.Eq.{bytes_eq-Decides}
 use Rattle.rl_pylex.specs.declared.token_list.TokenKind.{TokenKind}
 use Rattle.rl_pylex.specs.declared.token_list.TokenKind.TheVariants as kind
 use Rattle.rl_pylex.specs.declared.token_list.Token.{Token}
-use Rattle.rl_pylex.specs.Source.{text_of, LacksName}
+use Rattle.rl_pylex.specs.Source.{same_kind, text_of, LacksName}
 use Rattle.rl_sites.specs.declared.mark.Mark.{Mark}
 use Rattle.rl_sites.specs.declared.imports.Alias.{Alias}
 use Rattle.rl_sites.specs.declared.imports.Import.TheVariants as import
-use Rattle.rl_sites.specs.Marks.{marks_from, is_name, is_name_kind, is_comment_kind, is_word, is_op, stands}
-use Rattle.rl_sites.specs.Imports.{ends_statement, item_size, module_alias, items_from, is_from_import, import_here, aliases_from, aliases_of}
+use Rattle.rl_sites.specs.Marks.{marks_from, is_name, is_word, is_op, stands}
+use Rattle.rl_sites.specs.Imports.{ends_statement, item_size, item_alias, items_from, is_from_import, import_here, aliases_from, aliases_of}
 use Rattle.rl_sites.specs.Sites.{sites_of, HasNoSites}
 use Rattle.rl_sites.proofs.NoAliases.{no_sites}
 
@@ -26,7 +26,7 @@ not_true : (b : Bool) → (b ≡ true → ⊥) → b ≡ false
 not_true true h = absurd (h refl)
 not_true false h = refl
 
-other_word : (k : TokenKind) (w : List ℕ) → (k ≡ kind.Name → w ≢ codes "re") → (is_name_kind k && bytes_eq w (codes "re")) ≡ false
+other_word : (k : TokenKind) (w : List ℕ) → (k ≡ kind.Name → w ≢ codes "re") → (same_kind kind.Name k && bytes_eq w (codes "re")) ≡ false
 other_word kind.Name w h = not_true (bytes_eq w (codes "re")) (λ e. h refl ((bytes_eq-Decides w (codes "re")).0 e))
 other_word _ w h = refl
 
@@ -41,11 +41,10 @@ kept s false m ms h hs = All-cons (IsOther s) m ms h hs
 other_marks : (s : List ℕ) (n : ℕ) (ts : List Token) → All (IsOtherToken s) ts → All (IsOther s) (marks_from n ts)
 other_marks s n [] h = All-nil (IsOther s)
 other_marks s n (t ∷ ts) h =
-    kept s (is_comment_kind t.kind) (record { number = n; token = t }) (marks_from (n + 1) ts)
+    kept s (same_kind kind.Comment t.kind) (record { number = n; token = t }) (marks_from (n + 1) ts)
     (other_mark s t n (All-head (IsOtherToken s) t ts h)) (other_marks s (n + 1) ts (All-tail (IsOtherToken s) t ts h))
 
-no_alias : (s : List ℕ) (m : Mark) (ms : List Mark) → IsOther s m → module_alias s m ms ≡ None
-unfolding module_alias
+no_alias : (s : List ℕ) (m : Mark) (ms : List Mark) → IsOther s m → item_alias s import.Module m ms ≡ None
 no_alias s m ms h = rw h refl
 
 no_more : (b c : Bool) (alias : Option Alias) (more : List Alias) → alias ≡ None → more ≡ [] → cond b (option_to_list alias ++ cond c more []) [] ≡ []
@@ -58,7 +57,7 @@ no_items s zero [] h = refl
 no_items s (suc skip) [] h = refl
 no_items s (suc skip) (m ∷ ms) h = no_items s skip ms (All-tail (IsOther s) m ms h)
 no_items s zero (m ∷ ms) h =
-    no_more (is_name m) (stands (item_size s import.Module ms) (is_op s (codes ",")) ms) (module_alias s m ms)
+    no_more (is_name m) (stands (item_size s import.Module ms) (is_op s (codes ",")) ms) (item_alias s import.Module m ms)
     (items_from s import.Module (suc (item_size s import.Module ms)) ms) (no_alias s m ms (All-head (IsOther s) m ms h))
     (no_items s (suc (item_size s import.Module ms)) ms (All-tail (IsOther s) m ms h))
 

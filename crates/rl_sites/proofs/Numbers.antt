@@ -2,10 +2,11 @@
 use Rattle.std.proofs.Common.{◌≡◌, ℕ, zero, suc, ◌+◌, ◌<◌, ◌≤◌, true, false, cond, List, [], ◌∷◌, take, drop, length, get_or, sym, arith, subst, Some, None}
 use Rattle.std.specs.Prelude.{slice_get}
 use Rattle.rl_pylex.specs.declared.token_list.Token.{Token}
-use Rattle.rl_pylex.specs.Source.{IsTokenList, IsInOrder}
+use Rattle.rl_pylex.specs.declared.token_list.TokenKind.TheVariants as kind
+use Rattle.rl_pylex.specs.Source.{same_kind, IsTokenList, IsInOrder}
 use Rattle.rl_pylex.proofs.TokenFacts.{IsInOrder-tokens}
 use Rattle.rl_sites.specs.declared.mark.Mark.{Mark}
-use Rattle.rl_sites.specs.Marks.{marks_from, is_comment_kind}
+use Rattle.rl_sites.specs.Marks.{marks_from}
 use Rattle.rl_sites.specs.internal.Walks.{IsNumbered}
 use Rattle.rl_sites.proofs.Tables.{table_drop}
 
@@ -36,7 +37,7 @@ pub ruleset numbers = (numbered_drop, numbered_take, numbered_at, table_drop)
 pub marks-numbered : (n : ℕ) (ts : List Token) → n + length ts ≤ 4194304 → IsNumbered (marks_from n ts)
 marks-numbered n [] h = tt
 marks-numbered n (t ∷ ts) h =
-    elim (is_comment_kind t.kind) as (λ b. IsNumbered (cond b (marks_from (n + 1) ts) (record { number = n; token = t } ∷ marks_from (n + 1) ts))) [
+    elim (same_kind kind.Comment t.kind) as (λ b. IsNumbered (cond b (marks_from (n + 1) ts) (record { number = n; token = t } ∷ marks_from (n + 1) ts))) [
       | true ↦ marks-numbered (n + 1) ts (omega arith)
       | false ↦ (omega arith, marks-numbered (n + 1) ts (omega arith))
     ]

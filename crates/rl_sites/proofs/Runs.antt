@@ -9,19 +9,22 @@ use Rattle.std.proofs.lemmas.List.Elements.{All-nil, All-cons, All-append}
 use Rattle.std.proofs.lemmas.Option.{slice_get_within}
 use Rattle.rl_pylex.specs.declared.token_list.Token.{Token}
 use Rattle.rl_pystr.specs.Runs.{is_literal as is_literal_token, IsLiteralRun}
+use Rattle.rl_pylex.specs.declared.token_list.TokenKind.TheVariants as kind
+use Rattle.rl_pylex.specs.Source.{same_kind}
 use Rattle.rl_sites.specs.declared.call.Call.{Call}
 use Rattle.rl_sites.specs.declared.heads.Head.{Head}
 use Rattle.rl_sites.specs.declared.imports.Alias.{Alias}
 use Rattle.rl_sites.specs.declared.mark.Mark.{Mark}
 use Rattle.rl_sites.specs.declared.site.Site.{Site}
 use Rattle.rl_sites.specs.declared.site.SiteFlags.{SiteFlags}
-use Rattle.rl_sites.specs.Marks.{marks_from, is_literal, is_comment_kind}
-use Rattle.rl_sites.specs.Sites.{pattern_size, site_of_run, ends_whole, flags_if, site_behind, site_by, site_here, head_of, hides, sites_from}
+use Rattle.rl_sites.specs.Marks.{marks_from, is_literal}
+use Rattle.rl_sites.specs.Sites.{pattern_size, site_of_run, ends_whole, site_behind, site_here, head_of, hides, sites_from}
+use Rattle.rl_sites.specs.internal.Parts.{site_by, flags_if}
 use Rattle.rl_sites.specs.Runs.{HasRun}
 
 -- a literal or a comment
 abbrev is_of_run : Token → Bool
-is_of_run token = is_literal_token token || is_comment_kind token.kind
+is_of_run token = is_literal_token token || same_kind kind.Comment token.kind
 
 abbrev mark : ℕ → Token → Mark
 mark number token = record { number = number; token = token }
@@ -72,32 +75,32 @@ later n k t ts k' ms part moved same s = record {
 
 spans : (n : ℕ) (tokens : List Token) (k : ℕ) → Literals (suc k) (marks_from n tokens) → Spans n tokens k
 spans n [] k h = absurd h
-spans n (t ∷ ts) k h = by-test (is_comment_kind t.kind) (λ j g. spans (n + 1) ts j g) refl h
+spans n (t ∷ ts) k h = by-test (same_kind kind.Comment t.kind) (λ j g. spans (n + 1) ts j g) refl h
   where
-    same : (b : Bool) → is_comment_kind t.kind ≡ b → cond b (marks_from (n + 1) ts) (mark n t ∷ marks_from (n + 1) ts) ≡ marks_from n (t ∷ ts)
+    same : (b : Bool) → same_kind kind.Comment t.kind ≡ b → cond b (marks_from (n + 1) ts) (mark n t ∷ marks_from (n + 1) ts) ≡ marks_from n (t ∷ ts)
     same b e = ap (λ c. cond c (marks_from (n + 1) ts) (mark n t ∷ marks_from (n + 1) ts)) (sym e)
 
-    first : (j : ℕ) → j ≡ 0 → is_comment_kind t.kind ≡ false → is_literal (mark n t) ≡ true → Spans n (t ∷ ts) j
+    first : (j : ℕ) → j ≡ 0 → same_kind kind.Comment t.kind ≡ false → is_literal (mark n t) ≡ true → Spans n (t ∷ ts) j
     first j z e l = record {
       gap = 0;
       last = mark n t;
       at = ap (λ xs. slice_get xs j) (sym (same false e)) ∙ ap (slice_get (mark n t ∷ marks_from (n + 1) ts)) z;
       number = omega arith;
       there = refl;
-      parts = and_true (is_of_run t) true (or_left (is_literal_token t) (is_comment_kind t.kind) l) refl;
+      parts = and_true (is_of_run t) true (or_left (is_literal_token t) (same_kind kind.Comment t.kind) l) refl;
       literal = l;
     }
 
     more : (j : ℕ) → ((i : ℕ) → Literals (suc i) (marks_from (n + 1) ts) → Spans (n + 1) ts i)
-        → is_comment_kind t.kind ≡ false → is_literal (mark n t) ≡ true → Literals j (marks_from (n + 1) ts) → Spans n (t ∷ ts) j
+        → same_kind kind.Comment t.kind ≡ false → is_literal (mark n t) ≡ true → Literals j (marks_from (n + 1) ts) → Spans n (t ∷ ts) j
     more zero rest e l g = first zero refl e l
     more (suc j) rest e l g =
         later n j t ts (suc j) (mark n t ∷ marks_from (n + 1) ts)
-        (or_left (is_literal_token t) (is_comment_kind t.kind) l) (λ m f. f) (same false e) (rest j g)
+        (or_left (is_literal_token t) (same_kind kind.Comment t.kind) l) (λ m f. f) (same false e) (rest j g)
 
-    by-test : (b : Bool) → ((i : ℕ) → Literals (suc i) (marks_from (n + 1) ts) → Spans (n + 1) ts i) → is_comment_kind t.kind ≡ b → Literals (suc k) (cond b (marks_from (n + 1) ts) (mark n t ∷ marks_from (n + 1) ts)) → Spans n (t ∷ ts) k
+    by-test : (b : Bool) → ((i : ℕ) → Literals (suc i) (marks_from (n + 1) ts) → Spans (n + 1) ts i) → same_kind kind.Comment t.kind ≡ b → Literals (suc k) (cond b (marks_from (n + 1) ts) (mark n t ∷ marks_from (n + 1) ts)) → Spans n (t ∷ ts) k
     by-test true rest e g =
-        later n k t ts k (marks_from (n + 1) ts) (or_right (is_literal_token t) (is_comment_kind t.kind) e) (λ m f. f) (same true e) (rest k g)
+        later n k t ts k (marks_from (n + 1) ts) (or_right (is_literal_token t) (same_kind kind.Comment t.kind) e) (λ m f. f) (same true e) (rest k g)
     by-test false rest e g = more k rest e g.0 g.1
 
 -- what is left of the marks of tokens are the marks of what is left of the tokens
@@ -108,7 +111,7 @@ record LeftOf (n : ℕ) (tokens : List Token) (ms : List Mark) : Type 0 where
 left : (s n : ℕ) (tokens : List Token) → LeftOf n tokens (drop s (marks_from n tokens))
 left zero n tokens = record { gap = 0; same = ap (λ k. marks_from k tokens) (omega arith) }
 left (suc s) n [] = record { gap = 0; same = refl }
-left (suc s) n (t ∷ ts) = by-test (is_comment_kind t.kind) (left (suc s) (n + 1) ts) (left s (n + 1) ts)
+left (suc s) n (t ∷ ts) = by-test (same_kind kind.Comment t.kind) (left (suc s) (n + 1) ts) (left s (n + 1) ts)
   where
     further : (ms : List Mark) → LeftOf (n + 1) ts ms → LeftOf n (t ∷ ts) ms
     further ms l = record { gap = suc l.gap; same = l.same ∙ ap (λ k. marks_from k (drop l.gap ts)) (omega arith) }
@@ -124,14 +127,14 @@ record Opens (n : ℕ) (tokens : List Token) : Type 0 where
   first : Token
   rest : List Token
   are : drop gap tokens ≡ first ∷ rest
-  kind_is : is_comment_kind first.kind ≡ false
+  kind_is : same_kind kind.Comment first.kind ≡ false
   marks : marks_from n tokens ≡ mark (n + gap) first ∷ marks_from (n + gap + 1) rest
 
 opens : (n : ℕ) (tokens : List Token) → (marks_from n tokens ≡ []) ⊎ Opens n tokens
 opens n [] = inl refl
-opens n (t ∷ ts) = by-test (is_comment_kind t.kind) (opens (n + 1) ts) refl
+opens n (t ∷ ts) = by-test (same_kind kind.Comment t.kind) (opens (n + 1) ts) refl
   where
-    further : is_comment_kind t.kind ≡ true → (marks_from (n + 1) ts ≡ []) ⊎ Opens (n + 1) ts → (marks_from n (t ∷ ts) ≡ []) ⊎ Opens n (t ∷ ts)
+    further : same_kind kind.Comment t.kind ≡ true → (marks_from (n + 1) ts ≡ []) ⊎ Opens (n + 1) ts → (marks_from n (t ∷ ts) ≡ []) ⊎ Opens n (t ∷ ts)
     further e (inl h) = inl (ap (λ c. cond c (marks_from (n + 1) ts) (mark n t ∷ marks_from (n + 1) ts)) e ∙ h)
     further e (inr o) = inr (record {
       gap = suc o.gap;
@@ -143,7 +146,7 @@ opens n (t ∷ ts) = by-test (is_comment_kind t.kind) (opens (n + 1) ts) refl
           ∙ ap (λ k. mark k o.first ∷ marks_from (k + 1) o.rest) (omega arith);
     })
 
-    by-test : (b : Bool) → (marks_from (n + 1) ts ≡ []) ⊎ Opens (n + 1) ts → is_comment_kind t.kind ≡ b → (marks_from n (t ∷ ts) ≡ []) ⊎ Opens n (t ∷ ts)
+    by-test : (b : Bool) → (marks_from (n + 1) ts ≡ []) ⊎ Opens (n + 1) ts → same_kind kind.Comment t.kind ≡ b → (marks_from n (t ∷ ts) ≡ []) ⊎ Opens n (t ∷ ts)
     by-test true others e = further e others
     by-test false others e = inr (record {
       gap = 0;
@@ -200,7 +203,7 @@ nothing_in_front : (all : List Token) (call : Call) (whole : Bool) (flags : Site
 nothing_in_front all call whole flags ms = tt
 
 some_in_front : (all : List Token) (call : Call) (whole : Bool) (flags : SiteFlags) (n : ℕ) (first : Token) (rest : List Token)
-    → drop n all ≡ first ∷ rest → is_comment_kind first.kind ≡ false → (ms : List Mark) (k size : ℕ) → size ≡ suc k
+    → drop n all ≡ first ∷ rest → same_kind kind.Comment first.kind ≡ false → (ms : List Mark) (k size : ℕ) → size ≡ suc k
     → mark n first ∷ ms ≡ marks_from n (first ∷ rest) → is_literal (mark n first) ≡ true → Literals k ms → k ≤ length ms
     → HasItsRun all (site_in_front call whole flags size (mark n first ∷ ms))
 some_in_front all call whole flags n first rest d c ms k size z e l front within =
@@ -285,7 +288,7 @@ sites_all : (source : List ℕ) (all : List Token) (aliases : List Alias) (hidde
     → All (HasRun all) (sites_from source aliases hidden (marks_from n tokens))
 sites_all source all aliases hidden n [] e = All-nil (HasRun all)
 sites_all source all aliases hidden n (t ∷ ts) e =
-    by-test (is_comment_kind t.kind) (λ h f. sites_all source all aliases h (n + 1) ts f) refl
+    by-test (same_kind kind.Comment t.kind) (λ h f. sites_all source all aliases h (n + 1) ts f) refl
   where
     next : ts ≡ drop (n + 1) all
     next = ap (drop 1) e ∙ drop-drop 1 n all
@@ -293,11 +296,11 @@ sites_all source all aliases hidden n (t ∷ ts) e =
     others : List Mark
     others = marks_from (n + 1) ts
 
-    here : is_comment_kind t.kind ≡ false → mark n t ∷ others ≡ marks_from n (drop n all)
+    here : same_kind kind.Comment t.kind ≡ false → mark n t ∷ others ≡ marks_from n (drop n all)
     here f = ap (λ c. cond c others (mark n t ∷ others)) (sym f) ∙ ap (marks_from n) e
 
     by-test : (b : Bool) → ((h : Bool) → ts ≡ drop (n + 1) all → All (HasRun all) (sites_from source aliases h (marks_from (n + 1) ts)))
-        → is_comment_kind t.kind ≡ b → All (HasRun all) (sites_from source aliases hidden (cond b others (mark n t ∷ others)))
+        → same_kind kind.Comment t.kind ≡ b → All (HasRun all) (sites_from source aliases hidden (cond b others (mark n t ∷ others)))
     by-test true rest f = rest hidden next
     by-test false rest f =
         All-append (HasRun all) (cond hidden [] (option_to_list (site_here source aliases (mark n t ∷ others)))) (sites_from source aliases (hides source (mark n t)) others)

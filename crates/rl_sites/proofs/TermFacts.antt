@@ -1,7 +1,7 @@
 -- The terms of an argument, one by one.
 use Rattle.std.proofs.Common.{◌≡◌, ℕ, zero, suc, ◌+◌, ◌<◌, ◌≤◌, Bool, true, false, not, cond, List, [], ◌∷◌, take, drop, length, refl, ap, sym, ◌∙◌, arith, Some, None, Option, min, get_or, ◌⊎◌, inl, inr, ⊎_elim}
 use Rattle.std.specs.Prelude.{position, unwrap_or}
-use Rattle.std.specs.List.{prefix_len}
+use Rattle.std.specs.List.{onto_first, prefix_len}
 use Rattle.std.proofs.lemmas.Bool.{cases_lt}
 use Rattle.std.proofs.lemmas.List.{length-take, drop_all}
 use Rattle.rl_pattern.specs.declared.flags.Flags.{Flags}
@@ -10,8 +10,8 @@ use Rattle.rl_sites.specs.declared.mark.Mark.{Mark}
 use Rattle.rl_sites.specs.declared.imports.Alias.{Alias}
 use Rattle.rl_sites.specs.declared.flag.Flag.{Flag}
 use Rattle.rl_sites.specs.declared.site.SiteFlags.TheVariants.{Known, Unknown}
-use Rattle.rl_sites.specs.Arguments.{onto}
-use Rattle.rl_sites.specs.Flags.{is_bar, terms_of, term, lone_term, dotted_term, set_by, set_all, with_flag}
+use Rattle.rl_sites.specs.Flags.{term, set_all, with_flag}
+use Rattle.rl_sites.specs.internal.Parts.{terms_of, is_bar, lone_term, dotted_term, set_by}
 
 pub prefix_len-within : (p : Mark → Bool) (xs : List Mark) → prefix_len p xs ≤ length xs
 prefix_len-within p [] = omega arith
@@ -41,11 +41,11 @@ behind_bar s [] = []
 behind_bar s (m ∷ ms) = terms_of s ms
 
 bar_case : (s : List ℕ) (b : Bool) (m : Mark) (ms : List Mark) (k : ℕ) (rest : List (List Mark)) → rest ≡ take k ms ∷ behind_bar s (drop k ms)
-    → cond b ([] ∷ terms_of s ms) (onto m rest) ≡ take (cond (not b) (1 + k) 0) (m ∷ ms) ∷ behind_bar s (drop (cond (not b) (1 + k) 0) (m ∷ ms))
+    → cond b ([] ∷ terms_of s ms) (onto_first m rest) ≡ take (cond (not b) (1 + k) 0) (m ∷ ms) ∷ behind_bar s (drop (cond (not b) (1 + k) 0) (m ∷ ms))
 bar_case s true m ms k rest h = refl
 bar_case s false m ms k rest h =
     let e : suc k ≡ 1 + k = omega arith in
-    ap (onto m) h ∙ ap (λ n. take n (m ∷ ms) ∷ behind_bar s (drop n (m ∷ ms))) e
+    ap (onto_first m) h ∙ ap (λ n. take n (m ∷ ms) ∷ behind_bar s (drop n (m ∷ ms))) e
 
 terms-front : (s : List ℕ) (ms : List Mark) → terms_of s ms ≡ take (prefix_len (λ m. not (is_bar s m)) ms) ms ∷ behind_bar s (drop (prefix_len (λ m. not (is_bar s m)) ms) ms)
 terms-front s [] = refl

@@ -1,7 +1,9 @@
 -- A walk over the marks of an argument, and over arguments.
 use Rattle.std.proofs.Common.{◌≡◌, ℕ, zero, suc, ◌+◌, ◌<◌, ◌≤◌, Bool, true, false, not, ◌&&◌, ◌||◌, cond, List, [], ◌∷◌, take, drop, length, get_or, refl, ap, sym, ◌∙◌, arith, subst}
+use Rattle.std.specs.List.{onto_first}
 use Rattle.rl_sites.specs.declared.mark.Mark.{Mark}
-use Rattle.rl_sites.specs.Arguments.{opens, closes, lambda_after, parts, onto, arguments_from, arguments_of}
+use Rattle.rl_sites.specs.Arguments.{opens, closes, lambda_after, arguments_from, arguments_of}
+use Rattle.rl_sites.specs.internal.Parts.{parts}
 use Rattle.rl_sites.specs.internal.Walks.{inside_size, argument_size, others_from, IsTable}
 use Rattle.std.proofs.lemmas.List.{length-drop}
 use Rattle.rl_sites.proofs.Tables.{table_drop, three_split}
@@ -29,19 +31,19 @@ three_cuts false false x y z k l n f h i j = j
 
 outer_cuts : (s : List ℕ) (m : Mark) (ms : List Mark) (o c p : Bool) (x y : List (List Mark)) (k l : ℕ)
     → closes s m ≡ c → x ≡ take k ms ∷ others_from s (drop k ms) → y ≡ take l ms ∷ others_from s (drop l ms)
-    → cond o (onto m x) (cond c ([] ∷ []) (cond p ([] ∷ arguments_of s ms) (onto m y)))
+    → cond o (onto_first m x) (cond c ([] ∷ []) (cond p ([] ∷ arguments_of s ms) (onto_first m y)))
     ≡ take (cond o (suc k) (cond c 0 (cond p 0 (suc l)))) (m ∷ ms) ∷ others_from s (drop (cond o (suc k) (cond c 0 (cond p 0 (suc l)))) (m ∷ ms))
-outer_cuts s m ms true c p x y k l e h i = ap (onto m) h
+outer_cuts s m ms true c p x y k l e h i = ap (onto_first m) h
 outer_cuts s m ms false true p x y k l e h i = ap (λ b. [] ∷ cond b [] (arguments_of s ms)) (sym e)
 outer_cuts s m ms false false true x y k l e h i = ap (λ b. [] ∷ cond b [] (arguments_of s ms)) (sym e)
-outer_cuts s m ms false false false x y k l e h i = ap (onto m) i
+outer_cuts s m ms false false false x y k l e h i = ap (onto_first m) i
 
 -- the arguments are the one in front and those behind it
 pub arguments-front : (s : List ℕ) (d : ℕ) (lambda : Bool) (ms : List Mark)
     → arguments_from s d lambda ms ≡ take (argument_size s d lambda ms) ms ∷ others_from s (drop (argument_size s d lambda ms) ms)
 arguments-front s d lambda [] = refl
 arguments-front s (suc d) lambda (m ∷ ms) =
-    ap (onto m)
+    ap (onto_first m)
     (three_cuts (opens s m) (closes s m) (arguments_from s (suc (suc d)) lambda ms) (arguments_from s d lambda ms) (arguments_from s (suc d) lambda ms)
     (argument_size s (suc (suc d)) lambda ms) (argument_size s d lambda ms) (argument_size s (suc d) lambda ms) (λ k. take k ms ∷ others_from s (drop k ms))
     (arguments-front s (suc (suc d)) lambda ms) (arguments-front s d lambda ms) (arguments-front s (suc d) lambda ms))

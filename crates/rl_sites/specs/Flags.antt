@@ -1,6 +1,9 @@
 -- The flags of a call, by its arguments.
-use Rattle.std.specs.Prelude.{ℕ, Bool, true, false, not, ◌&&◌, List, [], ◌∷◌, drop, slice_get, filter, codes, Option, Some, None, if◌then◌else◌}
-use Rattle.std.specs.List.{list_any}
+use Rattle.std.specs.Prelude.{ℕ, Bool, true, false, not, ◌&&◌, List, [], ◌∷◌, drop, slice_get, filter, codes, Option, Some, None, bytes_eq, if◌then◌else◌}
+use Rattle.std.specs.List.{list_any, slice_split}
+use Rattle.std.specs.Option.{option_map_or}
+use Rattle.rl_pylex.specs.declared.token_list.TokenKind.TheVariants as kind
+use Rattle.rl_pylex.specs.Source.{same_kind}
 use Rattle.rl_pattern.specs.declared.flags.Flags.{Flags}
 use Rattle.rl_sites.specs.declared.mark.Mark.{Mark}
 use Rattle.rl_sites.specs.declared.imports.Alias.{Alias}
@@ -10,9 +13,8 @@ use Rattle.rl_sites.specs.declared.flag.Flag.{Flag}
 use Rattle.rl_sites.specs.declared.flag.Flag.TheVariants as flag
 use Rattle.rl_sites.specs.declared.site.SiteFlags.{SiteFlags}
 use Rattle.rl_sites.specs.declared.site.SiteFlags.TheVariants.{Known, Unknown}
-use Rattle.rl_sites.specs.Marks.{is_name, is_word, is_op, is_zero, stands}
+use Rattle.rl_sites.specs.Marks.{word_of, is_name, is_word, is_op, stands}
 use Rattle.rl_sites.specs.Names.{is_module, flag_named, flag_aliased}
-use Rattle.rl_sites.specs.Arguments.{onto}
 
 -- no flag is set
 abbrev pub no_flags : Flags
@@ -42,47 +44,26 @@ with_flag flag.U flags = record flags { unicode = true }
 with_flag flag.Unicode flags = record flags { unicode = true }
 with_flag flag.X flags = record flags { verbose = true }
 with_flag flag.Verbose flags = record flags { verbose = true }
-with_flag flag.Debug flags = flags
-with_flag flag.NoFlag flags = flags
+with_flag _ flags = flags
 
-abbrev pub is_bar : List ℕ → Mark → Bool
-is_bar source mark = is_op source (codes "|") mark
-
--- the marks between the `|` of an argument
-abbrev pub terms_of : List ℕ → List Mark → List (List Mark)
-terms_of source [] = [] ∷ []
-terms_of source (mark ∷ rest) =
-    if is_bar source mark then [] ∷ terms_of source rest else onto mark (terms_of source rest)
-
--- a term of one mark: the number `0`, or an alias of a flag's name
-unfoldable pub lone_term : List ℕ → List Alias → Mark → Option Flag
-lone_term source aliases mark = if is_zero source mark then Some flag.NoFlag else flag_aliased source aliases mark
-
--- a term of three marks: an alias of the module, `.` and a flag's name
-unfoldable pub dotted_term : List ℕ → List Alias → Mark → Mark → Mark → Option Flag
-dotted_term source aliases mark dot name =
-    if is_module source aliases mark && is_op source (codes ".") dot then flag_named source name else None
-
--- what the marks set, if they are a term
+-- what the marks set, if they are a term: the number `0`, an alias of a flag's name, or an alias of the module, `.` and a flag's name
 abbrev pub term : List ℕ → List Alias → List Mark → Option Flag
-term source aliases [] = None
-term source aliases (mark ∷ []) = lone_term source aliases mark
-term source aliases (mark ∷ dot ∷ []) = None
-term source aliases (mark ∷ dot ∷ name ∷ []) = dotted_term source aliases mark dot name
-term source aliases (mark ∷ dot ∷ name ∷ more ∷ rest) = None
+term source aliases (mark ∷ []) =
+    if same_kind kind.Number mark.token.kind && bytes_eq (word_of source mark) (codes "0") then Some flag.NoFlag
+    else flag_aliased source aliases mark
+term source aliases (mark ∷ dot ∷ name ∷ []) =
+    if is_module source aliases mark && is_op source (codes ".") dot then flag_named source name else None
+term source aliases _ = None
 
--- what is set with these flags before; unknown where something is no term
-abbrev pub set_by : Option Flag → Flags → (Flags → SiteFlags) → SiteFlags
-set_by None flags others = Unknown
-set_by (Some flag) flags others = others (with_flag flag flags)
-
+-- what the terms set beside these flags; unknown where one is no term
 abbrev pub set_all : List ℕ → List Alias → List (List Mark) → Flags → SiteFlags
 set_all source aliases [] flags = Known flags
-set_all source aliases (t ∷ ts) flags = set_by (term source aliases t) flags (set_all source aliases ts)
+set_all source aliases (t ∷ ts) flags =
+    option_map_or (λ flag. set_all source aliases ts (with_flag flag flags)) (term source aliases t) Unknown
 
 -- the flags of an argument of one or more terms with `|` between them
 unfoldable pub flags_by : List ℕ → List Alias → List Mark → SiteFlags
-flags_by source aliases argument = set_all source aliases (terms_of source argument) no_flags
+flags_by source aliases argument = set_all source aliases (slice_split (is_op source (codes "|")) argument) no_flags
 
 -- the argument begins with a name that passes the test and a single `=`
 unfoldable pub is_named : List ℕ → (Mark → Bool) → List Mark → Bool
@@ -99,21 +80,16 @@ is_starred source argument = stands 0 (is_op source (codes "*")) argument
 -- the place of the flags argument among the arguments, where no argument is named `flags`
 abbrev pub position : Call → ℕ
 position call.Compile = 1
-position call.Match = 2
-position call.Search = 2
-position call.Fullmatch = 2
-position call.Findall = 2
-position call.Finditer = 2
 position call.Split = 3
 position call.Sub = 4
 position call.Subn = 4
+position _ = 2
 
 -- the flags by the argument at that place: none where it isn't there, is empty or has another name
 abbrev pub flags_by_place : List ℕ → List Alias → Option (List Mark) → SiteFlags
-flags_by_place source aliases None = Known no_flags
-flags_by_place source aliases (Some []) = Known no_flags
 flags_by_place source aliases (Some (mark ∷ rest)) =
     if is_named source is_name (mark ∷ rest) then Known no_flags else flags_by source aliases (mark ∷ rest)
+flags_by_place source aliases _ = Known no_flags
 
 -- the flags by the arguments named `flags`, or else by the one at the place
 abbrev pub flags_by_name : List ℕ → List Alias → List (List Mark) → Option (List Mark) → SiteFlags

@@ -1,15 +1,17 @@
 -- The imports of a source: which names are aliases of the module `re`, and which are aliases of its members.
-use Rattle.std.specs.Prelude.{ℕ, zero, suc, ◌+◌, Bool, true, ◌&&◌, ◌||◌, ◌==◌, List, [], ◌∷◌, ◌++◌, drop, codes, Option, Some, None, option_to_list, if◌then◌else◌}
+use Rattle.std.specs.Prelude.{ℕ, zero, suc, ◌+◌, Bool, true, ◌&&◌, ◌||◌, ◌==◌, List, [], ◌∷◌, ◌++◌, drop, codes, slice_index_or, Option, Some, None, option_to_list, if◌then◌else◌}
+use Rattle.rl_pylex.specs.declared.token_list.TokenKind.TheVariants as kind
+use Rattle.rl_pylex.specs.Source.{same_kind}
 use Rattle.rl_sites.specs.declared.mark.Mark.{Mark}
 use Rattle.rl_sites.specs.declared.imports.Alias.{Alias}
 use Rattle.rl_sites.specs.declared.imports.Import.{Import}
 use Rattle.rl_sites.specs.declared.imports.Import.TheVariants as import
-use Rattle.rl_sites.specs.Marks.{is_name, is_word, is_op, is_line_end_kind, stands}
+use Rattle.rl_sites.specs.Marks.{is_name, is_word, is_op, stands}
 
 -- a statement begins behind the mark
 unfoldable pub ends_statement : List ℕ → Mark → Bool
 ends_statement source mark =
-    is_line_end_kind mark.token.kind || is_op source (codes ";") mark || is_op source (codes ":") mark
+    same_kind kind.LineEnd mark.token.kind || is_op source (codes ";") mark || is_op source (codes ":") mark
 
 -- `as` and a name stand in front
 unfoldable pub is_renamed : List ℕ → List Mark → Bool
@@ -17,40 +19,28 @@ is_renamed source rest = stands 0 (is_word source (codes "as")) rest && stands 1
 
 -- how many marks the names in front take that are joined on by `.`
 abbrev pub dots_size : List ℕ → List Mark → ℕ
-dots_size source [] = 0
-dots_size source (dot ∷ []) = 0
 dots_size source (dot ∷ name ∷ rest) =
     if is_op source (codes ".") dot && is_name name then 2 + dots_size source rest else 0
+dots_size source _ = 0
 
 -- how many marks of an item stand behind its first name: names joined on by `.`, of an item of `import`, and `as` with a name
 abbrev pub joined_size : List ℕ → Import → List Mark → ℕ
 joined_size source import.Module rest = dots_size source rest
 joined_size source import.Member rest = 0
 
-abbrev pub as_size : List ℕ → List Mark → ℕ
-as_size source rest = if is_renamed source rest then 2 else 0
-
 unfoldable pub item_size : List ℕ → Import → List Mark → ℕ
 item_size source kind rest =
-    let joined = joined_size source kind rest in joined + as_size source (drop joined rest)
+    let joined = joined_size source kind rest in joined + (if is_renamed source (drop joined rest) then 2 else 0)
 
 -- the name behind the `as` in front, or else the item's own
-abbrev pub second_or : Mark → List Mark → Mark
-second_or mark [] = mark
-second_or mark (a ∷ []) = mark
-second_or mark (a ∷ name ∷ rest) = name
-
 unfoldable pub given_name : List ℕ → Mark → List Mark → Mark
-given_name source mark rest = if is_renamed source rest then second_or mark rest else mark
+given_name source mark rest = if is_renamed source rest then slice_index_or rest 1 mark else mark
 
 -- The alias that an item makes. Of the items of `import` the item `re` alone makes one, of the module; each item of `from re import` makes one, of the member that it names.
-unfoldable pub module_alias : List ℕ → Mark → List Mark → Option Alias
-module_alias source mark rest =
+abbrev pub item_alias : List ℕ → Import → Mark → List Mark → Option Alias
+item_alias source import.Module mark rest =
     if is_word source (codes "re") mark && dots_size source rest == 0
     then Some (record { name = given_name source mark rest; member = None }) else None
-
-abbrev pub item_alias : List ℕ → Import → Mark → List Mark → Option Alias
-item_alias source import.Module mark rest = module_alias source mark rest
 item_alias source import.Member mark rest = Some (record { name = given_name source mark rest; member = Some mark })
 
 -- The aliases of the items in front, with `,` between them, up to the first mark that doesn't fit. The first `skip` marks are passed.

@@ -1,6 +1,7 @@
 // The arguments of a call, one by one.
 ghost use Rattle.std.specs.Prelude.{◌≡◌, ◌≤◌, ◌<◌, ◌+◌, ◌∷◌, [], ◌&&◌, ◌||◌, not, true, false, length, take, drop, filter, slice_get, Some, None, MatchOption, IfSome};
-ghost use Rattle.rl_sites.specs.Arguments.{opens, closes, lambda_after, parts, arguments_of};
+ghost use Rattle.rl_sites.specs.Arguments.{opens, closes, lambda_after, arguments_of};
+ghost use Rattle.rl_sites.specs.internal.Parts.{parts};
 ghost use Rattle.rl_sites.specs.internal.Walks.{IsTable, argument_size, first_argument, others_from, other_arguments, has_form};
 ghost use Rattle.rl_sites.specs.Flags.{is_named, is_flags_argument, is_starred};
 ghost use Rattle.rl_sites.specs.Marks.{is_name, is_word};
@@ -26,7 +27,6 @@ fn lambda_after(source: &[u8], in_lambda: bool, mark: Mark) -> bool
     is_word(source, b"lambda", mark) || (in_lambda && !is_op(source, b":", mark))
 }
 
-#[tactic(auto, unfolding(crate::specs::Arguments::parts))]
 fn parts(source: &[u8], in_lambda: bool, mark: Mark) -> bool
     ensures { result ≡ parts source.now in_lambda mark }
 {

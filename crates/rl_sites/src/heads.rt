@@ -2,7 +2,8 @@
 ghost use Rattle.std.specs.Prelude.{◌≡◌, ◌≤◌, ◌<◌, ◌&&◌, IsTrue, IfSome, codes, length, slice_get};
 ghost use Rattle.rl_sites.specs.Marks.{is_op, stands};
 ghost use Rattle.rl_sites.specs.Names.{is_module, call_named, call_aliased};
-ghost use Rattle.rl_sites.specs.Sites.{head, call_by, dotted_head, bare_head, head_of};
+ghost use Rattle.rl_sites.specs.Sites.{dotted_head, bare_head, head_of};
+ghost use Rattle.rl_sites.specs.internal.Parts.{call_by, head};
 ghost use Rattle.rl_sites.specs.internal.Meanings.{IsMeant};
 
 use crate::Call;

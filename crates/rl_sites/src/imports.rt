@@ -1,7 +1,8 @@
 // The aliases that the imports of a source make.
 ghost use Rattle.std.specs.Prelude.{◌≡◌, ◌≤◌, ◌+◌, ◌++◌, ℕ, List, [], IsTrue, IfOk, OnOk, length, drop, codes, option_to_list, if◌then◌else◌};
 ghost use Rattle.rl_sites.specs.Marks.{is_name, is_op, stands};
-ghost use Rattle.rl_sites.specs.Imports.{ends_statement, is_renamed, dots_size, joined_size, as_size, item_size, given_name, module_alias, item_alias, items_from, is_from_import, import_here, aliases_from, aliases_of};
+ghost use Rattle.rl_sites.specs.Imports.{ends_statement, is_renamed, dots_size, joined_size, item_size, given_name, item_alias, items_from, is_from_import, import_here, aliases_from, aliases_of};
+ghost use Rattle.rl_sites.specs.internal.Parts.{as_size};
 
 use crate::mark::Mark;
 use crate::marks::{is_line_end, is_name, is_op, is_word, name_at, op_at, rest_from, word_at};
@@ -97,9 +98,8 @@ fn given_name(source: &[u8], mark: Mark, rest: &[Mark]) -> Mark
     }
 }
 
-#[tactic(auto, unfolding(crate::specs::Imports::module_alias))]
 fn module_alias(source: &[u8], mark: Mark, rest: &[Mark]) -> Option<Alias>
-    ensures { result ≡ module_alias source.now mark rest.now }
+    ensures { result ≡ item_alias source.now Import.Module mark rest.now }
 {
     if is_word(source, b"re", mark) && dots_size(source, rest) == 0 {
         let name = given_name(source, mark, rest);

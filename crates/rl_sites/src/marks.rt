@@ -1,6 +1,8 @@
 // The significant tokens of a source, and tests of them.
 ghost use Rattle.std.specs.Prelude.{◌≡◌, ◌<◌, ◌≤◌, length, drop, IfOk, IsTrue};
-ghost use Rattle.rl_sites.specs.Marks.{is_comment_kind, is_line_end_kind, is_name, is_literal, word_of, is_word, is_op, is_zero, marks_from, stands};
+ghost use Rattle.rl_pylex.specs.Source.{same_kind};
+ghost use Rattle.rl_sites.specs.Marks.{is_name, is_literal, word_of, is_word, is_op, marks_from, stands};
+ghost use Rattle.rl_sites.specs.internal.Parts.{is_zero};
 
 use crate::mark::Mark;
 use rl_lists::OutOfMemory;
@@ -8,7 +10,7 @@ use rl_pylex::{Token, TokenKind, text_of};
 use std::alloc::Global;
 
 fn is_comment(token: Token) -> bool
-    ensures { result ≡ is_comment_kind token.kind }
+    ensures { result ≡ same_kind TokenKind.Comment token.kind }
 {
     matches!(token.kind, TokenKind::Comment)
 }
@@ -33,7 +35,7 @@ pub fn is_literal(mark: Mark) -> bool
 }
 
 pub fn is_line_end(mark: Mark) -> bool
-    ensures { result ≡ is_line_end_kind mark.token.kind }
+    ensures { result ≡ same_kind TokenKind.LineEnd mark.token.kind }
 {
     matches!(mark.token.kind, TokenKind::LineEnd)
 }
@@ -55,7 +57,6 @@ pub fn is_op(source: &[u8], op: &[u8], mark: Mark) -> bool
 }
 
 /// Whether the mark is the number `0`.
-#[tactic(auto, unfolding(crate::specs::Marks::is_zero))]
 pub fn is_zero(source: &[u8], mark: Mark) -> bool
     ensures { result ≡ is_zero source.now mark }
 {

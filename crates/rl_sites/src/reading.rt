@@ -6,7 +6,8 @@ ghost use Rattle.rl_sites.specs.Marks.{is_literal};
 ghost use Rattle.rl_sites.specs.internal.Walks.{IsTable, IsNumbered};
 ghost use Rattle.rl_sites.specs.Arguments.{arguments_of};
 ghost use Rattle.rl_sites.specs.Imports.{aliases_of};
-ghost use Rattle.rl_sites.specs.Sites.{pattern_size, site_of_run, ends_whole, flags_if, site_behind, site_by, site_here, hides, sites_from, sites_of};
+ghost use Rattle.rl_sites.specs.Sites.{pattern_size, site_of_run, ends_whole, site_behind, site_here, hides, sites_from, sites_of};
+ghost use Rattle.rl_sites.specs.internal.Parts.{site_by, flags_if};
 ghost use Rattle.rl_sites.specs.Runs.{HasRun, AreInOrder};
 ghost use Rattle.rl_sites.specs.internal.Meanings.{IsMeant};
 

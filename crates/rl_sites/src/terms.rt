@@ -3,7 +3,8 @@ ghost use Rattle.std.specs.Prelude.{◌≡◌, ◌≤◌, ◌&&◌, codes, lengt
 ghost use Rattle.std.specs.List.{prefix_len};
 ghost use Rattle.rl_sites.specs.Marks.{is_op};
 ghost use Rattle.rl_sites.specs.Names.{is_module};
-ghost use Rattle.rl_sites.specs.Flags.{no_flags, with_flag, lone_term, dotted_term, term, flags_by, is_bar};
+ghost use Rattle.rl_sites.specs.Flags.{no_flags, with_flag, term, flags_by};
+ghost use Rattle.rl_sites.specs.internal.Parts.{lone_term, is_bar, dotted_term};
 ghost use Rattle.rl_sites.specs.internal.Meanings.{IsMeant};
 
 use crate::SiteFlags;
@@ -65,7 +66,6 @@ fn with_flag(flag: Flag, flags: Flags) -> Flags
 }
 
 /// What a term of one mark sets: the number `0`, or an alias of a flag's name.
-#[tactic(auto, unfolding(crate::specs::Flags::lone_term))]
 fn lone_term(source: &[u8], names: &Names<'_>, mark: Mark) -> Option<Flag>
     requires { IsMeant source.now names.now.aliases.items names.now.meanings.entries }
     ensures { result ≡ lone_term source.now names.now.aliases.items mark }
@@ -85,7 +85,6 @@ fn is_dotted(source: &[u8], names: &Names<'_>, mark: Mark, dot: Mark) -> bool
 }
 
 /// What a term of three marks sets: an alias of the module, `.` and a flag's name.
-#[tactic(auto, unfolding(crate::specs::Flags::dotted_term))]
 fn dotted_term(source: &[u8], names: &Names<'_>, mark: Mark, dot: Mark, name: Mark) -> Option<Flag>
     requires { IsMeant source.now names.now.aliases.items names.now.meanings.entries }
     ensures { result ≡ dotted_term source.now names.now.aliases.items mark dot name }

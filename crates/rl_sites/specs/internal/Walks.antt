@@ -3,7 +3,8 @@ use Rattle.std.specs.Prelude.{◌≡◌, ℕ, zero, suc, ◌<◌, Bool, true, fa
 use Rattle.rl_sites.specs.declared.mark.Mark.{Mark}
 use Rattle.rl_sites.specs.declared.arguments.Form.{Form}
 use Rattle.rl_sites.specs.declared.arguments.Form.TheVariants as form
-use Rattle.rl_sites.specs.Arguments.{opens, closes, lambda_after, parts, arguments_of}
+use Rattle.rl_sites.specs.Arguments.{opens, closes, lambda_after, arguments_of}
+use Rattle.rl_sites.specs.internal.Parts.{parts}
 use Rattle.rl_sites.specs.Flags.{is_flags_argument, is_starred}
 
 -- inside so many brackets: how many marks there are up to the closing bracket of the outermost, and with it; all of them where nothing closes it
