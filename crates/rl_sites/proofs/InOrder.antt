@@ -20,7 +20,8 @@ use Rattle.rl_sites.specs.declared.mark.Mark.{Mark}
 use Rattle.rl_sites.specs.declared.site.Site.{Site}
 use Rattle.rl_sites.specs.declared.site.SiteFlags.{SiteFlags}
 use Rattle.rl_sites.specs.Marks.{marks_from, is_literal, is_name, is_op, is_word, word_of, stands}
-use Rattle.rl_sites.specs.Names.{names_any_module, first_call, is_module, call_named, call_aliased}
+use Rattle.rl_sites.specs.Names.{names_any_module, is_module, call_named, call_aliased}
+use Rattle.rl_sites.specs.internal.Meanings.{first_call}
 use Rattle.rl_sites.specs.Sites.{dotted_head, bare_head, head_of, pattern_size, site_of_run, ends_whole, site_behind, site_here, hides, sites_from}
 use Rattle.rl_sites.specs.internal.Parts.{call_by, head, flags_if, site_by}
 use Rattle.rl_sites.specs.Runs.{AreInOrder}
@@ -157,7 +158,7 @@ unfolding is_module
 no_module s al m e = and_left (is_name m) (names_any_module s al (word_of s m)) e
 
 no_call : (s : List ℕ) (al : List Alias) (m : Mark) → is_name m ≡ false → call_aliased s al m ≡ None
-unfolding call_aliased
+unfolding call_aliased first_call
 no_call s al m e = chosen (is_name m) (first_call s al (word_of s m)) e
 
 no_dotted : (s : List ℕ) (al : List Alias) (m : Mark) (ms : List Mark) → is_name m ≡ false → dotted_head s al (m ∷ ms) ≡ None

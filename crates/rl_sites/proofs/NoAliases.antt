@@ -6,7 +6,8 @@ use Rattle.rl_sites.specs.declared.imports.Alias.{Alias}
 use Rattle.rl_sites.specs.declared.heads.Head.{Head}
 use Rattle.rl_sites.specs.declared.site.Site.{Site}
 use Rattle.rl_sites.specs.Marks.{is_name, is_op, stands}
-use Rattle.rl_sites.specs.Names.{names_any_module, names_any_member, first_call, is_module, call_named, call_aliased}
+use Rattle.rl_sites.specs.Names.{names_any_module, names_any_member, is_module, call_named, call_aliased}
+use Rattle.rl_sites.specs.internal.Meanings.{first_call}
 use Rattle.rl_sites.specs.Sites.{dotted_head, bare_head, head_of, site_here, sites_from, hides}
 use Rattle.rl_sites.specs.internal.Parts.{call_by, head, site_by}
 

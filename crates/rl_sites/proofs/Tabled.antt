@@ -2,6 +2,7 @@
 use Rattle.std.proofs.Common.{◌≡◌, ℕ, ◌+◌, ◌<◌, ◌≤◌, Bool, true, false, cond, List, [], ◌∷◌, take, length, get_or, refl, ap, ap₂, sym, ◌∙◌, arith, Some, None, Option}
 use Rattle.std.specs.Prelude.{◌||◌, ◌&&◌, find, bytes_eq, nat_lt, ⊤, unwrap_or}
 use Rattle.std.specs.Map.{lookup}
+use Rattle.std.specs.Option.{is_none, option_map_or}
 use Rattle.std.proofs.lemmas.Bool.Decides.{nat_tests}
 use Rattle.std.proofs.lemmas.List.Folds.{list_any_more}
 use Rattle.std.proofs.lemmas.Slice.Eq.{bytes_eq-Decides}
@@ -12,8 +13,25 @@ use Rattle.rl_sites.specs.declared.call.Call.{Call}
 use Rattle.rl_sites.specs.declared.flag.Flag.{Flag}
 use Rattle.rl_sites.specs.declared.meaning.Meaning.{Meaning}
 use Rattle.rl_sites.specs.Marks.{word_of}
-use Rattle.rl_sites.specs.Names.{calls, call_word, flags, flag_word, call_of, flag_of, is_of_module, is_of_member, names_module, names_member, names_any_module, names_any_member, first_call, first_flag}
-use Rattle.rl_sites.specs.internal.Meanings.{call_rank, flag_rank, earlier, nothing, joined, own_meaning, meaning_with, meaning_of, meaning_in, IsMeant}
+use Rattle.rl_sites.specs.Names.{calls, call_word, flags, flag_word, names_any_module, names_any_member}
+use Rattle.rl_sites.specs.internal.Meanings.{call_of, call_rank, flag_rank, earlier, nothing, joined, own_meaning, meaning_with, meaning_of, meaning_in, IsMeant, flag_of, first_call, first_flag}
+
+-- the alias is of the module
+abbrev is_of_module : Option Mark → Bool
+is_of_module member = is_none member
+
+-- the alias is of the member with this name
+abbrev is_of_member : List ℕ → List ℕ → Option Mark → Bool
+is_of_member source word member = option_map_or (λ m. bytes_eq (word_of source m) word) member false
+
+-- the alias gives this name to the module
+abbrev names_module : List ℕ → List ℕ → Alias → Bool
+names_module source name alias = bytes_eq (word_of source alias.name) name && is_of_module alias.member
+
+-- the alias gives this name to the member with that name
+abbrev names_member : List ℕ → List ℕ → List ℕ → Alias → Bool
+names_member source name member alias =
+    bytes_eq (word_of source alias.name) name && is_of_member source member alias.member
 
 -- the ranks rise along the list
 abbrev above : {X : Type 0} → (X → ℕ) → ℕ → List X → Bool
@@ -117,12 +135,12 @@ made_case false m n c d f g = refl
 
 member_more : (s : List ℕ) (al : List Alias) (i : ℕ) (a : Alias) (name member : List ℕ) → i < length al
     → names_any_member s (take (i + 1) al) name member ≡ (names_any_member s (take i al) name member || (bytes_eq (word_of s (get_or al i a).name) name && is_of_member s member (get_or al i a).member))
-unfolding names_any_member names_member
+unfolding names_any_member
 member_more s al i a name member h = list_any_more (names_member s name member) al i a h
 
 module_more : (s : List ℕ) (al : List Alias) (i : ℕ) (a : Alias) (name : List ℕ) → i < length al
     → names_any_module s (take (i + 1) al) name ≡ (names_any_module s (take i al) name || (bytes_eq (word_of s (get_or al i a).name) name && is_of_module (get_or al i a).member))
-unfolding names_any_module names_module
+unfolding names_any_module
 module_more s al i a name h = list_any_more (names_module s name) al i a h
 
 own_call : (s : List ℕ) (m : Option Mark) → find (λ c. is_of_member s (call_word c) m) calls ≡ (own_meaning s m).call

@@ -1,6 +1,7 @@
 -- What names stand for: the module, its nine calls that take a pattern first, and its flags.
-use Rattle.std.specs.Prelude.{ℕ, Bool, true, false, ◌&&◌, List, [], ◌∷◌, codes, find, Option, Some, None, bytes_eq, if◌then◌else◌}
+use Rattle.std.specs.Prelude.{ℕ, Bool, false, ◌&&◌, List, [], ◌∷◌, codes, find, Option, None, bytes_eq, if◌then◌else◌}
 use Rattle.std.specs.List.{list_any}
+use Rattle.std.specs.Option.{is_none, option_map_or}
 use Rattle.rl_sites.specs.declared.mark.Mark.{Mark}
 use Rattle.rl_sites.specs.declared.imports.Alias.{Alias}
 use Rattle.rl_sites.specs.declared.call.Call.{Call}
@@ -48,46 +49,17 @@ flag_word flag.Verbose = codes "VERBOSE"
 flag_word flag.Debug = codes "DEBUG"
 flag_word flag.NoFlag = codes "NOFLAG"
 
--- the call or the flag with this name
-unfoldable pub call_of : List ℕ → Option Call
-call_of word = find (λ c. bytes_eq word (call_word c)) calls
-
-unfoldable pub flag_of : List ℕ → Option Flag
-flag_of word = find (λ f. bytes_eq word (flag_word f)) flags
-
--- the alias is of the module
-abbrev pub is_of_module : Option Mark → Bool
-is_of_module None = true
-is_of_module (Some member) = false
-
--- the alias is of the member with this name
-abbrev pub is_of_member : List ℕ → List ℕ → Option Mark → Bool
-is_of_member source word None = false
-is_of_member source word (Some member) = bytes_eq (word_of source member) word
-
--- the alias gives this name to the module
-unfoldable pub names_module : List ℕ → List ℕ → Alias → Bool
-names_module source name alias = bytes_eq (word_of source alias.name) name && is_of_module alias.member
-
--- the alias gives this name to the member with that name
-unfoldable pub names_member : List ℕ → List ℕ → List ℕ → Alias → Bool
-names_member source name member alias =
-    bytes_eq (word_of source alias.name) name && is_of_member source member alias.member
-
 -- the name is an alias of the module
 unfoldable pub names_any_module : List ℕ → List Alias → List ℕ → Bool
-names_any_module source aliases name = list_any (names_module source name) aliases
+names_any_module source aliases name =
+    list_any (λ alias. bytes_eq (word_of source alias.name) name && is_none alias.member) aliases
 
 -- the name is an alias of the member with that name
 unfoldable pub names_any_member : List ℕ → List Alias → List ℕ → List ℕ → Bool
-names_any_member source aliases name member = list_any (names_member source name member) aliases
-
--- the first call or flag that the name is an alias of
-unfoldable pub first_call : List ℕ → List Alias → List ℕ → Option Call
-first_call source aliases name = find (λ c. names_any_member source aliases name (call_word c)) calls
-
-unfoldable pub first_flag : List ℕ → List Alias → List ℕ → Option Flag
-first_flag source aliases name = find (λ f. names_any_member source aliases name (flag_word f)) flags
+names_any_member source aliases name member =
+    list_any
+    (λ alias. bytes_eq (word_of source alias.name) name && option_map_or (λ m. bytes_eq (word_of source m) member) alias.member false)
+    aliases
 
 -- the mark is a name and an alias of the module
 unfoldable pub is_module : List ℕ → List Alias → Mark → Bool
@@ -95,14 +67,16 @@ is_module source aliases mark = is_name mark && names_any_module source aliases 
 
 -- the call or the flag that the mark names itself, as it does behind the module and a `.`
 unfoldable pub call_named : List ℕ → Mark → Option Call
-call_named source mark = if is_name mark then call_of (word_of source mark) else None
+call_named source mark = if is_name mark then find (λ call. bytes_eq (word_of source mark) (call_word call)) calls else None
 
 unfoldable pub flag_named : List ℕ → Mark → Option Flag
-flag_named source mark = if is_name mark then flag_of (word_of source mark) else None
+flag_named source mark = if is_name mark then find (λ flag. bytes_eq (word_of source mark) (flag_word flag)) flags else None
 
 -- the call or the flag that the mark is an alias of, the first of several
 unfoldable pub call_aliased : List ℕ → List Alias → Mark → Option Call
-call_aliased source aliases mark = if is_name mark then first_call source aliases (word_of source mark) else None
+call_aliased source aliases mark =
+    if is_name mark then find (λ call. names_any_member source aliases (word_of source mark) (call_word call)) calls else None
 
 unfoldable pub flag_aliased : List ℕ → List Alias → Mark → Option Flag
-flag_aliased source aliases mark = if is_name mark then first_flag source aliases (word_of source mark) else None
+flag_aliased source aliases mark =
+    if is_name mark then find (λ flag. names_any_member source aliases (word_of source mark) (flag_word flag)) flags else None

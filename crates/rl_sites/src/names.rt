@@ -1,8 +1,8 @@
 // What names stand for: the module, its nine calls that take a pattern first, and its flags.
 ghost use Rattle.std.specs.Prelude.{◌≡◌, ℕ, List, None, IfOk, OnOk};
-ghost use Rattle.rl_sites.specs.Names.{call_of, flag_of, is_module, call_named, flag_named, call_aliased, flag_aliased};
+ghost use Rattle.rl_sites.specs.Names.{is_module, call_named, flag_named, call_aliased, flag_aliased};
 ghost use Rattle.rl_sites.specs.Marks.{word_of};
-ghost use Rattle.rl_sites.specs.internal.Meanings.{call_rank, flag_rank, earlier, nothing, joined, own_meaning, meaning_with, meaning_of, meaning_in, IsMeant};
+ghost use Rattle.rl_sites.specs.internal.Meanings.{call_rank, flag_rank, earlier, nothing, joined, own_meaning, meaning_with, meaning_of, meaning_in, IsMeant, call_of, flag_of};
 
 use crate::Call;
 use crate::flag::Flag;
@@ -24,7 +24,7 @@ pub struct Names<'a> {
 }
 
 /// The call with this name.
-#[tactic(auto, unfolding(crate::specs::Names::call_of))]
+#[tactic(auto, unfolding(crate::specs::internal::Meanings::call_of))]
 fn call_of(word: &[u8]) -> Option<Call>
     ensures { result ≡ call_of word.now }
 {
@@ -52,7 +52,7 @@ fn call_of(word: &[u8]) -> Option<Call>
 }
 
 /// The flag with this name.
-#[tactic(auto, unfolding(crate::specs::Names::flag_of))]
+#[tactic(auto, unfolding(crate::specs::internal::Meanings::flag_of))]
 fn flag_of(word: &[u8]) -> Option<Flag>
     ensures { result ≡ flag_of word.now }
 {
@@ -255,7 +255,7 @@ pub fn is_module(source: &[u8], names: &Names<'_>, mark: Mark) -> bool
 }
 
 /// The call that the mark names itself.
-#[tactic(auto, unfolding(crate::specs::Names::call_named))]
+#[tactic(auto, unfolding(crate::specs::Names::call_named, crate::specs::internal::Meanings::call_of))]
 pub fn call_named(source: &[u8], mark: Mark) -> Option<Call>
     ensures { result ≡ call_named source.now mark }
 {
@@ -267,7 +267,7 @@ pub fn call_named(source: &[u8], mark: Mark) -> Option<Call>
 }
 
 /// The flag that the mark names itself.
-#[tactic(auto, unfolding(crate::specs::Names::flag_named))]
+#[tactic(auto, unfolding(crate::specs::Names::flag_named, crate::specs::internal::Meanings::flag_of))]
 pub fn flag_named(source: &[u8], mark: Mark) -> Option<Flag>
     ensures { result ≡ flag_named source.now mark }
 {
@@ -279,7 +279,7 @@ pub fn flag_named(source: &[u8], mark: Mark) -> Option<Flag>
 }
 
 /// The call that the mark is an alias of, the first of several.
-#[tactic(auto, unfolding(crate::specs::Names::call_aliased))]
+#[tactic(auto, unfolding(crate::specs::Names::call_aliased, crate::specs::internal::Meanings::first_call))]
 pub fn call_aliased(source: &[u8], names: &Names<'_>, mark: Mark) -> Option<Call>
     requires { IsMeant source.now names.now.aliases.items names.now.meanings.entries }
     ensures { result ≡ call_aliased source.now names.now.aliases.items mark }
@@ -292,7 +292,7 @@ pub fn call_aliased(source: &[u8], names: &Names<'_>, mark: Mark) -> Option<Call
 }
 
 /// The flag that the mark is an alias of, the first of several.
-#[tactic(auto, unfolding(crate::specs::Names::flag_aliased))]
+#[tactic(auto, unfolding(crate::specs::Names::flag_aliased, crate::specs::internal::Meanings::first_flag))]
 pub fn flag_aliased(source: &[u8], names: &Names<'_>, mark: Mark) -> Option<Flag>
     requires { IsMeant source.now names.now.aliases.items names.now.meanings.entries }
     ensures { result ≡ flag_aliased source.now names.now.aliases.items mark }

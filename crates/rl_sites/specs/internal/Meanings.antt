@@ -1,5 +1,5 @@
 -- What a table of names says of each name.
-use Rattle.std.specs.Prelude.{◌≡◌, ℕ, true, false, ◌||◌, List, Option, Some, None, nat_lt, unwrap_or, bytes_eq, if◌then◌else◌}
+use Rattle.std.specs.Prelude.{◌≡◌, ℕ, true, false, ◌||◌, List, Option, Some, None, nat_lt, find, unwrap_or, bytes_eq, if◌then◌else◌}
 use Rattle.std.specs.Map.{lookup}
 use denote.Ref.{Bor}
 use Rattle.rl_sites.specs.declared.mark.Mark.{Mark}
@@ -10,7 +10,21 @@ use Rattle.rl_sites.specs.declared.flag.Flag.{Flag}
 use Rattle.rl_sites.specs.declared.flag.Flag.TheVariants as flag
 use Rattle.rl_sites.specs.declared.meaning.Meaning.{Meaning}
 use Rattle.rl_sites.specs.Marks.{word_of}
-use Rattle.rl_sites.specs.Names.{call_of, flag_of, names_any_module, first_call, first_flag}
+use Rattle.rl_sites.specs.Names.{calls, call_word, flags, flag_word, names_any_module, names_any_member}
+
+-- the call or the flag with this name
+unfoldable pub call_of : List ℕ → Option Call
+call_of word = find (λ call. bytes_eq word (call_word call)) calls
+
+unfoldable pub flag_of : List ℕ → Option Flag
+flag_of word = find (λ flag. bytes_eq word (flag_word flag)) flags
+
+-- the first call or flag that the name is an alias of
+unfoldable pub first_call : List ℕ → List Alias → List ℕ → Option Call
+first_call source aliases name = find (λ call. names_any_member source aliases name (call_word call)) calls
+
+unfoldable pub first_flag : List ℕ → List Alias → List ℕ → Option Flag
+first_flag source aliases name = find (λ flag. names_any_member source aliases name (flag_word flag)) flags
 
 abbrev pub call_rank : Call → ℕ
 call_rank call.Compile = 0
