@@ -30,26 +30,19 @@ no_flags =
     }
 
 abbrev pub with_flag : Flag → Flags → Flags
-with_flag flag.A flags = record flags { ascii = true }
 with_flag flag.Ascii flags = record flags { ascii = true }
-with_flag flag.I flags = record flags { ignore_case = true }
 with_flag flag.IgnoreCase flags = record flags { ignore_case = true }
-with_flag flag.L flags = record flags { locale = true }
 with_flag flag.Locale flags = record flags { locale = true }
-with_flag flag.M flags = record flags { multiline = true }
 with_flag flag.Multiline flags = record flags { multiline = true }
-with_flag flag.S flags = record flags { dot_all = true }
 with_flag flag.DotAll flags = record flags { dot_all = true }
-with_flag flag.U flags = record flags { unicode = true }
 with_flag flag.Unicode flags = record flags { unicode = true }
-with_flag flag.X flags = record flags { verbose = true }
 with_flag flag.Verbose flags = record flags { verbose = true }
-with_flag _ flags = flags
+with_flag flag.Nothing flags = flags
 
 -- what the marks set, if they are a term: the number `0`, an alias of a flag's name, or an alias of the module, `.` and a flag's name
 abbrev pub term : List ℕ → List Alias → List Mark → Option Flag
 term source aliases (mark ∷ []) =
-    if same_kind kind.Number mark.token.kind && bytes_eq (word_of source mark) (codes "0") then Some flag.NoFlag
+    if same_kind kind.Number mark.token.kind && bytes_eq (word_of source mark) (codes "0") then Some flag.Nothing
     else flag_aliased source aliases mark
 term source aliases (mark ∷ dot ∷ name ∷ []) =
     if is_module source aliases mark && is_op source (codes ".") dot then flag_named source name else None

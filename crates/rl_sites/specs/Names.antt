@@ -1,6 +1,7 @@
 -- What names stand for: the module, its nine calls that take a pattern first, and its flags.
 use Rattle.std.specs.Prelude.{ℕ, Bool, false, ◌&&◌, List, [], ◌∷◌, codes, find, Option, None, bytes_eq, if◌then◌else◌}
 use Rattle.std.specs.List.{list_any}
+use Rattle.std.specs.Map.{lookup}
 use Rattle.std.specs.Option.{is_none, option_map_or}
 use Rattle.rl_sites.specs.declared.mark.Mark.{Mark}
 use Rattle.rl_sites.specs.declared.imports.Alias.{Alias}
@@ -26,28 +27,18 @@ call_word call.Split = codes "split"
 call_word call.Sub = codes "sub"
 call_word call.Subn = codes "subn"
 
--- the names of flags in their order
-abbrev pub flags : List Flag
-flags =
-    flag.A ∷ flag.Ascii ∷ flag.I ∷ flag.IgnoreCase ∷ flag.L ∷ flag.Locale ∷ flag.M ∷ flag.Multiline ∷ flag.S ∷ flag.DotAll ∷ flag.U ∷ flag.Unicode ∷ flag.X ∷ flag.Verbose ∷ flag.Debug ∷ flag.NoFlag ∷ []
-
-abbrev pub flag_word : Flag → List ℕ
-flag_word flag.A = codes "A"
-flag_word flag.Ascii = codes "ASCII"
-flag_word flag.I = codes "I"
-flag_word flag.IgnoreCase = codes "IGNORECASE"
-flag_word flag.L = codes "L"
-flag_word flag.Locale = codes "LOCALE"
-flag_word flag.M = codes "M"
-flag_word flag.Multiline = codes "MULTILINE"
-flag_word flag.S = codes "S"
-flag_word flag.DotAll = codes "DOTALL"
-flag_word flag.U = codes "U"
-flag_word flag.Unicode = codes "UNICODE"
-flag_word flag.X = codes "X"
-flag_word flag.Verbose = codes "VERBOSE"
-flag_word flag.Debug = codes "DEBUG"
-flag_word flag.NoFlag = codes "NOFLAG"
+-- the names of flags in their order, each with the flag that it sets
+abbrev pub flag_names : List (List ℕ × Flag)
+flag_names =
+    (codes "A", flag.Ascii) ∷ (codes "ASCII", flag.Ascii)
+    ∷ (codes "I", flag.IgnoreCase) ∷ (codes "IGNORECASE", flag.IgnoreCase)
+    ∷ (codes "L", flag.Locale) ∷ (codes "LOCALE", flag.Locale)
+    ∷ (codes "M", flag.Multiline) ∷ (codes "MULTILINE", flag.Multiline)
+    ∷ (codes "S", flag.DotAll) ∷ (codes "DOTALL", flag.DotAll)
+    ∷ (codes "U", flag.Unicode) ∷ (codes "UNICODE", flag.Unicode)
+    ∷ (codes "X", flag.Verbose) ∷ (codes "VERBOSE", flag.Verbose)
+    ∷ (codes "DEBUG", flag.Nothing) ∷ (codes "NOFLAG", flag.Nothing)
+    ∷ []
 
 -- the name is an alias of the module
 unfoldable pub names_any_module : List ℕ → List Alias → List ℕ → Bool
@@ -70,7 +61,7 @@ unfoldable pub call_named : List ℕ → Mark → Option Call
 call_named source mark = if is_name mark then find (λ call. bytes_eq (word_of source mark) (call_word call)) calls else None
 
 unfoldable pub flag_named : List ℕ → Mark → Option Flag
-flag_named source mark = if is_name mark then find (λ flag. bytes_eq (word_of source mark) (flag_word flag)) flags else None
+flag_named source mark = if is_name mark then lookup (bytes_eq (word_of source mark)) flag_names else None
 
 -- the call or the flag that the mark is an alias of, the first of several
 unfoldable pub call_aliased : List ℕ → List Alias → Mark → Option Call
@@ -79,4 +70,4 @@ call_aliased source aliases mark =
 
 unfoldable pub flag_aliased : List ℕ → List Alias → Mark → Option Flag
 flag_aliased source aliases mark =
-    if is_name mark then find (λ flag. names_any_member source aliases (word_of source mark) (flag_word flag)) flags else None
+    if is_name mark then lookup (names_any_member source aliases (word_of source mark)) flag_names else None

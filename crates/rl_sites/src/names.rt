@@ -56,38 +56,22 @@ fn call_of(word: &[u8]) -> Option<Call>
 fn flag_of(word: &[u8]) -> Option<Flag>
     ensures { result ≡ flag_of word.now }
 {
-    if word == b"A".as_slice() {
-        Some(Flag::A)
-    } else if word == b"ASCII".as_slice() {
+    if word == b"A".as_slice() || word == b"ASCII".as_slice() {
         Some(Flag::Ascii)
-    } else if word == b"I".as_slice() {
-        Some(Flag::I)
-    } else if word == b"IGNORECASE".as_slice() {
+    } else if word == b"I".as_slice() || word == b"IGNORECASE".as_slice() {
         Some(Flag::IgnoreCase)
-    } else if word == b"L".as_slice() {
-        Some(Flag::L)
-    } else if word == b"LOCALE".as_slice() {
+    } else if word == b"L".as_slice() || word == b"LOCALE".as_slice() {
         Some(Flag::Locale)
-    } else if word == b"M".as_slice() {
-        Some(Flag::M)
-    } else if word == b"MULTILINE".as_slice() {
+    } else if word == b"M".as_slice() || word == b"MULTILINE".as_slice() {
         Some(Flag::Multiline)
-    } else if word == b"S".as_slice() {
-        Some(Flag::S)
-    } else if word == b"DOTALL".as_slice() {
+    } else if word == b"S".as_slice() || word == b"DOTALL".as_slice() {
         Some(Flag::DotAll)
-    } else if word == b"U".as_slice() {
-        Some(Flag::U)
-    } else if word == b"UNICODE".as_slice() {
+    } else if word == b"U".as_slice() || word == b"UNICODE".as_slice() {
         Some(Flag::Unicode)
-    } else if word == b"X".as_slice() {
-        Some(Flag::X)
-    } else if word == b"VERBOSE".as_slice() {
+    } else if word == b"X".as_slice() || word == b"VERBOSE".as_slice() {
         Some(Flag::Verbose)
-    } else if word == b"DEBUG".as_slice() {
-        Some(Flag::Debug)
-    } else if word == b"NOFLAG".as_slice() {
-        Some(Flag::NoFlag)
+    } else if word == b"DEBUG".as_slice() || word == b"NOFLAG".as_slice() {
+        Some(Flag::Nothing)
     } else {
         None
     }

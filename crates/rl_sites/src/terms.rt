@@ -33,35 +33,35 @@ fn with_flag(flag: Flag, flags: Flags) -> Flags
     ensures { result ≡ with_flag flag flags }
 {
     match flag {
-        Flag::A | Flag::Ascii => Flags {
+        Flag::Ascii => Flags {
             ascii: true,
             ..flags
         },
-        Flag::I | Flag::IgnoreCase => Flags {
+        Flag::IgnoreCase => Flags {
             ignore_case: true,
             ..flags
         },
-        Flag::L | Flag::Locale => Flags {
+        Flag::Locale => Flags {
             locale: true,
             ..flags
         },
-        Flag::M | Flag::Multiline => Flags {
+        Flag::Multiline => Flags {
             multiline: true,
             ..flags
         },
-        Flag::S | Flag::DotAll => Flags {
+        Flag::DotAll => Flags {
             dot_all: true,
             ..flags
         },
-        Flag::U | Flag::Unicode => Flags {
+        Flag::Unicode => Flags {
             unicode: true,
             ..flags
         },
-        Flag::X | Flag::Verbose => Flags {
+        Flag::Verbose => Flags {
             verbose: true,
             ..flags
         },
-        Flag::Debug | Flag::NoFlag => flags,
+        Flag::Nothing => flags,
     }
 }
 
@@ -71,7 +71,7 @@ fn lone_term(source: &[u8], names: &Names<'_>, mark: Mark) -> Option<Flag>
     ensures { result ≡ lone_term source.now names.now.aliases.items mark }
 {
     if is_zero(source, mark) {
-        Some(Flag::NoFlag)
+        Some(Flag::Nothing)
     } else {
         flag_aliased(source, names, mark)
     }

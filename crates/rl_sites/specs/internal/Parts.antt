@@ -43,7 +43,7 @@ terms_of source argument = slice_split (is_op source (codes "|")) argument
 
 -- a term of one mark: the number `0`, or an alias of a flag's name
 abbrev pub lone_term : List ℕ → List Alias → Mark → Option Flag
-lone_term source aliases mark = if is_zero source mark then Some flag.NoFlag else flag_aliased source aliases mark
+lone_term source aliases mark = if is_zero source mark then Some flag.Nothing else flag_aliased source aliases mark
 
 -- a term of three marks: an alias of the module, `.` and a flag's name
 abbrev pub dotted_term : List ℕ → List Alias → Mark → Mark → Mark → Option Flag
