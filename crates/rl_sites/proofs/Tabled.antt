@@ -7,23 +7,23 @@ use Rattle.std.proofs.lemmas.Bool.Decides.{nat_tests}
 use Rattle.std.proofs.lemmas.List.Folds.{list_any_more}
 use Rattle.std.proofs.lemmas.Slice.Eq.{bytes_eq-Decides}
 use denote.Ref.{Bor}
-use Rattle.rl_sites.specs.declared.mark.Mark.{Mark}
+use Rattle.rl_sites.specs.declared.significant.SignificantToken.{SignificantToken}
 use Rattle.rl_sites.specs.declared.imports.Alias.{Alias}
 use Rattle.rl_sites.specs.declared.call.Call.{Call}
 use Rattle.rl_sites.specs.declared.call.Call.TheVariants as call
 use Rattle.rl_sites.specs.declared.flag.Flag.{Flag}
 use Rattle.rl_sites.specs.declared.flag.Flag.TheVariants as flag
 use Rattle.rl_sites.specs.declared.meaning.Meaning.{Meaning}
-use Rattle.rl_sites.specs.Marks.{word_of}
+use Rattle.rl_sites.specs.Significant.{word_of}
 use Rattle.rl_sites.specs.Names.{calls, call_word, flag_names, names_any_module, names_any_member}
 use Rattle.rl_sites.specs.internal.Meanings.{call_of, call_rank, flag_rank, earlier, nothing, joined, own_meaning, meaning_with, meaning_of, meaning_in, IsMeant, flag_of, first_call, first_flag}
 
 -- the alias is of the module
-abbrev is_of_module : Option Mark → Bool
+abbrev is_of_module : Option SignificantToken → Bool
 is_of_module member = is_none member
 
 -- the alias is of the member with this name
-abbrev is_of_member : List ℕ → List ℕ → Option Mark → Bool
+abbrev is_of_member : List ℕ → List ℕ → Option SignificantToken → Bool
 is_of_member source word member = option_map_or (λ m. bytes_eq (word_of source m) word) member false
 
 -- the alias gives this name to the module
@@ -183,17 +183,17 @@ module_more : (s : List ℕ) (al : List Alias) (i : ℕ) (a : Alias) (name : Lis
 unfolding names_any_module
 module_more s al i a name h = list_any_more (names_module s name) al i a h
 
-own_call : (s : List ℕ) (m : Option Mark) → lookup (λ name. is_of_member s name m) call_names ≡ (own_meaning s m).call
+own_call : (s : List ℕ) (m : Option SignificantToken) → lookup (λ name. is_of_member s name m) call_names ≡ (own_meaning s m).call
 unfolding call_of
 own_call s None = refl
 own_call s (Some m) = refl
 
-own_flag : (s : List ℕ) (m : Option Mark) → lookup (λ name. is_of_member s name m) flag_names ≡ (own_meaning s m).flag
+own_flag : (s : List ℕ) (m : Option SignificantToken) → lookup (λ name. is_of_member s name m) flag_names ≡ (own_meaning s m).flag
 unfolding flag_of
 own_flag s None = refl
 own_flag s (Some m) = refl
 
-own_module : (s : List ℕ) (m : Option Mark) → is_of_module m ≡ (own_meaning s m).of_module
+own_module : (s : List ℕ) (m : Option SignificantToken) → is_of_module m ≡ (own_meaning s m).of_module
 own_module s None = refl
 own_module s (Some m) = refl
 

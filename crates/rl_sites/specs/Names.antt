@@ -3,13 +3,13 @@ use Rattle.std.specs.Prelude.{ℕ, Bool, false, ◌&&◌, List, [], ◌∷◌, c
 use Rattle.std.specs.List.{list_any}
 use Rattle.std.specs.Map.{lookup}
 use Rattle.std.specs.Option.{is_none, option_map_or}
-use Rattle.rl_sites.specs.declared.mark.Mark.{Mark}
+use Rattle.rl_sites.specs.declared.significant.SignificantToken.{SignificantToken}
 use Rattle.rl_sites.specs.declared.imports.Alias.{Alias}
 use Rattle.rl_sites.specs.declared.call.Call.{Call}
 use Rattle.rl_sites.specs.declared.call.Call.TheVariants as call
 use Rattle.rl_sites.specs.declared.flag.Flag.{Flag}
 use Rattle.rl_sites.specs.declared.flag.Flag.TheVariants as flag
-use Rattle.rl_sites.specs.Marks.{word_of, is_name}
+use Rattle.rl_sites.specs.Significant.{word_of, is_name}
 
 -- the nine calls in their order
 abbrev pub calls : List Call
@@ -52,22 +52,22 @@ names_any_member source aliases name member =
     (λ alias. bytes_eq (word_of source alias.name) name && option_map_or (λ m. bytes_eq (word_of source m) member) alias.member false)
     aliases
 
--- the mark is a name and an alias of the module
-unfoldable pub is_module : List ℕ → List Alias → Mark → Bool
-is_module source aliases mark = is_name mark && names_any_module source aliases (word_of source mark)
+-- the token is a name and an alias of the module
+unfoldable pub is_module : List ℕ → List Alias → SignificantToken → Bool
+is_module source aliases token = is_name token && names_any_module source aliases (word_of source token)
 
--- the call or the flag that the mark names itself, as it does behind the module and a `.`
-unfoldable pub call_named : List ℕ → Mark → Option Call
-call_named source mark = if is_name mark then find (λ call. bytes_eq (word_of source mark) (call_word call)) calls else None
+-- the call or the flag that the token names itself, as it does behind the module and a `.`
+unfoldable pub call_named : List ℕ → SignificantToken → Option Call
+call_named source token = if is_name token then find (λ call. bytes_eq (word_of source token) (call_word call)) calls else None
 
-unfoldable pub flag_named : List ℕ → Mark → Option Flag
-flag_named source mark = if is_name mark then lookup (bytes_eq (word_of source mark)) flag_names else None
+unfoldable pub flag_named : List ℕ → SignificantToken → Option Flag
+flag_named source token = if is_name token then lookup (bytes_eq (word_of source token)) flag_names else None
 
--- the call or the flag that the mark is an alias of, the first of several
-unfoldable pub call_aliased : List ℕ → List Alias → Mark → Option Call
-call_aliased source aliases mark =
-    if is_name mark then find (λ call. names_any_member source aliases (word_of source mark) (call_word call)) calls else None
+-- the call or the flag that the token is an alias of, the first of several
+unfoldable pub call_aliased : List ℕ → List Alias → SignificantToken → Option Call
+call_aliased source aliases token =
+    if is_name token then find (λ call. names_any_member source aliases (word_of source token) (call_word call)) calls else None
 
-unfoldable pub flag_aliased : List ℕ → List Alias → Mark → Option Flag
-flag_aliased source aliases mark =
-    if is_name mark then lookup (names_any_member source aliases (word_of source mark)) flag_names else None
+unfoldable pub flag_aliased : List ℕ → List Alias → SignificantToken → Option Flag
+flag_aliased source aliases token =
+    if is_name token then lookup (names_any_member source aliases (word_of source token)) flag_names else None

@@ -1,15 +1,14 @@
 // What names stand for: the module, its nine calls that take a pattern first, and its flags.
 ghost use Rattle.std.specs.Prelude.{◌≡◌, ℕ, List, None, IfOk, OnOk};
 ghost use Rattle.rl_sites.specs.Names.{is_module, call_named, flag_named, call_aliased, flag_aliased};
-ghost use Rattle.rl_sites.specs.Marks.{word_of};
+ghost use Rattle.rl_sites.specs.Significant.{word_of};
 ghost use Rattle.rl_sites.specs.internal.Meanings.{call_rank, flag_rank, earlier, nothing, joined, own_meaning, meaning_with, meaning_of, meaning_in, IsMeant, call_of, flag_of};
 
 use crate::Call;
 use crate::flag::Flag;
 use crate::imports::Alias;
-use crate::mark::Mark;
-use crate::marks::{is_name, word_of};
 use crate::meaning::Meaning;
+use crate::significant::{SignificantToken, is_name, word_of};
 use indexmap::IndexMap;
 use rl_lists::OutOfMemory;
 use std::alloc::Global;
@@ -149,7 +148,7 @@ fn joined(first: Meaning, second: Meaning) -> Meaning
 }
 
 /// What an alias gives its name to.
-fn own_meaning(source: &[u8], member: Option<Mark>) -> Meaning
+fn own_meaning(source: &[u8], member: Option<SignificantToken>) -> Meaning
     ensures { result ≡ own_meaning source.now member }
 {
     match member {
@@ -158,10 +157,10 @@ fn own_meaning(source: &[u8], member: Option<Mark>) -> Meaning
             call: None,
             flag: None,
         },
-        Some(mark) => Meaning {
+        Some(token) => Meaning {
             of_module: false,
-            call: call_of(word_of(source, mark)),
-            flag: flag_of(word_of(source, mark)),
+            call: call_of(word_of(source, token)),
+            flag: flag_of(word_of(source, token)),
         },
     }
 }
@@ -221,68 +220,68 @@ pub fn names_of<'a>(
     Ok(Names { aliases, meanings })
 }
 
-/// What the text of a mark stands for.
-fn meaning_of(source: &[u8], names: &Names<'_>, mark: Mark) -> Meaning
+/// What the text of a token stands for.
+fn meaning_of(source: &[u8], names: &Names<'_>, token: SignificantToken) -> Meaning
     requires { IsMeant source.now names.now.aliases.items names.now.meanings.entries }
-    ensures { result ≡ meaning_of source.now names.now.aliases.items (word_of source.now mark) }
+    ensures { result ≡ meaning_of source.now names.now.aliases.items (word_of source.now token) }
 {
-    meaning_in(&names.meanings, word_of(source, mark))
+    meaning_in(&names.meanings, word_of(source, token))
 }
 
-/// Whether the mark is a name and an alias of the module.
+/// Whether the token is a name and an alias of the module.
 #[tactic(auto, unfolding(crate::specs::Names::is_module))]
-pub fn is_module(source: &[u8], names: &Names<'_>, mark: Mark) -> bool
+pub fn is_module(source: &[u8], names: &Names<'_>, token: SignificantToken) -> bool
     requires { IsMeant source.now names.now.aliases.items names.now.meanings.entries }
-    ensures { result ≡ is_module source.now names.now.aliases.items mark }
+    ensures { result ≡ is_module source.now names.now.aliases.items token }
 {
-    is_name(mark) && meaning_of(source, names, mark).of_module
+    is_name(token) && meaning_of(source, names, token).of_module
 }
 
-/// The call that the mark names itself.
+/// The call that the token names itself.
 #[tactic(auto, unfolding(crate::specs::Names::call_named, crate::specs::internal::Meanings::call_of))]
-pub fn call_named(source: &[u8], mark: Mark) -> Option<Call>
-    ensures { result ≡ call_named source.now mark }
+pub fn call_named(source: &[u8], token: SignificantToken) -> Option<Call>
+    ensures { result ≡ call_named source.now token }
 {
-    if is_name(mark) {
-        call_of(word_of(source, mark))
+    if is_name(token) {
+        call_of(word_of(source, token))
     } else {
         None
     }
 }
 
-/// The flag that the mark names itself.
+/// The flag that the token names itself.
 #[tactic(auto, unfolding(crate::specs::Names::flag_named, crate::specs::internal::Meanings::flag_of))]
-pub fn flag_named(source: &[u8], mark: Mark) -> Option<Flag>
-    ensures { result ≡ flag_named source.now mark }
+pub fn flag_named(source: &[u8], token: SignificantToken) -> Option<Flag>
+    ensures { result ≡ flag_named source.now token }
 {
-    if is_name(mark) {
-        flag_of(word_of(source, mark))
+    if is_name(token) {
+        flag_of(word_of(source, token))
     } else {
         None
     }
 }
 
-/// The call that the mark is an alias of, the first of several.
+/// The call that the token is an alias of, the first of several.
 #[tactic(auto, unfolding(crate::specs::Names::call_aliased, crate::specs::internal::Meanings::first_call))]
-pub fn call_aliased(source: &[u8], names: &Names<'_>, mark: Mark) -> Option<Call>
+pub fn call_aliased(source: &[u8], names: &Names<'_>, token: SignificantToken) -> Option<Call>
     requires { IsMeant source.now names.now.aliases.items names.now.meanings.entries }
-    ensures { result ≡ call_aliased source.now names.now.aliases.items mark }
+    ensures { result ≡ call_aliased source.now names.now.aliases.items token }
 {
-    if is_name(mark) {
-        meaning_of(source, names, mark).call
+    if is_name(token) {
+        meaning_of(source, names, token).call
     } else {
         None
     }
 }
 
-/// The flag that the mark is an alias of, the first of several.
+/// The flag that the token is an alias of, the first of several.
 #[tactic(auto, unfolding(crate::specs::Names::flag_aliased, crate::specs::internal::Meanings::first_flag))]
-pub fn flag_aliased(source: &[u8], names: &Names<'_>, mark: Mark) -> Option<Flag>
+pub fn flag_aliased(source: &[u8], names: &Names<'_>, token: SignificantToken) -> Option<Flag>
     requires { IsMeant source.now names.now.aliases.items names.now.meanings.entries }
-    ensures { result ≡ flag_aliased source.now names.now.aliases.items mark }
+    ensures { result ≡ flag_aliased source.now names.now.aliases.items token }
 {
-    if is_name(mark) {
-        meaning_of(source, names, mark).flag
+    if is_name(token) {
+        meaning_of(source, names, token).flag
     } else {
         None
     }

@@ -2,14 +2,14 @@
 use Rattle.std.specs.Prelude.{◌≡◌, ℕ, true, false, ◌||◌, List, Option, Some, None, nat_lt, find, unwrap_or, bytes_eq, if◌then◌else◌}
 use Rattle.std.specs.Map.{lookup}
 use denote.Ref.{Bor}
-use Rattle.rl_sites.specs.declared.mark.Mark.{Mark}
+use Rattle.rl_sites.specs.declared.significant.SignificantToken.{SignificantToken}
 use Rattle.rl_sites.specs.declared.imports.Alias.{Alias}
 use Rattle.rl_sites.specs.declared.call.Call.{Call}
 use Rattle.rl_sites.specs.declared.call.Call.TheVariants as call
 use Rattle.rl_sites.specs.declared.flag.Flag.{Flag}
 use Rattle.rl_sites.specs.declared.flag.Flag.TheVariants as flag
 use Rattle.rl_sites.specs.declared.meaning.Meaning.{Meaning}
-use Rattle.rl_sites.specs.Marks.{word_of}
+use Rattle.rl_sites.specs.Significant.{word_of}
 use Rattle.rl_sites.specs.Names.{calls, call_word, flag_names, names_any_module, names_any_member}
 
 -- the call or the flag with this name
@@ -67,7 +67,7 @@ joined first second =
     }
 
 -- what an alias gives its name to
-abbrev pub own_meaning : List ℕ → Option Mark → Meaning
+abbrev pub own_meaning : List ℕ → Option SignificantToken → Meaning
 own_meaning source None = record { of_module = true; call = None; flag = None }
 own_meaning source (Some member) =
     record { of_module = false; call = call_of (word_of source member); flag = flag_of (word_of source member) }
