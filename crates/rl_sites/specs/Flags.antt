@@ -19,15 +19,7 @@ use Rattle.rl_sites.specs.Names.{is_module, flag_named, flag_aliased}
 -- no flag is set
 abbrev pub no_flags : Flags
 no_flags =
-    record {
-      ignore_case = false;
-      multiline = false;
-      dot_all = false;
-      verbose = false;
-      ascii = false;
-      unicode = false;
-      locale = false;
-    }
+    record { ignore_case = false; multiline = false; dot_all = false; verbose = false; ascii = false; unicode = false; locale = false }
 
 abbrev pub with_flag : Flag → Flags → Flags
 with_flag flag.Ascii flags = record flags { ascii = true }

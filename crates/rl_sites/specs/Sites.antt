@@ -17,7 +17,7 @@ use Rattle.rl_sites.specs.Names.{is_module, call_named, call_aliased}
 use Rattle.rl_sites.specs.Arguments.{arguments_of}
 use Rattle.rl_sites.specs.Flags.{flags_of}
 
--- The head of a call is what is called, with the number of its tokens up to the opening bracket: an alias of the module, `.`, one of the nine names and `(`
+-- The call in front, and how many tokens its head has, up to its opening bracket: an alias of the module, `.`, one of the nine names and `(`.
 unfoldable pub dotted_head : List ℕ → List Alias → List SignificantToken → Option Head
 dotted_head source aliases rest =
     if stands 1 (is_op source (codes ".")) rest && stands 3 (is_op source (codes "(")) rest
@@ -42,14 +42,7 @@ pattern_size source rest =
 -- the site whose run of literals has this first and this last token, if it has any
 abbrev pub site_of_run : Call → Bool → SiteFlags → Option SignificantToken → Option SignificantToken → Option Site
 site_of_run call whole flags (Some first) (Some last) =
-    Some
-    (record {
-      call = call;
-      first = first.number;
-      count = last.number - first.number + 1;
-      whole = whole;
-      flags = flags;
-    })
+    Some (record { call = call; first = first.number; count = last.number - first.number + 1; whole = whole; flags = flags })
 site_of_run call whole flags _ _ = None
 
 -- the tokens behind a run of literals begin with `,` or `)`
