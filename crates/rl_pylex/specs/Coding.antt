@@ -15,7 +15,7 @@ is_gap c = is_in " \t" c
 abbrev pub in_coding : ℕ → Bool
 in_coding c = is_ascii_alphanumeric c || is_in "-_." c
 
--- the longest name after the `coding` with which the text begins and a `:` or `=`, and then perhaps spaces or tabs
+-- the longest name behind the `coding` with which the text begins, if it isn't empty: `:` or `=` stands directly after it, and then perhaps spaces or tabs
 unfoldable pub named_here : List ℕ → Option Named
 named_here text =
     let from = 7 + prefix_len is_gap (drop 7 text) in
