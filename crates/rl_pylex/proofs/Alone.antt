@@ -9,10 +9,12 @@ use Rattle.rl_pylex.specs.declared.rules.Fit.{Fit}
 use Rattle.rl_pylex.specs.declared.rules.Fit.TheVariants.{Passes, Takes}
 use Rattle.rl_pylex.specs.declared.rules.Reading.TheVariants.{Piece}
 use Rattle.rl_pylex.specs.Bytes.{is_blank, is_backslash, ends_line, in_line, text_start}
-use Rattle.rl_pylex.specs.Literals.{opens_after, prefix_size, starts_literal, IsLiteral}
-use Rattle.rl_pylex.specs.Rules.{blank, joined_line, new_line, comment, fit_of_size, fit_after, literal, line_end_kind, reading, depth_after}
+use Rattle.rl_pylex.specs.Literals.{opens_after, prefix_size, IsLiteral}
+use Rattle.rl_pylex.specs.Rules.{blank, joined_line, new_line, comment, literal, reading, depth_after}
+use Rattle.rl_pylex.specs.internal.Rows.{line_end_kind, starts_literal}
+use Rattle.rl_pylex.proofs.Fits.{fit_of_size, fit_after}
 use Rattle.rl_pylex.specs.Coding.{line_of, coding_of_line, is_bare, second_coding, coding_of, wrong_coding}
-use Rattle.rl_pylex.specs.Source.{Cut, ReachesEnd, IsTokenList}
+use Rattle.rl_pylex.specs.Source.{Cut, IsReadable, IsTokenList}
 use Rattle.rl_pylex.proofs.Firsts.{passed, taken, blank-not, joined_line-not, new_line-not, comment-not, literal-not}
 
 starts-literal : (x : ℕ) (xs : List ℕ) (m : ℕ) → literal (x ∷ xs) ≡ Takes m → starts_literal x ≡ true
@@ -88,10 +90,11 @@ nothing_is_no_literal : (m : ℕ) → literal [] ≡ Takes m → ⊥
 unfolding literal prefix_size opens_after
 nothing_is_no_literal m e = cc
 
-one_token : (text : List ℕ) → text_start text ≡ 0 → reading 0 text ≡ Piece (Some kind.Literal) (length text) → ReachesEnd text (record { kind = kind.Literal; from = 0; upto = length text } ∷ [])
-one_token text start read =
+one_token : (text : List ℕ) → IsReadable text → text_start text ≡ 0 → reading 0 text ≡ Piece (Some kind.Literal) (length text) → IsTokenList text (record { kind = kind.Literal; from = 0; upto = length text } ∷ [])
+one_token text readable start read =
     let all : 0 + length text ≡ length text = omega arith in
     record {
+      readable = readable;
       depth = depth_after 0 text;
       reaches = record {
         pieces = record { kind = Some kind.Literal; from = 0; size = length text } ∷ [];
@@ -108,7 +111,6 @@ literal_alone (x ∷ xs) l short utf8 =
     let takes = IsLiteral-takes (x ∷ xs) l in
     let first = starts-literal x xs (length (x ∷ xs)) takes in
     let start = start-is x xs (is_no_mark x first) in
-    record {
-      readable = record { short = short; utf8 = utf8; coding = ap (λ n. wrong_coding (drop n (x ∷ xs))) start ∙ no_coding x xs first };
-      whole = one_token (x ∷ xs) start (literal_first 0 x xs (length (x ∷ xs)) takes);
-    }
+    let readable : IsReadable (x ∷ xs) =
+    record { short = short; utf8 = utf8; coding = ap (λ n. wrong_coding (drop n (x ∷ xs))) start ∙ no_coding x xs first } in
+    one_token (x ∷ xs) readable start (literal_first 0 x xs (length (x ∷ xs)) takes)

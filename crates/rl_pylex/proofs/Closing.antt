@@ -5,8 +5,8 @@ use Rattle.std.specs.List.{prefix_len}
 use Rattle.std.proofs.lemmas.Bool.Decides.{nat_tests}
 use Rattle.std.proofs.lemmas.List.{drop-drop}
 use Rattle.rl_pylex.specs.Bytes.{has_at, is_quote, ends_line}
-use Rattle.rl_pylex.specs.Literals.{close_from, unit_size, quotes_at, Skips, is_plain}
-use Rattle.rl_pylex.specs.internal.Long.{is_long_plain}
+use Rattle.rl_pylex.specs.Literals.{close_from, unit_size, quotes_at}
+use Rattle.rl_pylex.specs.internal.Bodies.{Skips, is_long_plain, is_plain}
 
 option_map-map : (f g : ℕ → ℕ) (o : Option ℕ) → option_map f (option_map g o) ≡ option_map (λ x. f (g x)) o
 option_map-map f g None = refl

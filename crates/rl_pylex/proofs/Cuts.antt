@@ -10,7 +10,7 @@ use Rattle.rl_pylex.specs.declared.token_list.Token.{Token}
 use Rattle.rl_pylex.specs.declared.rules.Reading.TheVariants as reads
 use Rattle.rl_pylex.specs.Bytes.{text_start, is_blank}
 use Rattle.rl_pylex.specs.Rules.{reading, depth_after}
-use Rattle.rl_pylex.specs.Source.{Piece, token_of_kind, token_of, Cut, Reaches}
+use Rattle.rl_pylex.specs.Source.{Piece, token_of, Cut, Reaches}
 use Rattle.rl_pylex.proofs.Firsts.{blank_read, depth_after_blank}
 
 Cut-push : (s : List ℕ) (at depth : ℕ) (ps : List Piece) (end end_depth : ℕ) (kind : Option TokenKind) (n : ℕ)
@@ -37,7 +37,7 @@ filter_map-one p = as_list (token_of p)
     as_list (Some t) = refl
 
 pub Reaches-push : (s : List ℕ) (at depth : ℕ) (ts more : List Token) (kind : Option TokenKind) (n : ℕ)
-    → Reaches s at depth ts → reading depth (drop at s) ≡ reads.Piece kind n → more ≡ ts ++ option_to_list (token_of_kind kind at n)
+    → Reaches s at depth ts → reading depth (drop at s) ≡ reads.Piece kind n → more ≡ ts ++ option_to_list (token_of (record { kind = kind; from = at; size = n }))
     → Reaches s (at + n) (depth_after depth (drop at s)) more
 Reaches-push s at depth ts more kind n r found e =
     let p : Piece = record { kind = kind; from = at; size = n } in
@@ -51,7 +51,7 @@ Reaches-push s at depth ts more kind n r found e =
 
 pub Reaches-step : (s text : List ℕ) (at depth next : ℕ) (ts more : List Token) (kind : Option TokenKind) (n : ℕ)
     → Reaches s at depth ts → text ≡ drop at s → reads.Piece kind n ≡ reading depth text → next ≡ depth_after depth text
-    → more ≡ ts ++ option_to_list (token_of_kind kind at n) → Reaches s (at + n) next more
+    → more ≡ ts ++ option_to_list (token_of (record { kind = kind; from = at; size = n })) → Reaches s (at + n) next more
 Reaches-step s text at depth next ts more kind n r here found deeper e =
     subst (λ (d : ℕ). Reaches s (at + n) d more) (ap (depth_after depth) (sym here) ∙ sym deeper)
     (Reaches-push s at depth ts more kind n r (ap (reading depth) (sym here) ∙ sym found) e)

@@ -6,7 +6,7 @@ use Rattle.rl_pylex.specs.declared.rules.Reading.TheVariants.{Piece, Unterminate
 use Rattle.rl_pylex.specs.Bytes.{line_end}
 use Rattle.rl_pylex.specs.Literals.{opens_after, prefix_size, quote_count, unit_size, size_after}
 use Rattle.rl_pylex.specs.Rules.{blank, joined_line, new_line, comment, literal, name, number, operator, reading, depth_after}
-use Rattle.rl_pylex.specs.Coding.{name_at, named_here, coding_of_line, is_bare, second_place, second_coding, coding_of, wrong_coding}
+use Rattle.rl_pylex.specs.Coding.{named_here, coding_of_line, is_bare, second_coding, coding_of, wrong_coding}
 
 a_prefix : prefix_size (codes "Rb'x'") ≡ Some 2
 unfolding prefix_size opens_after
@@ -59,17 +59,17 @@ depths = (refl, refl, refl)
 
 -- the first `coding` with a name counts, on the first line or on the second behind a bare line
 first_line : wrong_coding (codes "# coding: coding=utf-16 coding:utf8\n") ≡ Some 10
-unfolding wrong_coding coding_of second_coding second_place line_end is_bare coding_of_line named_here name_at
+unfolding wrong_coding coding_of second_coding line_end is_bare coding_of_line named_here
 first_line = refl
 
 second_line : wrong_coding (codes " # x\r\n\t#coding=latin-1") ≡ Some 15
-unfolding wrong_coding coding_of second_coding second_place line_end is_bare coding_of_line named_here name_at
+unfolding wrong_coding coding_of second_coding line_end is_bare coding_of_line named_here
 second_line = refl
 
 not_bare : wrong_coding (codes "x\n#coding=latin-1") ≡ None
-unfolding wrong_coding coding_of second_coding second_place line_end is_bare coding_of_line named_here name_at
+unfolding wrong_coding coding_of second_coding line_end is_bare coding_of_line named_here
 not_bare = refl
 
 accepted : wrong_coding (codes "#coding=Utf-8-SIG;\n#coding=x") ≡ None
-unfolding wrong_coding coding_of second_coding second_place line_end is_bare coding_of_line named_here name_at
+unfolding wrong_coding coding_of second_coding line_end is_bare coding_of_line named_here
 accepted = refl

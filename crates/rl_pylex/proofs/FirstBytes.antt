@@ -9,9 +9,8 @@ use Rattle.rl_pylex.specs.declared.rules.Fit.TheVariants.{Passes, Takes}
 use Rattle.rl_pylex.specs.declared.rules.Reading.{Reading}
 use Rattle.rl_pylex.specs.declared.rules.Reading.TheVariants.{Piece}
 use Rattle.rl_pylex.specs.Bytes.{is_blank, is_backslash, ends_line, in_line, starts_name, in_name, line_end}
-use Rattle.rl_pylex.specs.Literals.{starts_literal}
-use Rattle.rl_pylex.specs.Rules.{takes_if, blank, joined_line, new_line, comment, literal, name, line_end_kind, first_of_rows, reading}
-use Rattle.rl_pylex.specs.internal.Rows.{starts_number, number_rows, literal_rows}
+use Rattle.rl_pylex.specs.Rules.{takes_if, blank, joined_line, new_line, comment, literal, name, first_of_rows, reading}
+use Rattle.rl_pylex.specs.internal.Rows.{line_end_kind, starts_number, number_rows, literal_rows, starts_literal}
 use Rattle.rl_pylex.proofs.Firsts.{passed, taken, blank-not, joined_line-not, new_line-not, comment-not, literal-not}
 use Rattle.rl_pylex.proofs.Alone.{is_no_blank, is_no_backslash, is_no_line_end, is_no_hash}
 

@@ -11,9 +11,11 @@ use Rattle.rl_pylex.specs.declared.rules.Fit.{Fit}
 use Rattle.rl_pylex.specs.declared.rules.Fit.TheVariants.{Passes, Takes}
 use Rattle.rl_pylex.specs.declared.rules.Reading.{Reading}
 use Rattle.rl_pylex.specs.declared.rules.Reading.TheVariants.{Piece}
-use Rattle.rl_pylex.specs.Bytes.{is_in, ends_line, is_blank, is_backslash, is_quote, starts_name, in_name, is_plain_operator, opens_bracket, closes_bracket, line_end}
-use Rattle.rl_pylex.specs.Literals.{is_prefix, opens_after, prefix_size, starts_literal}
-use Rattle.rl_pylex.specs.Rules.{takes_if, blank, joined_line, new_line, comment, fit_after, literal, name, number, operator, line_end_kind, reading_by, reading, depth_after}
+use Rattle.rl_pylex.specs.Bytes.{is_in, ends_line, is_blank, is_backslash, is_quote, starts_name, in_name, opens_bracket, closes_bracket, line_end}
+use Rattle.rl_pylex.specs.Literals.{is_prefix, opens_after, prefix_size}
+use Rattle.rl_pylex.specs.Rules.{takes_if, blank, joined_line, new_line, comment, literal, name, number, operator, reading_by, reading, depth_after}
+use Rattle.rl_pylex.specs.internal.Rows.{line_end_kind, is_plain_operator, starts_literal}
+use Rattle.rl_pylex.proofs.Fits.{fit_after}
 
 takes-not : (b : Bool) (n : ℕ) → b ≡ false → takes_if b n ≡ Passes
 takes-not b n e = rw e refl

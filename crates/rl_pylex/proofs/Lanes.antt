@@ -15,7 +15,7 @@ use Rattle.std.proofs.lemmas.List.Folds.{prefix_len-append}
 use Rattle.std.proofs.lemmas.List.Sums.{prefix_len-le-length, prefix_len_passes}
 use Rattle.std.proofs.lemmas.Simd.{zip2_splat, get_or-replicate, Each1-get_or, length-zip2, get_or-zip2, length-chunk, chunk-drop, get_or-chunk, map-map, mask_l-mod, first_set_mask_l, swz_l, SwzOk, SwzOk-from_below}
 use Rattle.rl_pylex.specs.Bytes.{in_line}
-use Rattle.rl_pylex.specs.Literals.{is_plain}
+use Rattle.rl_pylex.specs.internal.Bodies.{is_plain}
 use Rattle.rl_pylex.specs.internal.Absence.{is_ordinary}
 use Rattle.rl_pylex.specs.internal.Blocks.{is_stop, stops_at}
 use Rattle.rl_pylex.proofs.ClassTables.{table_from, read_each}

@@ -4,6 +4,7 @@ mod ClassTables
 mod Lanes
 mod Closing
 pub mod Fronts
+mod Fits
 mod Sizes
 mod FirstNamed
 mod Cuts

@@ -17,7 +17,9 @@ use Rattle.rl_pylex.specs.declared.rules.Reading.{Reading}
 use Rattle.rl_pylex.specs.declared.rules.Reading.TheVariants.{Piece, Unterminated, Stray}
 use Rattle.rl_pylex.specs.Bytes.{has_at, begins, is_backslash, is_quote, ends_line}
 use Rattle.rl_pylex.specs.Literals.{is_prefix, opens_after, prefix_size, quotes_at, quote_count, unit_size, close_from, size_after, IsLiteral}
-use Rattle.rl_pylex.specs.Rules.{fit_of_size, fit_after, blank, joined_line, new_line, comment, literal, name, number, operator, line_end_kind, reading_by, reading}
+use Rattle.rl_pylex.specs.Rules.{blank, joined_line, new_line, comment, literal, name, number, operator, reading_by, reading}
+use Rattle.rl_pylex.specs.internal.Rows.{line_end_kind}
+use Rattle.rl_pylex.proofs.Fits.{fit_of_size, fit_after}
 use Rattle.rl_pylex.specs.Source.{text_of, IsReadAt}
 use Rattle.rl_pylex.proofs.Sizes.{IsCloseOf, close_from-within, quote_count-some}
 

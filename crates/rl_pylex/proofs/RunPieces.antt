@@ -11,10 +11,11 @@ use Rattle.rl_pylex.specs.declared.token_list.TokenKind.{TokenKind}
 use Rattle.rl_pylex.specs.declared.token_list.TokenKind.TheVariants as kinds
 use Rattle.rl_pylex.specs.declared.rules.Fit.TheVariants.{Passes, Takes}
 use Rattle.rl_pylex.specs.declared.rules.Reading.TheVariants.{Piece}
-use Rattle.rl_pylex.specs.Bytes.{has_at, begins, is_in, is_blank, is_quote, ends_line, starts_name, in_name, in_number, is_operator, is_plain_operator, line_end}
+use Rattle.rl_pylex.specs.Bytes.{has_at, begins, is_in, is_blank, is_quote, ends_line, starts_name, in_name, in_number, is_operator, line_end}
 use Rattle.rl_pylex.specs.Literals.{is_prefix, opens_after, prefix_size}
-use Rattle.rl_pylex.specs.Rules.{takes_if, fit_after, literal, name, number, operator, line_end_kind, reading}
-use Rattle.rl_pylex.specs.internal.Rows.{starts_number}
+use Rattle.rl_pylex.specs.Rules.{takes_if, literal, name, number, operator, reading}
+use Rattle.rl_pylex.specs.internal.Rows.{line_end_kind, starts_number, is_plain_operator}
+use Rattle.rl_pylex.proofs.Fits.{fit_after}
 use Rattle.rl_pylex.specs.internal.Absence.{is_ordinary, word_at, lacks_word}
 use Rattle.rl_pylex.proofs.Firsts.{passed, taken, name-fits, blank_read, operator_read, name_is_no_blank, name_is_no_backslash, name_is_no_line_end, name_is_no_hash}
 use Rattle.rl_pylex.proofs.FirstBytes.{literal_rows_left, new_line_read, number_rows_read}

@@ -4,9 +4,8 @@ use Rattle.std.specs.Prelude.{position, unwrap_or}
 use Rattle.std.specs.List.{prefix_len}
 use Rattle.std.proofs.lemmas.Bool.Decides.{nat_tests}
 use Rattle.rl_pylex.specs.Bytes.{in_line, in_name, in_number, is_blank}
-use Rattle.rl_pylex.specs.Literals.{is_plain}
 use Rattle.rl_pylex.specs.Coding.{is_gap, in_coding}
-use Rattle.rl_pylex.specs.internal.Long.{is_long_plain}
+use Rattle.rl_pylex.specs.internal.Bodies.{is_long_plain, is_plain}
 
 not-not : (b : Bool) → not (not b) ≡ b
 not-not true = refl

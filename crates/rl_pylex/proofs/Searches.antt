@@ -6,7 +6,7 @@ use Rattle.std.proofs.lemmas.Bool.Decides.{nat_tests}
 use Rattle.std.proofs.lemmas.List.Sums.{prefix_len_is}
 use Rattle.memchr.specs.Find.{IsFirstByte, is_byte2}
 use Rattle.rl_pylex.specs.Bytes.{in_line}
-use Rattle.rl_pylex.specs.internal.Long.{is_long_plain}
+use Rattle.rl_pylex.specs.internal.Bodies.{is_long_plain}
 
 -- a byte that the search passed over
 passed_over : (test q : ℕ → Bool) (c : ℕ) → test c ≡ q c → (test c ≡ true → ⊥) → not (q c) ≡ true

@@ -15,7 +15,9 @@ use Rattle.rl_pylex.specs.declared.rules.Reading.{Reading}
 use Rattle.rl_pylex.specs.declared.rules.Reading.TheVariants.{Stray}
 use Rattle.rl_pylex.specs.Bytes.{has_at, begins, ends_line, is_blank, is_backslash, in_line, starts_name, in_name, in_number, is_operator, line_end}
 use Rattle.rl_pylex.specs.Literals.{close_from, quotes_at, quote_count, size_after, prefix_size, unit_size}
-use Rattle.rl_pylex.specs.Rules.{takes_if, blank, joined_line, new_line, comment, fit_of_size, fit_after, literal, name, number, operator, line_end_kind, reading_by, reading, IsBoundedReading}
+use Rattle.rl_pylex.specs.Rules.{takes_if, blank, joined_line, new_line, comment, literal, name, number, operator, reading_by, reading}
+use Rattle.rl_pylex.specs.internal.Rows.{IsBoundedReading, line_end_kind}
+use Rattle.rl_pylex.proofs.Fits.{fit_of_size, fit_after}
 use Rattle.rl_pylex.proofs.Runs.{prefix_len-within}
 use Rattle.rl_pylex.proofs.Fronts.{has_at-within}
 

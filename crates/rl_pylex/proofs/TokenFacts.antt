@@ -6,7 +6,8 @@ use Rattle.rl_pylex.specs.declared.token_list.TokenKind.{TokenKind}
 use Rattle.rl_pylex.specs.declared.token_list.Token.{Token}
 use Rattle.rl_pylex.specs.declared.rules.Reading.{Reading}
 use Rattle.rl_pylex.specs.declared.rules.Reading.TheVariants as reads
-use Rattle.rl_pylex.specs.Rules.{reading, depth_after, IsBoundedReading}
+use Rattle.rl_pylex.specs.Rules.{reading, depth_after}
+use Rattle.rl_pylex.specs.internal.Rows.{IsBoundedReading}
 use Rattle.rl_pylex.specs.Source.{Piece, token_of, Cut, IsTokenList, IsReadAt, IsInOrder}
 use Rattle.rl_pylex.proofs.Sizes.{reading-bounded}
 
@@ -81,6 +82,6 @@ Cut-lies s at depth (p ∷ ps) end end_depth c inside =
 -- the tokens of a source are what is read at their places, in order
 pub IsInOrder-tokens : (s : List ℕ) (ts : List Token) → IsTokenList s ts → IsInOrder s ts
 IsInOrder-tokens s ts t =
-    let r = t.whole.reaches in
-    let lie = Cut-lies s _ 0 r.pieces (length s) t.whole.depth r.cut (omega arith) in
+    let r = t.reaches in
+    let lie = Cut-lies s _ 0 r.pieces (length s) t.depth r.cut (omega arith) in
     subst (λ (xs : List Token). IsInOrder s xs) (sym r.are) (record { each = lie.each; ordered = lie.ordered })

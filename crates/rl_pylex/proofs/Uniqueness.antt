@@ -14,13 +14,18 @@ use Rattle.rl_pylex.specs.Bytes.{text_start, line_end}
 use Rattle.rl_pylex.specs.Coding.{wrong_coding}
 use Rattle.rl_pylex.specs.Literals.{opens_after, prefix_size}
 use Rattle.rl_pylex.specs.Rules.{blank, joined_line, new_line, comment, literal, name, number, operator, reading, depth_after}
-use Rattle.rl_pylex.specs.Source.{Piece, token_of, Cut, Reaches, Meets, IsStop, IsTokenList}
+use Rattle.rl_pylex.specs.Source.{Piece, token_of, Cut, Reaches, Meets, IsTokenList}
 use Rattle.rl_pylex.specs.Laws.{HasOneTokenList, HasNoFaultBeside, HasOneFault}
 
 -- nothing is read at the end of a source
 nothing_at_end : (depth : ℕ) → reading depth [] ≡ reads.Stray
 unfolding reading blank joined_line new_line comment literal prefix_size opens_after name number operator line_end
 nothing_at_end depth = refl
+
+-- no piece: a fault
+abbrev IsStop : Reading → Type 0
+IsStop (reads.Piece kind size) = ⊥
+IsStop _ = Unit {0}
 
 stops_at_end : (s : List ℕ) (depth : ℕ) → IsStop (reading depth (drop (length s) s))
 stops_at_end s depth =
@@ -76,15 +81,15 @@ Reaches-one s at depth at' depth' ts us r q stop stop' =
 
 pub one_list : HasOneTokenList
 one_list s ts us t u =
-    let same = Reaches-one s (length s) t.whole.depth (length s) u.whole.depth ts us t.whole.reaches u.whole.reaches (stops_at_end s t.whole.depth) (stops_at_end s u.whole.depth) in
-    t.whole.reaches.are ∙ ap (filter_map token_of) same.pieces ∙ sym u.whole.reaches.are
+    let same = Reaches-one s (length s) t.depth (length s) u.depth ts us t.reaches u.reaches (stops_at_end s t.depth) (stops_at_end s u.depth) in
+    t.reaches.are ∙ ap (filter_map token_of) same.pieces ∙ sym u.reaches.are
 
 stop_of : (r found : Reading) → r ≡ found → IsStop found → IsStop r
 stop_of r found e stop = subst (λ (x : Reading). IsStop x) (sym e) stop
 
 no_stop_beside : (s : List ℕ) (ts : List Token) (p : ℕ) (found : Reading) → IsTokenList s ts → Meets s p found → IsStop found → ⊥
 no_stop_beside s ts p found t m stop =
-    let same = Reaches-one s (length s) t.whole.depth p m.depth ts m.before t.whole.reaches m.reaches (stops_at_end s t.whole.depth) (stop_of (reading m.depth (drop p s)) found m.found_there stop) in
+    let same = Reaches-one s (length s) t.depth p m.depth ts m.before t.reaches m.reaches (stops_at_end s t.depth) (stop_of (reading m.depth (drop p s)) found m.found_there stop) in
     omega (arith, same.ends, m.within)
 
 one_stop : (s : List ℕ) (p q : ℕ) (found met : Reading) → Meets s p found → Meets s q met → IsStop found → IsStop met → (p ≡ q) × (found ≡ met)

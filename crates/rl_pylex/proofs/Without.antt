@@ -16,8 +16,10 @@ use Rattle.rl_pylex.specs.declared.rules.Reading.{Reading}
 use Rattle.rl_pylex.specs.declared.rules.Reading.TheVariants as reads
 use Rattle.rl_pylex.specs.Bytes.{has_at, begins, is_blank, is_backslash, is_quote, in_line, text_start}
 use Rattle.rl_pylex.specs.Literals.{opens_after, prefix_size, quote_count, close_from, size_after}
-use Rattle.rl_pylex.specs.Rules.{fit_of_size, fit_after, blank, joined_line, literal, reading, depth_after, IsBoundedReading}
-use Rattle.rl_pylex.specs.Source.{text_of, token_of_kind, IsReadable, LacksName}
+use Rattle.rl_pylex.specs.Rules.{blank, joined_line, literal, reading, depth_after}
+use Rattle.rl_pylex.specs.internal.Rows.{IsBoundedReading}
+use Rattle.rl_pylex.proofs.Fits.{fit_of_size, fit_after}
+use Rattle.rl_pylex.specs.Source.{text_of, token_of, IsReadable, LacksName}
 use Rattle.rl_pylex.specs.internal.Absence.{is_ordinary, lacks_word, IsFreeRun, size_of_fit, size_between, ReachesWithout}
 use Rattle.rl_pylex.proofs.Firsts.{passed, taken, blank-not, joined_line-not}
 use Rattle.rl_pylex.proofs.FirstBytes.{comment_read}
@@ -32,7 +34,7 @@ use Rattle.rl_pylex.proofs.Words.{has_at-drop}
 IsOther : List ℕ → List ℕ → Token → Type 0
 IsOther s name t = t.kind ≡ kinds.Name → text_of s t ≢ name
 
-one_other : (s name : List ℕ) (at size : ℕ) (k : Option TokenKind) → (k ≡ Some kinds.Name → take size (drop at s) ≢ name) → All (IsOther s name) (option_to_list (token_of_kind k at size))
+one_other : (s name : List ℕ) (at size : ℕ) (k : Option TokenKind) → (k ≡ Some kinds.Name → take size (drop at s) ≢ name) → All (IsOther s name) (option_to_list (token_of (record { kind = k; from = at; size = size })))
 unfolding IsOther
 one_other s name at size None other = All-nil (IsOther s name)
 one_other s name at size (Some k) other = only
@@ -54,9 +56,9 @@ unfolding IsOther
 without-piece s name text at size k r here read other =
     record {
       depth = depth_after r.depth (drop at s);
-      tokens = r.tokens ++ option_to_list (token_of_kind k at size);
+      tokens = r.tokens ++ option_to_list (token_of (record { kind = k; from = at; size = size }));
       reaches = Reaches-push s at r.depth r.tokens _ k size r.reaches (ap (reading r.depth) here ∙ read) refl;
-      none = All-append (IsOther s name) r.tokens (option_to_list (token_of_kind k at size)) r.none
+      none = All-append (IsOther s name) r.tokens (option_to_list (token_of (record { kind = k; from = at; size = size }))) r.none
           (one_other s name at size k (λ is same. other is (ap (take size) (sym here) ∙ same)));
     }
 
@@ -295,7 +297,7 @@ pub lacks_name-end : (s name : List ℕ) → IsReadable s → ReachesWithout s n
 lacks_name-end s name readable r =
     record {
       tokens = r.tokens;
-      are_tokens = record { readable = readable; whole = record { depth = r.depth; reaches = r.reaches } };
+      are_tokens = record { readable = readable; depth = r.depth; reaches = r.reaches };
       none = r.none;
     }
 

@@ -50,10 +50,6 @@ in_number c = is_ascii_alphanumeric c || is_in "_." c
 abbrev pub is_operator : ℕ → Bool
 is_operator c = is_in "()[]{}.,:;=+-*/%&|^~<>@!" c
 
--- an operator's character that begins no number
-abbrev pub is_plain_operator : ℕ → Bool
-is_plain_operator c = is_in "()[]{},:;=+-*/%&|^~<>@!" c
-
 abbrev pub opens_bracket : ℕ → Bool
 opens_bracket c = is_in "([{" c
 

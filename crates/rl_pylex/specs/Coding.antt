@@ -1,7 +1,7 @@
 -- The coding line of a source (PEP 263, with stricter rules on what counts as one).
-use Rattle.std.specs.Prelude.{ℕ, ◌+◌, Bool, ◌||◌, ◌==◌, List, [], ◌∷◌, length, take, drop, take_while, codes, Option, Some, None, if◌then◌else◌, bytes_eq}
+use Rattle.std.specs.Prelude.{ℕ, ◌+◌, Bool, not, ◌&&◌, ◌||◌, ◌==◌, List, [], ◌∷◌, length, take, drop, take_while, codes, Option, Some, None, if◌then◌else◌, bytes_eq}
 use Rattle.std.specs.List.{list_any, prefix_len}
-use Rattle.std.specs.Option.{option_or}
+use Rattle.std.specs.Option.{option_or, option_and_then}
 use Rattle.std.specs.Str.{str_to_ascii_lowercase}
 use Rattle.std.specs.Char.{is_ascii_alphanumeric}
 use Rattle.rl_pylex.specs.declared.coding.Named.{Named}
@@ -15,16 +15,12 @@ is_gap c = is_in " \t" c
 abbrev pub in_coding : ℕ → Bool
 in_coding c = is_ascii_alphanumeric c || is_in "-_." c
 
--- the longest name at this place of the text, if it isn't empty
-unfoldable pub name_at : ℕ → List ℕ → Option Named
-name_at from text =
-    let size = prefix_len in_coding (drop from text) in
-    if size == 0 then None else Some (record { from = from; size = size })
-
--- the name of the `coding` with which the text begins: `:` or `=` stands directly after it, and then perhaps spaces or tabs
+-- the longest name behind the `coding` with which the text begins, if it isn't empty: `:` or `=` stands directly after it, and then perhaps spaces or tabs
 unfoldable pub named_here : List ℕ → Option Named
 named_here text =
-    if begins "coding:" text || begins "coding=" text then name_at (7 + prefix_len is_gap (drop 7 text)) text else None
+    let from = 7 + prefix_len is_gap (drop 7 text) in
+    let size = prefix_len in_coding (drop from text) in
+    if (begins "coding:" text || begins "coding=" text) && not (size == 0) then Some (record { from = from; size = size }) else None
 
 -- the same name in a text with n more bytes in front
 abbrev pub from_place : ℕ → Option Named → Option Named
@@ -50,15 +46,12 @@ is_bare line =
 abbrev pub line_of : List ℕ → List ℕ
 line_of text = take_while in_line text
 
--- where the second line begins, or the length of a text of one line
-unfoldable pub second_place : List ℕ → ℕ
-second_place text = length (line_of text) + line_end (drop (length (line_of text)) text)
-
 -- the second line's name counts where the first line is bare
 unfoldable pub second_coding : List ℕ → Option Named
 second_coding text =
-    if is_bare (line_of text)
-    then from_place (second_place text) (coding_of_line (line_of (drop (second_place text) text))) else None
+    let first = line_of text in
+    let second = length first + line_end (drop (length first) text) in
+    if is_bare first then from_place second (coding_of_line (line_of (drop second text))) else None
 
 -- the name of the coding line of the text
 unfoldable pub coding_of : List ℕ → Option Named
@@ -70,11 +63,9 @@ is_accepted name =
     list_any (bytes_eq (str_to_ascii_lowercase name))
     (codes "utf-8" ∷ codes "utf8" ∷ codes "utf_8" ∷ codes "utf-8-sig" ∷ codes "ascii" ∷ codes "us-ascii" ∷ [])
 
-abbrev pub place_if_wrong : Option Named → List ℕ → Option ℕ
-place_if_wrong None text = None
-place_if_wrong (Some named) text =
-    if is_accepted (take named.size (drop named.from text)) then None else Some named.from
-
 -- the place of the name of a coding line that names another coding
 unfoldable pub wrong_coding : List ℕ → Option ℕ
-wrong_coding text = place_if_wrong (coding_of text) text
+wrong_coding text =
+    option_and_then
+    (λ named. if is_accepted (take named.size (drop named.from text)) then None else Some named.from)
+    (coding_of text)

@@ -1,9 +1,8 @@
 -- A literal: a prefix or none, quotes, a body and the same quotes.
-use Rattle.std.specs.Prelude.{◌≡◌, ◌||◌, ℕ, zero, suc, ◌+◌, ◌-◌, Bool, not, ◌&&◌, ◌==◌, nat_eq, List, [], ◌∷◌, length, take, drop, codes, slice_index, replicate, find, Option, Some, None, option_map, if◌then◌else◌, bytes_eq}
+use Rattle.std.specs.Prelude.{◌≡◌, ℕ, zero, suc, ◌+◌, ◌-◌, Bool, ◌&&◌, ◌==◌, nat_eq, List, [], ◌∷◌, length, take, drop, codes, slice_index, replicate, find, Option, Some, None, option_map, if◌then◌else◌, bytes_eq}
 use Rattle.std.specs.List.{list_any, starts_with}
 use Rattle.std.specs.Str.{str_to_ascii_lowercase}
-use Rattle.std.specs.Char.{to_ascii_lowercase}
-use Rattle.rl_pylex.specs.Bytes.{has_at, begins, is_in, is_backslash, is_quote, ends_line}
+use Rattle.rl_pylex.specs.Bytes.{has_at, begins, is_backslash, is_quote, ends_line}
 
 -- the letters, in lower case, are a prefix, or there is none
 abbrev pub is_prefix : List ℕ → Bool
@@ -18,10 +17,6 @@ opens_after text n = is_prefix (str_to_ascii_lowercase (take n text)) && has_at 
 -- how long the prefix is of the literal with which the text begins
 unfoldable pub prefix_size : List ℕ → Option ℕ
 prefix_size text = find (opens_after text) (0 ∷ 1 ∷ 2 ∷ [])
-
--- a quote or a letter of a prefix: each literal begins with one
-abbrev pub starts_literal : ℕ → Bool
-starts_literal c = is_quote c || is_in "rubf" (to_ascii_lowercase c)
 
 -- the text begins with `count` of this quote
 abbrev pub quotes_at : ℕ → ℕ → List ℕ → Bool
@@ -46,15 +41,6 @@ close_from count quote zero (c ∷ text) =
     if quotes_at count quote (c ∷ text) then Some count
     else (if count == 1 && ends_line c then None
     else option_map suc (close_from count quote (unit_size (c ∷ text) - 1) text))
-
--- The first n bytes of a body hold no closing quotes and no fault.
-abbrev pub Skips : ℕ → ℕ → ℕ → List ℕ → Type 0
-Skips count quote n body =
-    close_from count quote 0 body ≡ option_map (λ m. n + m) (close_from count quote 0 (drop n body))
-
--- a byte of a body that is passed by itself
-abbrev pub is_plain : ℕ → Bool
-is_plain c = not (is_quote c || is_backslash c || ends_line c)
 
 -- The size of the literal with which the text begins, where its prefix has n bytes. None where nothing closes it.
 unfoldable pub size_after : ℕ → List ℕ → Option ℕ

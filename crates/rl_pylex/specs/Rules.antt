@@ -1,6 +1,7 @@
 -- The table of the rules of tokens, row by row: what each rule takes at the front of the text that is left, and the token that it gives.
-use Rattle.std.specs.Prelude.{ℕ, ◌<◌, ◌≤◌, ⊤, ◌+◌, ◌-◌, Bool, not, ◌&&◌, ◌||◌, ◌==◌, List, [], ◌∷◌, drop, Option, Some, None, unwrap_or, if◌then◌else◌}
+use Rattle.std.specs.Prelude.{ℕ, ◌+◌, ◌-◌, Bool, not, ◌&&◌, ◌||◌, ◌==◌, List, [], ◌∷◌, drop, Option, Some, None, unwrap_or, if◌then◌else◌}
 use Rattle.std.specs.List.{prefix_len}
+use Rattle.std.specs.Option.{option_map_or}
 use Rattle.std.specs.Char.{is_ascii_digit}
 use Rattle.rl_pylex.specs.declared.rules.Fit.{Fit}
 use Rattle.rl_pylex.specs.declared.rules.Fit.TheVariants.{Passes, Takes, Breaks}
@@ -32,17 +33,9 @@ new_line text = takes_if (not (line_end text == 0)) (line_end text)
 unfoldable pub comment : List ℕ → Fit
 comment text = takes_if (begins "#" text) (prefix_len in_line text)
 
-abbrev pub fit_of_size : Option ℕ → Fit
-fit_of_size None = Breaks
-fit_of_size (Some size) = Takes size
-
-abbrev pub fit_after : Option ℕ → List ℕ → Fit
-fit_after None text = Passes
-fit_after (Some n) text = fit_of_size (size_after n text)
-
 -- a prefix or none, directly followed by a quote, up to the closing quotes
 unfoldable pub literal : List ℕ → Fit
-literal text = fit_after (prefix_size text) text
+literal text = option_map_or (λ n. option_map_or Takes (size_after n text) Breaks) (prefix_size text) Passes
 
 -- the longest run of letters, `_`, codes of at least 0x80 and digits that begins with no digit
 unfoldable pub name : List ℕ → Fit
@@ -57,29 +50,17 @@ number text =
 unfoldable pub operator : List ℕ → Fit
 operator text = takes_if (has_at is_operator 0 text) 1
 
--- A row of the table: its rule, and the kind of the token that it gives, if it gives one.
-pub record Row : Type 0 where
-  pub rule : List ℕ → Fit
-  pub kind : Option TokenKind
-
-abbrev pub row : (List ℕ → Fit) → Option TokenKind → Row
-row rule kind = record { rule = rule; kind = kind }
-
--- a line end inside brackets gives no token
-abbrev pub line_end_kind : ℕ → Option TokenKind
-line_end_kind depth = if depth == 0 then Some kind.LineEnd else None
-
--- the table of rules at a bracket depth
-abbrev pub rows : ℕ → List Row
+-- the table of rules at a bracket depth: each with the kind of the token that it gives, if it gives one
+abbrev pub rows : ℕ → List ((List ℕ → Fit) × Option TokenKind)
 rows depth =
-    row blank None
-    ∷ row joined_line None
-    ∷ row new_line (line_end_kind depth)
-    ∷ row comment (Some kind.Comment)
-    ∷ row literal (Some kind.Literal)
-    ∷ row name (Some kind.Name)
-    ∷ row number (Some kind.Number)
-    ∷ row operator (Some kind.Op)
+    (blank, None)
+    ∷ (joined_line, None)
+    ∷ (new_line, if depth == 0 then Some kind.LineEnd else None)
+    ∷ (comment, Some kind.Comment)
+    ∷ (literal, Some kind.Literal)
+    ∷ (name, Some kind.Name)
+    ∷ (number, Some kind.Number)
+    ∷ (operator, Some kind.Op)
     ∷ []
 
 abbrev pub reading_by : Fit → Option TokenKind → Option Reading
@@ -88,18 +69,12 @@ reading_by (Takes size) kind = Some (Piece kind size)
 reading_by Breaks kind = Some Unterminated
 
 -- what the first row that fits gives; a stray code where none does
-abbrev pub first_of_rows : List Row → List ℕ → Reading
+abbrev pub first_of_rows : List ((List ℕ → Fit) × Option TokenKind) → List ℕ → Reading
 first_of_rows [] text = Stray
-first_of_rows (r ∷ rs) text = unwrap_or (reading_by (r.rule text) r.kind) (first_of_rows rs text)
+first_of_rows ((rule, kind) ∷ rows) text = unwrap_or (reading_by (rule text) kind) (first_of_rows rows text)
 
 unfoldable pub reading : ℕ → List ℕ → Reading
 reading depth text = first_of_rows (rows depth) text
-
--- a piece has a byte at least, and at most this many
-abbrev pub IsBoundedReading : Reading → ℕ → Type 0
-IsBoundedReading (Piece kind size) most = (0 < size) × (size ≤ most)
-IsBoundedReading Unterminated most = ⊤
-IsBoundedReading Stray most = ⊤
 
 -- The bracket depth after the piece with which the text begins. Only an operator's piece begins with a bracket, so the first byte tells.
 unfoldable pub depth_after : ℕ → List ℕ → ℕ

@@ -1,5 +1,5 @@
 -- The tokens of a source: it is cut into pieces in order, each piece is what the first rule that fits takes at its place, and the tokens are the pieces that have a kind.
-use Rattle.std.specs.Prelude.{◌≡◌, ◌≢◌, ℕ, ◌+◌, ◌-◌, ◌<◌, ◌≤◌, List, [], ◌∷◌, length, take, drop, filter_map, Option, Some, None, IsUtf8, ⊤, All, AllPairs}
+use Rattle.std.specs.Prelude.{◌≡◌, ◌≢◌, ℕ, ◌+◌, ◌-◌, ◌<◌, ◌≤◌, Bool, true, false, List, [], ◌∷◌, length, take, drop, filter_map, Option, Some, None, option_map, IsUtf8, ⊤, All, AllPairs}
 use Rattle.std.specs.Str.{IsValidUpTo}
 use Rattle.rl_lists.specs.declared.limits.TheConstants.{MOST_BYTES}
 use Rattle.rl_pylex.specs.declared.token_list.TokenKind.{TokenKind}
@@ -17,17 +17,24 @@ use Rattle.rl_pylex.specs.Coding.{wrong_coding}
 abbrev pub text_of : List ℕ → Token → List ℕ
 text_of source token = take (token.upto - token.from) (drop token.from source)
 
+-- whether two kinds are the same
+abbrev pub same_kind : TokenKind → TokenKind → Bool
+same_kind kind.Name kind.Name = true
+same_kind kind.Number kind.Number = true
+same_kind kind.Literal kind.Literal = true
+same_kind kind.Op kind.Op = true
+same_kind kind.LineEnd kind.LineEnd = true
+same_kind kind.Comment kind.Comment = true
+same_kind _ _ = false
+
 pub record Piece : Type 0 where
   pub kind : Option TokenKind
   pub from : ℕ
   pub size : ℕ
 
-abbrev pub token_of_kind : Option TokenKind → ℕ → ℕ → Option Token
-token_of_kind None from size = None
-token_of_kind (Some kind) from size = Some (record { kind = kind; from = from; upto = from + size })
-
+-- the token of a piece that has a kind
 abbrev pub token_of : Piece → Option Token
-token_of piece = token_of_kind piece.kind piece.from piece.size
+token_of piece = option_map (λ kind. record { kind = kind; from = piece.from; upto = piece.from + piece.size }) piece.kind
 
 -- From the place `at` and this bracket depth up to the place `end` and that depth the source is cut into these pieces.
 abbrev pub Cut : List ℕ → ℕ → ℕ → List Piece → ℕ → ℕ → Type 0
@@ -48,15 +55,11 @@ pub record IsReadable (source : List ℕ) : Type 0 where
   pub utf8 : IsUtf8 source
   pub coding : wrong_coding (drop (text_start source) source) ≡ None
 
--- the whole source is cut into pieces with these tokens
-pub record ReachesEnd (source : List ℕ) (tokens : List Token) : Type 0 where
-  pub depth : ℕ
-  pub reaches : Reaches source (length source) depth tokens
-
--- the tokens of the source
+-- the tokens of the source: the whole of it is cut into pieces with these tokens
 pub record IsTokenList (source : List ℕ) (tokens : List Token) : Type 0 where
   pub readable : IsReadable source
-  pub whole : ReachesEnd source tokens
+  pub depth : ℕ
+  pub reaches : Reaches source (length source) depth tokens
 
 -- the pieces reach the place p, and this is read there
 pub record Meets (source : List ℕ) (p : ℕ) (found : Reading) : Type 0 where
@@ -66,21 +69,6 @@ pub record Meets (source : List ℕ) (p : ℕ) (found : Reading) : Type 0 where
   pub reaches : Reaches source p depth before
   pub found_there : reading depth (drop p source) ≡ found
 
--- no piece: a fault
-abbrev pub IsStop : Reading → Type 0
-IsStop (reads.Piece kind size) = ⊥
-IsStop reads.Unterminated = ⊤
-IsStop reads.Stray = ⊤
-
--- the first fault of a piece
-abbrev pub StopsAt : List ℕ → LexError → Type 0
-StopsAt source (error.Unterminated p) = Meets source p reads.Unterminated
-StopsAt source (error.StrayCode p) = Meets source p reads.Stray
-StopsAt source error.OutOfMemory = ⊤
-StopsAt source error.FileTooLong = ⊥
-StopsAt source (error.NotUtf8 n) = ⊥
-StopsAt source (error.Coding p) = ⊥
-
 -- The source has this fault. The first that holds counts, in the order of the cases here but for the last two, of which the first by place counts.
 abbrev pub IsFault : List ℕ → LexError → Type 0
 IsFault source error.FileTooLong = MOST_BYTES < length source
@@ -88,8 +76,8 @@ IsFault source (error.NotUtf8 n) = (length source ≤ MOST_BYTES) × IsValidUpTo
 IsFault source (error.Coding p) =
     (length source ≤ MOST_BYTES) × IsUtf8 source
     × ((q : ℕ) × (wrong_coding (drop (text_start source) source) ≡ Some q) × (p ≡ text_start source + q))
-IsFault source (error.Unterminated p) = IsReadable source × StopsAt source (error.Unterminated p)
-IsFault source (error.StrayCode p) = IsReadable source × StopsAt source (error.StrayCode p)
+IsFault source (error.Unterminated p) = IsReadable source × Meets source p reads.Unterminated
+IsFault source (error.StrayCode p) = IsReadable source × Meets source p reads.Stray
 IsFault source error.OutOfMemory = ⊤
 
 -- The token is what is read at its place, at some bracket depth. It has a byte at least and lies in the source.

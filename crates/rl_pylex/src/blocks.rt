@@ -4,7 +4,7 @@ ghost use Rattle.std.specs.Int.Count.{count_trailing_zeros};
 ghost use Rattle.std.specs.List.{prefix_len, range_with_len};
 ghost use Rattle.std.specs.Simd.Lanes.{mask_l, chunk};
 ghost use Rattle.rl_pylex.specs.Bytes.{in_line};
-ghost use Rattle.rl_pylex.specs.Literals.{is_plain};
+ghost use Rattle.rl_pylex.specs.internal.Bodies.{is_plain};
 ghost use Rattle.rl_pylex.specs.internal.Absence.{is_ordinary};
 ghost use Rattle.rl_pylex.specs.internal.Blocks.{is_stop, stops_at};
 

@@ -3,7 +3,7 @@ ghost use Rattle.std.specs.Prelude.{◌≡◌, ℕ, ◌+◌, ◌^◌, ◌<◌, �
 ghost use Rattle.std.specs.Option.{ForSome};
 ghost use Rattle.std.specs.List.{prefix_len};
 ghost use Rattle.rl_pylex.specs.Bytes.{begins, in_line};
-ghost use Rattle.rl_pylex.specs.Coding.{is_gap, in_coding, name_at, named_here, from_place, first_named, coding_of_line, is_bare, line_of, second_place, second_coding, coding_of, is_accepted, place_if_wrong, wrong_coding};
+ghost use Rattle.rl_pylex.specs.Coding.{is_gap, in_coding, named_here, from_place, first_named, coding_of_line, is_bare, line_of, second_coding, coding_of, is_accepted, wrong_coding};
 
 use crate::bytes::{blank_size, line_end, line_size, rest_from};
 
@@ -54,20 +54,6 @@ fn coding_size(text: &[u8]) -> usize
     after_coding(text).unwrap_or(text.len())
 }
 
-#[tactic(auto, unfolding(crate::specs::Coding::name_at))]
-fn name_at(text: &[u8], from: usize) -> Option<Named>
-    requires { from ≤ length text.now }
-    ensures value { result ≡ name_at from text.now }
-    ensures within { IfSome result (λ named. named.from + named.size ≤ length text.now) }
-{
-    let size = coding_size(rest_from(text, from));
-    if size == 0 {
-        None
-    } else {
-        Some(Named { from, size })
-    }
-}
-
 fn begins_coding(text: &[u8]) -> bool
     ensures value { result ≡ (begins "coding:" text.now || begins "coding=" text.now) }
     ensures within { IsTrue result → 7 ≤ length text.now }
@@ -81,10 +67,15 @@ fn named_here(text: &[u8]) -> Option<Named>
     ensures value { result ≡ named_here text.now }
     ensures within { IfSome result (λ named. named.from + named.size ≤ length text.now) }
 {
-    if begins_coding(text) {
-        name_at(text, 7 + gap_size(rest_from(text, 7)))
-    } else {
+    if !begins_coding(text) {
+        return None;
+    }
+    let from = 7 + gap_size(rest_from(text, 7));
+    let size = coding_size(rest_from(text, from));
+    if size == 0 {
         None
+    } else {
+        Some(Named { from, size })
     }
 }
 
@@ -149,26 +140,17 @@ fn line_of(text: &[u8]) -> &[u8]
     &text[..line_size(text)]
 }
 
-#[tactic(auto, unfolding(crate::specs::Coding::second_place))]
-fn second_place(text: &[u8]) -> usize
-    ensures value { result ≡ second_place text.now }
-    ensures within { result ≤ length text.now }
-{
-    let first = line_of(text).len();
-    first + line_end(rest_from(text, first))
-}
-
 #[tactic(auto, unfolding(crate::specs::Coding::second_coding))]
 fn second_coding(text: &[u8]) -> Option<Named>
     ensures value { result ≡ second_coding text.now }
     ensures within { IfSome result (λ named. named.from + named.size ≤ length text.now) }
 {
-    if is_bare(line_of(text)) {
-        let second = second_place(text);
-        from_place(second, coding_of_line(line_of(rest_from(text, second))))
-    } else {
-        None
+    let first = line_of(text);
+    if !is_bare(first) {
+        return None;
     }
+    let second = first.len() + line_end(rest_from(text, first.len()));
+    from_place(second, coding_of_line(line_of(rest_from(text, second))))
 }
 
 /// The name of the coding line of the text.

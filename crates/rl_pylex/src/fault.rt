@@ -1,8 +1,8 @@
 // Why a source has no tokens.
 ghost use Rattle.std.specs.Prelude.{◌≡◌};
+ghost use Rattle.rl_pylex.specs.declared.fault.LexError.TheVariants as error;
 
 use rl_lists::OutOfMemory;
-use std::alloc::{AllocError, AllocFailed};
 
 /// Why a source has no tokens. Each number is a byte place in the source, a byte order mark counted.
 #[derive(Clone, Copy, Debug, PartialEq, Eq)]
@@ -22,31 +22,9 @@ pub enum LexError {
 }
 
 impl From<OutOfMemory> for LexError {
-    ghost use Rattle.rl_pylex.specs.declared.fault.LexError.TheVariants as error;
-
     ghost from_gives = { λ _ e. e ≡ error.OutOfMemory };
 
     fn from(_: OutOfMemory) -> Self {
-        LexError::OutOfMemory
-    }
-}
-
-impl From<AllocError> for LexError {
-    ghost use Rattle.rl_pylex.specs.declared.fault.LexError.TheVariants as error;
-
-    ghost from_gives = { λ _ e. e ≡ error.OutOfMemory };
-
-    fn from(_: AllocError) -> Self {
-        LexError::OutOfMemory
-    }
-}
-
-impl<T: Drop> From<AllocFailed<T>> for LexError {
-    ghost use Rattle.rl_pylex.specs.declared.fault.LexError.TheVariants as error;
-
-    ghost from_gives = { λ _ e. e ≡ error.OutOfMemory };
-
-    fn from(_: AllocFailed<T>) -> Self {
         LexError::OutOfMemory
     }
 }

@@ -4,7 +4,7 @@ ghost use Rattle.std.specs.List.{prefix_len};
 ghost use Rattle.std.specs.Str.{IsValidUpTo};
 ghost use Rattle.rl_pylex.specs.Bytes.{text_start, is_blank};
 ghost use Rattle.rl_pylex.specs.Coding.{wrong_coding};
-ghost use Rattle.rl_pylex.specs.Source.{token_of_kind, Reaches, IsReadable, ReachesEnd, StopsAt, IsTokenList, IsFault};
+ghost use Rattle.rl_pylex.specs.Source.{token_of, Reaches, IsReadable, IsTokenList, IsFault};
 
 use crate::bytes::{blank_size, rest_from, text_start};
 use crate::coding::wrong_coding;
@@ -21,7 +21,7 @@ fn push_piece(
     size: usize,
 ) -> Result<(), LexError>
     requires { at + size ≤ MOST_BYTES }
-    ensures pushed { OnOk result (tokens.new ≡ tokens.old ++ option_to_list (token_of_kind kind at size)) }
+    ensures pushed { OnOk result (tokens.new ≡ tokens.old ++ option_to_list (token_of (record { kind = kind; from = at; size = size }))) }
     ensures memory { IsOkUnless result LexError.OutOfMemory }
 {
     if let Some(kind) = kind {
@@ -43,14 +43,14 @@ fn after_blanks(source: &[u8], at: usize) -> usize
     at + blank_size(rest_from(source, at))
 }
 
-/// The tokens of a source of at most [`MOST_BYTES`], from the place `first` on where its text begins.
+/// The tokens of a source that can be read, from the place `first` on where its text begins.
 #[tactic(auto, using(crate::proofs::Cuts::pieces))]
 fn read_pieces(alloc: Global, source: &[u8], first: usize) -> Result<TokenList, LexError>
-    requires short { length source.now ≤ MOST_BYTES }
+    requires readable { IsReadable source.now }
     requires begins { first ≡ text_start source.now }
     requires within { first ≤ length source.now }
-    ensures ok { IfOk result (ReachesEnd source.now) }
-    ensures err { IfErr result (StopsAt source.now) }
+    ensures ok { IfOk result (IsTokenList source.now) }
+    ensures err { IfErr result (IsFault source.now) }
 {
     let mut tokens = TokenList::new(alloc);
     let mut at = first;

@@ -3,8 +3,9 @@ ghost use Rattle.std.specs.Prelude.{◌≡◌, ℕ, ◌+◌, ◌<◌, ◌≤◌,
 ghost use Rattle.std.specs.List.{prefix_len};
 ghost use Rattle.std.specs.Str.{str_to_ascii_lowercase};
 ghost use Rattle.rl_pylex.specs.Bytes.{has_at, is_quote, ends_line};
-ghost use Rattle.rl_pylex.specs.Literals.{is_prefix, opens_after, prefix_size, starts_literal, Skips, is_plain, quotes_at, quote_count, unit_size, close_from, size_after};
-ghost use Rattle.rl_pylex.specs.internal.Long.{is_long_plain};
+ghost use Rattle.rl_pylex.specs.Literals.{is_prefix, opens_after, prefix_size, quotes_at, quote_count, unit_size, close_from, size_after};
+ghost use Rattle.rl_pylex.specs.internal.Rows.{starts_literal};
+ghost use Rattle.rl_pylex.specs.internal.Bodies.{is_long_plain, Skips, is_plain};
 
 use crate::blocks::{BLOCK, plain_in_block};
 use crate::bytes::{ends_line, is_quote, rest_from};

@@ -2,9 +2,8 @@
 ghost use Rattle.std.specs.Prelude.{◌≡◌, ℕ, ◌+◌, ◌^◌, ◌<◌, ◌≤◌, length, drop, not, ◌&&◌, ◌||◌, position, Option};
 ghost use Rattle.std.specs.List.{prefix_len};
 ghost use Rattle.rl_pylex.specs.Bytes.{has_at, is_backslash, starts_name, in_name, in_number};
-ghost use Rattle.rl_pylex.specs.Literals.{starts_literal};
-ghost use Rattle.rl_pylex.specs.Rules.{takes_if, blank, joined_line, new_line, comment, literal, name, number, operator, line_end_kind, reading_by, first_of_rows, reading, IsBoundedReading, depth_after};
-ghost use Rattle.rl_pylex.specs.internal.Rows.{starts_number, number_rows, literal_rows};
+ghost use Rattle.rl_pylex.specs.Rules.{takes_if, blank, joined_line, new_line, comment, literal, name, number, operator, reading_by, first_of_rows, reading, depth_after};
+ghost use Rattle.rl_pylex.specs.internal.Rows.{IsBoundedReading, line_end_kind, starts_number, number_rows, literal_rows, starts_literal};
 
 use crate::TokenKind;
 use crate::bytes::{

@@ -12,7 +12,7 @@ use Rattle.rl_pystr.specs.declared.fault.StrError.{StrError}
 use Rattle.rl_pystr.specs.declared.fault.StrError.TheVariants as error
 use Rattle.rl_pystr.specs.declared.placed.Placed.{Placed}
 use Rattle.rl_pystr.specs.Escapes.{unit, size_of}
-use Rattle.rl_pystr.specs.Values.{empty, joined, in_front, before, refusal, given, value_from, IsRefused}
+use Rattle.rl_pystr.specs.Values.{empty, joined, before, refusal, given, value_from, IsRefused}
 use Rattle.rl_pystr.specs.Runs.{token_value, values}
 
 joined_by : List ℕ → List ℕ → Placed
@@ -26,12 +26,9 @@ joined-empty : (a : Placed) → joined a empty ≡ a
 unfolding joined_by
 joined-empty a = ap₂ joined_by (append-nil a.codes) (append-nil a.places)
 
-in_front-joined : (a b : Placed) (r : Result Placed StrError) → in_front (joined a b) r ≡ in_front a (in_front b r)
-in_front-joined a b (Ok c) = ap Ok (joined-assoc a b c)
-in_front-joined a b (Err e) = refl
-
 pub before_assoc : (p q r : Result Placed StrError) → before (before p q) r ≡ before p (before q r)
-before_assoc (Ok a) (Ok b) r = in_front-joined a b r
+before_assoc (Ok a) (Ok b) (Ok c) = ap Ok (joined-assoc a b c)
+before_assoc (Ok a) (Ok b) (Err e) = refl
 before_assoc (Ok a) (Err e) r = refl
 before_assoc (Err e) q r = refl
 
@@ -43,12 +40,8 @@ empty-before (Ok a) = refl
 empty-before (Err e) = refl
 
 pub IsRefused-before : (p r : Result Placed StrError) (e : StrError) → IsRefused p e → IsRefused (before p r) e
-IsRefused-before p r error.FString h = ap (λ q. before q r) h
-IsRefused-before p r error.Mixed h = ap (λ q. before q r) h
-IsRefused-before p r (error.BadEscape k) h = ap (λ q. before q r) h
-IsRefused-before p r (error.NamedEscape k) h = ap (λ q. before q r) h
-IsRefused-before p r (error.NotAscii k) h = ap (λ q. before q r) h
 IsRefused-before p r error.OutOfMemory h = tt
+IsRefused-before p r _ h = ap (λ q. before q r) h
 
 pub IsRefused-refusal : (why : Cause) (place : ℕ) → IsRefused (Err (refusal why place)) (refusal why place)
 IsRefused-refusal cause.BadEscape place = refl

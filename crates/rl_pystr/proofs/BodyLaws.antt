@@ -9,10 +9,10 @@ use Rattle.std.proofs.lemmas.List.{length-append}
 use Rattle.std.proofs.lemmas.List.Folds.{list_all-append}
 use Rattle.rl_pylex.specs.Bytes.{line_end}
 use Rattle.rl_pylex.specs.Literals.{unit_size, quote_count, close_from}
-use Rattle.rl_pystr.specs.Values.{one, before, value_from}
+use Rattle.rl_pystr.specs.Values.{before, value_from}
 use Rattle.rl_pystr.specs.Quoting.{escaped, is_plain, ends_in_backslash}
 use Rattle.rl_pystr.proofs.HexLaws.{passes}
-use Rattle.rl_pystr.proofs.PieceLaws.{is_ascii, piece_of, top, close_one, raw_unit, unit_back}
+use Rattle.rl_pystr.proofs.PieceLaws.{is_ascii, piece_of, top, close_one, raw_unit, one, unit_back}
 
 pub record IsBody (raw bytes : Bool) (cs body : List ℕ) : Type 0 where
   pub ascii : list_all is_ascii body ≡ true

@@ -11,10 +11,10 @@ use Rattle.rl_pylex.specs.declared.token_list.TokenKind.TheVariants as kind
 use Rattle.rl_pylex.specs.declared.token_list.Token.{Token}
 use Rattle.rl_pylex.specs.Bytes.{has_at, is_quote, ends_line}
 use Rattle.rl_pylex.specs.Literals.{opens_after, prefix_size, quotes_at, quote_count, unit_size, close_from, IsLiteral}
-use Rattle.rl_pylex.specs.Source.{text_of, IsReadAt}
+use Rattle.rl_pylex.specs.Source.{text_of, same_kind, IsReadAt}
 use Rattle.rl_pylex.proofs.Fronts.{quote_at}
 use Rattle.rl_pylex.proofs.LiteralFacts.{Sized-from, IsLiteral-room, IsLiteral-token, suc_of}
-use Rattle.rl_pystr.specs.Runs.{letter_count, quotes_of, body_start, body_of, is_literal, is_literal_kind}
+use Rattle.rl_pystr.specs.Runs.{letter_count, quotes_of, body_start, body_of, is_literal}
 
 pub prefix-is : (text : List ℕ) (l : IsLiteral text) → letter_count text ≡ l.prefix
 prefix-is text l = ap (λ (o : Option ℕ). unwrap_or o 0) l.starts
@@ -187,7 +187,7 @@ body_utf8 s t utf8 read l =
     let within = read.within in
     utf8_in s t.from (t.upto - t.from) utf8 (omega arith) (omega (arith, length-take (t.upto - t.from) (drop t.from s), length-drop t.from s)) l
 
-literal_kind : (k : TokenKind) → is_literal_kind k ≡ true → k ≡ kind.Literal
+literal_kind : (k : TokenKind) → same_kind kind.Literal k ≡ true → k ≡ kind.Literal
 literal_kind kind.Literal h = refl
 literal_kind kind.Name h = absurd (false≢true h)
 literal_kind kind.Number h = absurd (false≢true h)

@@ -8,7 +8,7 @@ use Rattle.rl_pylex.specs.declared.token_list.Token.{Token}
 use Rattle.rl_pylex.specs.Literals.{IsLiteral}
 use Rattle.rl_pylex.specs.Source.{text_of, IsReadAt, IsTokenList}
 use Rattle.rl_pylex.proofs.TokenFacts.{IsInOrder-tokens}
-use Rattle.rl_pystr.specs.Runs.{is_literal, ends_literal, quotes_of, IsLast}
+use Rattle.rl_pystr.specs.Runs.{is_literal, ends_literal, quotes_of}
 use Rattle.rl_pystr.proofs.Bounds.{quotes_room, literal_token}
 
 get_or-drop-take : (n m : ℕ) (ts : List Token) (k : ℕ) (d : Token) → k < length (take n (drop m ts)) → (m + k < length ts) × (get_or (take n (drop m ts)) k d ≡ get_or ts (m + k) d)
@@ -47,7 +47,7 @@ get_read (x ∷ xs) zero t h = (omega arith, one_token x t h)
 get_read (x ∷ xs) (suc i) t h =
     let later = get_read xs i t h in (omega (arith, later.0), later.1)
 
-pub last_read : (s : List ℕ) (run : List Token) (t : Token) → All (IsReadAt s) run → IsLast run t → is_literal t ≡ true → IsLiteral (text_of s t)
+pub last_read : (s : List ℕ) (run : List Token) (t : Token) → All (IsReadAt s) run → slice_get run (length run - 1) ≡ Some t → is_literal t ≡ true → IsLiteral (text_of s t)
 last_read s run t read last literal =
     let place = get_read run (length run - 1) t last in
     literal_token s t (subst (IsReadAt s) place.1 (read (length run - 1) t place.0)) literal

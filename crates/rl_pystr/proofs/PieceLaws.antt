@@ -11,8 +11,9 @@ use Rattle.rl_pylex.specs.Literals.{unit_size, quotes_at, close_from}
 use Rattle.rl_pystr.specs.declared.escapes.Gives.{Gives}
 use Rattle.rl_pystr.specs.declared.escapes.Gives.TheVariants.{One, Refuses}
 use Rattle.rl_pystr.specs.declared.escapes.Cause.TheVariants as cause
+use Rattle.rl_pystr.specs.declared.placed.Placed.{Placed}
 use Rattle.rl_pystr.specs.Escapes.{named_code, text_escape, escape, unit, size_of}
-use Rattle.rl_pystr.specs.Values.{one, before, given, value_from}
+use Rattle.rl_pystr.specs.Values.{before, given, value_from}
 use Rattle.rl_pystr.specs.Quoting.{hex, short_escape, hex_escape, is_printed, escaped}
 use Rattle.rl_pystr.proofs.HexLaws.{passes, length-hex, all_passing, hexadecimal_back}
 
@@ -250,6 +251,10 @@ skips raw bytes place (x ∷ xs) rest h =
     ap (λ n. value_from raw bytes (place + n) (length xs) (xs ++ rest)) (len_utf8_ascii x (ascii_small x (left-of (is_ascii x) (list_all is_ascii xs) h)))
     ∙ skips raw bytes (place + 1) xs rest (right-of (is_ascii x) (list_all is_ascii xs) h)
     ∙ ap (λ k. value_from raw bytes k 0 rest) (omega arith)
+
+-- one code at a place
+abbrev pub one : ℕ → ℕ → Placed
+one code place = record { codes = code ∷ []; places = place ∷ [] }
 
 -- a unit that gives one code is that code in front of the rest
 pub unit_back : (raw bytes : Bool) (place c x : ℕ) (xs rest : List ℕ) → is_ascii x ≡ true → list_all is_ascii xs ≡ true → unit raw bytes (x ∷ (xs ++ rest)) ≡ One c (1 + length xs)

@@ -1,6 +1,7 @@
 -- What stands at the front of a literal's body: one code, a line end, or an escape. A text is a list of codes.
 use Rattle.std.specs.Prelude.{ℕ, ◌+◌, ◌*◌, ◌==◌, Bool, not, ◌&&◌, ◌||◌, nat_lt, min, List, [], ◌∷◌, length, take, Option, Some, None, if◌then◌else◌}
 use Rattle.std.specs.List.{prefix_len, list_all, fold}
+use Rattle.std.specs.Map.{lookup}
 use Rattle.std.specs.Char.{digit_value}
 use Rattle.rl_pylex.specs.Bytes.{begins, is_in, line_end}
 use Rattle.rl_pystr.specs.declared.escapes.Cause.TheVariants as cause
@@ -38,13 +39,8 @@ hexadecimal count text =
 -- \a, \b, \f, \n, \r, \t and \v
 unfoldable pub named_code : ℕ → Option ℕ
 named_code c =
-    if c == 97 then Some 7
-    else (if c == 98 then Some 8
-    else (if c == 102 then Some 12
-    else (if c == 110 then Some 10
-    else (if c == 114 then Some 13
-    else (if c == 116 then Some 9
-    else (if c == 118 then Some 11 else None))))))
+    lookup (λ letter. c == letter)
+    ((97, 7) ∷ (98, 8) ∷ (102, 12) ∷ (110, 10) ∷ (114, 13) ∷ (116, 9) ∷ (118, 11) ∷ [])
 
 -- any other code behind a backslash, in bytes
 unfoldable pub byte_escape : ℕ → Gives

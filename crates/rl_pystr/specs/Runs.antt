@@ -1,5 +1,5 @@
 -- The value of a run of tokens, literals and comments: the values of its literals one behind the other.
-use Rattle.std.specs.Prelude.{◌≡◌, IsTrue, ℕ, ◌+◌, ◌-◌, Bool, true, false, not, ◌&&◌, ◌||◌, ◌==◌, List, [], ◌∷◌, length, take, drop, slice_get, Some, unwrap_or, Result, Ok, Err, if◌then◌else◌}
+use Rattle.std.specs.Prelude.{◌≡◌, IsTrue, ℕ, ◌+◌, ◌-◌, Bool, false, not, ◌&&◌, ◌||◌, ◌==◌, List, [], ◌∷◌, length, take, drop, slice_get, Some, option_map, unwrap_or, Result, Ok, Err, if◌then◌else◌}
 use Rattle.std.specs.List.{list_any, list_all}
 use Rattle.std.specs.Option.{option_map_or}
 use Rattle.std.specs.Char.{to_ascii_lowercase}
@@ -10,23 +10,15 @@ use Rattle.rl_pylex.specs.declared.token_list.TokenKind.{TokenKind}
 use Rattle.rl_pylex.specs.declared.token_list.TokenKind.TheVariants as kind
 use Rattle.rl_pylex.specs.declared.token_list.Token.{Token}
 use Rattle.rl_pylex.specs.Literals.{prefix_size, quote_count}
-use Rattle.rl_pylex.specs.Source.{text_of}
+use Rattle.rl_pylex.specs.Source.{text_of, same_kind}
 use Rattle.rl_pystr.specs.declared.fault.StrError.{StrError}
 use Rattle.rl_pystr.specs.declared.fault.StrError.TheVariants as error
 use Rattle.rl_pystr.specs.declared.placed.Placed.{Placed}
 use Rattle.rl_pystr.specs.declared.literal.Literal.{Literal}
 use Rattle.rl_pystr.specs.Values.{empty, before, value_from}
 
-abbrev pub is_literal_kind : TokenKind → Bool
-is_literal_kind kind.Literal = true
-is_literal_kind _ = false
-
-abbrev pub is_comment_kind : TokenKind → Bool
-is_comment_kind kind.Comment = true
-is_comment_kind _ = false
-
 abbrev pub is_literal : Token → Bool
-is_literal token = is_literal_kind token.kind
+is_literal token = same_kind kind.Literal token.kind
 
 -- how many letters a literal's prefix has
 abbrev pub letter_count : List ℕ → ℕ
@@ -88,27 +80,20 @@ universe_by bytes = if bytes then universe.Bytes else universe.Str
 unfoldable pub close_of : List ℕ → Token → ℕ
 close_of source token = token.upto - quotes_of (text_of source token)
 
--- the last token of a run is this one
-abbrev pub IsLast : List Token → Token → Type 0
-IsLast run token = slice_get run (length run - 1) ≡ Some token
-
--- the place is where the closing quotes of the run's last literal begin
-pub record HasEnd (source : List ℕ) (run : List Token) (end : ℕ) : Type 0 where
-  pub last : Token
-  pub is_last : IsLast run last
-  pub closes : end ≡ close_of source last
-
 -- The literal is the value of the run: its codes and their places, its universe, and where the last literal's closing quotes begin.
 pub record IsValue (source : List ℕ) (run : List Token) (literal : Literal) : Type 0 where
   pub value : value_of_run source run ≡ Ok (record { codes = literal.codes; places = literal.places })
   pub universe : literal.universe ≡ universe_by (has_bytes source run)
-  pub end : HasEnd source run literal.end
+  pub end : option_map (close_of source) (slice_get run (length run - 1)) ≡ Some literal.end
 
 abbrev pub begins_literal : List Token → Bool
 begins_literal run = option_map_or is_literal (slice_get run 0) false
 
 abbrev pub ends_literal : List Token → Bool
 ends_literal run = option_map_or is_literal (slice_get run (length run - 1)) false
+
+abbrev pub is_comment_kind : TokenKind → Bool
+is_comment_kind k = same_kind kind.Comment k
 
 -- a run of literals and comments that begins and ends with a literal
 pub record IsLiteralRun (run : List Token) : Type 0 where

@@ -13,20 +13,13 @@ use Rattle.rl_pystr.specs.Escapes.{unit, size_of}
 abbrev pub empty : Placed
 empty = record { codes = []; places = [] }
 
--- one code at a place
-abbrev pub one : ℕ → ℕ → Placed
-one code place = record { codes = code ∷ []; places = place ∷ [] }
-
 abbrev pub joined : Placed → Placed → Placed
 joined a b = record { codes = a.codes ++ b.codes; places = a.places ++ b.places }
 
-abbrev pub in_front : Placed → Result Placed StrError → Result Placed StrError
-in_front a (Ok b) = Ok (joined a b)
-in_front a (Err e) = Err e
-
 -- the one value in front of the other; the first refusal counts
 abbrev pub before : Result Placed StrError → Result Placed StrError → Result Placed StrError
-before (Ok a) r = in_front a r
+before (Ok a) (Ok b) = Ok (joined a b)
+before (Ok a) (Err e) = Err e
 before (Err e) r = Err e
 
 abbrev pub refusal : Cause → ℕ → StrError
@@ -37,7 +30,7 @@ refusal cause.NotAscii place = error.NotAscii place
 -- what is given at a place: the codes of an escape all have the place of its backslash
 abbrev pub given : Gives → ℕ → Result Placed StrError
 given (Nothing size) place = Ok empty
-given (One code size) place = Ok (one code place)
+given (One code size) place = Ok (record { codes = code ∷ []; places = place ∷ [] })
 given (Both code) place = Ok (record { codes = 92 ∷ code ∷ []; places = place ∷ place ∷ [] })
 given (Refuses cause offset) place = Err (refusal cause (place + offset))
 
@@ -51,9 +44,5 @@ value_from raw bytes place zero (c ∷ text) =
 
 -- The error is this value's refusal, or it is out of memory.
 abbrev pub IsRefused : Result Placed StrError → StrError → Type 0
-IsRefused r error.FString = r ≡ Err error.FString
-IsRefused r error.Mixed = r ≡ Err error.Mixed
-IsRefused r (error.BadEscape p) = r ≡ Err (error.BadEscape p)
-IsRefused r (error.NamedEscape p) = r ≡ Err (error.NamedEscape p)
-IsRefused r (error.NotAscii p) = r ≡ Err (error.NotAscii p)
 IsRefused r error.OutOfMemory = ⊤
+IsRefused r e = r ≡ Err e

@@ -1,8 +1,9 @@
 // Why a run of literals has no value.
 ghost use Rattle.std.specs.Prelude.{◌≡◌};
+ghost use Rattle.rl_pystr.specs.declared.fault.StrError.TheVariants as error;
 
 use rl_lists::OutOfMemory;
-use std::alloc::{AllocError, AllocFailed};
+use std::alloc::AllocError;
 
 /// Why a run of literals has no value. The places are byte places in the source.
 #[derive(Clone, Copy, Debug, PartialEq, Eq)]
@@ -22,8 +23,6 @@ pub enum StrError {
 }
 
 impl From<OutOfMemory> for StrError {
-    ghost use Rattle.rl_pystr.specs.declared.fault.StrError.TheVariants as error;
-
     ghost from_gives = { λ _ e. e ≡ error.OutOfMemory };
 
     fn from(_: OutOfMemory) -> Self {
@@ -32,21 +31,9 @@ impl From<OutOfMemory> for StrError {
 }
 
 impl From<AllocError> for StrError {
-    ghost use Rattle.rl_pystr.specs.declared.fault.StrError.TheVariants as error;
-
     ghost from_gives = { λ _ e. e ≡ error.OutOfMemory };
 
     fn from(_: AllocError) -> Self {
-        StrError::OutOfMemory
-    }
-}
-
-impl<T: Drop> From<AllocFailed<T>> for StrError {
-    ghost use Rattle.rl_pystr.specs.declared.fault.StrError.TheVariants as error;
-
-    ghost from_gives = { λ _ e. e ≡ error.OutOfMemory };
-
-    fn from(_: AllocFailed<T>) -> Self {
         StrError::OutOfMemory
     }
 }

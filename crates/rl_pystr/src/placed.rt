@@ -1,6 +1,6 @@
 // Codes with their places.
-ghost use Rattle.std.specs.Prelude.{◌≡◌, OnOk, IfErr, Result, Ok, IsOkUnless};
-ghost use Rattle.rl_pystr.specs.Values.{empty, one, joined};
+ghost use Rattle.std.specs.Prelude.{◌≡◌, [], ◌∷◌, OnOk, IfErr, Result, Ok, IsOkUnless};
+ghost use Rattle.rl_pystr.specs.Values.{empty, joined};
 
 use crate::StrError;
 use rl_lists::{Codes, Places};
@@ -25,7 +25,7 @@ pub fn no_codes(alloc: Global) -> Placed
 
 /// Appends a code and its place.
 pub fn push_code(out: &mut Placed, code: u32, place: u32) -> Result<(), StrError>
-    ensures pushed { OnOk result (out.new ≡ joined out.old (one code place)) }
+    ensures pushed { OnOk result (out.new ≡ joined out.old (record { codes = code ∷ []; places = place ∷ [] })) }
     ensures memory { IsOkUnless result StrError.OutOfMemory }
 {
     out.codes.push(code)?;

@@ -1,10 +1,10 @@
 // The value of a run of literals.
-ghost use Rattle.std.specs.Prelude.{◌≡◌, ℕ, ◌+◌, ◌<◌, ◌≤◌, ◌-◌, ◌∷◌, List, All, take, drop, length, not, IfOk, IfErr, OnOk, Ok, IsUtf8, IsTrue, true};
+ghost use Rattle.std.specs.Prelude.{◌≡◌, ℕ, ◌+◌, ◌<◌, ◌≤◌, ◌-◌, ◌∷◌, List, All, take, drop, length, slice_get, option_map, Some, not, IfOk, IfErr, OnOk, Ok, IsUtf8, IsTrue, true};
 ghost use Rattle.std.specs.List.{list_any};
 ghost use Rattle.rl_pylex.specs.Literals.{IsLiteral};
 ghost use Rattle.rl_pylex.specs.Source.{text_of, IsReadAt, IsTokenList};
 ghost use Rattle.rl_pystr.specs.Values.{empty, before, IsRefused};
-ghost use Rattle.rl_pystr.specs.Runs.{is_literal, letter_count, has_letter, quotes_of, body_start, body_of, literal_value, is_lettered, is_unlettered, token_value, values, has_bytes, value_of_run, universe_by, close_of, IsLast, HasEnd, IsValue, ends_literal, IsLiteralRun};
+ghost use Rattle.rl_pystr.specs.Runs.{is_literal, letter_count, has_letter, quotes_of, body_start, body_of, literal_value, is_lettered, is_unlettered, token_value, values, has_bytes, value_of_run, universe_by, close_of, IsValue, ends_literal, IsLiteralRun};
 
 use crate::body::{decoded, push_body};
 use crate::placed::{Placed, no_codes};
@@ -223,7 +223,7 @@ fn value_of_run(alloc: Global, source: &[u8], run: &[Token]) -> Result<Placed, S
 #[tactic(auto, using(crate::proofs::Ends::ends))]
 fn last_literal(run: &[Token]) -> Token
     requires { IsTrue (ends_literal run.now) }
-    ensures last { IsLast run.now result }
+    ensures last { slice_get run.now (length run.now - 1) ≡ Some result }
     ensures literal { is_literal result ≡ true }
 {
     match run.last() {
@@ -246,7 +246,7 @@ fn close_of(source: &[u8], token: Token) -> u32
 fn end_of(source: &[u8], run: &[Token]) -> u32
     requires read { All (IsReadAt source.now) run.now }
     requires ends { IsTrue (ends_literal run.now) }
-    ensures { HasEnd source.now run.now result }
+    ensures { option_map (close_of source.now) (slice_get run.now (length run.now - 1)) ≡ Some result }
 {
     close_of(source, last_literal(run))
 }

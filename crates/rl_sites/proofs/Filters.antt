@@ -2,19 +2,19 @@
 use Rattle.std.proofs.Common.{◌≡◌, ℕ, zero, suc, ◌<◌, ◌≤◌, Bool, true, false, cond, List, [], ◌∷◌, length, refl, arith}
 use Rattle.std.specs.Prelude.{filter, ◌||◌, ◌&&◌, not, codes}
 use Rattle.std.specs.List.{list_any}
-use Rattle.rl_sites.specs.declared.mark.Mark.{Mark}
+use Rattle.rl_sites.specs.declared.significant.SignificantToken.{SignificantToken}
 use Rattle.rl_sites.specs.declared.arguments.Form.TheVariants as form
-use Rattle.rl_sites.specs.Marks.{is_word, is_op, stands}
+use Rattle.rl_sites.specs.Significant.{is_word, is_op, stands}
 use Rattle.rl_sites.specs.Flags.{is_named}
 use Rattle.rl_sites.specs.internal.Walks.{is_filled, has_form}
 
 -- one is among them exactly where a filter leaves one
-pub any-filled : (p : List Mark → Bool) (xs : List (List Mark)) → list_any p xs ≡ is_filled (filter p xs)
+pub any-filled : (p : List SignificantToken → Bool) (xs : List (List SignificantToken)) → list_any p xs ≡ is_filled (filter p xs)
 any-filled p [] = refl
 any-filled p (x ∷ xs) =
     elim (p x) as (λ b. (b || list_any p xs) ≡ is_filled (cond b (x ∷ filter p xs) (filter p xs))) [ true ↦ refl | false ↦ any-filled p xs ]
 
-stands_long : (i : ℕ) (p : Mark → Bool) (ms : List Mark) → stands i p ms ≡ true → i < length ms
+stands_long : (i : ℕ) (p : SignificantToken → Bool) (ms : List SignificantToken) → stands i p ms ≡ true → i < length ms
 stands_long i p [] h = cc
 stands_long zero p (m ∷ ms) h = omega arith
 stands_long (suc i) p (m ∷ ms) h = omega (arith, stands_long i p ms h)
@@ -24,8 +24,8 @@ middle true true c h = refl
 middle true false c h = cc
 middle false b c h = cc
 
--- `flags` and `=` are two marks
-pub flags_long : (s : List ℕ) (a : List Mark) → has_form s form.FlagsNamed a ≡ true → 2 ≤ length a
+-- `flags` and `=` are two tokens
+pub flags_long : (s : List ℕ) (a : List SignificantToken) → has_form s form.FlagsNamed a ≡ true → 2 ≤ length a
 unfolding is_named
 flags_long s a h =
     stands_long 1 (is_op s (codes "=")) a

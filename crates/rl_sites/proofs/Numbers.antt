@@ -1,44 +1,45 @@
--- The numbers of tokens, and of marks.
+-- The numbers of tokens, and of the significant ones.
 use Rattle.std.proofs.Common.{◌≡◌, ℕ, zero, suc, ◌+◌, ◌<◌, ◌≤◌, true, false, cond, List, [], ◌∷◌, take, drop, length, get_or, sym, arith, subst, Some, None}
 use Rattle.std.specs.Prelude.{slice_get}
 use Rattle.rl_pylex.specs.declared.token_list.Token.{Token}
-use Rattle.rl_pylex.specs.Source.{IsTokenList, IsInOrder}
+use Rattle.rl_pylex.specs.declared.token_list.TokenKind.TheVariants as kind
+use Rattle.rl_pylex.specs.Source.{same_kind, IsTokenList, IsInOrder}
 use Rattle.rl_pylex.proofs.TokenFacts.{IsInOrder-tokens}
-use Rattle.rl_sites.specs.declared.mark.Mark.{Mark}
-use Rattle.rl_sites.specs.Marks.{marks_from, is_comment_kind}
+use Rattle.rl_sites.specs.declared.significant.SignificantToken.{SignificantToken}
+use Rattle.rl_sites.specs.Significant.{significant_from}
 use Rattle.rl_sites.specs.internal.Walks.{IsNumbered}
 use Rattle.rl_sites.proofs.Tables.{table_drop}
 
-pub numbered_drop : (k : ℕ) (ms : List Mark) → IsNumbered ms → IsNumbered (drop k ms)
+pub numbered_drop : (k : ℕ) (ms : List SignificantToken) → IsNumbered ms → IsNumbered (drop k ms)
 numbered_drop zero ms h = h
 numbered_drop (suc k) [] h = h
 numbered_drop (suc k) (m ∷ ms) h = numbered_drop k ms h.1
 
-pub numbered_take : (k : ℕ) (ms : List Mark) → IsNumbered ms → IsNumbered (take k ms)
+pub numbered_take : (k : ℕ) (ms : List SignificantToken) → IsNumbered ms → IsNumbered (take k ms)
 numbered_take zero ms h = tt
 numbered_take (suc k) [] h = h
 numbered_take (suc k) (m ∷ ms) h = (h.0, numbered_take k ms h.1)
 
-none_is_no : (m : Mark) → None ≡ Some m → ⊥
+none_is_no : (m : SignificantToken) → None ≡ Some m → ⊥
 none_is_no m e = cc
 
-one_mark : (x m : Mark) → Some x ≡ Some m → x ≡ m
-one_mark x m e = cc
+one_token : (x m : SignificantToken) → Some x ≡ Some m → x ≡ m
+one_token x m e = cc
 
-pub numbered_at : (ms : List Mark) (i : ℕ) (m : Mark) → IsNumbered ms → Some m ≡ slice_get ms i → m.number < 4194304
+pub numbered_at : (ms : List SignificantToken) (i : ℕ) (m : SignificantToken) → IsNumbered ms → Some m ≡ slice_get ms i → m.number < 4194304
 numbered_at [] i m h e = absurd (none_is_no m (sym e))
-numbered_at (x ∷ ms) zero m h e = subst (λ (y : Mark). y.number < 4194304) (sym (one_mark m x e)) h.0
+numbered_at (x ∷ ms) zero m h e = subst (λ (y : SignificantToken). y.number < 4194304) (sym (one_token m x e)) h.0
 numbered_at (x ∷ ms) (suc i) m h e = numbered_at ms i m h.1 e
 
 pub ruleset numbers = (numbered_drop, numbered_take, numbered_at, table_drop)
 
--- the marks of so many tokens
-pub marks-numbered : (n : ℕ) (ts : List Token) → n + length ts ≤ 4194304 → IsNumbered (marks_from n ts)
-marks-numbered n [] h = tt
-marks-numbered n (t ∷ ts) h =
-    elim (is_comment_kind t.kind) as (λ b. IsNumbered (cond b (marks_from (n + 1) ts) (record { number = n; token = t } ∷ marks_from (n + 1) ts))) [
-      | true ↦ marks-numbered (n + 1) ts (omega arith)
-      | false ↦ (omega arith, marks-numbered (n + 1) ts (omega arith))
+-- the significant ones of so many tokens
+pub significant-numbered : (n : ℕ) (ts : List Token) → n + length ts ≤ 4194304 → IsNumbered (significant_from n ts)
+significant-numbered n [] h = tt
+significant-numbered n (t ∷ ts) h =
+    elim (same_kind kind.Comment t.kind) as (λ b. IsNumbered (cond b (significant_from (n + 1) ts) (record { number = n; inner = t } ∷ significant_from (n + 1) ts))) [
+      | true ↦ significant-numbered (n + 1) ts (omega arith)
+      | false ↦ (omega arith, significant-numbered (n + 1) ts (omega arith))
     ]
 
 -- a token begins no earlier than its number
@@ -56,8 +57,8 @@ count_within s (t ∷ ts) h =
 pub few_tokens : (s : List ℕ) (ts : List Token) → IsTokenList s ts → length ts ≤ 4194304
 few_tokens s ts h = omega (arith, count_within s ts (IsInOrder-tokens s ts h), h.readable.short)
 
-marked : (n : ℕ) (ts : List Token) (ms : List Mark) → n + length ts ≤ 4194304 → ms ≡ marks_from n ts → IsNumbered ms
-marked n ts ms h e = subst IsNumbered (sym e) (marks-numbered n ts h)
+marked : (n : ℕ) (ts : List Token) (ms : List SignificantToken) → n + length ts ≤ 4194304 → ms ≡ significant_from n ts → IsNumbered ms
+marked n ts ms h e = subst IsNumbered (sym e) (significant-numbered n ts h)
 
-pub numbered_all : (ts : List Token) (ms : List Mark) → length ts ≤ 4194304 → ms ≡ marks_from 0 ts → IsNumbered ms
+pub numbered_all : (ts : List Token) (ms : List SignificantToken) → length ts ≤ 4194304 → ms ≡ significant_from 0 ts → IsNumbered ms
 numbered_all ts ms h e = marked 0 ts ms (omega arith) e

@@ -9,44 +9,47 @@ use Rattle.std.proofs.lemmas.List.Elements.{All-nil, All-cons, All-append}
 use Rattle.std.proofs.lemmas.Option.{slice_get_within}
 use Rattle.rl_pylex.specs.declared.token_list.Token.{Token}
 use Rattle.rl_pystr.specs.Runs.{is_literal as is_literal_token, IsLiteralRun}
+use Rattle.rl_pylex.specs.declared.token_list.TokenKind.TheVariants as kind
+use Rattle.rl_pylex.specs.Source.{same_kind}
 use Rattle.rl_sites.specs.declared.call.Call.{Call}
 use Rattle.rl_sites.specs.declared.heads.Head.{Head}
 use Rattle.rl_sites.specs.declared.imports.Alias.{Alias}
-use Rattle.rl_sites.specs.declared.mark.Mark.{Mark}
+use Rattle.rl_sites.specs.declared.significant.SignificantToken.{SignificantToken}
 use Rattle.rl_sites.specs.declared.site.Site.{Site}
 use Rattle.rl_sites.specs.declared.site.SiteFlags.{SiteFlags}
-use Rattle.rl_sites.specs.Marks.{marks_from, is_literal, is_comment_kind}
-use Rattle.rl_sites.specs.Sites.{pattern_size, site_of_run, ends_whole, flags_if, site_behind, site_by, site_here, head_of, hides, sites_from}
+use Rattle.rl_sites.specs.Significant.{significant_from, is_literal}
+use Rattle.rl_sites.specs.Sites.{pattern_size, site_of_run, ends_whole, site_behind, site_here, head_of, hides, sites_from}
+use Rattle.rl_sites.specs.internal.Parts.{site_by, flags_if}
 use Rattle.rl_sites.specs.Runs.{HasRun}
 
 -- a literal or a comment
 abbrev is_of_run : Token → Bool
-is_of_run token = is_literal_token token || is_comment_kind token.kind
+is_of_run token = is_literal_token token || same_kind kind.Comment token.kind
 
-abbrev mark : ℕ → Token → Mark
-mark number token = record { number = number; token = token }
+abbrev numbered : ℕ → Token → SignificantToken
+numbered number token = record { number = number; inner = token }
 
 and_true : (b c : Bool) → b ≡ true → c ≡ true → (b && c) ≡ true
 and_true true c eb ec = ec
 and_true false c eb ec = eb
 
--- the mark with this number behind the first stands on a token, up to which there are only literals and comments
+-- the significant token with this number behind the first stands on a token, up to which there are only literals and comments
 record Spans (n : ℕ) (tokens : List Token) (k : ℕ) : Type 0 where
   gap : ℕ
-  last : Mark
-  at : slice_get (marks_from n tokens) k ≡ Some last
+  last : SignificantToken
+  at : slice_get (significant_from n tokens) k ≡ Some last
   number : last.number ≡ n + gap
-  there : slice_get tokens gap ≡ Some last.token
+  there : slice_get tokens gap ≡ Some last.inner
   parts : list_all is_of_run (take (suc gap) tokens) ≡ true
-  literal : is_literal_token last.token ≡ true
+  literal : is_literal_token last.inner ≡ true
 
--- so many marks in front are literals
-abbrev pub Literals : ℕ → List Mark → Type 0
+-- so many tokens in front are literals
+abbrev pub Literals : ℕ → List SignificantToken → Type 0
 Literals zero ms = Unit {0}
 Literals (suc k) [] = ⊥
 Literals (suc k) (m ∷ ms) = (is_literal m ≡ true) × Literals k ms
 
-pub literals_front : (ms : List Mark) → Literals (prefix_len is_literal ms) ms
+pub literals_front : (ms : List SignificantToken) → Literals (prefix_len is_literal ms) ms
 literals_front [] = tt
 literals_front (m ∷ ms) = by-test (is_literal m) (literals_front ms) refl
   where
@@ -57,8 +60,8 @@ literals_front (m ∷ ms) = by-test (is_literal m) (literals_front ms) refl
     by-test true front e = subst (λ j. Literals j (m ∷ ms)) (sym (next (prefix_len is_literal ms))) (e, front)
     by-test false front e = tt
 
-later : (n k : ℕ) (t : Token) (ts : List Token) (k' : ℕ) (ms : List Mark) → is_of_run t ≡ true
-    → ((m : Mark) → slice_get (marks_from (n + 1) ts) k ≡ Some m → slice_get ms k' ≡ Some m) → ms ≡ marks_from n (t ∷ ts)
+later : (n k : ℕ) (t : Token) (ts : List Token) (k' : ℕ) (ms : List SignificantToken) → is_of_run t ≡ true
+    → ((m : SignificantToken) → slice_get (significant_from (n + 1) ts) k ≡ Some m → slice_get ms k' ≡ Some m) → ms ≡ significant_from n (t ∷ ts)
     → Spans (n + 1) ts k → Spans n (t ∷ ts) k'
 later n k t ts k' ms part moved same s = record {
   gap = suc s.gap;
@@ -70,53 +73,53 @@ later n k t ts k' ms part moved same s = record {
   literal = s.literal;
 }
 
-spans : (n : ℕ) (tokens : List Token) (k : ℕ) → Literals (suc k) (marks_from n tokens) → Spans n tokens k
+spans : (n : ℕ) (tokens : List Token) (k : ℕ) → Literals (suc k) (significant_from n tokens) → Spans n tokens k
 spans n [] k h = absurd h
-spans n (t ∷ ts) k h = by-test (is_comment_kind t.kind) (λ j g. spans (n + 1) ts j g) refl h
+spans n (t ∷ ts) k h = by-test (same_kind kind.Comment t.kind) (λ j g. spans (n + 1) ts j g) refl h
   where
-    same : (b : Bool) → is_comment_kind t.kind ≡ b → cond b (marks_from (n + 1) ts) (mark n t ∷ marks_from (n + 1) ts) ≡ marks_from n (t ∷ ts)
-    same b e = ap (λ c. cond c (marks_from (n + 1) ts) (mark n t ∷ marks_from (n + 1) ts)) (sym e)
+    same : (b : Bool) → same_kind kind.Comment t.kind ≡ b → cond b (significant_from (n + 1) ts) (numbered n t ∷ significant_from (n + 1) ts) ≡ significant_from n (t ∷ ts)
+    same b e = ap (λ c. cond c (significant_from (n + 1) ts) (numbered n t ∷ significant_from (n + 1) ts)) (sym e)
 
-    first : (j : ℕ) → j ≡ 0 → is_comment_kind t.kind ≡ false → is_literal (mark n t) ≡ true → Spans n (t ∷ ts) j
+    first : (j : ℕ) → j ≡ 0 → same_kind kind.Comment t.kind ≡ false → is_literal (numbered n t) ≡ true → Spans n (t ∷ ts) j
     first j z e l = record {
       gap = 0;
-      last = mark n t;
-      at = ap (λ xs. slice_get xs j) (sym (same false e)) ∙ ap (slice_get (mark n t ∷ marks_from (n + 1) ts)) z;
+      last = numbered n t;
+      at = ap (λ xs. slice_get xs j) (sym (same false e)) ∙ ap (slice_get (numbered n t ∷ significant_from (n + 1) ts)) z;
       number = omega arith;
       there = refl;
-      parts = and_true (is_of_run t) true (or_left (is_literal_token t) (is_comment_kind t.kind) l) refl;
+      parts = and_true (is_of_run t) true (or_left (is_literal_token t) (same_kind kind.Comment t.kind) l) refl;
       literal = l;
     }
 
-    more : (j : ℕ) → ((i : ℕ) → Literals (suc i) (marks_from (n + 1) ts) → Spans (n + 1) ts i)
-        → is_comment_kind t.kind ≡ false → is_literal (mark n t) ≡ true → Literals j (marks_from (n + 1) ts) → Spans n (t ∷ ts) j
+    more : (j : ℕ) → ((i : ℕ) → Literals (suc i) (significant_from (n + 1) ts) → Spans (n + 1) ts i)
+        → same_kind kind.Comment t.kind ≡ false → is_literal (numbered n t) ≡ true → Literals j (significant_from (n + 1) ts) → Spans n (t ∷ ts) j
     more zero rest e l g = first zero refl e l
     more (suc j) rest e l g =
-        later n j t ts (suc j) (mark n t ∷ marks_from (n + 1) ts)
-        (or_left (is_literal_token t) (is_comment_kind t.kind) l) (λ m f. f) (same false e) (rest j g)
+        later n j t ts (suc j) (numbered n t ∷ significant_from (n + 1) ts)
+        (or_left (is_literal_token t) (same_kind kind.Comment t.kind) l) (λ m f. f) (same false e) (rest j g)
 
-    by-test : (b : Bool) → ((i : ℕ) → Literals (suc i) (marks_from (n + 1) ts) → Spans (n + 1) ts i) → is_comment_kind t.kind ≡ b → Literals (suc k) (cond b (marks_from (n + 1) ts) (mark n t ∷ marks_from (n + 1) ts)) → Spans n (t ∷ ts) k
+    by-test : (b : Bool) → ((i : ℕ) → Literals (suc i) (significant_from (n + 1) ts) → Spans (n + 1) ts i) → same_kind kind.Comment t.kind ≡ b → Literals (suc k) (cond b (significant_from (n + 1) ts) (numbered n t ∷ significant_from (n + 1) ts)) → Spans n (t ∷ ts) k
     by-test true rest e g =
-        later n k t ts k (marks_from (n + 1) ts) (or_right (is_literal_token t) (is_comment_kind t.kind) e) (λ m f. f) (same true e) (rest k g)
+        later n k t ts k (significant_from (n + 1) ts) (or_right (is_literal_token t) (same_kind kind.Comment t.kind) e) (λ m f. f) (same true e) (rest k g)
     by-test false rest e g = more k rest e g.0 g.1
 
--- what is left of the marks of tokens are the marks of what is left of the tokens
-record LeftOf (n : ℕ) (tokens : List Token) (ms : List Mark) : Type 0 where
+-- what is left of the significant tokens are the significant ones of what is left of the tokens
+record LeftOf (n : ℕ) (tokens : List Token) (ms : List SignificantToken) : Type 0 where
   gap : ℕ
-  same : ms ≡ marks_from (n + gap) (drop gap tokens)
+  same : ms ≡ significant_from (n + gap) (drop gap tokens)
 
-left : (s n : ℕ) (tokens : List Token) → LeftOf n tokens (drop s (marks_from n tokens))
-left zero n tokens = record { gap = 0; same = ap (λ k. marks_from k tokens) (omega arith) }
+left : (s n : ℕ) (tokens : List Token) → LeftOf n tokens (drop s (significant_from n tokens))
+left zero n tokens = record { gap = 0; same = ap (λ k. significant_from k tokens) (omega arith) }
 left (suc s) n [] = record { gap = 0; same = refl }
-left (suc s) n (t ∷ ts) = by-test (is_comment_kind t.kind) (left (suc s) (n + 1) ts) (left s (n + 1) ts)
+left (suc s) n (t ∷ ts) = by-test (same_kind kind.Comment t.kind) (left (suc s) (n + 1) ts) (left s (n + 1) ts)
   where
-    further : (ms : List Mark) → LeftOf (n + 1) ts ms → LeftOf n (t ∷ ts) ms
-    further ms l = record { gap = suc l.gap; same = l.same ∙ ap (λ k. marks_from k (drop l.gap ts)) (omega arith) }
+    further : (ms : List SignificantToken) → LeftOf (n + 1) ts ms → LeftOf n (t ∷ ts) ms
+    further ms l = record { gap = suc l.gap; same = l.same ∙ ap (λ k. significant_from k (drop l.gap ts)) (omega arith) }
 
-    by-test : (b : Bool) → LeftOf (n + 1) ts (drop (suc s) (marks_from (n + 1) ts)) → LeftOf (n + 1) ts (drop s (marks_from (n + 1) ts))
-        → LeftOf n (t ∷ ts) (drop (suc s) (cond b (marks_from (n + 1) ts) (mark n t ∷ marks_from (n + 1) ts)))
-    by-test true all others = further (drop (suc s) (marks_from (n + 1) ts)) all
-    by-test false all others = further (drop s (marks_from (n + 1) ts)) others
+    by-test : (b : Bool) → LeftOf (n + 1) ts (drop (suc s) (significant_from (n + 1) ts)) → LeftOf (n + 1) ts (drop s (significant_from (n + 1) ts))
+        → LeftOf n (t ∷ ts) (drop (suc s) (cond b (significant_from (n + 1) ts) (numbered n t ∷ significant_from (n + 1) ts)))
+    by-test true all others = further (drop (suc s) (significant_from (n + 1) ts)) all
+    by-test false all others = further (drop s (significant_from (n + 1) ts)) others
 
 -- the tokens with no comment in front
 record Opens (n : ℕ) (tokens : List Token) : Type 0 where
@@ -124,26 +127,26 @@ record Opens (n : ℕ) (tokens : List Token) : Type 0 where
   first : Token
   rest : List Token
   are : drop gap tokens ≡ first ∷ rest
-  kind_is : is_comment_kind first.kind ≡ false
-  marks : marks_from n tokens ≡ mark (n + gap) first ∷ marks_from (n + gap + 1) rest
+  kind_is : same_kind kind.Comment first.kind ≡ false
+  significant : significant_from n tokens ≡ numbered (n + gap) first ∷ significant_from (n + gap + 1) rest
 
-opens : (n : ℕ) (tokens : List Token) → (marks_from n tokens ≡ []) ⊎ Opens n tokens
+opens : (n : ℕ) (tokens : List Token) → (significant_from n tokens ≡ []) ⊎ Opens n tokens
 opens n [] = inl refl
-opens n (t ∷ ts) = by-test (is_comment_kind t.kind) (opens (n + 1) ts) refl
+opens n (t ∷ ts) = by-test (same_kind kind.Comment t.kind) (opens (n + 1) ts) refl
   where
-    further : is_comment_kind t.kind ≡ true → (marks_from (n + 1) ts ≡ []) ⊎ Opens (n + 1) ts → (marks_from n (t ∷ ts) ≡ []) ⊎ Opens n (t ∷ ts)
-    further e (inl h) = inl (ap (λ c. cond c (marks_from (n + 1) ts) (mark n t ∷ marks_from (n + 1) ts)) e ∙ h)
+    further : same_kind kind.Comment t.kind ≡ true → (significant_from (n + 1) ts ≡ []) ⊎ Opens (n + 1) ts → (significant_from n (t ∷ ts) ≡ []) ⊎ Opens n (t ∷ ts)
+    further e (inl h) = inl (ap (λ c. cond c (significant_from (n + 1) ts) (numbered n t ∷ significant_from (n + 1) ts)) e ∙ h)
     further e (inr o) = inr (record {
       gap = suc o.gap;
       first = o.first;
       rest = o.rest;
       are = o.are;
       kind_is = o.kind_is;
-      marks = ap (λ c. cond c (marks_from (n + 1) ts) (mark n t ∷ marks_from (n + 1) ts)) e ∙ o.marks
-          ∙ ap (λ k. mark k o.first ∷ marks_from (k + 1) o.rest) (omega arith);
+      significant = ap (λ c. cond c (significant_from (n + 1) ts) (numbered n t ∷ significant_from (n + 1) ts)) e ∙ o.significant
+          ∙ ap (λ k. numbered k o.first ∷ significant_from (k + 1) o.rest) (omega arith);
     })
 
-    by-test : (b : Bool) → (marks_from (n + 1) ts ≡ []) ⊎ Opens (n + 1) ts → is_comment_kind t.kind ≡ b → (marks_from n (t ∷ ts) ≡ []) ⊎ Opens n (t ∷ ts)
+    by-test : (b : Bool) → (significant_from (n + 1) ts ≡ []) ⊎ Opens (n + 1) ts → same_kind kind.Comment t.kind ≡ b → (significant_from n (t ∷ ts) ≡ []) ⊎ Opens n (t ∷ ts)
     by-test true others e = further e others
     by-test false others e = inr (record {
       gap = 0;
@@ -151,8 +154,8 @@ opens n (t ∷ ts) = by-test (is_comment_kind t.kind) (opens (n + 1) ts) refl
       rest = ts;
       are = refl;
       kind_is = e;
-      marks = ap (λ c. cond c (marks_from (n + 1) ts) (mark n t ∷ marks_from (n + 1) ts)) e
-          ∙ ap (λ k. mark k t ∷ marks_from (k + 1) ts) (omega arith);
+      significant = ap (λ c. cond c (significant_from (n + 1) ts) (numbered n t ∷ significant_from (n + 1) ts)) e
+          ∙ ap (λ k. numbered k t ∷ significant_from (k + 1) ts) (omega arith);
     })
 
 -- the site, if there is one, has its run
@@ -192,51 +195,51 @@ run_there all place gap count first last e f fl l ll parts =
     )
 
 -- the site of the literals in front
-abbrev site_in_front : Call → Bool → SiteFlags → ℕ → List Mark → Option Site
+abbrev site_in_front : Call → Bool → SiteFlags → ℕ → List SignificantToken → Option Site
 site_in_front call whole flags size ms =
     site_of_run call whole flags (slice_get (take size ms) 0) (slice_get (take size ms) (length (take size ms) - 1))
 
-nothing_in_front : (all : List Token) (call : Call) (whole : Bool) (flags : SiteFlags) (ms : List Mark) → HasItsRun all (site_in_front call whole flags 0 ms)
+nothing_in_front : (all : List Token) (call : Call) (whole : Bool) (flags : SiteFlags) (ms : List SignificantToken) → HasItsRun all (site_in_front call whole flags 0 ms)
 nothing_in_front all call whole flags ms = tt
 
 some_in_front : (all : List Token) (call : Call) (whole : Bool) (flags : SiteFlags) (n : ℕ) (first : Token) (rest : List Token)
-    → drop n all ≡ first ∷ rest → is_comment_kind first.kind ≡ false → (ms : List Mark) (k size : ℕ) → size ≡ suc k
-    → mark n first ∷ ms ≡ marks_from n (first ∷ rest) → is_literal (mark n first) ≡ true → Literals k ms → k ≤ length ms
-    → HasItsRun all (site_in_front call whole flags size (mark n first ∷ ms))
+    → drop n all ≡ first ∷ rest → same_kind kind.Comment first.kind ≡ false → (ms : List SignificantToken) (k size : ℕ) → size ≡ suc k
+    → numbered n first ∷ ms ≡ significant_from n (first ∷ rest) → is_literal (numbered n first) ≡ true → Literals k ms → k ≤ length ms
+    → HasItsRun all (site_in_front call whole flags size (numbered n first ∷ ms))
 some_in_front all call whole flags n first rest d c ms k size z e l front within =
     let s = spans n (first ∷ rest) k (subst (Literals (suc k)) e (l, front)) in
-    let long : length (take (suc k) (mark n first ∷ ms)) ≡ suc k = length-take-le (suc k) (mark n first ∷ ms) (omega arith) in
-    let last : slice_get (take (suc k) (mark n first ∷ ms)) (length (take (suc k) (mark n first ∷ ms)) - 1) ≡ Some s.last =
-    ap (slice_get (take (suc k) (mark n first ∷ ms))) (omega (arith, long)) ∙ get_take k (suc k) (mark n first ∷ ms) (omega arith)
+    let long : length (take (suc k) (numbered n first ∷ ms)) ≡ suc k = length-take-le (suc k) (numbered n first ∷ ms) (omega arith) in
+    let last : slice_get (take (suc k) (numbered n first ∷ ms)) (length (take (suc k) (numbered n first ∷ ms)) - 1) ≡ Some s.last =
+    ap (slice_get (take (suc k) (numbered n first ∷ ms))) (omega (arith, long)) ∙ get_take k (suc k) (numbered n first ∷ ms) (omega arith)
     ∙ ap (λ xs. slice_get xs k) e ∙ s.at in
     let there =
-    run_there all n s.gap (s.last.number - n + 1) first s.last.token (omega (arith, s.number)) (ap (λ xs. slice_get xs 0) d)
+    run_there all n s.gap (s.last.number - n + 1) first s.last.inner (omega (arith, s.number)) (ap (λ xs. slice_get xs 0) d)
     l (ap (λ xs. slice_get xs s.gap) d ∙ s.there) s.literal
     (ap (λ xs. list_all is_of_run (take (suc s.gap) xs)) d ∙ s.parts) in
-    subst (λ j. HasItsRun all (site_in_front call whole flags j (mark n first ∷ ms))) (sym z)
-    (subst (λ (o : Option Mark). HasItsRun all (site_of_run call whole flags (Some (mark n first)) o)) (sym last)
+    subst (λ j. HasItsRun all (site_in_front call whole flags j (numbered n first ∷ ms))) (sym z)
+    (subst (λ (o : Option SignificantToken). HasItsRun all (site_of_run call whole flags (Some (numbered n first)) o)) (sym last)
     (record { within = there.0; run = there.1 }))
 
-pub prefix_within : (xs : List Mark) → prefix_len is_literal xs ≤ length xs
+pub prefix_within : (xs : List SignificantToken) → prefix_len is_literal xs ≤ length xs
 prefix_within [] = omega arith
 prefix_within (x ∷ xs) =
     elim (is_literal x) as (λ b. cond b (1 + prefix_len is_literal xs) 0 ≤ length (x ∷ xs)) [ true ↦ omega (arith, prefix_within xs) | false ↦ omega arith ]
 
-run_in_front : (all : List Token) (call : Call) (whole : Bool) (flags : SiteFlags) (n : ℕ) (ms : List Mark) → ms ≡ marks_from n (drop n all)
+run_in_front : (all : List Token) (call : Call) (whole : Bool) (flags : SiteFlags) (n : ℕ) (ms : List SignificantToken) → ms ≡ significant_from n (drop n all)
     → HasItsRun all (site_in_front call whole flags (prefix_len is_literal ms) ms)
 run_in_front all call whole flags n ms e = by-front (opens n (drop n all))
   where
-    by-front : (marks_from n (drop n all) ≡ []) ⊎ Opens n (drop n all) → HasItsRun all (site_in_front call whole flags (prefix_len is_literal ms) ms)
+    by-front : (significant_from n (drop n all) ≡ []) ⊎ Opens n (drop n all) → HasItsRun all (site_in_front call whole flags (prefix_len is_literal ms) ms)
     by-front (inl none) =
         subst (λ xs. HasItsRun all (site_in_front call whole flags (prefix_len is_literal xs) xs)) (sym (e ∙ none)) tt
     by-front (inr o) =
-        subst (λ xs. HasItsRun all (site_in_front call whole flags (prefix_len is_literal xs) xs)) (sym (e ∙ o.marks)) (by-test (is_literal m) refl)
+        subst (λ xs. HasItsRun all (site_in_front call whole flags (prefix_len is_literal xs) xs)) (sym (e ∙ o.significant)) (by-test (is_literal m) refl)
       where
-        m : Mark
-        m = mark (n + o.gap) o.first
+        m : SignificantToken
+        m = numbered (n + o.gap) o.first
 
-        others : List Mark
-        others = marks_from (n + o.gap + 1) o.rest
+        others : List SignificantToken
+        others = significant_from (n + o.gap + 1) o.rest
 
         k : ℕ
         k = prefix_len is_literal others
@@ -244,20 +247,20 @@ run_in_front all call whole flags n ms e = by-front (opens n (drop n all))
         there : drop (n + o.gap) all ≡ o.first ∷ o.rest
         there = sym (drop-drop o.gap n all) ∙ o.are
 
-        marks : m ∷ others ≡ marks_from (n + o.gap) (o.first ∷ o.rest)
-        marks = ap (λ c. cond c others (m ∷ others)) (sym o.kind_is)
+        significant : m ∷ others ≡ significant_from (n + o.gap) (o.first ∷ o.rest)
+        significant = ap (λ c. cond c others (m ∷ others)) (sym o.kind_is)
 
         by-test : (b : Bool) → is_literal m ≡ b → HasItsRun all (site_in_front call whole flags (cond b (1 + k) 0) (m ∷ others))
         by-test true l =
-            some_in_front all call whole flags (n + o.gap) o.first o.rest there o.kind_is others k (1 + k) (omega arith) marks l (literals_front others) (prefix_within others)
+            some_in_front all call whole flags (n + o.gap) o.first o.rest there o.kind_is others k (1 + k) (omega arith) significant l (literals_front others) (prefix_within others)
         by-test false l = nothing_in_front all call whole flags (m ∷ others)
 
-left_all : (all : List Token) (n s : ℕ) (ms : List Mark) → ms ≡ marks_from n (drop n all) → (i : ℕ) × (drop s ms ≡ marks_from i (drop i all))
+left_all : (all : List Token) (n s : ℕ) (ms : List SignificantToken) → ms ≡ significant_from n (drop n all) → (i : ℕ) × (drop s ms ≡ significant_from i (drop i all))
 left_all all n s ms e =
     let l = left s n (drop n all) in
-    (n + l.gap, ap (drop s) e ∙ l.same ∙ ap (marks_from (n + l.gap)) (drop-drop l.gap n all))
+    (n + l.gap, ap (drop s) e ∙ l.same ∙ ap (significant_from (n + l.gap)) (drop-drop l.gap n all))
 
-behind_ok : (source : List ℕ) (all : List Token) (aliases : List Alias) (call : Call) (n : ℕ) (ms : List Mark) → ms ≡ marks_from n (drop n all)
+behind_ok : (source : List ℕ) (all : List Token) (aliases : List Alias) (call : Call) (n : ℕ) (ms : List SignificantToken) → ms ≡ significant_from n (drop n all)
     → HasItsRun all (site_behind source aliases call ms)
 unfolding site_behind
 behind_ok source all aliases call n ms e =
@@ -266,7 +269,7 @@ behind_ok source all aliases call n ms e =
     let whole = ends_whole source (drop (prefix_len is_literal run) run) in
     run_in_front all call whole (flags_if whole source aliases call ms) l.0 run l.1
 
-by_head : (source : List ℕ) (all : List Token) (aliases : List Alias) (n : ℕ) (ms : List Mark) (o : Option Head) → ms ≡ marks_from n (drop n all)
+by_head : (source : List ℕ) (all : List Token) (aliases : List Alias) (n : ℕ) (ms : List SignificantToken) (o : Option Head) → ms ≡ significant_from n (drop n all)
     → HasItsRun all (site_by source aliases o ms)
 by_head source all aliases n ms None e = tt
 by_head source all aliases n ms (Some head) e =
@@ -282,32 +285,32 @@ unless_hidden all true o h = All-nil (HasRun all)
 unless_hidden all false o h = of_option all o h
 
 sites_all : (source : List ℕ) (all : List Token) (aliases : List Alias) (hidden : Bool) (n : ℕ) (tokens : List Token) → tokens ≡ drop n all
-    → All (HasRun all) (sites_from source aliases hidden (marks_from n tokens))
+    → All (HasRun all) (sites_from source aliases hidden (significant_from n tokens))
 sites_all source all aliases hidden n [] e = All-nil (HasRun all)
 sites_all source all aliases hidden n (t ∷ ts) e =
-    by-test (is_comment_kind t.kind) (λ h f. sites_all source all aliases h (n + 1) ts f) refl
+    by-test (same_kind kind.Comment t.kind) (λ h f. sites_all source all aliases h (n + 1) ts f) refl
   where
     next : ts ≡ drop (n + 1) all
     next = ap (drop 1) e ∙ drop-drop 1 n all
 
-    others : List Mark
-    others = marks_from (n + 1) ts
+    others : List SignificantToken
+    others = significant_from (n + 1) ts
 
-    here : is_comment_kind t.kind ≡ false → mark n t ∷ others ≡ marks_from n (drop n all)
-    here f = ap (λ c. cond c others (mark n t ∷ others)) (sym f) ∙ ap (marks_from n) e
+    here : same_kind kind.Comment t.kind ≡ false → numbered n t ∷ others ≡ significant_from n (drop n all)
+    here f = ap (λ c. cond c others (numbered n t ∷ others)) (sym f) ∙ ap (significant_from n) e
 
-    by-test : (b : Bool) → ((h : Bool) → ts ≡ drop (n + 1) all → All (HasRun all) (sites_from source aliases h (marks_from (n + 1) ts)))
-        → is_comment_kind t.kind ≡ b → All (HasRun all) (sites_from source aliases hidden (cond b others (mark n t ∷ others)))
+    by-test : (b : Bool) → ((h : Bool) → ts ≡ drop (n + 1) all → All (HasRun all) (sites_from source aliases h (significant_from (n + 1) ts)))
+        → same_kind kind.Comment t.kind ≡ b → All (HasRun all) (sites_from source aliases hidden (cond b others (numbered n t ∷ others)))
     by-test true rest f = rest hidden next
     by-test false rest f =
-        All-append (HasRun all) (cond hidden [] (option_to_list (site_here source aliases (mark n t ∷ others)))) (sites_from source aliases (hides source (mark n t)) others)
-        (unless_hidden all hidden (site_here source aliases (mark n t ∷ others))
-        (by_head source all aliases n (mark n t ∷ others) (head_of source aliases (mark n t ∷ others)) (here f)))
-        (rest (hides source (mark n t)) next)
+        All-append (HasRun all) (cond hidden [] (option_to_list (site_here source aliases (numbered n t ∷ others)))) (sites_from source aliases (hides source (numbered n t)) others)
+        (unless_hidden all hidden (site_here source aliases (numbered n t ∷ others))
+        (by_head source all aliases n (numbered n t ∷ others) (head_of source aliases (numbered n t ∷ others)) (here f)))
+        (rest (hides source (numbered n t)) next)
 
--- the sites among the marks of tokens have their runs
-pub all_runs : {E : Type 0} (source : List ℕ) (tokens : List Token) (aliases : List Alias) (marks : List Mark) (r : Result (List Site) E)
-    → marks ≡ marks_from 0 tokens → IfOk r (λ sites. sites ≡ sites_from source aliases false marks) → IfOk r (All (HasRun tokens))
-all_runs source tokens aliases marks (Ok sites) e h =
+-- the sites among the significant tokens have their runs
+pub all_runs : {E : Type 0} (source : List ℕ) (tokens : List Token) (aliases : List Alias) (significant : List SignificantToken) (r : Result (List Site) E)
+    → significant ≡ significant_from 0 tokens → IfOk r (λ sites. sites ≡ sites_from source aliases false significant) → IfOk r (All (HasRun tokens))
+all_runs source tokens aliases significant (Ok sites) e h =
     subst (All (HasRun tokens)) (sym (h ∙ ap (sites_from source aliases false) e)) (sites_all source tokens aliases false 0 tokens refl)
-all_runs source tokens aliases marks (Err fault) e h = tt
+all_runs source tokens aliases significant (Err fault) e h = tt

@@ -1,42 +1,34 @@
 -- The arguments of a call, from behind its opening bracket on.
 use Rattle.std.specs.Prelude.{ℕ, zero, suc, Bool, false, not, ◌&&◌, ◌||◌, List, [], ◌∷◌, codes, if◌then◌else◌}
-use Rattle.rl_sites.specs.declared.mark.Mark.{Mark}
-use Rattle.rl_sites.specs.Marks.{is_word, is_op}
+use Rattle.std.specs.List.{onto_first}
+use Rattle.rl_sites.specs.declared.significant.SignificantToken.{SignificantToken}
+use Rattle.rl_sites.specs.Significant.{is_word, is_op}
 
-unfoldable pub opens : List ℕ → Mark → Bool
-opens source mark = is_op source (codes "(") mark || is_op source (codes "[") mark || is_op source (codes "{") mark
+unfoldable pub opens : List ℕ → SignificantToken → Bool
+opens source token = is_op source (codes "(") token || is_op source (codes "[") token || is_op source (codes "{") token
 
-unfoldable pub closes : List ℕ → Mark → Bool
-closes source mark = is_op source (codes ")") mark || is_op source (codes "]") mark || is_op source (codes "}") mark
+unfoldable pub closes : List ℕ → SignificantToken → Bool
+closes source token = is_op source (codes ")") token || is_op source (codes "]") token || is_op source (codes "}") token
 
--- whether the marks behind this one, at the depth of the arguments, are between a `lambda` and its `:`
-unfoldable pub lambda_after : List ℕ → Bool → Mark → Bool
-lambda_after source in_lambda mark =
-    is_word source (codes "lambda") mark || (in_lambda && not (is_op source (codes ":") mark))
-
--- the mark parts arguments, where it stands at their depth
-unfoldable pub parts : List ℕ → Bool → Mark → Bool
-parts source in_lambda mark = is_op source (codes ",") mark && not in_lambda
-
--- a mark in front of the first list
-abbrev pub onto : Mark → List (List Mark) → List (List Mark)
-onto mark [] = (mark ∷ []) ∷ []
-onto mark (first ∷ others) = (mark ∷ first) ∷ others
+-- whether the tokens behind this one, at the depth of the arguments, are between a `lambda` and its `:`
+unfoldable pub lambda_after : List ℕ → Bool → SignificantToken → Bool
+lambda_after source in_lambda token =
+    is_word source (codes "lambda") token || (in_lambda && not (is_op source (codes ":") token))
 
 -- The arguments in front, inside so many brackets of theirs. They end at the bracket that closes the call, or at the end of the source.
-abbrev pub arguments_from : List ℕ → ℕ → Bool → List Mark → List (List Mark)
+abbrev pub arguments_from : List ℕ → ℕ → Bool → List SignificantToken → List (List SignificantToken)
 arguments_from source depth in_lambda [] = [] ∷ []
-arguments_from source (suc depth) in_lambda (mark ∷ rest) =
-    onto mark
-    (if opens source mark then arguments_from source (suc (suc depth)) in_lambda rest
-    else (if closes source mark then arguments_from source depth in_lambda rest
+arguments_from source (suc depth) in_lambda (token ∷ rest) =
+    onto_first token
+    (if opens source token then arguments_from source (suc (suc depth)) in_lambda rest
+    else (if closes source token then arguments_from source depth in_lambda rest
     else arguments_from source (suc depth) in_lambda rest))
-arguments_from source zero in_lambda (mark ∷ rest) =
-    if opens source mark then onto mark (arguments_from source 1 (lambda_after source in_lambda mark) rest)
-    else (if closes source mark then [] ∷ []
-    else (if parts source in_lambda mark then [] ∷ arguments_from source 0 false rest
-    else onto mark (arguments_from source 0 (lambda_after source in_lambda mark) rest)))
+arguments_from source zero in_lambda (token ∷ rest) =
+    if opens source token then onto_first token (arguments_from source 1 (lambda_after source in_lambda token) rest)
+    else (if closes source token then [] ∷ []
+    else (if is_op source (codes ",") token && not in_lambda then [] ∷ arguments_from source 0 false rest
+    else onto_first token (arguments_from source 0 (lambda_after source in_lambda token) rest)))
 
--- the arguments of the call behind whose opening bracket these marks stand
-abbrev pub arguments_of : List ℕ → List Mark → List (List Mark)
+-- the arguments of the call behind whose opening bracket these tokens stand
+abbrev pub arguments_of : List ℕ → List SignificantToken → List (List SignificantToken)
 arguments_of source rest = arguments_from source 0 false rest

@@ -1,8 +1,11 @@
 -- The flags of a call, by its arguments.
-use Rattle.std.specs.Prelude.{ℕ, Bool, true, false, not, ◌&&◌, List, [], ◌∷◌, drop, slice_get, filter, codes, Option, Some, None, if◌then◌else◌}
-use Rattle.std.specs.List.{list_any}
+use Rattle.std.specs.Prelude.{ℕ, Bool, true, false, not, ◌&&◌, List, [], ◌∷◌, drop, slice_get, filter, codes, Option, Some, None, bytes_eq, if◌then◌else◌}
+use Rattle.std.specs.List.{list_any, slice_split}
+use Rattle.std.specs.Option.{option_map_or}
+use Rattle.rl_pylex.specs.declared.token_list.TokenKind.TheVariants as kind
+use Rattle.rl_pylex.specs.Source.{same_kind}
 use Rattle.rl_pattern.specs.declared.flags.Flags.{Flags}
-use Rattle.rl_sites.specs.declared.mark.Mark.{Mark}
+use Rattle.rl_sites.specs.declared.significant.SignificantToken.{SignificantToken}
 use Rattle.rl_sites.specs.declared.imports.Alias.{Alias}
 use Rattle.rl_sites.specs.declared.call.Call.{Call}
 use Rattle.rl_sites.specs.declared.call.Call.TheVariants as call
@@ -10,119 +13,77 @@ use Rattle.rl_sites.specs.declared.flag.Flag.{Flag}
 use Rattle.rl_sites.specs.declared.flag.Flag.TheVariants as flag
 use Rattle.rl_sites.specs.declared.site.SiteFlags.{SiteFlags}
 use Rattle.rl_sites.specs.declared.site.SiteFlags.TheVariants.{Known, Unknown}
-use Rattle.rl_sites.specs.Marks.{is_name, is_word, is_op, is_zero, stands}
+use Rattle.rl_sites.specs.Significant.{word_of, is_name, is_word, is_op, stands}
 use Rattle.rl_sites.specs.Names.{is_module, flag_named, flag_aliased}
-use Rattle.rl_sites.specs.Arguments.{onto}
 
 -- no flag is set
 abbrev pub no_flags : Flags
 no_flags =
-    record {
-      ignore_case = false;
-      multiline = false;
-      dot_all = false;
-      verbose = false;
-      ascii = false;
-      unicode = false;
-      locale = false;
-    }
+    record { ignore_case = false; multiline = false; dot_all = false; verbose = false; ascii = false; unicode = false; locale = false }
 
 abbrev pub with_flag : Flag → Flags → Flags
-with_flag flag.A flags = record flags { ascii = true }
 with_flag flag.Ascii flags = record flags { ascii = true }
-with_flag flag.I flags = record flags { ignore_case = true }
 with_flag flag.IgnoreCase flags = record flags { ignore_case = true }
-with_flag flag.L flags = record flags { locale = true }
 with_flag flag.Locale flags = record flags { locale = true }
-with_flag flag.M flags = record flags { multiline = true }
 with_flag flag.Multiline flags = record flags { multiline = true }
-with_flag flag.S flags = record flags { dot_all = true }
 with_flag flag.DotAll flags = record flags { dot_all = true }
-with_flag flag.U flags = record flags { unicode = true }
 with_flag flag.Unicode flags = record flags { unicode = true }
-with_flag flag.X flags = record flags { verbose = true }
 with_flag flag.Verbose flags = record flags { verbose = true }
-with_flag flag.Debug flags = flags
-with_flag flag.NoFlag flags = flags
+with_flag flag.Nothing flags = flags
 
-abbrev pub is_bar : List ℕ → Mark → Bool
-is_bar source mark = is_op source (codes "|") mark
+-- what the tokens set, if they are a term: the number `0`, an alias of a flag's name, or an alias of the module, `.` and a flag's name
+abbrev pub term : List ℕ → List Alias → List SignificantToken → Option Flag
+term source aliases (token ∷ []) =
+    if same_kind kind.Number token.inner.kind && bytes_eq (word_of source token) (codes "0") then Some flag.Nothing
+    else flag_aliased source aliases token
+term source aliases (token ∷ dot ∷ name ∷ []) =
+    if is_module source aliases token && is_op source (codes ".") dot then flag_named source name else None
+term source aliases _ = None
 
--- the marks between the `|` of an argument
-abbrev pub terms_of : List ℕ → List Mark → List (List Mark)
-terms_of source [] = [] ∷ []
-terms_of source (mark ∷ rest) =
-    if is_bar source mark then [] ∷ terms_of source rest else onto mark (terms_of source rest)
-
--- a term of one mark: the number `0`, or an alias of a flag's name
-unfoldable pub lone_term : List ℕ → List Alias → Mark → Option Flag
-lone_term source aliases mark = if is_zero source mark then Some flag.NoFlag else flag_aliased source aliases mark
-
--- a term of three marks: an alias of the module, `.` and a flag's name
-unfoldable pub dotted_term : List ℕ → List Alias → Mark → Mark → Mark → Option Flag
-dotted_term source aliases mark dot name =
-    if is_module source aliases mark && is_op source (codes ".") dot then flag_named source name else None
-
--- what the marks set, if they are a term
-abbrev pub term : List ℕ → List Alias → List Mark → Option Flag
-term source aliases [] = None
-term source aliases (mark ∷ []) = lone_term source aliases mark
-term source aliases (mark ∷ dot ∷ []) = None
-term source aliases (mark ∷ dot ∷ name ∷ []) = dotted_term source aliases mark dot name
-term source aliases (mark ∷ dot ∷ name ∷ more ∷ rest) = None
-
--- what is set with these flags before; unknown where something is no term
-abbrev pub set_by : Option Flag → Flags → (Flags → SiteFlags) → SiteFlags
-set_by None flags others = Unknown
-set_by (Some flag) flags others = others (with_flag flag flags)
-
-abbrev pub set_all : List ℕ → List Alias → List (List Mark) → Flags → SiteFlags
+-- what the terms set beside these flags; unknown where one is no term
+abbrev pub set_all : List ℕ → List Alias → List (List SignificantToken) → Flags → SiteFlags
 set_all source aliases [] flags = Known flags
-set_all source aliases (t ∷ ts) flags = set_by (term source aliases t) flags (set_all source aliases ts)
+set_all source aliases (t ∷ ts) flags =
+    option_map_or (λ flag. set_all source aliases ts (with_flag flag flags)) (term source aliases t) Unknown
 
 -- the flags of an argument of one or more terms with `|` between them
-unfoldable pub flags_by : List ℕ → List Alias → List Mark → SiteFlags
-flags_by source aliases argument = set_all source aliases (terms_of source argument) no_flags
+unfoldable pub flags_by : List ℕ → List Alias → List SignificantToken → SiteFlags
+flags_by source aliases argument = set_all source aliases (slice_split (is_op source (codes "|")) argument) no_flags
 
 -- the argument begins with a name that passes the test and a single `=`
-unfoldable pub is_named : List ℕ → (Mark → Bool) → List Mark → Bool
+unfoldable pub is_named : List ℕ → (SignificantToken → Bool) → List SignificantToken → Bool
 is_named source test argument =
     stands 0 test argument && stands 1 (is_op source (codes "=")) argument
     && not (stands 2 (is_op source (codes "=")) argument)
 
-abbrev pub is_flags_argument : List ℕ → List Mark → Bool
+abbrev pub is_flags_argument : List ℕ → List SignificantToken → Bool
 is_flags_argument source argument = is_named source (is_word source (codes "flags")) argument
 
-abbrev pub is_starred : List ℕ → List Mark → Bool
+abbrev pub is_starred : List ℕ → List SignificantToken → Bool
 is_starred source argument = stands 0 (is_op source (codes "*")) argument
 
 -- the place of the flags argument among the arguments, where no argument is named `flags`
 abbrev pub position : Call → ℕ
 position call.Compile = 1
-position call.Match = 2
-position call.Search = 2
-position call.Fullmatch = 2
-position call.Findall = 2
-position call.Finditer = 2
 position call.Split = 3
 position call.Sub = 4
 position call.Subn = 4
+position _ = 2
 
 -- the flags by the argument at that place: none where it isn't there, is empty or has another name
-abbrev pub flags_by_place : List ℕ → List Alias → Option (List Mark) → SiteFlags
-flags_by_place source aliases None = Known no_flags
-flags_by_place source aliases (Some []) = Known no_flags
-flags_by_place source aliases (Some (mark ∷ rest)) =
-    if is_named source is_name (mark ∷ rest) then Known no_flags else flags_by source aliases (mark ∷ rest)
+abbrev pub flags_by_place : List ℕ → List Alias → Option (List SignificantToken) → SiteFlags
+flags_by_place source aliases (Some (token ∷ rest)) =
+    if is_named source is_name (token ∷ rest) then Known no_flags else flags_by source aliases (token ∷ rest)
+flags_by_place source aliases _ = Known no_flags
 
 -- the flags by the arguments named `flags`, or else by the one at the place
-abbrev pub flags_by_name : List ℕ → List Alias → List (List Mark) → Option (List Mark) → SiteFlags
+abbrev pub flags_by_name : List ℕ → List Alias → List (List SignificantToken) → Option (List SignificantToken) → SiteFlags
 flags_by_name source aliases [] placed = flags_by_place source aliases placed
 flags_by_name source aliases (argument ∷ []) placed = flags_by source aliases (drop 2 argument)
 flags_by_name source aliases (argument ∷ other ∷ others) placed = Unknown
 
 -- the flags of a call with these arguments
-unfoldable pub flags_of : List ℕ → List Alias → Call → List (List Mark) → SiteFlags
+unfoldable pub flags_of : List ℕ → List Alias → Call → List (List SignificantToken) → SiteFlags
 flags_of source aliases call arguments =
     if list_any (is_starred source) arguments then Unknown
     else flags_by_name source aliases (filter (is_flags_argument source) arguments) (slice_get arguments (position call))

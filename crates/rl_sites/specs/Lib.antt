@@ -1,4 +1,4 @@
-pub mod Marks
+pub mod Significant
 pub mod Imports
 pub mod Names
 pub mod Arguments

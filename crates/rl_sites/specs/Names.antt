@@ -1,13 +1,15 @@
 -- What names stand for: the module, its nine calls that take a pattern first, and its flags.
-use Rattle.std.specs.Prelude.{ℕ, Bool, true, false, ◌&&◌, List, [], ◌∷◌, codes, find, Option, Some, None, bytes_eq, if◌then◌else◌}
+use Rattle.std.specs.Prelude.{ℕ, Bool, false, ◌&&◌, List, [], ◌∷◌, codes, find, Option, None, bytes_eq, if◌then◌else◌}
 use Rattle.std.specs.List.{list_any}
-use Rattle.rl_sites.specs.declared.mark.Mark.{Mark}
+use Rattle.std.specs.Map.{lookup}
+use Rattle.std.specs.Option.{is_none, option_map_or}
+use Rattle.rl_sites.specs.declared.significant.SignificantToken.{SignificantToken}
 use Rattle.rl_sites.specs.declared.imports.Alias.{Alias}
 use Rattle.rl_sites.specs.declared.call.Call.{Call}
 use Rattle.rl_sites.specs.declared.call.Call.TheVariants as call
 use Rattle.rl_sites.specs.declared.flag.Flag.{Flag}
 use Rattle.rl_sites.specs.declared.flag.Flag.TheVariants as flag
-use Rattle.rl_sites.specs.Marks.{word_of, is_name}
+use Rattle.rl_sites.specs.Significant.{word_of, is_name}
 
 -- the nine calls in their order
 abbrev pub calls : List Call
@@ -25,84 +27,47 @@ call_word call.Split = codes "split"
 call_word call.Sub = codes "sub"
 call_word call.Subn = codes "subn"
 
--- the names of flags in their order
-abbrev pub flags : List Flag
-flags =
-    flag.A ∷ flag.Ascii ∷ flag.I ∷ flag.IgnoreCase ∷ flag.L ∷ flag.Locale ∷ flag.M ∷ flag.Multiline ∷ flag.S ∷ flag.DotAll ∷ flag.U ∷ flag.Unicode ∷ flag.X ∷ flag.Verbose ∷ flag.Debug ∷ flag.NoFlag ∷ []
-
-abbrev pub flag_word : Flag → List ℕ
-flag_word flag.A = codes "A"
-flag_word flag.Ascii = codes "ASCII"
-flag_word flag.I = codes "I"
-flag_word flag.IgnoreCase = codes "IGNORECASE"
-flag_word flag.L = codes "L"
-flag_word flag.Locale = codes "LOCALE"
-flag_word flag.M = codes "M"
-flag_word flag.Multiline = codes "MULTILINE"
-flag_word flag.S = codes "S"
-flag_word flag.DotAll = codes "DOTALL"
-flag_word flag.U = codes "U"
-flag_word flag.Unicode = codes "UNICODE"
-flag_word flag.X = codes "X"
-flag_word flag.Verbose = codes "VERBOSE"
-flag_word flag.Debug = codes "DEBUG"
-flag_word flag.NoFlag = codes "NOFLAG"
-
--- the call or the flag with this name
-unfoldable pub call_of : List ℕ → Option Call
-call_of word = find (λ c. bytes_eq word (call_word c)) calls
-
-unfoldable pub flag_of : List ℕ → Option Flag
-flag_of word = find (λ f. bytes_eq word (flag_word f)) flags
-
--- the alias is of the module
-abbrev pub is_of_module : Option Mark → Bool
-is_of_module None = true
-is_of_module (Some member) = false
-
--- the alias is of the member with this name
-abbrev pub is_of_member : List ℕ → List ℕ → Option Mark → Bool
-is_of_member source word None = false
-is_of_member source word (Some member) = bytes_eq (word_of source member) word
-
--- the alias gives this name to the module
-unfoldable pub names_module : List ℕ → List ℕ → Alias → Bool
-names_module source name alias = bytes_eq (word_of source alias.name) name && is_of_module alias.member
-
--- the alias gives this name to the member with that name
-unfoldable pub names_member : List ℕ → List ℕ → List ℕ → Alias → Bool
-names_member source name member alias =
-    bytes_eq (word_of source alias.name) name && is_of_member source member alias.member
+-- the names of flags in their order, each with the flag that it sets
+abbrev pub flag_names : List (List ℕ × Flag)
+flag_names =
+    (codes "A", flag.Ascii) ∷ (codes "ASCII", flag.Ascii)
+    ∷ (codes "I", flag.IgnoreCase) ∷ (codes "IGNORECASE", flag.IgnoreCase)
+    ∷ (codes "L", flag.Locale) ∷ (codes "LOCALE", flag.Locale)
+    ∷ (codes "M", flag.Multiline) ∷ (codes "MULTILINE", flag.Multiline)
+    ∷ (codes "S", flag.DotAll) ∷ (codes "DOTALL", flag.DotAll)
+    ∷ (codes "U", flag.Unicode) ∷ (codes "UNICODE", flag.Unicode)
+    ∷ (codes "X", flag.Verbose) ∷ (codes "VERBOSE", flag.Verbose)
+    ∷ (codes "DEBUG", flag.Nothing) ∷ (codes "NOFLAG", flag.Nothing)
+    ∷ []
 
 -- the name is an alias of the module
 unfoldable pub names_any_module : List ℕ → List Alias → List ℕ → Bool
-names_any_module source aliases name = list_any (names_module source name) aliases
+names_any_module source aliases name =
+    list_any (λ alias. bytes_eq (word_of source alias.name) name && is_none alias.member) aliases
 
 -- the name is an alias of the member with that name
 unfoldable pub names_any_member : List ℕ → List Alias → List ℕ → List ℕ → Bool
-names_any_member source aliases name member = list_any (names_member source name member) aliases
+names_any_member source aliases name member =
+    list_any
+    (λ alias. bytes_eq (word_of source alias.name) name && option_map_or (λ m. bytes_eq (word_of source m) member) alias.member false)
+    aliases
 
--- the first call or flag that the name is an alias of
-unfoldable pub first_call : List ℕ → List Alias → List ℕ → Option Call
-first_call source aliases name = find (λ c. names_any_member source aliases name (call_word c)) calls
+-- the token is a name and an alias of the module
+unfoldable pub is_module : List ℕ → List Alias → SignificantToken → Bool
+is_module source aliases token = is_name token && names_any_module source aliases (word_of source token)
 
-unfoldable pub first_flag : List ℕ → List Alias → List ℕ → Option Flag
-first_flag source aliases name = find (λ f. names_any_member source aliases name (flag_word f)) flags
+-- the call or the flag that the token names itself, as it does behind the module and a `.`
+unfoldable pub call_named : List ℕ → SignificantToken → Option Call
+call_named source token = if is_name token then find (λ call. bytes_eq (word_of source token) (call_word call)) calls else None
 
--- the mark is a name and an alias of the module
-unfoldable pub is_module : List ℕ → List Alias → Mark → Bool
-is_module source aliases mark = is_name mark && names_any_module source aliases (word_of source mark)
+unfoldable pub flag_named : List ℕ → SignificantToken → Option Flag
+flag_named source token = if is_name token then lookup (bytes_eq (word_of source token)) flag_names else None
 
--- the call or the flag that the mark names itself, as it does behind the module and a `.`
-unfoldable pub call_named : List ℕ → Mark → Option Call
-call_named source mark = if is_name mark then call_of (word_of source mark) else None
+-- the call or the flag that the token is an alias of, the first of several
+unfoldable pub call_aliased : List ℕ → List Alias → SignificantToken → Option Call
+call_aliased source aliases token =
+    if is_name token then find (λ call. names_any_member source aliases (word_of source token) (call_word call)) calls else None
 
-unfoldable pub flag_named : List ℕ → Mark → Option Flag
-flag_named source mark = if is_name mark then flag_of (word_of source mark) else None
-
--- the call or the flag that the mark is an alias of, the first of several
-unfoldable pub call_aliased : List ℕ → List Alias → Mark → Option Call
-call_aliased source aliases mark = if is_name mark then first_call source aliases (word_of source mark) else None
-
-unfoldable pub flag_aliased : List ℕ → List Alias → Mark → Option Flag
-flag_aliased source aliases mark = if is_name mark then first_flag source aliases (word_of source mark) else None
+unfoldable pub flag_aliased : List ℕ → List Alias → SignificantToken → Option Flag
+flag_aliased source aliases token =
+    if is_name token then lookup (names_any_member source aliases (word_of source token)) flag_names else None

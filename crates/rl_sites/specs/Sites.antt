@@ -1,108 +1,85 @@
 -- The sites of a source: its calls of the module whose first argument is a run of literals.
-use Rattle.std.specs.Prelude.{◌≡◌, ℕ, ◌+◌, ◌-◌, Bool, false, ◌&&◌, ◌||◌, List, [], ◌∷◌, ◌++◌, length, take, drop, slice_get, codes, Option, Some, None, option_to_list, if◌then◌else◌}
+use Rattle.std.specs.Prelude.{◌≡◌, ℕ, ◌+◌, ◌-◌, Bool, false, ◌&&◌, ◌||◌, List, [], ◌∷◌, ◌++◌, length, take, drop, slice_get, codes, Option, Some, None, option_map, option_to_list, if◌then◌else◌}
 use Rattle.std.specs.List.{prefix_len}
-use Rattle.std.specs.Option.{option_or}
+use Rattle.std.specs.Option.{option_or, option_and_then}
 use Rattle.rl_pylex.specs.declared.token_list.Token.{Token}
 use Rattle.rl_pylex.specs.Source.{IsTokenList}
-use Rattle.rl_sites.specs.declared.mark.Mark.{Mark}
+use Rattle.rl_sites.specs.declared.significant.SignificantToken.{SignificantToken}
 use Rattle.rl_sites.specs.declared.imports.Alias.{Alias}
 use Rattle.rl_sites.specs.declared.call.Call.{Call}
 use Rattle.rl_sites.specs.declared.site.Site.{Site}
 use Rattle.rl_sites.specs.declared.site.SiteFlags.{SiteFlags}
 use Rattle.rl_sites.specs.declared.site.SiteFlags.TheVariants.{Unknown}
 use Rattle.rl_sites.specs.declared.heads.Head.{Head}
-use Rattle.rl_sites.specs.Marks.{marks_from, is_literal, is_word, is_op, stands}
+use Rattle.rl_sites.specs.Significant.{significant_from, is_literal, is_word, is_op, stands}
 use Rattle.rl_sites.specs.Imports.{aliases_of}
 use Rattle.rl_sites.specs.Names.{is_module, call_named, call_aliased}
 use Rattle.rl_sites.specs.Arguments.{arguments_of}
 use Rattle.rl_sites.specs.Flags.{flags_of}
 
--- The call in front and how many marks its head has, up to its opening bracket.
-abbrev pub head : ℕ → Option Call → Option Head
-head size None = None
-head size (Some call) = Some (record { call = call; size = size })
-
--- what stands for a call at a place, if a mark stands there
-abbrev pub call_by : (Mark → Option Call) → Option Mark → Option Call
-call_by names None = None
-call_by names (Some mark) = names mark
-
--- an alias of the module, `.`, one of the nine names and `(`
-unfoldable pub dotted_head : List ℕ → List Alias → List Mark → Option Head
+-- The call in front, and how many tokens its head has, up to its opening bracket: an alias of the module, `.`, one of the nine names and `(`.
+unfoldable pub dotted_head : List ℕ → List Alias → List SignificantToken → Option Head
 dotted_head source aliases rest =
     if stands 1 (is_op source (codes ".")) rest && stands 3 (is_op source (codes "(")) rest
     && stands 0 (is_module source aliases) rest
-    then head 4 (call_by (call_named source) (slice_get rest 2)) else None
+    then option_map (λ call. record { call = call; size = 4 }) (option_and_then (call_named source) (slice_get rest 2)) else None
 
 -- an alias of one of the nine names and `(`
-unfoldable pub bare_head : List ℕ → List Alias → List Mark → Option Head
+unfoldable pub bare_head : List ℕ → List Alias → List SignificantToken → Option Head
 bare_head source aliases rest =
     if stands 1 (is_op source (codes "(")) rest
-    then head 2 (call_by (call_aliased source aliases) (slice_get rest 0)) else None
+    then option_map (λ call. record { call = call; size = 2 }) (option_and_then (call_aliased source aliases) (slice_get rest 0))
+    else None
 
-unfoldable pub head_of : List ℕ → List Alias → List Mark → Option Head
+unfoldable pub head_of : List ℕ → List Alias → List SignificantToken → Option Head
 head_of source aliases rest = option_or (dotted_head source aliases rest) (bare_head source aliases rest)
 
--- how many marks `pattern` and `=` take, where they stand in front
-abbrev pub pattern_size : List ℕ → List Mark → ℕ
+-- how many tokens `pattern` and `=` take, where they stand in front
+abbrev pub pattern_size : List ℕ → List SignificantToken → ℕ
 pattern_size source rest =
     if stands 0 (is_word source (codes "pattern")) rest && stands 1 (is_op source (codes "=")) rest then 2 else 0
 
--- the site whose run of literals has this first and this last mark, if it has any
-abbrev pub site_of_run : Call → Bool → SiteFlags → Option Mark → Option Mark → Option Site
-site_of_run call whole flags None last = None
-site_of_run call whole flags (Some first) None = None
+-- the site whose run of literals has this first and this last token, if it has any
+abbrev pub site_of_run : Call → Bool → SiteFlags → Option SignificantToken → Option SignificantToken → Option Site
 site_of_run call whole flags (Some first) (Some last) =
-    Some
-    (record {
-      call = call;
-      first = first.number;
-      count = last.number - first.number + 1;
-      whole = whole;
-      flags = flags;
-    })
+    Some (record { call = call; first = first.number; count = last.number - first.number + 1; whole = whole; flags = flags })
+site_of_run call whole flags _ _ = None
 
--- the marks behind a run of literals begin with `,` or `)`
-unfoldable pub ends_whole : List ℕ → List Mark → Bool
+-- the tokens behind a run of literals begin with `,` or `)`
+unfoldable pub ends_whole : List ℕ → List SignificantToken → Bool
 ends_whole source rest = stands 0 (is_op source (codes ",")) rest || stands 0 (is_op source (codes ")")) rest
 
-abbrev pub flags_if : Bool → List ℕ → List Alias → Call → List Mark → SiteFlags
-flags_if whole source aliases call rest =
-    if whole then flags_of source aliases call (arguments_of source rest) else Unknown
-
--- the site of a call, by the marks behind its opening bracket: perhaps `pattern` and `=`, and the longest run of literals
-unfoldable pub site_behind : List ℕ → List Alias → Call → List Mark → Option Site
+-- the site of a call, by the tokens behind its opening bracket: perhaps `pattern` and `=`, and the longest run of literals
+unfoldable pub site_behind : List ℕ → List Alias → Call → List SignificantToken → Option Site
 site_behind source aliases call rest =
     let run = drop (pattern_size source rest) rest in
     let size = prefix_len is_literal run in
     let literals = take size run in
     let whole = ends_whole source (drop size run) in
-    site_of_run call whole (flags_if whole source aliases call rest) (slice_get literals 0)
-    (slice_get literals (length literals - 1))
+    let flags = if whole then flags_of source aliases call (arguments_of source rest) else Unknown in
+    site_of_run call whole flags (slice_get literals 0) (slice_get literals (length literals - 1))
 
-abbrev pub site_by : List ℕ → List Alias → Option Head → List Mark → Option Site
-site_by source aliases None rest = None
-site_by source aliases (Some head) rest = site_behind source aliases head.call (drop head.size rest)
-
--- the site that begins at the first mark
-abbrev pub site_here : List ℕ → List Alias → List Mark → Option Site
-site_here source aliases rest = site_by source aliases (head_of source aliases rest) rest
+-- the site that begins at the first token
+abbrev pub site_here : List ℕ → List Alias → List SignificantToken → Option Site
+site_here source aliases rest =
+    option_and_then (λ head. site_behind source aliases head.call (drop head.size rest)) (head_of source aliases rest)
 
 -- a `.` or the name `def`: no site begins behind it
-unfoldable pub hides : List ℕ → Mark → Bool
-hides source mark = is_op source (codes ".") mark || is_word source (codes "def") mark
+unfoldable pub hides : List ℕ → SignificantToken → Bool
+hides source token = is_op source (codes ".") token || is_word source (codes "def") token
 
--- the sites in order, where the first mark stands behind a `.` or a `def` or not
-abbrev pub sites_from : List ℕ → List Alias → Bool → List Mark → List Site
+-- the sites in order, where the first token stands behind a `.` or a `def` or not
+abbrev pub sites_from : List ℕ → List Alias → Bool → List SignificantToken → List Site
 sites_from source aliases hidden [] = []
-sites_from source aliases hidden (mark ∷ rest) =
-    (if hidden then [] else option_to_list (site_here source aliases (mark ∷ rest)))
-    ++ sites_from source aliases (hides source mark) rest
+sites_from source aliases hidden (token ∷ rest) =
+    (if hidden then [] else option_to_list (site_here source aliases (token ∷ rest)))
+    ++ sites_from source aliases (hides source token) rest
 
 -- the sites of a source with these tokens
 unfoldable pub sites_of : List ℕ → List Token → List Site
 sites_of source tokens =
-    let marks = marks_from 0 tokens in sites_from source (aliases_of source marks) false marks
+    let significant = significant_from 0 tokens in
+    sites_from source (aliases_of source significant) false significant
 
 -- the source has tokens, and no sites
 pub record HasNoSites (source : List ℕ) : Type 0 where

@@ -1,3 +1,4 @@
 -- Definitions for the contracts of private functions. No public contract reaches them.
 pub mod Meanings
+pub mod Parts
 pub mod Walks

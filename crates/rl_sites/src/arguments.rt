@@ -1,13 +1,13 @@
 // The arguments of a call, one by one.
 ghost use Rattle.std.specs.Prelude.{◌≡◌, ◌≤◌, ◌<◌, ◌+◌, ◌∷◌, [], ◌&&◌, ◌||◌, not, true, false, length, take, drop, filter, slice_get, Some, None, MatchOption, IfSome};
-ghost use Rattle.rl_sites.specs.Arguments.{opens, closes, lambda_after, parts, arguments_of};
+ghost use Rattle.rl_sites.specs.Arguments.{opens, closes, lambda_after, arguments_of};
+ghost use Rattle.rl_sites.specs.internal.Parts.{parts};
 ghost use Rattle.rl_sites.specs.internal.Walks.{IsTable, argument_size, first_argument, others_from, other_arguments, has_form};
 ghost use Rattle.rl_sites.specs.Flags.{is_named, is_flags_argument, is_starred};
-ghost use Rattle.rl_sites.specs.Marks.{is_name, is_word};
+ghost use Rattle.rl_sites.specs.Significant.{is_name, is_word};
 
 use crate::brackets::{closes, jump_size, opens};
-use crate::mark::Mark;
-use crate::marks::{is_op, is_word, name_at, op_at, rest_from, word_at};
+use crate::significant::{SignificantToken, is_op, is_word, name_at, op_at, rest_from, word_at};
 
 /// A form of arguments that is looked for.
 #[derive(Clone, Copy, Debug)]
@@ -18,71 +18,73 @@ pub enum Form {
     FlagsNamed,
 }
 
-/// Whether the marks behind a mark, at the depth of the arguments, are between a `lambda` and its `:`.
+/// Whether the tokens behind a token, at the depth of the arguments, are between a `lambda` and its `:`.
 #[tactic(auto, unfolding(crate::specs::Arguments::lambda_after))]
-fn lambda_after(source: &[u8], in_lambda: bool, mark: Mark) -> bool
-    ensures { result ≡ lambda_after source.now in_lambda mark }
+fn lambda_after(source: &[u8], in_lambda: bool, token: SignificantToken) -> bool
+    ensures { result ≡ lambda_after source.now in_lambda token }
 {
-    is_word(source, b"lambda", mark) || (in_lambda && !is_op(source, b":", mark))
+    is_word(source, b"lambda", token) || (in_lambda && !is_op(source, b":", token))
 }
 
-#[tactic(auto, unfolding(crate::specs::Arguments::parts))]
-fn parts(source: &[u8], in_lambda: bool, mark: Mark) -> bool
-    ensures { result ≡ parts source.now in_lambda mark }
+fn parts(source: &[u8], in_lambda: bool, token: SignificantToken) -> bool
+    ensures { result ≡ parts source.now in_lambda token }
 {
-    is_op(source, b",", mark) && !in_lambda
+    is_op(source, b",", token) && !in_lambda
 }
 
-/// Whether an argument ends before a mark at its depth.
-fn ends_argument(source: &[u8], in_lambda: bool, mark: Mark) -> bool
-    ensures { result ≡ (not (opens source.now mark) && (closes source.now mark || parts source.now in_lambda mark)) }
+/// Whether an argument ends before a token at its depth.
+fn ends_argument(source: &[u8], in_lambda: bool, token: SignificantToken) -> bool
+    ensures { result ≡ (not (opens source.now token) && (closes source.now token || parts source.now in_lambda token)) }
 {
-    !opens(source, mark) && (closes(source, mark) || parts(source, in_lambda, mark))
+    !opens(source, token) && (closes(source, token) || parts(source, in_lambda, token))
 }
 
-/// How many marks the argument in front has.
+/// How many tokens the argument in front has.
 #[tactic(auto, using(crate::proofs::Walking::walks))]
-pub fn argument_size(source: &[u8], rest: &[Mark], sizes: &[usize]) -> usize
+pub fn argument_size(source: &[u8], rest: &[SignificantToken], sizes: &[usize]) -> usize
     requires { IsTable source.now rest.now sizes.now }
     ensures value { result ≡ argument_size source.now 0 false rest.now }
     ensures within { result ≤ length rest.now }
 {
     let mut left = rest;
     let mut in_lambda = false;
-    while let [mark, ..] = left {
-        if ends_argument(source, in_lambda, *mark) {
+    while let [token, ..] = left {
+        if ends_argument(source, in_lambda, *token) {
             return rest.len() - left.len();
         }
         let after = rest_from(left, 1);
-        let inner = jump_size(source, *mark, after, sizes);
-        in_lambda = lambda_after(source, in_lambda, *mark);
+        let inner = jump_size(source, *token, after, sizes);
+        in_lambda = lambda_after(source, in_lambda, *token);
         left = rest_from(after, inner);
     }
     rest.len() - left.len()
 }
 
-/// The marks behind the `,` that parts the argument in front from the next one, if there is a next one. `behind` are
-/// the marks behind the argument.
+/// The tokens behind the `,` that parts the argument in front from the next one, if there is a next one. `behind` are
+/// the tokens behind the argument.
 #[tactic(auto, using(crate::proofs::Walking::others))]
-pub fn other_arguments<'a>(source: &[u8], behind: &'a [Mark]) -> Option<&'a [Mark]>
+pub fn other_arguments<'a>(
+    source: &[u8],
+    behind: &'a [SignificantToken],
+) -> Option<&'a [SignificantToken]>
     ensures { MatchOption result (others_from source.now behind.now ≡ []) (λ rest. (others_from source.now behind.now ≡ arguments_of source.now rest.now) × (rest.now ≡ drop 1 behind.now) × (0 < length behind.now)) }
 {
     match behind {
-        [mark, ..] if !closes(source, *mark) => Some(rest_from(behind, 1)),
+        [token, ..] if !closes(source, *token) => Some(rest_from(behind, 1)),
         _ => None,
     }
 }
 
 /// Whether the argument begins with a name and a single `=`.
 #[tactic(auto, unfolding(crate::specs::Flags::is_named))]
-pub fn is_named(source: &[u8], argument: &[Mark]) -> bool
+pub fn is_named(source: &[u8], argument: &[SignificantToken]) -> bool
     ensures { result ≡ is_named source.now is_name argument.now }
 {
     name_at(argument, 0) && op_at(source, b"=", argument, 1) && !op_at(source, b"=", argument, 2)
 }
 
 #[tactic(auto, unfolding(crate::specs::Flags::is_named))]
-fn is_flags_argument(source: &[u8], argument: &[Mark]) -> bool
+fn is_flags_argument(source: &[u8], argument: &[SignificantToken]) -> bool
     ensures { result ≡ is_flags_argument source.now argument.now }
 {
     word_at(source, b"flags", argument, 0)
@@ -90,7 +92,7 @@ fn is_flags_argument(source: &[u8], argument: &[Mark]) -> bool
         && !op_at(source, b"=", argument, 2)
 }
 
-fn has_form(source: &[u8], form: Form, argument: &[Mark]) -> bool
+fn has_form(source: &[u8], form: Form, argument: &[SignificantToken]) -> bool
     ensures { result ≡ has_form source.now form argument.now }
 {
     match form {
@@ -100,26 +102,34 @@ fn has_form(source: &[u8], form: Form, argument: &[Mark]) -> bool
 }
 
 /// The argument in front.
-fn first_argument<'a>(source: &[u8], rest: &'a [Mark], sizes: &[usize]) -> &'a [Mark]
+fn first_argument<'a>(
+    source: &[u8],
+    rest: &'a [SignificantToken],
+    sizes: &[usize],
+) -> &'a [SignificantToken]
     requires { IsTable source.now rest.now sizes.now }
     ensures { result.now ≡ first_argument source.now rest.now }
 {
     &rest[..argument_size(source, rest, sizes)]
 }
 
-/// The marks behind the first argument.
-fn behind_first<'a>(source: &[u8], rest: &'a [Mark], sizes: &[usize]) -> &'a [Mark]
+/// The tokens behind the first argument.
+fn behind_first<'a>(
+    source: &[u8],
+    rest: &'a [SignificantToken],
+    sizes: &[usize],
+) -> &'a [SignificantToken]
     requires { IsTable source.now rest.now sizes.now }
     ensures { result.now ≡ drop (argument_size source.now 0 false rest.now) rest.now }
 {
     rest_from(rest, argument_size(source, rest, sizes))
 }
 
-/// An argument that was found, and the marks behind it.
+/// An argument that was found, and the tokens behind it.
 #[derive(Clone, Copy)]
 pub struct Found<'a> {
-    pub argument: &'a [Mark],
-    pub behind: &'a [Mark],
+    pub argument: &'a [SignificantToken],
+    pub behind: &'a [SignificantToken],
 }
 
 /// The first of the arguments that has the form.
@@ -127,7 +137,7 @@ pub struct Found<'a> {
 pub fn find_argument<'a>(
     source: &[u8],
     form: Form,
-    arguments: &'a [Mark],
+    arguments: &'a [SignificantToken],
     sizes: &[usize],
 ) -> Option<Found<'a>>
     requires { IsTable source.now arguments.now sizes.now }
@@ -154,9 +164,9 @@ pub fn find_argument<'a>(
 pub fn argument_at<'a>(
     source: &[u8],
     place: usize,
-    arguments: &'a [Mark],
+    arguments: &'a [SignificantToken],
     sizes: &[usize],
-) -> Option<&'a [Mark]>
+) -> Option<&'a [SignificantToken]>
     requires { IsTable source.now arguments.now sizes.now }
     ensures { MatchOption result (slice_get (arguments_of source.now arguments.now) place ≡ None) (λ argument. slice_get (arguments_of source.now arguments.now) place ≡ Some argument.now) }
 {

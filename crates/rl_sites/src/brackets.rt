@@ -3,28 +3,27 @@ ghost use Rattle.std.specs.Prelude.{◌≡◌, ◌≤◌, ◌<◌, ◌+◌, ◌&
 ghost use Rattle.rl_sites.specs.Arguments.{opens, closes};
 ghost use Rattle.rl_sites.specs.internal.Walks.{inside_size, IsTable};
 
-use crate::mark::Mark;
-use crate::marks::{is_op, rest_from};
+use crate::significant::{SignificantToken, is_op, rest_from};
 use rl_lists::OutOfMemory;
 use std::alloc::Global;
 
 #[tactic(auto, unfolding(crate::specs::Arguments::opens))]
-pub fn opens(source: &[u8], mark: Mark) -> bool
-    ensures { result ≡ opens source.now mark }
+pub fn opens(source: &[u8], token: SignificantToken) -> bool
+    ensures { result ≡ opens source.now token }
 {
-    is_op(source, b"(", mark) || is_op(source, b"[", mark) || is_op(source, b"{", mark)
+    is_op(source, b"(", token) || is_op(source, b"[", token) || is_op(source, b"{", token)
 }
 
 #[tactic(auto, unfolding(crate::specs::Arguments::closes))]
-pub fn closes(source: &[u8], mark: Mark) -> bool
-    ensures { result ≡ closes source.now mark }
+pub fn closes(source: &[u8], token: SignificantToken) -> bool
+    ensures { result ≡ closes source.now token }
 {
-    is_op(source, b")", mark) || is_op(source, b"]", mark) || is_op(source, b"}", mark)
+    is_op(source, b")", token) || is_op(source, b"]", token) || is_op(source, b"}", token)
 }
 
-/// How many marks there are up to the closing bracket of the bracket that these marks stand in, by the table.
+/// How many tokens there are up to the closing bracket of the bracket that these tokens stand in, by the table.
 #[tactic(auto, using(crate::proofs::Tables::tables))]
-fn size_inside(source: &[u8], rest: &[Mark], sizes: &[usize]) -> usize
+fn size_inside(source: &[u8], rest: &[SignificantToken], sizes: &[usize]) -> usize
     requires { IsTable source.now rest.now sizes.now }
     ensures value { result ≡ inside_size source.now 0 rest.now }
     ensures within { result ≤ length rest.now }
@@ -32,53 +31,62 @@ fn size_inside(source: &[u8], rest: &[Mark], sizes: &[usize]) -> usize
     sizes[rest.len()]
 }
 
-/// How many of the marks behind a mark stand in its brackets, the closing one included, where it opens some.
-pub fn jump_size(source: &[u8], mark: Mark, after: &[Mark], sizes: &[usize]) -> usize
+/// How many of the tokens behind a token stand in its brackets, the closing one included, where it opens some.
+pub fn jump_size(
+    source: &[u8],
+    token: SignificantToken,
+    after: &[SignificantToken],
+    sizes: &[usize],
+) -> usize
     requires { IsTable source.now after.now sizes.now }
-    ensures value { result ≡ (if opens source.now mark then inside_size source.now 0 after.now else 0) }
+    ensures value { result ≡ (if opens source.now token then inside_size source.now 0 after.now else 0) }
     ensures within { result ≤ length after.now }
 {
-    if opens(source, mark) {
+    if opens(source, token) {
         size_inside(source, after, sizes)
     } else {
         0
     }
 }
 
-fn only_closes(source: &[u8], mark: Mark) -> bool
-    ensures { result ≡ (not (opens source.now mark) && closes source.now mark) }
+fn only_closes(source: &[u8], token: SignificantToken) -> bool
+    ensures { result ≡ (not (opens source.now token) && closes source.now token) }
 {
-    !opens(source, mark) && closes(source, mark)
+    !opens(source, token) && closes(source, token)
 }
 
-/// How many marks there are up to the closing bracket of the bracket that these marks stand in, by the table for the
-/// marks behind the first.
+/// How many tokens there are up to the closing bracket of the bracket that these tokens stand in, by the table for the
+/// tokens behind the first.
 #[tactic(auto, using(crate::proofs::Tables::tables))]
-fn next_size(source: &[u8], rest: &[Mark], sizes: &[usize]) -> usize
+fn next_size(source: &[u8], rest: &[SignificantToken], sizes: &[usize]) -> usize
     requires some { 0 < length rest.now }
     requires table { IsTable source.now (drop 1 rest.now) sizes.now }
     ensures { result ≡ inside_size source.now 0 rest.now }
 {
-    let mark = rest[0];
-    if only_closes(source, mark) {
+    let token = rest[0];
+    if only_closes(source, token) {
         return 1;
     }
     let after = rest_from(rest, 1);
-    let inner = jump_size(source, mark, after, sizes);
+    let inner = jump_size(source, token, after, sizes);
     1 + inner + size_inside(source, rest_from(after, inner), sizes)
 }
 
 /// The table of the sizes inside brackets.
 #[tactic(auto, using(crate::proofs::Tables::tables))]
-pub fn sizes_of(alloc: Global, source: &[u8], marks: &[Mark]) -> Result<Vec<usize>, OutOfMemory>
-    ensures { IfOk result (λ sizes. IsTable source.now marks.now sizes.items) }
+pub fn sizes_of(
+    alloc: Global,
+    source: &[u8],
+    tokens: &[SignificantToken],
+) -> Result<Vec<usize>, OutOfMemory>
+    ensures { IfOk result (λ sizes. IsTable source.now tokens.now sizes.items) }
 {
     let mut sizes = Vec::new(alloc);
     sizes.push(0)?;
-    let mut left = marks.len();
+    let mut left = tokens.len();
     while left > 0 {
         left -= 1;
-        let size = next_size(source, rest_from(marks, left), sizes.as_slice());
+        let size = next_size(source, rest_from(tokens, left), sizes.as_slice());
         sizes.push(size)?;
     }
     Ok(sizes)

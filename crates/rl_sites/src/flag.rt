@@ -1,38 +1,22 @@
-// The names of the module's flags.
+// The module's flags.
 
-/// One of the sixteen names of the module's flags. `DEBUG` and `NOFLAG` set nothing.
+/// What one of the sixteen names of the module's flags sets.
 #[derive(Clone, Copy, Debug, PartialEq, Eq)]
 pub enum Flag {
-    /// `A`
-    A,
-    /// `ASCII`
+    /// `A` and `ASCII`
     Ascii,
-    /// `I`
-    I,
-    /// `IGNORECASE`
+    /// `I` and `IGNORECASE`
     IgnoreCase,
-    /// `L`
-    L,
-    /// `LOCALE`
+    /// `L` and `LOCALE`
     Locale,
-    /// `M`
-    M,
-    /// `MULTILINE`
+    /// `M` and `MULTILINE`
     Multiline,
-    /// `S`
-    S,
-    /// `DOTALL`
+    /// `S` and `DOTALL`
     DotAll,
-    /// `U`
-    U,
-    /// `UNICODE`
+    /// `U` and `UNICODE`
     Unicode,
-    /// `X`
-    X,
-    /// `VERBOSE`
+    /// `X` and `VERBOSE`
     Verbose,
-    /// `DEBUG`
-    Debug,
-    /// `NOFLAG`
-    NoFlag,
+    /// `DEBUG` and `NOFLAG`
+    Nothing,
 }

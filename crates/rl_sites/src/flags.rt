@@ -7,15 +7,14 @@ ghost use Rattle.rl_sites.specs.Flags.{is_starred, is_flags_argument, position, 
 ghost use Rattle.rl_sites.specs.internal.Meanings.{IsMeant};
 
 use crate::arguments::{Form, argument_at, find_argument, is_named, other_arguments};
-use crate::mark::Mark;
-use crate::marks::rest_from;
 use crate::names::Names;
+use crate::significant::{SignificantToken, rest_from};
 use crate::terms::{flags_by, no_flags};
 use crate::{Call, SiteFlags};
 
 /// Whether an argument begins with `*`.
 #[tactic(auto, using(crate::proofs::Filters::filters))]
-fn any_starred(source: &[u8], arguments: &[Mark], sizes: &[usize]) -> bool
+fn any_starred(source: &[u8], arguments: &[SignificantToken], sizes: &[usize]) -> bool
     requires { IsTable source.now arguments.now sizes.now }
     ensures { result ≡ list_any (is_starred source.now) (arguments_of source.now arguments.now) }
 {
@@ -27,7 +26,7 @@ fn any_starred(source: &[u8], arguments: &[Mark], sizes: &[usize]) -> bool
 
 /// Whether an argument of this form is among those behind one.
 #[tactic(auto, using(crate::proofs::Filters::filters))]
-fn has_another(source: &[u8], form: Form, behind: &[Mark], sizes: &[usize]) -> bool
+fn has_another(source: &[u8], form: Form, behind: &[SignificantToken], sizes: &[usize]) -> bool
     requires { IsTable source.now behind.now sizes.now }
     ensures { result ≡ is_filled (filter (has_form source.now form) (others_from source.now behind.now)) }
 {
@@ -53,7 +52,7 @@ fn position(call: Call) -> usize
 }
 
 /// The flags by the argument at that place.
-fn flags_placed(source: &[u8], names: &Names<'_>, argument: &[Mark]) -> SiteFlags
+fn flags_placed(source: &[u8], names: &Names<'_>, argument: &[SignificantToken]) -> SiteFlags
     requires { IsMeant source.now names.now.aliases.items names.now.meanings.entries }
     ensures { result ≡ flags_by_place source.now names.now.aliases.items (Some argument.now) }
 {
@@ -68,7 +67,7 @@ fn flags_by_place(
     source: &[u8],
     names: &Names<'_>,
     call: Call,
-    arguments: &[Mark],
+    arguments: &[SignificantToken],
     sizes: &[usize],
 ) -> SiteFlags
     requires meant { IsMeant source.now names.now.aliases.items names.now.meanings.entries }
@@ -87,7 +86,7 @@ fn flags_by_name(
     source: &[u8],
     names: &Names<'_>,
     call: Call,
-    arguments: &[Mark],
+    arguments: &[SignificantToken],
     sizes: &[usize],
 ) -> SiteFlags
     requires meant { IsMeant source.now names.now.aliases.items names.now.meanings.entries }
@@ -106,13 +105,13 @@ fn flags_by_name(
     }
 }
 
-/// The flags of a call whose arguments these marks begin with.
+/// The flags of a call whose arguments these tokens begin with.
 #[tactic(auto, unfolding(crate::specs::Flags::flags_of))]
 pub fn flags_of(
     source: &[u8],
     names: &Names<'_>,
     call: Call,
-    arguments: &[Mark],
+    arguments: &[SignificantToken],
     sizes: &[usize],
 ) -> SiteFlags
     requires meant { IsMeant source.now names.now.aliases.items names.now.meanings.entries }

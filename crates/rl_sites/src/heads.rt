@@ -1,16 +1,16 @@
 // The heads of calls.
 ghost use Rattle.std.specs.Prelude.{◌≡◌, ◌≤◌, ◌<◌, ◌&&◌, IsTrue, IfSome, codes, length, slice_get};
-ghost use Rattle.rl_sites.specs.Marks.{is_op, stands};
+ghost use Rattle.rl_sites.specs.Significant.{is_op, stands};
 ghost use Rattle.rl_sites.specs.Names.{is_module, call_named, call_aliased};
-ghost use Rattle.rl_sites.specs.Sites.{head, call_by, dotted_head, bare_head, head_of};
+ghost use Rattle.rl_sites.specs.Sites.{dotted_head, bare_head, head_of};
+ghost use Rattle.rl_sites.specs.internal.Parts.{call_by, head};
 ghost use Rattle.rl_sites.specs.internal.Meanings.{IsMeant};
 
 use crate::Call;
-use crate::mark::Mark;
-use crate::marks::op_at;
 use crate::names::{Names, call_aliased, call_named, is_module};
+use crate::significant::{SignificantToken, op_at};
 
-/// The head of a call: what is called, and how many marks there are up to the opening bracket, that one included.
+/// The head of a call: what is called, and how many tokens there are up to the opening bracket, that one included.
 #[derive(Clone, Copy, Debug)]
 pub struct Head {
     pub call: Call,
@@ -18,33 +18,33 @@ pub struct Head {
 }
 
 /// Whether an alias of the module stands in front.
-fn begins_module(source: &[u8], names: &Names<'_>, rest: &[Mark]) -> bool
+fn begins_module(source: &[u8], names: &Names<'_>, rest: &[SignificantToken]) -> bool
     requires { IsMeant source.now names.now.aliases.items names.now.meanings.entries }
     ensures { result ≡ stands 0 (is_module source.now names.now.aliases.items) rest.now }
 {
     match rest.get(0) {
-        Some(mark) => is_module(source, names, *mark),
+        Some(token) => is_module(source, names, *token),
         None => false,
     }
 }
 
-/// The call that the mark at a place names itself.
-fn named_at(source: &[u8], rest: &[Mark], at: usize) -> Option<Call>
+/// The call that the token at a place names itself.
+fn named_at(source: &[u8], rest: &[SignificantToken], at: usize) -> Option<Call>
     ensures { result ≡ call_by (call_named source.now) (slice_get rest.now at) }
 {
     match rest.get(at) {
-        Some(mark) => call_named(source, *mark),
+        Some(token) => call_named(source, *token),
         None => None,
     }
 }
 
-/// The call that the mark in front is an alias of.
-fn begins_alias(source: &[u8], names: &Names<'_>, rest: &[Mark]) -> Option<Call>
+/// The call that the token in front is an alias of.
+fn begins_alias(source: &[u8], names: &Names<'_>, rest: &[SignificantToken]) -> Option<Call>
     requires { IsMeant source.now names.now.aliases.items names.now.meanings.entries }
     ensures { result ≡ call_by (call_aliased source.now names.now.aliases.items) (slice_get rest.now 0) }
 {
     match rest.get(0) {
-        Some(mark) => call_aliased(source, names, *mark),
+        Some(token) => call_aliased(source, names, *token),
         None => None,
     }
 }
@@ -59,8 +59,8 @@ fn made_head(size: usize, call: Option<Call>) -> Option<Head>
     }
 }
 
-/// Whether an alias of the module, `.`, a mark and `(` stand in front.
-fn is_dotted(source: &[u8], names: &Names<'_>, rest: &[Mark]) -> bool
+/// Whether an alias of the module, `.`, a token and `(` stand in front.
+fn is_dotted(source: &[u8], names: &Names<'_>, rest: &[SignificantToken]) -> bool
     requires { IsMeant source.now names.now.aliases.items names.now.meanings.entries }
     ensures value { result ≡ (stands 1 (is_op source.now (codes ".")) rest.now && stands 3 (is_op source.now (codes "(")) rest.now && stands 0 (is_module source.now names.now.aliases.items) rest.now) }
     ensures within { IsTrue result → 4 ≤ length rest.now }
@@ -72,7 +72,7 @@ fn is_dotted(source: &[u8], names: &Names<'_>, rest: &[Mark]) -> bool
 
 /// The head of an alias of the module, `.`, one of the nine names and `(`.
 #[tactic(auto, unfolding(crate::specs::Sites::dotted_head))]
-fn dotted_head(source: &[u8], names: &Names<'_>, rest: &[Mark]) -> Option<Head>
+fn dotted_head(source: &[u8], names: &Names<'_>, rest: &[SignificantToken]) -> Option<Head>
     requires { IsMeant source.now names.now.aliases.items names.now.meanings.entries }
     ensures value { result ≡ dotted_head source.now names.now.aliases.items rest.now }
     ensures within { IfSome result (λ found. found.size ≤ length rest.now) }
@@ -86,7 +86,7 @@ fn dotted_head(source: &[u8], names: &Names<'_>, rest: &[Mark]) -> Option<Head>
 
 /// The head of an alias of one of the nine names and `(`.
 #[tactic(auto, unfolding(crate::specs::Sites::bare_head))]
-fn bare_head(source: &[u8], names: &Names<'_>, rest: &[Mark]) -> Option<Head>
+fn bare_head(source: &[u8], names: &Names<'_>, rest: &[SignificantToken]) -> Option<Head>
     requires { IsMeant source.now names.now.aliases.items names.now.meanings.entries }
     ensures value { result ≡ bare_head source.now names.now.aliases.items rest.now }
     ensures within { IfSome result (λ found. found.size ≤ length rest.now) }
@@ -100,7 +100,7 @@ fn bare_head(source: &[u8], names: &Names<'_>, rest: &[Mark]) -> Option<Head>
 
 /// The head of the call in front, if there is one.
 #[tactic(auto, unfolding(crate::specs::Sites::head_of))]
-pub fn head_of(source: &[u8], names: &Names<'_>, rest: &[Mark]) -> Option<Head>
+pub fn head_of(source: &[u8], names: &Names<'_>, rest: &[SignificantToken]) -> Option<Head>
     requires { IsMeant source.now names.now.aliases.items names.now.meanings.entries }
     ensures value { result ≡ head_of source.now names.now.aliases.items rest.now }
     ensures within { IfSome result (λ found. found.size ≤ length rest.now) }

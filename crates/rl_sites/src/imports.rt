@@ -1,18 +1,20 @@
 // The aliases that the imports of a source make.
 ghost use Rattle.std.specs.Prelude.{◌≡◌, ◌≤◌, ◌+◌, ◌++◌, ℕ, List, [], IsTrue, IfOk, OnOk, length, drop, codes, option_to_list, if◌then◌else◌};
-ghost use Rattle.rl_sites.specs.Marks.{is_name, is_op, stands};
-ghost use Rattle.rl_sites.specs.Imports.{ends_statement, is_renamed, dots_size, joined_size, as_size, item_size, given_name, module_alias, item_alias, items_from, is_from_import, import_here, aliases_from, aliases_of};
+ghost use Rattle.rl_sites.specs.Significant.{is_name, is_op, stands};
+ghost use Rattle.rl_sites.specs.Imports.{ends_statement, is_renamed, dots_size, joined_size, item_size, given_name, item_alias, items_from, is_from_import, import_here, aliases_from, aliases_of};
+ghost use Rattle.rl_sites.specs.internal.Parts.{as_size};
 
-use crate::mark::Mark;
-use crate::marks::{is_line_end, is_name, is_op, is_word, name_at, op_at, rest_from, word_at};
+use crate::significant::{
+    SignificantToken, is_line_end, is_name, is_op, is_word, name_at, op_at, rest_from, word_at,
+};
 use rl_lists::OutOfMemory;
 use std::alloc::Global;
 
-/// A name that an import gives to the module `re`, or to the member of it that a mark names.
+/// A name that an import gives to the module `re`, or to the member of it that a token names.
 #[derive(Clone, Copy, Debug)]
 pub struct Alias {
-    pub name: Mark,
-    pub member: Option<Mark>,
+    pub name: SignificantToken,
+    pub member: Option<SignificantToken>,
 }
 
 /// The two kinds of import.
@@ -24,25 +26,25 @@ pub enum Import {
     Member,
 }
 
-/// Whether a statement begins behind the mark.
+/// Whether a statement begins behind the token.
 #[tactic(auto, unfolding(crate::specs::Imports::ends_statement))]
-pub fn ends_statement(source: &[u8], mark: Mark) -> bool
-    ensures { result ≡ ends_statement source.now mark }
+pub fn ends_statement(source: &[u8], token: SignificantToken) -> bool
+    ensures { result ≡ ends_statement source.now token }
 {
-    is_line_end(mark) || is_op(source, b";", mark) || is_op(source, b":", mark)
+    is_line_end(token) || is_op(source, b";", token) || is_op(source, b":", token)
 }
 
 /// Whether `as` and a name stand in front.
 #[tactic(auto, unfolding(crate::specs::Imports::is_renamed))]
-fn is_renamed(source: &[u8], rest: &[Mark]) -> bool
+fn is_renamed(source: &[u8], rest: &[SignificantToken]) -> bool
     ensures value { result ≡ is_renamed source.now rest.now }
     ensures within { IsTrue result → 2 ≤ length rest.now }
 {
     word_at(source, b"as", rest, 0) && name_at(rest, 1)
 }
 
-/// How many marks the names in front take that are joined on by `.`.
-fn dots_size(source: &[u8], rest: &[Mark]) -> usize
+/// How many tokens the names in front take that are joined on by `.`.
+fn dots_size(source: &[u8], rest: &[SignificantToken]) -> usize
     ensures value { result ≡ dots_size source.now rest.now }
     ensures within { result ≤ length rest.now }
 {
@@ -56,7 +58,7 @@ fn dots_size(source: &[u8], rest: &[Mark]) -> usize
     rest.len() - left.len()
 }
 
-fn joined_size(source: &[u8], kind: Import, rest: &[Mark]) -> usize
+fn joined_size(source: &[u8], kind: Import, rest: &[SignificantToken]) -> usize
     ensures value { result ≡ joined_size source.now kind rest.now }
     ensures within { result ≤ length rest.now }
 {
@@ -66,16 +68,16 @@ fn joined_size(source: &[u8], kind: Import, rest: &[Mark]) -> usize
     }
 }
 
-fn as_size(source: &[u8], rest: &[Mark]) -> usize
+fn as_size(source: &[u8], rest: &[SignificantToken]) -> usize
     ensures value { result ≡ as_size source.now rest.now }
     ensures within { result ≤ length rest.now }
 {
     if is_renamed(source, rest) { 2 } else { 0 }
 }
 
-/// How many marks of an item stand behind its first name.
+/// How many tokens of an item stand behind its first name.
 #[tactic(auto, unfolding(crate::specs::Imports::item_size))]
-fn item_size(source: &[u8], kind: Import, rest: &[Mark]) -> usize
+fn item_size(source: &[u8], kind: Import, rest: &[SignificantToken]) -> usize
     ensures value { result ≡ item_size source.now kind rest.now }
     ensures within { result ≤ length rest.now }
 {
@@ -83,26 +85,25 @@ fn item_size(source: &[u8], kind: Import, rest: &[Mark]) -> usize
     joined + as_size(source, rest_from(rest, joined))
 }
 
-/// The name that an item gives, whose own name is the mark.
+/// The name that an item gives, whose own name is the token.
 #[tactic(auto, unfolding(crate::specs::Imports::given_name))]
-fn given_name(source: &[u8], mark: Mark, rest: &[Mark]) -> Mark
-    ensures { result ≡ given_name source.now mark rest.now }
+fn given_name(source: &[u8], token: SignificantToken, rest: &[SignificantToken]) -> SignificantToken
+    ensures { result ≡ given_name source.now token rest.now }
 {
     if !is_renamed(source, rest) {
-        return mark;
+        return token;
     }
     match rest {
         [_, name, ..] => *name,
-        _ => mark,
+        _ => token,
     }
 }
 
-#[tactic(auto, unfolding(crate::specs::Imports::module_alias))]
-fn module_alias(source: &[u8], mark: Mark, rest: &[Mark]) -> Option<Alias>
-    ensures { result ≡ module_alias source.now mark rest.now }
+fn module_alias(source: &[u8], token: SignificantToken, rest: &[SignificantToken]) -> Option<Alias>
+    ensures { result ≡ item_alias source.now Import.Module token rest.now }
 {
-    if is_word(source, b"re", mark) && dots_size(source, rest) == 0 {
-        let name = given_name(source, mark, rest);
+    if is_word(source, b"re", token) && dots_size(source, rest) == 0 {
+        let name = given_name(source, token, rest);
         Some(Alias { name, member: None })
     } else {
         None
@@ -110,16 +111,21 @@ fn module_alias(source: &[u8], mark: Mark, rest: &[Mark]) -> Option<Alias>
 }
 
 /// The alias that an item makes, if it makes one.
-fn item_alias(source: &[u8], kind: Import, mark: Mark, rest: &[Mark]) -> Option<Alias>
-    ensures { result ≡ item_alias source.now kind mark rest.now }
+fn item_alias(
+    source: &[u8],
+    kind: Import,
+    token: SignificantToken,
+    rest: &[SignificantToken],
+) -> Option<Alias>
+    ensures { result ≡ item_alias source.now kind token rest.now }
 {
     match kind {
-        Import::Module => module_alias(source, mark, rest),
+        Import::Module => module_alias(source, token, rest),
         Import::Member => {
-            let name = given_name(source, mark, rest);
+            let name = given_name(source, token, rest);
             Some(Alias {
                 name,
-                member: Some(mark),
+                member: Some(token),
             })
         }
     }
@@ -130,12 +136,12 @@ fn push_item(
     aliases: &mut Vec<Alias>,
     source: &[u8],
     kind: Import,
-    mark: Mark,
-    rest: &[Mark],
+    token: SignificantToken,
+    rest: &[SignificantToken],
 ) -> Result<(), OutOfMemory>
-    ensures { OnOk result (aliases.new.items ≡ aliases.old.items ++ option_to_list (item_alias source.now kind mark rest.now)) }
+    ensures { OnOk result (aliases.new.items ≡ aliases.old.items ++ option_to_list (item_alias source.now kind token rest.now)) }
 {
-    if let Some(alias) = item_alias(source, kind, mark, rest) {
+    if let Some(alias) = item_alias(source, kind, token, rest) {
         aliases.push(alias)?;
     }
     Ok(())
@@ -147,17 +153,17 @@ fn push_items(
     aliases: &mut Vec<Alias>,
     source: &[u8],
     kind: Import,
-    items: &[Mark],
+    items: &[SignificantToken],
 ) -> Result<(), OutOfMemory>
     ensures { OnOk result (aliases.new.items ≡ aliases.old.items ++ items_from source.now kind 0 items.now) }
 {
     let mut rest = items;
-    while let [mark, ..] = rest {
-        if !is_name(*mark) {
+    while let [token, ..] = rest {
+        if !is_name(*token) {
             return Ok(());
         }
         let after = rest_from(rest, 1);
-        push_item(aliases, source, kind, *mark, after)?;
+        push_item(aliases, source, kind, *token, after)?;
         let size = item_size(source, kind, after);
         if !op_at(source, b",", after, size) {
             return Ok(());
@@ -169,7 +175,7 @@ fn push_items(
 
 /// Whether `from re import` stands in front.
 #[tactic(auto, unfolding(crate::specs::Imports::is_from_import))]
-fn is_from_import(source: &[u8], rest: &[Mark]) -> bool
+fn is_from_import(source: &[u8], rest: &[SignificantToken]) -> bool
     ensures value { result ≡ is_from_import source.now rest.now }
     ensures within { IsTrue result → 3 ≤ length rest.now }
 {
@@ -178,8 +184,8 @@ fn is_from_import(source: &[u8], rest: &[Mark]) -> bool
         && word_at(source, b"import", rest, 2)
 }
 
-/// The marks behind a `(` in front, or else all of them.
-fn behind_bracket<'a>(source: &[u8], rest: &'a [Mark]) -> &'a [Mark]
+/// The tokens behind a `(` in front, or else all of them.
+fn behind_bracket<'a>(source: &[u8], rest: &'a [SignificantToken]) -> &'a [SignificantToken]
     ensures { result.now ≡ drop (if stands 0 (is_op source.now (codes "(")) rest.now then 1 else 0) rest.now }
 {
     if op_at(source, b"(", rest, 0) {
@@ -191,7 +197,11 @@ fn behind_bracket<'a>(source: &[u8], rest: &'a [Mark]) -> &'a [Mark]
 
 /// Appends the aliases of the import with which a statement begins, if it is one.
 #[tactic(auto, using(crate::proofs::Items::items), unfolding(crate::specs::Imports::import_here))]
-fn push_import(aliases: &mut Vec<Alias>, source: &[u8], rest: &[Mark]) -> Result<(), OutOfMemory>
+fn push_import(
+    aliases: &mut Vec<Alias>,
+    source: &[u8],
+    rest: &[SignificantToken],
+) -> Result<(), OutOfMemory>
     ensures { OnOk result (aliases.new.items ≡ aliases.old.items ++ import_here source.now rest.now) }
 {
     if word_at(source, b"import", rest, 0) {
@@ -209,7 +219,7 @@ fn push_statement(
     aliases: &mut Vec<Alias>,
     source: &[u8],
     begins: bool,
-    rest: &[Mark],
+    rest: &[SignificantToken],
 ) -> Result<(), OutOfMemory>
     ensures { OnOk result (aliases.new.items ≡ aliases.old.items ++ (if begins then import_here source.now rest.now else [])) }
 {
@@ -220,15 +230,19 @@ fn push_statement(
 }
 
 /// The aliases of a source.
-pub fn aliases_of(alloc: Global, source: &[u8], marks: &[Mark]) -> Result<Vec<Alias>, OutOfMemory>
-    ensures { IfOk result (λ aliases. aliases.items ≡ aliases_of source.now marks.now) }
+pub fn aliases_of(
+    alloc: Global,
+    source: &[u8],
+    tokens: &[SignificantToken],
+) -> Result<Vec<Alias>, OutOfMemory>
+    ensures { IfOk result (λ aliases. aliases.items ≡ aliases_of source.now tokens.now) }
 {
     let mut aliases = Vec::new(alloc);
     let mut begins = true;
-    let mut rest = marks;
-    while let [mark, after @ ..] = rest {
+    let mut rest = tokens;
+    while let [token, after @ ..] = rest {
         push_statement(&mut aliases, source, begins, rest)?;
-        begins = ends_statement(source, *mark);
+        begins = ends_statement(source, *token);
         rest = after;
     }
     Ok(aliases)

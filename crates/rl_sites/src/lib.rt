@@ -33,11 +33,10 @@ mod flag;
 mod flags;
 mod heads;
 mod imports;
-mod mark;
-mod marks;
 mod meaning;
 mod names;
 mod reading;
+mod significant;
 mod site;
 mod terms;
 

@@ -1,15 +1,14 @@
 // What names stand for: the module, its nine calls that take a pattern first, and its flags.
 ghost use Rattle.std.specs.Prelude.{◌≡◌, ℕ, List, None, IfOk, OnOk};
-ghost use Rattle.rl_sites.specs.Names.{call_of, flag_of, is_module, call_named, flag_named, call_aliased, flag_aliased};
-ghost use Rattle.rl_sites.specs.Marks.{word_of};
-ghost use Rattle.rl_sites.specs.internal.Meanings.{call_rank, flag_rank, earlier, nothing, joined, own_meaning, meaning_with, meaning_of, meaning_in, IsMeant};
+ghost use Rattle.rl_sites.specs.Names.{is_module, call_named, flag_named, call_aliased, flag_aliased};
+ghost use Rattle.rl_sites.specs.Significant.{word_of};
+ghost use Rattle.rl_sites.specs.internal.Meanings.{call_rank, flag_rank, earlier, nothing, joined, own_meaning, meaning_with, meaning_of, meaning_in, IsMeant, call_of, flag_of};
 
 use crate::Call;
 use crate::flag::Flag;
 use crate::imports::Alias;
-use crate::mark::Mark;
-use crate::marks::{is_name, word_of};
 use crate::meaning::Meaning;
+use crate::significant::{SignificantToken, is_name, word_of};
 use indexmap::IndexMap;
 use rl_lists::OutOfMemory;
 use std::alloc::Global;
@@ -24,7 +23,7 @@ pub struct Names<'a> {
 }
 
 /// The call with this name.
-#[tactic(auto, unfolding(crate::specs::Names::call_of))]
+#[tactic(auto, unfolding(crate::specs::internal::Meanings::call_of))]
 fn call_of(word: &[u8]) -> Option<Call>
     ensures { result ≡ call_of word.now }
 {
@@ -52,42 +51,26 @@ fn call_of(word: &[u8]) -> Option<Call>
 }
 
 /// The flag with this name.
-#[tactic(auto, unfolding(crate::specs::Names::flag_of))]
+#[tactic(auto, unfolding(crate::specs::internal::Meanings::flag_of))]
 fn flag_of(word: &[u8]) -> Option<Flag>
     ensures { result ≡ flag_of word.now }
 {
-    if word == b"A".as_slice() {
-        Some(Flag::A)
-    } else if word == b"ASCII".as_slice() {
+    if word == b"A".as_slice() || word == b"ASCII".as_slice() {
         Some(Flag::Ascii)
-    } else if word == b"I".as_slice() {
-        Some(Flag::I)
-    } else if word == b"IGNORECASE".as_slice() {
+    } else if word == b"I".as_slice() || word == b"IGNORECASE".as_slice() {
         Some(Flag::IgnoreCase)
-    } else if word == b"L".as_slice() {
-        Some(Flag::L)
-    } else if word == b"LOCALE".as_slice() {
+    } else if word == b"L".as_slice() || word == b"LOCALE".as_slice() {
         Some(Flag::Locale)
-    } else if word == b"M".as_slice() {
-        Some(Flag::M)
-    } else if word == b"MULTILINE".as_slice() {
+    } else if word == b"M".as_slice() || word == b"MULTILINE".as_slice() {
         Some(Flag::Multiline)
-    } else if word == b"S".as_slice() {
-        Some(Flag::S)
-    } else if word == b"DOTALL".as_slice() {
+    } else if word == b"S".as_slice() || word == b"DOTALL".as_slice() {
         Some(Flag::DotAll)
-    } else if word == b"U".as_slice() {
-        Some(Flag::U)
-    } else if word == b"UNICODE".as_slice() {
+    } else if word == b"U".as_slice() || word == b"UNICODE".as_slice() {
         Some(Flag::Unicode)
-    } else if word == b"X".as_slice() {
-        Some(Flag::X)
-    } else if word == b"VERBOSE".as_slice() {
+    } else if word == b"X".as_slice() || word == b"VERBOSE".as_slice() {
         Some(Flag::Verbose)
-    } else if word == b"DEBUG".as_slice() {
-        Some(Flag::Debug)
-    } else if word == b"NOFLAG".as_slice() {
-        Some(Flag::NoFlag)
+    } else if word == b"DEBUG".as_slice() || word == b"NOFLAG".as_slice() {
+        Some(Flag::Nothing)
     } else {
         None
     }
@@ -165,7 +148,7 @@ fn joined(first: Meaning, second: Meaning) -> Meaning
 }
 
 /// What an alias gives its name to.
-fn own_meaning(source: &[u8], member: Option<Mark>) -> Meaning
+fn own_meaning(source: &[u8], member: Option<SignificantToken>) -> Meaning
     ensures { result ≡ own_meaning source.now member }
 {
     match member {
@@ -174,10 +157,10 @@ fn own_meaning(source: &[u8], member: Option<Mark>) -> Meaning
             call: None,
             flag: None,
         },
-        Some(mark) => Meaning {
+        Some(token) => Meaning {
             of_module: false,
-            call: call_of(word_of(source, mark)),
-            flag: flag_of(word_of(source, mark)),
+            call: call_of(word_of(source, token)),
+            flag: flag_of(word_of(source, token)),
         },
     }
 }
@@ -237,68 +220,68 @@ pub fn names_of<'a>(
     Ok(Names { aliases, meanings })
 }
 
-/// What the text of a mark stands for.
-fn meaning_of(source: &[u8], names: &Names<'_>, mark: Mark) -> Meaning
+/// What the text of a token stands for.
+fn meaning_of(source: &[u8], names: &Names<'_>, token: SignificantToken) -> Meaning
     requires { IsMeant source.now names.now.aliases.items names.now.meanings.entries }
-    ensures { result ≡ meaning_of source.now names.now.aliases.items (word_of source.now mark) }
+    ensures { result ≡ meaning_of source.now names.now.aliases.items (word_of source.now token) }
 {
-    meaning_in(&names.meanings, word_of(source, mark))
+    meaning_in(&names.meanings, word_of(source, token))
 }
 
-/// Whether the mark is a name and an alias of the module.
+/// Whether the token is a name and an alias of the module.
 #[tactic(auto, unfolding(crate::specs::Names::is_module))]
-pub fn is_module(source: &[u8], names: &Names<'_>, mark: Mark) -> bool
+pub fn is_module(source: &[u8], names: &Names<'_>, token: SignificantToken) -> bool
     requires { IsMeant source.now names.now.aliases.items names.now.meanings.entries }
-    ensures { result ≡ is_module source.now names.now.aliases.items mark }
+    ensures { result ≡ is_module source.now names.now.aliases.items token }
 {
-    is_name(mark) && meaning_of(source, names, mark).of_module
+    is_name(token) && meaning_of(source, names, token).of_module
 }
 
-/// The call that the mark names itself.
-#[tactic(auto, unfolding(crate::specs::Names::call_named))]
-pub fn call_named(source: &[u8], mark: Mark) -> Option<Call>
-    ensures { result ≡ call_named source.now mark }
+/// The call that the token names itself.
+#[tactic(auto, unfolding(crate::specs::Names::call_named, crate::specs::internal::Meanings::call_of))]
+pub fn call_named(source: &[u8], token: SignificantToken) -> Option<Call>
+    ensures { result ≡ call_named source.now token }
 {
-    if is_name(mark) {
-        call_of(word_of(source, mark))
+    if is_name(token) {
+        call_of(word_of(source, token))
     } else {
         None
     }
 }
 
-/// The flag that the mark names itself.
-#[tactic(auto, unfolding(crate::specs::Names::flag_named))]
-pub fn flag_named(source: &[u8], mark: Mark) -> Option<Flag>
-    ensures { result ≡ flag_named source.now mark }
+/// The flag that the token names itself.
+#[tactic(auto, unfolding(crate::specs::Names::flag_named, crate::specs::internal::Meanings::flag_of))]
+pub fn flag_named(source: &[u8], token: SignificantToken) -> Option<Flag>
+    ensures { result ≡ flag_named source.now token }
 {
-    if is_name(mark) {
-        flag_of(word_of(source, mark))
+    if is_name(token) {
+        flag_of(word_of(source, token))
     } else {
         None
     }
 }
 
-/// The call that the mark is an alias of, the first of several.
-#[tactic(auto, unfolding(crate::specs::Names::call_aliased))]
-pub fn call_aliased(source: &[u8], names: &Names<'_>, mark: Mark) -> Option<Call>
+/// The call that the token is an alias of, the first of several.
+#[tactic(auto, unfolding(crate::specs::Names::call_aliased, crate::specs::internal::Meanings::first_call))]
+pub fn call_aliased(source: &[u8], names: &Names<'_>, token: SignificantToken) -> Option<Call>
     requires { IsMeant source.now names.now.aliases.items names.now.meanings.entries }
-    ensures { result ≡ call_aliased source.now names.now.aliases.items mark }
+    ensures { result ≡ call_aliased source.now names.now.aliases.items token }
 {
-    if is_name(mark) {
-        meaning_of(source, names, mark).call
+    if is_name(token) {
+        meaning_of(source, names, token).call
     } else {
         None
     }
 }
 
-/// The flag that the mark is an alias of, the first of several.
-#[tactic(auto, unfolding(crate::specs::Names::flag_aliased))]
-pub fn flag_aliased(source: &[u8], names: &Names<'_>, mark: Mark) -> Option<Flag>
+/// The flag that the token is an alias of, the first of several.
+#[tactic(auto, unfolding(crate::specs::Names::flag_aliased, crate::specs::internal::Meanings::first_flag))]
+pub fn flag_aliased(source: &[u8], names: &Names<'_>, token: SignificantToken) -> Option<Flag>
     requires { IsMeant source.now names.now.aliases.items names.now.meanings.entries }
-    ensures { result ≡ flag_aliased source.now names.now.aliases.items mark }
+    ensures { result ≡ flag_aliased source.now names.now.aliases.items token }
 {
-    if is_name(mark) {
-        meaning_of(source, names, mark).flag
+    if is_name(token) {
+        meaning_of(source, names, token).flag
     } else {
         None
     }

@@ -2,11 +2,12 @@
 ghost use Rattle.std.specs.Prelude.{◌≡◌, ◌≤◌, ◌<◌, ◌+◌, ◌-◌, ◌++◌, List, [], length, take, drop, slice_get, not, false, position, All, IfOk, OnOk, option_to_list, if◌then◌else◌};
 ghost use Rattle.std.specs.List.{prefix_len};
 ghost use Rattle.rl_pylex.specs.Source.{IsTokenList};
-ghost use Rattle.rl_sites.specs.Marks.{is_literal};
+ghost use Rattle.rl_sites.specs.Significant.{is_literal};
 ghost use Rattle.rl_sites.specs.internal.Walks.{IsTable, IsNumbered};
 ghost use Rattle.rl_sites.specs.Arguments.{arguments_of};
 ghost use Rattle.rl_sites.specs.Imports.{aliases_of};
-ghost use Rattle.rl_sites.specs.Sites.{pattern_size, site_of_run, ends_whole, flags_if, site_behind, site_by, site_here, hides, sites_from, sites_of};
+ghost use Rattle.rl_sites.specs.Sites.{pattern_size, site_of_run, ends_whole, site_behind, site_here, hides, sites_from, sites_of};
+ghost use Rattle.rl_sites.specs.internal.Parts.{site_by, flags_if};
 ghost use Rattle.rl_sites.specs.Runs.{HasRun, AreInOrder};
 ghost use Rattle.rl_sites.specs.internal.Meanings.{IsMeant};
 
@@ -14,16 +15,17 @@ use crate::brackets::sizes_of;
 use crate::flags::flags_of;
 use crate::heads::head_of;
 use crate::imports::{Alias, aliases_of};
-use crate::mark::Mark;
-use crate::marks::{is_literal, is_op, is_word, marks_of, op_at, rest_from, word_at};
 use crate::names::{Names, names_of};
+use crate::significant::{
+    SignificantToken, is_literal, is_op, is_word, op_at, rest_from, significant_tokens, word_at,
+};
 use crate::{Call, Site, SiteFlags, SiteList};
 use rl_lists::OutOfMemory;
 use rl_pylex::TokenList;
 use std::alloc::Global;
 
-/// How many marks `pattern` and `=` take, where they stand in front.
-fn pattern_size(source: &[u8], rest: &[Mark]) -> usize
+/// How many tokens `pattern` and `=` take, where they stand in front.
+fn pattern_size(source: &[u8], rest: &[SignificantToken]) -> usize
     ensures value { result ≡ pattern_size source.now rest.now }
     ensures within { result ≤ length rest.now }
 {
@@ -34,35 +36,35 @@ fn pattern_size(source: &[u8], rest: &[Mark]) -> usize
     }
 }
 
-fn after_literals(marks: &[Mark]) -> Option<usize>
-    ensures { result ≡ position (λ mark. not (is_literal mark)) marks.now }
+fn after_literals(tokens: &[SignificantToken]) -> Option<usize>
+    ensures { result ≡ position (λ token. not (is_literal token)) tokens.now }
 {
-    marks.iter().position(|mark| !is_literal(*mark))
+    tokens.iter().position(|token| !is_literal(*token))
 }
 
 /// How many literals stand in front.
 #[tactic(auto, using(crate::proofs::TermFacts::runs))]
-fn literal_size(marks: &[Mark]) -> usize
-    ensures value { result ≡ prefix_len is_literal marks.now }
-    ensures within { result ≤ length marks.now }
+fn literal_size(tokens: &[SignificantToken]) -> usize
+    ensures value { result ≡ prefix_len is_literal tokens.now }
+    ensures within { result ≤ length tokens.now }
 {
-    after_literals(marks).unwrap_or(marks.len())
+    after_literals(tokens).unwrap_or(tokens.len())
 }
 
-/// The first marks.
+/// The first tokens.
 #[tactic(auto, using(crate::proofs::Numbers::numbers))]
-fn first(marks: &[Mark], size: usize) -> &[Mark]
-    requires within { size ≤ length marks.now }
-    requires numbered { IsNumbered marks.now }
-    ensures value { result.now ≡ take size marks.now }
+fn first(tokens: &[SignificantToken], size: usize) -> &[SignificantToken]
+    requires within { size ≤ length tokens.now }
+    requires numbered { IsNumbered tokens.now }
+    ensures value { result.now ≡ take size tokens.now }
     ensures numbered { IsNumbered result.now }
 {
-    &marks[..size]
+    &tokens[..size]
 }
 
 /// Whether `,` or `)` stands behind a run of literals.
 #[tactic(auto, unfolding(crate::specs::Sites::ends_whole))]
-fn ends_whole(source: &[u8], rest: &[Mark]) -> bool
+fn ends_whole(source: &[u8], rest: &[SignificantToken]) -> bool
     ensures { result ≡ ends_whole source.now rest.now }
 {
     op_at(source, b",", rest, 0) || op_at(source, b")", rest, 0)
@@ -73,7 +75,7 @@ fn flags_if(
     source: &[u8],
     names: &Names<'_>,
     call: Call,
-    rest: &[Mark],
+    rest: &[SignificantToken],
     sizes: &[usize],
 ) -> SiteFlags
     requires meant { IsMeant source.now names.now.aliases.items names.now.meanings.entries }
@@ -89,7 +91,7 @@ fn flags_if(
 
 /// The site whose literals are this run, if it has any.
 #[tactic(auto, using(crate::proofs::Numbers::numbers))]
-fn site_of_run(call: Call, whole: bool, flags: SiteFlags, run: &[Mark]) -> Option<Site>
+fn site_of_run(call: Call, whole: bool, flags: SiteFlags, run: &[SignificantToken]) -> Option<Site>
     requires { IsNumbered run.now }
     ensures { result ≡ site_of_run call whole flags (slice_get run.now 0) (slice_get run.now (length run.now - 1)) }
 {
@@ -108,13 +110,13 @@ fn site_of_run(call: Call, whole: bool, flags: SiteFlags, run: &[Mark]) -> Optio
     }
 }
 
-/// The site of a call, by the marks behind its opening bracket.
+/// The site of a call, by the tokens behind its opening bracket.
 #[tactic(auto, using(crate::proofs::Numbers::numbers), unfolding(crate::specs::Sites::site_behind))]
 fn site_behind(
     source: &[u8],
     names: &Names<'_>,
     call: Call,
-    rest: &[Mark],
+    rest: &[SignificantToken],
     sizes: &[usize],
 ) -> Option<Site>
     requires meant { IsMeant source.now names.now.aliases.items names.now.meanings.entries }
@@ -131,7 +133,12 @@ fn site_behind(
 
 /// The site that begins in front, if there is one.
 #[tactic(auto, using(crate::proofs::Numbers::numbers))]
-fn site_here(source: &[u8], names: &Names<'_>, rest: &[Mark], sizes: &[usize]) -> Option<Site>
+fn site_here(
+    source: &[u8],
+    names: &Names<'_>,
+    rest: &[SignificantToken],
+    sizes: &[usize],
+) -> Option<Site>
     requires meant { IsMeant source.now names.now.aliases.items names.now.meanings.entries }
     requires table { IsTable source.now rest.now sizes.now }
     requires numbered { IsNumbered rest.now }
@@ -143,12 +150,12 @@ fn site_here(source: &[u8], names: &Names<'_>, rest: &[Mark], sizes: &[usize]) -
     }
 }
 
-/// Whether no site begins behind the mark.
+/// Whether no site begins behind the token.
 #[tactic(auto, unfolding(crate::specs::Sites::hides))]
-fn hides(source: &[u8], mark: Mark) -> bool
-    ensures { result ≡ hides source.now mark }
+fn hides(source: &[u8], token: SignificantToken) -> bool
+    ensures { result ≡ hides source.now token }
 {
-    is_op(source, b".", mark) || is_word(source, b"def", mark)
+    is_op(source, b".", token) || is_word(source, b"def", token)
 }
 
 /// Appends the site that begins in front, if there is one and it isn't hidden.
@@ -157,7 +164,7 @@ fn push_site(
     source: &[u8],
     names: &Names<'_>,
     hidden: bool,
-    rest: &[Mark],
+    rest: &[SignificantToken],
     sizes: &[usize],
 ) -> Result<(), OutOfMemory>
     requires meant { IsMeant source.now names.now.aliases.items names.now.meanings.entries }
@@ -174,48 +181,48 @@ fn push_site(
     Ok(())
 }
 
-/// The sites among the marks.
+/// The sites among the tokens.
 #[tactic(auto, using(crate::proofs::Numbers::numbers))]
 fn sites_among(
     alloc: Global,
     source: &[u8],
     names: &Names<'_>,
-    marks: &[Mark],
+    tokens: &[SignificantToken],
     sizes: &[usize],
 ) -> Result<SiteList, OutOfMemory>
     requires meant { IsMeant source.now names.now.aliases.items names.now.meanings.entries }
-    requires table { IsTable source.now marks.now sizes.now }
-    requires numbered { IsNumbered marks.now }
-    ensures { IfOk result (λ sites. sites ≡ sites_from source.now names.now.aliases.items false marks.now) }
+    requires table { IsTable source.now tokens.now sizes.now }
+    requires numbered { IsNumbered tokens.now }
+    ensures { IfOk result (λ sites. sites ≡ sites_from source.now names.now.aliases.items false tokens.now) }
 {
     let mut sites = SiteList::new(alloc);
     let mut hidden = false;
-    let mut rest = marks;
-    while let [mark, ..] = rest {
+    let mut rest = tokens;
+    while let [token, ..] = rest {
         push_site(&mut sites, source, names, hidden, rest, sizes)?;
-        hidden = hides(source, *mark);
+        hidden = hides(source, *token);
         rest = rest_from(rest, 1);
     }
     Ok(sites)
 }
 
-/// The sites among the marks, by the aliases of their source. A source that makes none has no sites.
+/// The sites among the tokens, by the aliases of their source. A source that makes none has no sites.
 #[tactic(auto, using(crate::proofs::NoAliases::no_sites))]
 fn sites_by(
     alloc: Global,
     source: &[u8],
     aliases: Vec<Alias>,
-    marks: &[Mark],
+    tokens: &[SignificantToken],
 ) -> Result<SiteList, OutOfMemory>
-    requires { IsNumbered marks.now }
-    ensures { IfOk result (λ sites. sites ≡ sites_from source.now aliases.items false marks.now) }
+    requires { IsNumbered tokens.now }
+    ensures { IfOk result (λ sites. sites ≡ sites_from source.now aliases.items false tokens.now) }
 {
     if aliases.is_empty() {
         return Ok(SiteList::new(alloc));
     }
     let names = names_of(alloc, source, aliases)?;
-    let sizes = sizes_of(alloc, source, marks)?;
-    sites_among(alloc, source, &names, marks, sizes.as_slice())
+    let sizes = sizes_of(alloc, source, tokens)?;
+    sites_among(alloc, source, &names, tokens, sizes.as_slice())
 }
 
 /// The sites of a source with these tokens, which are its own: each call of the module `re` by an alias that its
@@ -233,7 +240,7 @@ pub fn sites(alloc: Global, source: &[u8], tokens: &TokenList) -> Result<SiteLis
     ensures runs { IfOk result (All (HasRun tokens.now)) }
     ensures order { IfOk result AreInOrder }
 {
-    let marks = marks_of(alloc, tokens.as_slice())?;
-    let aliases = aliases_of(alloc, source, marks.as_slice())?;
-    sites_by(alloc, source, aliases, marks.as_slice())
+    let significant = significant_tokens(alloc, tokens.as_slice())?;
+    let aliases = aliases_of(alloc, source, significant.as_slice())?;
+    sites_by(alloc, source, aliases, significant.as_slice())
 }

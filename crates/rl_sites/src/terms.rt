@@ -1,16 +1,16 @@
 // The flags of an argument of terms with `|` between them.
 ghost use Rattle.std.specs.Prelude.{◌≡◌, ◌≤◌, ◌&&◌, codes, length, take, not, position};
 ghost use Rattle.std.specs.List.{prefix_len};
-ghost use Rattle.rl_sites.specs.Marks.{is_op};
+ghost use Rattle.rl_sites.specs.Significant.{is_op};
 ghost use Rattle.rl_sites.specs.Names.{is_module};
-ghost use Rattle.rl_sites.specs.Flags.{no_flags, with_flag, lone_term, dotted_term, term, flags_by, is_bar};
+ghost use Rattle.rl_sites.specs.Flags.{no_flags, with_flag, term, flags_by};
+ghost use Rattle.rl_sites.specs.internal.Parts.{lone_term, is_bar, dotted_term};
 ghost use Rattle.rl_sites.specs.internal.Meanings.{IsMeant};
 
 use crate::SiteFlags;
 use crate::flag::Flag;
-use crate::mark::Mark;
-use crate::marks::{is_op, is_zero, rest_from};
 use crate::names::{Names, flag_aliased, flag_named, is_module};
+use crate::significant::{SignificantToken, is_op, is_zero, rest_from};
 use rl_pattern::Flags;
 
 /// No flag is set.
@@ -32,117 +32,126 @@ fn with_flag(flag: Flag, flags: Flags) -> Flags
     ensures { result ≡ with_flag flag flags }
 {
     match flag {
-        Flag::A | Flag::Ascii => Flags {
+        Flag::Ascii => Flags {
             ascii: true,
             ..flags
         },
-        Flag::I | Flag::IgnoreCase => Flags {
+        Flag::IgnoreCase => Flags {
             ignore_case: true,
             ..flags
         },
-        Flag::L | Flag::Locale => Flags {
+        Flag::Locale => Flags {
             locale: true,
             ..flags
         },
-        Flag::M | Flag::Multiline => Flags {
+        Flag::Multiline => Flags {
             multiline: true,
             ..flags
         },
-        Flag::S | Flag::DotAll => Flags {
+        Flag::DotAll => Flags {
             dot_all: true,
             ..flags
         },
-        Flag::U | Flag::Unicode => Flags {
+        Flag::Unicode => Flags {
             unicode: true,
             ..flags
         },
-        Flag::X | Flag::Verbose => Flags {
+        Flag::Verbose => Flags {
             verbose: true,
             ..flags
         },
-        Flag::Debug | Flag::NoFlag => flags,
+        Flag::Nothing => flags,
     }
 }
 
-/// What a term of one mark sets: the number `0`, or an alias of a flag's name.
-#[tactic(auto, unfolding(crate::specs::Flags::lone_term))]
-fn lone_term(source: &[u8], names: &Names<'_>, mark: Mark) -> Option<Flag>
+/// What a term of one token sets: the number `0`, or an alias of a flag's name.
+fn lone_term(source: &[u8], names: &Names<'_>, token: SignificantToken) -> Option<Flag>
     requires { IsMeant source.now names.now.aliases.items names.now.meanings.entries }
-    ensures { result ≡ lone_term source.now names.now.aliases.items mark }
+    ensures { result ≡ lone_term source.now names.now.aliases.items token }
 {
-    if is_zero(source, mark) {
-        Some(Flag::NoFlag)
+    if is_zero(source, token) {
+        Some(Flag::Nothing)
     } else {
-        flag_aliased(source, names, mark)
+        flag_aliased(source, names, token)
     }
 }
 
-fn is_dotted(source: &[u8], names: &Names<'_>, mark: Mark, dot: Mark) -> bool
+fn is_dotted(
+    source: &[u8],
+    names: &Names<'_>,
+    token: SignificantToken,
+    dot: SignificantToken,
+) -> bool
     requires { IsMeant source.now names.now.aliases.items names.now.meanings.entries }
-    ensures { result ≡ (is_module source.now names.now.aliases.items mark && is_op source.now (codes ".") dot) }
+    ensures { result ≡ (is_module source.now names.now.aliases.items token && is_op source.now (codes ".") dot) }
 {
-    is_module(source, names, mark) && is_op(source, b".", dot)
+    is_module(source, names, token) && is_op(source, b".", dot)
 }
 
-/// What a term of three marks sets: an alias of the module, `.` and a flag's name.
-#[tactic(auto, unfolding(crate::specs::Flags::dotted_term))]
-fn dotted_term(source: &[u8], names: &Names<'_>, mark: Mark, dot: Mark, name: Mark) -> Option<Flag>
+/// What a term of three tokens sets: an alias of the module, `.` and a flag's name.
+fn dotted_term(
+    source: &[u8],
+    names: &Names<'_>,
+    token: SignificantToken,
+    dot: SignificantToken,
+    name: SignificantToken,
+) -> Option<Flag>
     requires { IsMeant source.now names.now.aliases.items names.now.meanings.entries }
-    ensures { result ≡ dotted_term source.now names.now.aliases.items mark dot name }
+    ensures { result ≡ dotted_term source.now names.now.aliases.items token dot name }
 {
-    if is_dotted(source, names, mark, dot) {
+    if is_dotted(source, names, token, dot) {
         flag_named(source, name)
     } else {
         None
     }
 }
 
-/// What the marks set, if they are a term.
+/// What the tokens set, if they are a term.
 #[tactic(auto, using(crate::proofs::TermFacts::terms))]
-fn term(source: &[u8], names: &Names<'_>, marks: &[Mark]) -> Option<Flag>
+fn term(source: &[u8], names: &Names<'_>, tokens: &[SignificantToken]) -> Option<Flag>
     requires { IsMeant source.now names.now.aliases.items names.now.meanings.entries }
-    ensures { result ≡ term source.now names.now.aliases.items marks.now }
+    ensures { result ≡ term source.now names.now.aliases.items tokens.now }
 {
-    match marks {
-        [mark] => lone_term(source, names, *mark),
-        [mark, dot, name] => dotted_term(source, names, *mark, *dot, *name),
+    match tokens {
+        [token] => lone_term(source, names, *token),
+        [token, dot, name] => dotted_term(source, names, *token, *dot, *name),
         _ => None,
     }
 }
 
-fn bar_place(source: &[u8], marks: &[Mark]) -> Option<usize>
-    ensures { result ≡ position (is_bar source.now) marks.now }
+fn bar_place(source: &[u8], tokens: &[SignificantToken]) -> Option<usize>
+    ensures { result ≡ position (is_bar source.now) tokens.now }
 {
-    marks.iter().position(|mark| is_op(source, b"|", *mark))
+    tokens.iter().position(|token| is_op(source, b"|", *token))
 }
 
-/// How many marks stand before the first `|`.
+/// How many tokens stand before the first `|`.
 #[tactic(auto, using(crate::proofs::TermFacts::runs))]
-fn bar_size(source: &[u8], marks: &[Mark]) -> usize
-    ensures value { result ≡ prefix_len (λ mark. not (is_bar source.now mark)) marks.now }
-    ensures within { result ≤ length marks.now }
+fn bar_size(source: &[u8], tokens: &[SignificantToken]) -> usize
+    ensures value { result ≡ prefix_len (λ token. not (is_bar source.now token)) tokens.now }
+    ensures within { result ≤ length tokens.now }
 {
-    bar_place(source, marks).unwrap_or(marks.len())
+    bar_place(source, tokens).unwrap_or(tokens.len())
 }
 
-/// The first marks.
-fn first(marks: &[Mark], size: usize) -> &[Mark]
-    requires { size ≤ length marks.now }
-    ensures { result.now ≡ take size marks.now }
+/// The first tokens.
+fn first(tokens: &[SignificantToken], size: usize) -> &[SignificantToken]
+    requires { size ≤ length tokens.now }
+    ensures { result.now ≡ take size tokens.now }
 {
-    &marks[..size]
+    &tokens[..size]
 }
 
-/// At most the first four marks, which are one more than a term has.
-fn front(marks: &[Mark]) -> &[Mark]
-    ensures { result.now ≡ take 4 marks.now }
+/// At most the first four tokens, which are one more than a term has.
+fn front(tokens: &[SignificantToken]) -> &[SignificantToken]
+    ensures { result.now ≡ take 4 tokens.now }
 {
-    &marks[..marks.len().min(4)]
+    &tokens[..tokens.len().min(4)]
 }
 
 /// The flags of an argument of one or more terms with `|` between them; unknown where it is anything else.
 #[tactic(auto, using(crate::proofs::TermFacts::steps), unfolding(crate::specs::Flags::flags_by))]
-pub fn flags_by(source: &[u8], names: &Names<'_>, argument: &[Mark]) -> SiteFlags
+pub fn flags_by(source: &[u8], names: &Names<'_>, argument: &[SignificantToken]) -> SiteFlags
     requires { IsMeant source.now names.now.aliases.items names.now.meanings.entries }
     ensures { result ≡ flags_by source.now names.now.aliases.items argument.now }
 {

@@ -1,16 +1,30 @@
 -- What a table of names says of each name.
-use Rattle.std.specs.Prelude.{◌≡◌, ℕ, true, false, ◌||◌, List, Option, Some, None, nat_lt, unwrap_or, bytes_eq, if◌then◌else◌}
+use Rattle.std.specs.Prelude.{◌≡◌, ℕ, true, false, ◌||◌, List, Option, Some, None, nat_lt, find, unwrap_or, bytes_eq, if◌then◌else◌}
 use Rattle.std.specs.Map.{lookup}
 use denote.Ref.{Bor}
-use Rattle.rl_sites.specs.declared.mark.Mark.{Mark}
+use Rattle.rl_sites.specs.declared.significant.SignificantToken.{SignificantToken}
 use Rattle.rl_sites.specs.declared.imports.Alias.{Alias}
 use Rattle.rl_sites.specs.declared.call.Call.{Call}
 use Rattle.rl_sites.specs.declared.call.Call.TheVariants as call
 use Rattle.rl_sites.specs.declared.flag.Flag.{Flag}
 use Rattle.rl_sites.specs.declared.flag.Flag.TheVariants as flag
 use Rattle.rl_sites.specs.declared.meaning.Meaning.{Meaning}
-use Rattle.rl_sites.specs.Marks.{word_of}
-use Rattle.rl_sites.specs.Names.{call_of, flag_of, names_any_module, first_call, first_flag}
+use Rattle.rl_sites.specs.Significant.{word_of}
+use Rattle.rl_sites.specs.Names.{calls, call_word, flag_names, names_any_module, names_any_member}
+
+-- the call or the flag with this name
+unfoldable pub call_of : List ℕ → Option Call
+call_of word = find (λ call. bytes_eq word (call_word call)) calls
+
+unfoldable pub flag_of : List ℕ → Option Flag
+flag_of word = lookup (bytes_eq word) flag_names
+
+-- the first call or flag that the name is an alias of
+unfoldable pub first_call : List ℕ → List Alias → List ℕ → Option Call
+first_call source aliases name = find (λ call. names_any_member source aliases name (call_word call)) calls
+
+unfoldable pub first_flag : List ℕ → List Alias → List ℕ → Option Flag
+first_flag source aliases name = lookup (names_any_member source aliases name) flag_names
 
 abbrev pub call_rank : Call → ℕ
 call_rank call.Compile = 0
@@ -24,22 +38,14 @@ call_rank call.Sub = 7
 call_rank call.Subn = 8
 
 abbrev pub flag_rank : Flag → ℕ
-flag_rank flag.A = 0
-flag_rank flag.Ascii = 1
-flag_rank flag.I = 2
-flag_rank flag.IgnoreCase = 3
-flag_rank flag.L = 4
-flag_rank flag.Locale = 5
-flag_rank flag.M = 6
-flag_rank flag.Multiline = 7
-flag_rank flag.S = 8
-flag_rank flag.DotAll = 9
-flag_rank flag.U = 10
-flag_rank flag.Unicode = 11
-flag_rank flag.X = 12
-flag_rank flag.Verbose = 13
-flag_rank flag.Debug = 14
-flag_rank flag.NoFlag = 15
+flag_rank flag.Ascii = 0
+flag_rank flag.IgnoreCase = 1
+flag_rank flag.Locale = 2
+flag_rank flag.Multiline = 3
+flag_rank flag.DotAll = 4
+flag_rank flag.Unicode = 5
+flag_rank flag.Verbose = 6
+flag_rank flag.Nothing = 7
 
 -- the one of lower rank
 abbrev pub earlier : {X : Type 0} → (X → ℕ) → Option X → Option X → Option X
@@ -61,7 +67,7 @@ joined first second =
     }
 
 -- what an alias gives its name to
-abbrev pub own_meaning : List ℕ → Option Mark → Meaning
+abbrev pub own_meaning : List ℕ → Option SignificantToken → Meaning
 own_meaning source None = record { of_module = true; call = None; flag = None }
 own_meaning source (Some member) =
     record { of_module = false; call = call_of (word_of source member); flag = flag_of (word_of source member) }

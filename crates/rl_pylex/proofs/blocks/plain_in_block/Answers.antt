@@ -1,5 +1,5 @@
 -- The lowest bit of the mask is the end of the run.
-use Rattle.rl_pylex.specs.Literals.{is_plain}
+use Rattle.rl_pylex.specs.internal.Bodies.{is_plain}
 use Rattle.rl_pylex.proofs.Lanes.{front}
 use Rattle.rl_pylex.proofs.blocks.plain_in_block.Goals as goal
 

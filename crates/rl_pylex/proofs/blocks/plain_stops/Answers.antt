@@ -1,7 +1,7 @@
 -- The top bit of each lane is the answer of the test.
 use Rattle.std.proofs.Common.{not, ◌∙◌}
 use Rattle.std.proofs.lemmas.List.{length-map}
-use Rattle.rl_pylex.specs.Literals.{is_plain}
+use Rattle.rl_pylex.specs.internal.Bodies.{is_plain}
 use Rattle.rl_pylex.proofs.Lanes.{mask_is, plain_lanes}
 use Rattle.rl_pylex.proofs.blocks.plain_stops.Goals as goal
 

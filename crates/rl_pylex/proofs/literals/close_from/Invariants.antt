@@ -1,6 +1,6 @@
 -- What was passed holds no closing quotes and no fault.
 use Rattle.std.proofs.Common.{length, ◌-◌, ◌+◌, ◌≤◌}
-use Rattle.rl_pylex.specs.Literals.{Skips}
+use Rattle.rl_pylex.specs.internal.Bodies.{Skips}
 use Rattle.rl_pylex.proofs.literals.close_from.Given as goal
 
 abbrev pub invariant-loop-at : goal.invariant-loop-at

@@ -1,7 +1,7 @@
 -- A block's run is that of the text, and goes on behind the block where all of it is plain.
 use Rattle.std.proofs.Common.{◌≡◌, ◌+◌, ◌≤◌, length, drop, arith}
 use Rattle.std.specs.List.{prefix_len}
-use Rattle.rl_pylex.specs.Literals.{is_plain}
+use Rattle.rl_pylex.specs.internal.Bodies.{is_plain}
 use Rattle.rl_pylex.proofs.Lanes.{run_ends, run_goes_on}
 use Rattle.rl_pylex.proofs.literals.plain_size.Goals as goal
 

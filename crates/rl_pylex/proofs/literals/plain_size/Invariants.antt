@@ -1,7 +1,7 @@
 -- What was passed is plain.
 use Rattle.std.proofs.Common.{◌≡◌, ◌+◌, ◌-◌, ◌≤◌, length, drop}
 use Rattle.std.specs.List.{prefix_len}
-use Rattle.rl_pylex.specs.Literals.{is_plain}
+use Rattle.rl_pylex.specs.internal.Bodies.{is_plain}
 use Rattle.rl_pylex.proofs.literals.plain_size.Given as goal
 
 abbrev pub invariant-loop-at : goal.invariant-loop-at

@@ -1,6 +1,6 @@
 -- The table is that of the class, by computation.
 use Rattle.std.proofs.Common.{refl, arith, false}
-use Rattle.rl_pylex.specs.Literals.{starts_literal}
+use Rattle.rl_pylex.specs.internal.Rows.{starts_literal}
 use Rattle.rl_pylex.proofs.ClassTables.{table_from, read_table}
 use Rattle.rl_pylex.proofs.literals.starts_literal.Goals as goal
 

@@ -1,4 +1,4 @@
--- One mark more, and its brackets where it opens some.
+-- One token more, and its brackets where it opens some.
 use Rattle.std.proofs.Common.{◌≡◌, ◌+◌, ◌∙◌, sym, arith, length, ap, refl, Bool}
 use Rattle.rl_sites.specs.internal.Walks.{argument_size}
 use Rattle.rl_sites.proofs.Walking.{size_goes, step_size, step_table}

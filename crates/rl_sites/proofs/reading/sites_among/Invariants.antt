@@ -6,7 +6,7 @@ use Rattle.rl_sites.proofs.reading.sites_among.Given as goal
 
 abbrev pub invariant-loop-rest : goal.invariant-loop-rest
 invariant-loop-rest l = record {
-  same : sites_from l.source l.names.aliases.items false l.marks ≡ l.sites ++ sites_from l.source l.names.aliases.items l.hidden l.rest;
+  same : sites_from l.source l.names.aliases.items false l.tokens ≡ l.sites ++ sites_from l.source l.names.aliases.items l.hidden l.rest;
   table : IsTable l.source l.rest l.sizes;
   numbered : IsNumbered l.rest;
 }

@@ -1,6 +1,7 @@
 -- The terms so far are set.
 use Rattle.std.proofs.Common.{◌≡◌, length}
-use Rattle.rl_sites.specs.Flags.{no_flags, terms_of, set_all}
+use Rattle.rl_sites.specs.Flags.{no_flags, set_all}
+use Rattle.rl_sites.specs.internal.Parts.{terms_of}
 use Rattle.rl_sites.proofs.terms.flags_by.Given as goal
 
 abbrev pub invariant-terms : goal.invariant-terms

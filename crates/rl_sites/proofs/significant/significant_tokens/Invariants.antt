@@ -1,0 +1,7 @@
+-- The significant tokens so far, in front of those of the rest, are the whole.
+use Rattle.std.proofs.Common.{◌≡◌, ◌++◌, drop}
+use Rattle.rl_sites.specs.Significant.{significant_from}
+use Rattle.rl_sites.proofs.significant.significant_tokens.Given as goal
+
+abbrev pub invariant-loop-number : goal.invariant-loop-number
+invariant-loop-number l = significant_from 0 l.tokens ≡ l.significant.items ++ significant_from l.number (drop l.number l.tokens)

@@ -1,0 +1,131 @@
+// The significant tokens of a source, and tests of them.
+ghost use Rattle.std.specs.Prelude.{◌≡◌, ◌<◌, ◌≤◌, length, drop, IfOk, IsTrue};
+ghost use Rattle.rl_pylex.specs.Source.{same_kind};
+ghost use Rattle.rl_sites.specs.Significant.{is_name, is_literal, word_of, is_word, is_op, significant_from, stands};
+ghost use Rattle.rl_sites.specs.internal.Parts.{is_zero};
+
+use rl_lists::OutOfMemory;
+use rl_pylex::{Token, TokenKind, text_of};
+use std::alloc::Global;
+
+/// A significant token, which is no comment, and its number among all tokens.
+#[derive(Clone, Copy, Debug, PartialEq, Eq)]
+pub struct SignificantToken {
+    pub number: u32,
+    pub inner: Token,
+}
+
+fn is_comment(token: Token) -> bool
+    ensures { result ≡ same_kind TokenKind.Comment token.kind }
+{
+    matches!(token.kind, TokenKind::Comment)
+}
+
+/// The text of a token.
+pub fn word_of(source: &[u8], token: SignificantToken) -> &[u8]
+    ensures { result.now ≡ word_of source.now token }
+{
+    text_of(source, token.inner)
+}
+
+pub fn is_name(token: SignificantToken) -> bool
+    ensures { result ≡ is_name token }
+{
+    matches!(token.inner.kind, TokenKind::Name)
+}
+
+pub fn is_literal(token: SignificantToken) -> bool
+    ensures { result ≡ is_literal token }
+{
+    matches!(token.inner.kind, TokenKind::Literal)
+}
+
+pub fn is_line_end(token: SignificantToken) -> bool
+    ensures { result ≡ same_kind TokenKind.LineEnd token.inner.kind }
+{
+    matches!(token.inner.kind, TokenKind::LineEnd)
+}
+
+/// Whether the token is a name with this text.
+#[tactic(auto, unfolding(crate::specs::Significant::is_word))]
+pub fn is_word(source: &[u8], word: &[u8], token: SignificantToken) -> bool
+    ensures { result ≡ is_word source.now word.now token }
+{
+    is_name(token) && word_of(source, token) == word
+}
+
+/// Whether the token is an operator or a bracket with this text.
+#[tactic(auto, unfolding(crate::specs::Significant::is_op))]
+pub fn is_op(source: &[u8], op: &[u8], token: SignificantToken) -> bool
+    ensures { result ≡ is_op source.now op.now token }
+{
+    matches!(token.inner.kind, TokenKind::Op) && word_of(source, token) == op
+}
+
+/// Whether the token is the number `0`.
+pub fn is_zero(source: &[u8], token: SignificantToken) -> bool
+    ensures { result ≡ is_zero source.now token }
+{
+    matches!(token.inner.kind, TokenKind::Number) && word_of(source, token) == b"0".as_slice()
+}
+
+/// The tokens from a place on.
+pub fn rest_from(tokens: &[SignificantToken], at: usize) -> &[SignificantToken]
+    requires { at ≤ length tokens.now }
+    ensures { result.now ≡ drop at tokens.now }
+{
+    &tokens[at..]
+}
+
+/// Whether a name with this text stands at a place.
+pub fn word_at(source: &[u8], word: &[u8], tokens: &[SignificantToken], at: usize) -> bool
+    ensures value { result ≡ stands at (is_word source.now word.now) tokens.now }
+    ensures within { IsTrue result → at < length tokens.now }
+{
+    match tokens.get(at) {
+        Some(token) => is_word(source, word, *token),
+        None => false,
+    }
+}
+
+/// Whether an operator or a bracket with this text stands at a place.
+pub fn op_at(source: &[u8], op: &[u8], tokens: &[SignificantToken], at: usize) -> bool
+    ensures value { result ≡ stands at (is_op source.now op.now) tokens.now }
+    ensures within { IsTrue result → at < length tokens.now }
+{
+    match tokens.get(at) {
+        Some(token) => is_op(source, op, *token),
+        None => false,
+    }
+}
+
+/// Whether a name stands at a place.
+pub fn name_at(tokens: &[SignificantToken], at: usize) -> bool
+    ensures value { result ≡ stands at is_name tokens.now }
+    ensures within { IsTrue result → at < length tokens.now }
+{
+    match tokens.get(at) {
+        Some(token) => is_name(*token),
+        None => false,
+    }
+}
+
+/// The significant tokens of a source.
+pub fn significant_tokens(
+    alloc: Global,
+    tokens: &[Token],
+) -> Result<Vec<SignificantToken>, OutOfMemory>
+    requires { length tokens.now ≤ 4194304 }
+    ensures { IfOk result (λ significant. significant.items ≡ significant_from 0 tokens.now) }
+{
+    let mut significant = Vec::new(alloc);
+    for (number, token) in tokens.iter().enumerate() {
+        if !is_comment(*token) {
+            significant.push(SignificantToken {
+                number: number as u32,
+                inner: *token,
+            })?;
+        }
+    }
+    Ok(significant)
+}
