@@ -93,6 +93,16 @@ parts_of literal (Some s) = record {
   passed = map (quoted_part literal) s.passed;
 }
 
+-- what is right of a pattern under these flags that the codes of the literals give
+pub record IsJudged (flags : Flags) (options : AnalysisOptions) (literal : Literal) (p : Pattern) (a : Analysis) : Type 0 where
+  pub verdict : Verdict
+  pub suggestion : Option Suggestion
+  pub becomes : Option Verdict
+  pub right : RightVerdict (question_of p options) verdict
+  pub suggested : IsSuggested flags p literal.codes verdict suggestion
+  pub next : IsSuggestedVerdict flags options literal.universe (text_to_judge options suggestion) becomes
+  pub is : a ≡ record { universe = literal.universe; fault = None; outcome = outcome.Judged verdict suggestion becomes; parts = parts_of literal suggestion }
+
 -- ---- sites
 
 -- the analysis of a site without a verdict
@@ -105,52 +115,22 @@ IsUniverseOfRun source run u =
     ((literal : Literal) × IsValue source run literal × (u ≡ literal.universe))
     ⊎ ((e : StrError) × (value_of_run source run ≡ Err e) × (e ≢ valuing.OutOfMemory) × (u ≡ universe.Str))
 
--- the first argument is more than the run of literals
-abbrev pub IsNotWhole : List ℕ → List Token → Analysis → Type 0
-IsNotWhole source run a = (u : Universe) × IsUniverseOfRun source run u × (a ≡ refusal u None outcome.NotWhole)
-
--- the literals have no value
-pub record IsWithoutValue (source : List ℕ) (run : List Token) (a : Analysis) (e : StrError) : Type 0 where
-  pub refused : value_of_run source run ≡ Err e
-  pub some : e ≢ valuing.OutOfMemory
-  pub is : a ≡ refusal universe.Str (literal_fault e) (outcome.Literal e)
-
--- the codes give no pattern under the flags
-pub record IsWithoutPattern (flags : Flags) (literal : Literal) (a : Analysis) (e : PatError) : Type 0 where
-  pub refused : IsParsed flags literal.universe literal.codes (Err e)
-  pub some : e ≢ parsing.OutOfMemory
-  pub is : a ≡ refusal literal.universe (pattern_fault literal e) (outcome.Pattern e)
-
--- the codes give this pattern under the flags; the verdict on it is right, and so is what stands beside it
-pub record IsJudged (flags : Flags) (options : AnalysisOptions) (literal : Literal) (a : Analysis) (p : Pattern) : Type 0 where
-  pub verdict : Verdict
-  pub suggestion : Option Suggestion
-  pub becomes : Option Verdict
-  pub parsed : IsParsed flags literal.universe literal.codes (Ok p)
-  pub right : RightVerdict (question_of p options) verdict
-  pub suggested : IsSuggested flags p literal.codes verdict suggestion
-  pub next : IsSuggestedVerdict flags options literal.universe (text_to_judge options suggestion) becomes
-  pub is : a ≡ record {
-    universe = literal.universe;
-    fault = None;
-    outcome = outcome.Judged verdict suggestion becomes;
-    parts = parts_of literal suggestion;
-  }
-
--- of literals with this value
-abbrev pub IsAnalysisOfValue : SiteFlags → AnalysisOptions → Literal → Analysis → Type 0
-IsAnalysisOfValue Unknown options literal a = a ≡ refusal literal.universe None outcome.FlagsUnknown
-IsAnalysisOfValue (Known flags) options literal a =
-    ((e : PatError) × IsWithoutPattern flags literal a e)
-    ⊎ ((p : Pattern) × IsJudged flags options literal a p)
-
--- of a first argument that begins with this run of literals; the flag says whether the run is the whole of it
-abbrev pub IsAnalysisOfArgument : Bool → List ℕ → List Token → SiteFlags → AnalysisOptions → Analysis → Type 0
-IsAnalysisOfArgument false source run flags options a = IsNotWhole source run a
-IsAnalysisOfArgument true source run flags options a =
-    ((e : StrError) × IsWithoutValue source run a e)
-    ⊎ ((literal : Literal) × IsValue source run literal × IsAnalysisOfValue flags options literal a)
-
--- of a site of the source with these tokens
-abbrev pub IsAnalysisOf : List ℕ → List Token → AnalysisOptions → Site → Analysis → Type 0
-IsAnalysisOf source tokens options site a = IsAnalysisOfArgument site.whole source (run_of tokens site) site.flags options a
+-- the analysis of a site of the source with these tokens
+pub data IsAnalysisOf (source : List ℕ) (tokens : List Token) (options : AnalysisOptions) (site : Site) (a : Analysis) : Type 0 where
+  -- the first argument is more than its first run of literals
+  is_not_whole : {u : Universe} → site.whole ≡ false → IsUniverseOfRun source (run_of tokens site) u
+      → a ≡ refusal u None outcome.NotWhole → IsAnalysisOf source tokens options site a
+  -- the literals have no value
+  has_no_value : {e : StrError} → site.whole ≡ true → value_of_run source (run_of tokens site) ≡ Err e → e ≢ valuing.OutOfMemory
+      → a ≡ refusal universe.Str (literal_fault e) (outcome.Literal e) → IsAnalysisOf source tokens options site a
+  -- the flags aren't known
+  has_unknown_flags : {literal : Literal} → site.whole ≡ true → IsValue source (run_of tokens site) literal → site.flags ≡ Unknown
+      → a ≡ refusal literal.universe None outcome.FlagsUnknown → IsAnalysisOf source tokens options site a
+  -- the codes give no pattern under the flags
+  has_no_pattern : {literal : Literal} {flags : Flags} {e : PatError} → site.whole ≡ true → IsValue source (run_of tokens site) literal
+      → site.flags ≡ Known flags → IsParsed flags literal.universe literal.codes (Err e) → e ≢ parsing.OutOfMemory
+      → a ≡ refusal literal.universe (pattern_fault literal e) (outcome.Pattern e) → IsAnalysisOf source tokens options site a
+  -- the codes give a pattern under the flags; the verdict on it is right, and so is what stands beside it
+  is_judged : {literal : Literal} {flags : Flags} {p : Pattern} → site.whole ≡ true → IsValue source (run_of tokens site) literal
+      → site.flags ≡ Known flags → IsParsed flags literal.universe literal.codes (Ok p) → IsJudged flags options literal p a
+      → IsAnalysisOf source tokens options site a

@@ -14,17 +14,14 @@ source_fault (lexing.NotUtf8 byte) = Some byte
 source_fault (lexing.Coding byte) = Some byte
 source_fault (lexing.Unterminated byte) = Some byte
 source_fault (lexing.StrayCode byte) = Some byte
-source_fault lexing.FileTooLong = None
-source_fault lexing.OutOfMemory = None
+source_fault _ = None
 
 -- of literals without a value
 abbrev pub literal_fault : StrError → Option ℕ
-literal_fault valuing.FString = None
-literal_fault valuing.Mixed = None
 literal_fault (valuing.BadEscape byte) = Some byte
 literal_fault (valuing.NamedEscape byte) = Some byte
 literal_fault (valuing.NotAscii byte) = Some byte
-literal_fault valuing.OutOfMemory = None
+literal_fault _ = None
 
 -- the byte place of the code with this number; where the closing quotes of the last literal begin, for the number of codes
 abbrev pub code_place : Literal → ℕ → ℕ
@@ -34,6 +31,5 @@ code_place literal code = unwrap_or (slice_get literal.places code) literal.end
 abbrev pub pattern_fault : Literal → PatError → Option ℕ
 pattern_fault literal (parsing.Syntax code) = Some (code_place literal code)
 pattern_fault literal (parsing.TooDeep code) = Some (code_place literal code)
-pattern_fault literal parsing.TooLong = None
 pattern_fault literal (parsing.Outside code feature) = Some (code_place literal code)
-pattern_fault literal parsing.OutOfMemory = None
+pattern_fault literal _ = None

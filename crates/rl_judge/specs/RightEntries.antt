@@ -39,36 +39,17 @@ abbrev pub mode_of : Settings → Call → Mode
 mode_of s call.Compile = s.compile_as
 mode_of s call.Match = Match
 mode_of s call.Fullmatch = Fullmatch
-mode_of s call.Search = Search
-mode_of s call.Findall = Search
-mode_of s call.Finditer = Search
-mode_of s call.Split = Search
-mode_of s call.Sub = Search
-mode_of s call.Subn = Search
+mode_of s _ = Search
 
 -- how the pattern of a call is judged
 abbrev pub options_of : Settings → Call → AnalysisOptions
 options_of s c = record { mode = mode_of s c; max_pairs = s.max_pairs; report = s.report }
 
--- an entry without a suggestion has no marks
-abbrev pub no_marks : Marks
-no_marks = record { dropped = []; merged = []; passed = [] }
-
 -- the entry of a path without sites, with the place in its source where there is one
 abbrev pub path_entry : List ℕ → Option Place → Outcome → Entry
-path_entry path at o = record {
-  path = path;
-  at = at;
-  call = None;
-  universe = universe.Str;
-  fault = None;
-  outcome = o;
-  marks = no_marks;
-}
-
--- the entry of a source without tokens
-abbrev pub fault_entry : List ℕ → List ℕ → LexError → Entry
-fault_entry path source e = path_entry path (option_map (place_of source) (source_fault e)) (outcome.Source e)
+path_entry path at o =
+    let no_marks : Marks = record { dropped = []; merged = []; passed = [] } in
+    record { path = path; at = at; call = None; universe = universe.Str; fault = None; outcome = o; marks = no_marks }
 
 -- a part with the line and the column where it begins
 abbrev pub mark_of : List ℕ → Part → Mark
@@ -99,22 +80,14 @@ pub record IsSiteEntry (path source : List ℕ) (tokens : List Token) (s : Setti
   pub right : IsAnalysisOf source tokens (options_of s site.call) site analysis
   pub is : entry ≡ site_entry path source tokens site analysis
 
--- the source has no tokens: one entry says why
-pub record IsFaultEntry (path source : List ℕ) (entries : List Entry) : Type 0 where
-  pub fault : LexError
-  pub first : IsFault source fault
-  pub some : fault ≢ lexing.OutOfMemory
-  pub one : entries ≡ fault_entry path source fault ∷ []
-
--- the source has these tokens: one entry for each site, in their order
-pub record AreSiteEntries (path source : List ℕ) (s : Settings) (entries : List Entry) : Type 0 where
-  pub tokens : List Token
-  pub are_tokens : IsTokenList source tokens
-  pub each : AllZip (IsSiteEntry path source tokens s) (sites_of source tokens) entries
-
 -- the entries are right for the source
-abbrev pub AreRight : List ℕ → List ℕ → Settings → List Entry → Type 0
-AreRight path source s entries = IsFaultEntry path source entries ⊎ AreSiteEntries path source s entries
+pub data AreRight (path source : List ℕ) (s : Settings) (entries : List Entry) : Type 0 where
+  -- it has no tokens: one entry says why
+  has_fault : {e : LexError} → IsFault source e → e ≢ lexing.OutOfMemory
+      → entries ≡ path_entry path (option_map (place_of source) (source_fault e)) (outcome.Source e) ∷ [] → AreRight path source s entries
+  -- it has these tokens: there is one entry for each site, in their order
+  has_tokens : {tokens : List Token} → IsTokenList source tokens → AllZip (IsSiteEntry path source tokens s) (sites_of source tokens) entries
+      → AreRight path source s entries
 
 -- 1 where one of the entries is a finding, else 0
 abbrev pub status_of : Settings → List Entry → ℕ

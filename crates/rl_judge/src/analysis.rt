@@ -8,7 +8,7 @@ ghost use Rattle.rl_report.specs.declared.report.Outcome.TheVariants as outcome;
 ghost use Rattle.rl_report.specs.Findings.{verdict_of, suggestion_of};
 ghost use Rattle.rl_sites.specs.Runs.{run_of, HasRun};
 ghost use Rattle.rl_judge.specs.Faults.{literal_fault, pattern_fault};
-ghost use Rattle.rl_judge.specs.Analysis.{refusal, IsNotWhole, IsAnalysisOf};
+ghost use Rattle.rl_judge.specs.Analysis.{refusal, IsUniverseOfRun, IsAnalysisOf};
 ghost use Rattle.rl_judge.specs.internal.Conditions.{IsOfUniverse};
 
 use crate::options::AnalysisOptions;
@@ -76,24 +76,22 @@ fn refusal(alloc: Global, universe: Universe, fault: Option<u32>, outcome: Outco
     }
 }
 
-/// The analysis of a site whose first argument is more than literals. Its pattern is text where the literals have no value.
-fn not_whole(
+/// Whether the value of the site's literals is text or bytes; text where they have none.
+fn literal_universe(
     alloc: Global,
     source: &[u8],
     tokens: &TokenList,
     site: Site,
-) -> Result<Analysis, OutOfMemory>
+) -> Result<Universe, OutOfMemory>
     requires tokens { IsTokenList source.now tokens.now }
     requires run { HasRun tokens.now site }
-    ensures right { IfOk result (IsNotWhole source.now (run_of tokens.now site)) }
-    ensures texts { IfOk result (λ a. IsOfUniverse a.universe a.outcome) }
+    ensures { IfOk result (IsUniverseOfRun source.now (run_of tokens.now site)) }
 {
-    let universe = match value(alloc, source, tokens, site.first, site.count) {
-        Ok(literal) => literal.universe,
-        Err(StrError::OutOfMemory) => return Err(OutOfMemory),
-        Err(_) => Universe::Str,
-    };
-    Ok(refusal(alloc, universe, None, Outcome::NotWhole))
+    match value(alloc, source, tokens, site.first, site.count) {
+        Ok(literal) => Ok(literal.universe),
+        Err(StrError::OutOfMemory) => Err(OutOfMemory),
+        Err(_) => Ok(Universe::Str),
+    }
 }
 
 /// The analysis of a site whose literals have no value.
@@ -149,7 +147,8 @@ pub fn analyze(
     ensures texts { IfOk result (λ a. IsOfUniverse a.universe a.outcome) }
 {
     if !site.whole {
-        return not_whole(alloc, source, tokens, site);
+        let universe = literal_universe(alloc, source, tokens, site)?;
+        return Ok(refusal(alloc, universe, None, Outcome::NotWhole));
     }
     let literal = match value(alloc, source, tokens, site.first, site.count) {
         Ok(literal) => literal,

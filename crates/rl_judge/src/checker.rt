@@ -14,20 +14,6 @@ use rl_walk::{Visit, Visitor};
 use std::alloc::Global;
 use std::marker::Model;
 
-/// The entries of a visit.
-fn visit_entries(alloc: Global, visit: &Visit, settings: &Settings) -> Result<Entries, OutOfMemory>
-    requires { IsValid settings.now }
-    ensures right { IfOk result (IsRightFor settings.now visit.now) }
-    ensures universe { IfOk result (All IsOfItsUniverse) }
-{
-    match visit {
-        Visit::Source(path, content) => Ok(judge(alloc, path, content.as_slice(), settings)?),
-        Visit::Unreadable(path) => path_entries(alloc, path, None, Outcome::Unreadable),
-        Visit::TooDeep(path) => path_entries(alloc, path, None, Outcome::TooDeepFolder),
-        Visit::NotPlain(path) => path_entries(alloc, path, None, Outcome::NotPlain),
-    }
-}
-
 /// Whether a call of the tree failed before, or for the visit's path.
 fn is_unread(before: bool, visit: &Visit) -> bool
     ensures { result ≡ (before || is_unreadable visit.now) }
@@ -107,12 +93,21 @@ impl Visitor for Checker {
 
     ghost was_told = { HasChecked };
 
-    ghost Terms = { Settings };
+    ghost Config = { Settings };
 
-    ghost terms = { λ c. c.settings };
+    ghost config = { λ c. c.settings };
 
     fn visit(&mut self, visit: Visit) -> Result<(), OutOfMemory> {
-        let later = visit_entries(self.alloc, &visit, &self.settings)?;
+        let later = match &visit {
+            Visit::Source(path, content) => {
+                judge(self.alloc, path, content.as_slice(), &self.settings)?
+            }
+            Visit::Unreadable(path) => {
+                path_entries(self.alloc, path, None, Outcome::Unreadable)?
+            }
+            Visit::TooDeep(path) => path_entries(self.alloc, path, None, Outcome::TooDeepFolder)?,
+            Visit::NotPlain(path) => path_entries(self.alloc, path, None, Outcome::NotPlain)?,
+        };
         let has_unread = is_unread(self.has_unread, &visit);
         append(&mut self.entries, later)?;
         self.has_unread = has_unread;

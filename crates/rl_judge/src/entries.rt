@@ -1,14 +1,16 @@
 //! The entries of a source.
 ghost use Rattle.std.specs.Prelude.{◌≡◌, ◌≤◌, ◌∷◌, [], All, length, slice_get, option_map, IfOk};
-ghost use Rattle.std.specs.List.{list_any};
+ghost use Rattle.std.specs.List.{AllZip, list_any};
 ghost use Rattle.rl_ranges.specs.declared.universe.Universe.TheVariants as universe;
 ghost use Rattle.rl_pylex.specs.Source.{IsTokenList, IsFault};
 ghost use Rattle.rl_report.specs.Findings.{is_finding};
 ghost use Rattle.rl_report.specs.Layouts.{IsOfItsUniverse};
 ghost use Rattle.rl_report.specs.Places.{IsAt};
+ghost use Rattle.rl_sites.specs.Sites.{sites_of};
+ghost use Rattle.rl_judge.specs.declared.settings.Settings.{Settings};
 ghost use Rattle.rl_judge.specs.internal.Conditions.{IsOfUniverse};
 ghost use Rattle.rl_judge.specs.Faults.{source_fault};
-ghost use Rattle.rl_judge.specs.RightEntries.{IsValid, path_entry, site_entry, IsFaultEntry, AreSiteEntries, AreRight, status_of};
+ghost use Rattle.rl_judge.specs.RightEntries.{IsValid, path_entry, site_entry, IsSiteEntry, AreRight, status_of};
 ghost use Rattle.rl_lists.specs.declared.limits.TheConstants.{MOST_BYTES};
 
 use crate::analysis::{Analysis, analyze};
@@ -80,14 +82,16 @@ fn fault_entries(
     fault: LexError,
 ) -> Result<Entries, OutOfMemory>
     requires { IsFault source.now fault }
-    ensures right { IfOk result (IsFaultEntry path.now source.now) }
+    ensures right { (s : Settings) → IfOk result (AreRight path.now source.now s) }
     ensures universe { IfOk result (All IsOfItsUniverse) }
 {
-    if fault == LexError::OutOfMemory {
-        return Err(OutOfMemory);
+    match fault {
+        LexError::OutOfMemory => Err(OutOfMemory),
+        _ => {
+            let at = fault_place(source, source_fault(fault));
+            path_entries(alloc, path, at, Outcome::Source(fault))
+        }
     }
-    let at = fault_place(source, source_fault(fault));
-    path_entries(alloc, path, at, Outcome::Source(fault))
 }
 
 /// The entry of a site with this analysis.
@@ -132,7 +136,7 @@ fn site_entries(
 ) -> Result<Entries, OutOfMemory>
     requires settings { IsValid settings.now }
     requires tokens { IsTokenList source.now tokens.now }
-    ensures right { IfOk result (AreSiteEntries path.now source.now settings.now) }
+    ensures right { IfOk result (AllZip (IsSiteEntry path.now source.now tokens.now settings.now) (sites_of source.now tokens.now)) }
     ensures universe { IfOk result (All IsOfItsUniverse) }
 {
     let sites = sites(alloc, source, tokens)?;
@@ -196,11 +200,10 @@ pub fn judge(
     if has_no_sites(source) {
         return Ok(Entries::new(alloc));
     }
-    let entries = match tokens(alloc, source) {
-        Ok(tokens) => site_entries(alloc, path, source, &tokens, settings)?,
-        Err(fault) => fault_entries(alloc, path, source, fault)?,
-    };
-    Ok(entries)
+    match tokens(alloc, source) {
+        Ok(tokens) => Ok(site_entries(alloc, path, source, &tokens, settings)?),
+        Err(fault) => Ok(fault_entries(alloc, path, source, fault)?),
+    }
 }
 
 /// The status of a report on these entries: 1 where one of them is a finding, else 0. It takes no memory.

@@ -1,7 +1,7 @@
 //! Lines and columns of byte places, and of the parts of a pattern.
-ghost use Rattle.std.specs.Prelude.{◌≡◌, ◌≢◌, ◌≤◌, List, ℕ, length, map, None, option_map, IfOk};
+ghost use Rattle.std.specs.Prelude.{◌≡◌, ◌≢◌, ◌≤◌, [], List, ℕ, length, map, None, option_map, IfOk};
 ghost use Rattle.rl_report.specs.Places.{IsAt, place_of};
-ghost use Rattle.rl_judge.specs.RightEntries.{no_marks, mark_of, marks_of};
+ghost use Rattle.rl_judge.specs.RightEntries.{mark_of, marks_of};
 ghost use Rattle.rl_lists.specs.declared.limits.TheConstants.{MOST_BYTES};
 
 use crate::parts::{PartList, Parts};
@@ -60,7 +60,7 @@ pub fn fault_place(source: &[u8], byte: Option<u32>) -> Option<Place>
 
 /// No marks.
 pub fn no_marks(alloc: Global) -> Marks
-    ensures { result ≡ no_marks }
+    ensures { result ≡ record { dropped = []; merged = []; passed = [] } }
 {
     Marks {
         dropped: MarkList::new(alloc),

@@ -32,8 +32,9 @@ use Rattle.rl_lint.specs.Patterns.{IsRefusedPattern, ParsesThen, pattern_parsed,
 use Rattle.rl_lint.specs.ProveEnding.{ProveEnds}
 use Rattle.rl_lint.specs.Refusals.{HasRefusedPattern, IsRefused, IsRefusedAction, action, settings}
 use Rattle.rl_lint.specs.RunEnding.{IsActionEnding, IsCallEnding, IsRunEnding}
-use Rattle.rl_lint.specs.Text.{Text}
+use Rattle.rl_report.specs.Names.{Text}
 use Rattle.rl_lint.specs.VerifyEnding.{CertificateEnds, IsVerifyEnding, verify_parsed, verify_refused}
+use Rattle.rl_lint.specs.declared.cost.TheConstants.{MOST_TEXT_CODES}
 use Rattle.rl_lint.specs.declared.plan.Plan.{Plan}
 
 -- between the two moments the run came to this ending; where it refuses something or a call of the tree failed, there is a cause
@@ -116,19 +117,19 @@ module _ (pattern : List ℕ) (mode : Mode) (Next : Tree → MatchEnd → Ending
   of_pattern ending (pattern_parsed {p = p} parsed next) first later = later (pattern_tree p mode) (pattern_ending p mode) next
 
 module _ (R : Type 0) (old new : Moment) where
-  of_text : (n : ℕ) (b : Bool) (ending : Ending) (message line : Text) → nat_lt 65536 n ≡ b → ending ≡ cond b (refuses message) (writes line false false)
-      → (65536 < n → R) → HasCause R old new ending
+  of_text : (n : ℕ) (b : Bool) (ending : Ending) (message line : Text) → nat_lt MOST_TEXT_CODES n ≡ b → ending ≡ cond b (refuses message) (writes line false false)
+      → (MOST_TEXT_CODES < n → R) → HasCause R old new ending
   of_text n true ending message line long is gives = subst (HasCause R old new) (sym is) (refusing R old new message (gives (grind (arith, common_steps))))
   of_text n false ending message line long is gives = quiet R old new ending line false is
 
-  of_proof : (max_pairs : ℕ) (t : Tree) (at : MatchEnd) (ending : Ending) → ProveEnds max_pairs t at ending → HasCause R old new ending
-  of_proof max_pairs t at ending (inl w) = quiet R old new ending _ _ w.ends
-  of_proof max_pairs t at ending (inr (inl n)) = quiet R old new ending _ _ n.ends
-  of_proof max_pairs t at ending (inr (inr n)) = quiet R old new ending _ _ n.ends
+  of_proof : (q : Question) (ending : Ending) → ProveEnds q ending → HasCause R old new ending
+  of_proof q ending (inl w) = quiet R old new ending _ _ w.4
+  of_proof q ending (inr (inl n)) = quiet R old new ending _ _ n.2
+  of_proof q ending (inr (inr n)) = quiet R old new ending _ _ n.1
 
   of_comparison : (s : Tree) (e : MatchEnd) (t : Tree) (f : MatchEnd) (ending : Ending) → CompareEnds s e t f ending → HasCause R old new ending
-  of_comparison s e t f ending (inl p) = quiet R old new ending _ _ p.ends
-  of_comparison s e t f ending (inr p) = quiet R old new ending _ _ p.ends
+  of_comparison s e t f ending (inl p) = quiet R old new ending _ _ p.4
+  of_comparison s e t f ending (inr p) = quiet R old new ending _ _ p.4
 
   of_certificate : (q : Question) (c : Certificate) (ending : Ending) → CertificateEnds q c ending → HasCause R old new ending
   of_certificate q c ending (inl h) = quiet R old new ending _ _ h.1
@@ -138,7 +139,7 @@ module _ (R : Type 0) (old new : Moment) where
       → HasCause R old new ending
   of_walk s paths baseline ending w =
       let report = w.told [] refl in
-      writing R old new ending report.text _ (has_unreadable w.visits) report.ends w.cause
+      writing R old new ending _ _ (has_unreadable w.visits) report.ends w.cause
 
 -- ---- actions
 
@@ -167,13 +168,13 @@ of_action s options (class pattern) old new ending ends =
     of_pattern (chars pattern) _ (ClassEnds s.max_degree s.max_pairs) (HasRefusedPattern pattern) old new ending ends.1 (λ m is. (m, is))
     (λ t at end. quiet (HasRefusedPattern pattern) old new ending _ _ end.2)
 of_action s options (cost pattern text) old new ending ends =
-    let R = HasRefusedPattern pattern ⊎ (65536 < length (chars text)) in
+    let R = HasRefusedPattern pattern ⊎ (MOST_TEXT_CODES < length (chars text)) in
     of_pattern (chars pattern) _ (λ t at end. end ≡ cost_ending (chars text) t at) R old new ending ends.1 (λ m is. inl (m, is))
-    (λ t at end. of_text R old new (length (chars text)) (nat_lt 65536 (length (chars text))) ending _ (cost_line t at (chars text)) refl end inr)
+    (λ t at end. of_text R old new (length (chars text)) (nat_lt MOST_TEXT_CODES (length (chars text))) ending _ (cost_line t at (chars text)) refl end inr)
 of_action s options (sample seed count) old new ending ends = quiet ⊥ old new ending _ _ ends.1.ends
 of_action s options (prove pattern) old new ending ends =
-    of_pattern (chars pattern) _ (ProveEnds s.max_pairs) (HasRefusedPattern pattern) old new ending ends.1 (λ m is. (m, is))
-    (λ t at end. of_proof (HasRefusedPattern pattern) old new _ t at ending end)
+    of_pattern (chars pattern) _ (λ t at. ProveEnds (text_question s.max_pairs t at)) (HasRefusedPattern pattern) old new ending ends.1 (λ m is. (m, is))
+    (λ t at end. of_proof (HasRefusedPattern pattern) old new (text_question s.max_pairs t at) ending end)
 of_action s options (verify pattern file) old new ending ends = of_verify s.max_pairs _ pattern file old new ending ends
 of_action s options (compare first second) old new ending ends =
     let R = HasRefusedPattern first ⊎ HasRefusedPattern second in
@@ -197,14 +198,21 @@ of_call call (Some file) old new ending same ends =
     (λ r. action (earlier_refused call.options call.action old mid keeps r))
     (of_action (with_values call.options.values start) call.options call.action mid new ending next))
 
+pub run-refused : (given : Option Call) (call : Call) (old new : Moment) (ending : Ending) → given ≡ Some call → IsRunEnding (Some call) old new ending
+    → is_refusal ending ≡ true → IsRefused old.told given
+run-refused given call old new ending same ends refusal =
+    subst (IsRefused old.told) (sym same) ((of_call call call.options.settings old new ending refl ends).refused refusal)
+
+pub run-failed : (call : Call) (old new : Moment) (ending : Ending) → IsRunEnding (Some call) old new ending → has_fault ending ≡ true → Rose old.faults new.faults
+run-failed call old new ending ends = (of_call call call.options.settings old new ending refl ends).failed
+
 pub plans-refused : {E : Type 0} (result : Result Plan E) (given : Option Call) (call : Call) (old new : Moment) → given ≡ Some call
     → IfOk result (λ plan. IsRunEnding (Some call) old new (ending_of plan))
     → IfOk result (λ plan. is_refusal (ending_of plan) ≡ true → IsRefused old.told given)
-plans-refused (Ok plan) given call old new same ends = λ refusal.
-    subst (IsRefused old.told) (sym same) ((of_call call call.options.settings old new (ending_of plan) refl ends).refused refusal)
+plans-refused (Ok plan) given call old new same ends = run-refused given call old new (ending_of plan) same ends
 plans-refused (Err e) given call old new same ends = tt
 
 pub plans-failed : {E : Type 0} (result : Result Plan E) (call : Call) (old new : Moment) → IfOk result (λ plan. IsRunEnding (Some call) old new (ending_of plan))
     → IfOk result (λ plan. has_fault (ending_of plan) ≡ true → Rose old.faults new.faults)
-plans-failed (Ok plan) call old new ends = (of_call call call.options.settings old new (ending_of plan) refl ends).failed
+plans-failed (Ok plan) call old new ends = run-failed call old new (ending_of plan) ends
 plans-failed (Err e) call old new ends = tt

@@ -1,5 +1,5 @@
 -- How a run of `check` is to end, by the walk over its paths.
-use Rattle.std.proofs.Common.{◌≡◌, ◌++◌, ℕ, Bool, List, [], Option, Some, None, codes, Result, Ok, Err, IfOk, Bor, All, map, ap, subst, sym, ◌∙◌, refl}
+use Rattle.std.proofs.Common.{◌≡◌, ◌++◌, ℕ, Bool, true, false, if◌then◌else◌, nat_eq, List, [], Option, Some, None, codes, Result, Ok, Err, IfOk, Bor, All, map, ap, subst, sym, ◌∙◌, refl}
 use Rattle.std.specs.List.{list_any}
 use Rattle.std.specs.Prelude.{option_map}
 use Rattle.rl_report.specs.Findings.{is_finding}
@@ -15,13 +15,16 @@ use Rattle.rl_words.specs.Call.{asked, chosen}
 use Rattle.rl_words.specs.declared.words.Action.{Action}
 use Rattle.rl_words.specs.declared.words.Action.TheVariants.{Check}
 use Rattle.rl_words.specs.declared.words.Options.{Options}
-use Rattle.rl_lint.specs.CheckEnding.{IsCheckEnding, IsReport, ReportsWalk}
-use Rattle.rl_lint.specs.Endings.{writes}
+use Rattle.rl_lint.specs.CheckEnding.{IsCheckEnding, ReportsWalk, report_in}
+use Rattle.rl_lint.specs.Endings.{Ending, refuses, unreadable, writes}
 use Rattle.rl_lint.specs.internal.Plans.{ending_of}
-use Rattle.rl_lint.specs.Files.{ReadsThen, first_bytes}
+use Rattle.rl_lint.specs.Files.{ReadsFile, file_refused, file_taken, file_unreadable, first_bytes}
+use Rattle.rl_lint.specs.declared.files.FileRead.{FileRead}
+use Rattle.rl_lint.specs.declared.files.FileRead.TheVariants.{Unreadable, Refused, Taken}
+use Rattle.rl_lint.specs.internal.Reads.{GivesKeys, IsGiven, IsNamedRead}
 use Rattle.rl_lint.specs.Filter.{hidden_count, visible_entries}
 use Rattle.rl_lint.specs.RunEnding.{IsActionEnding}
-use Rattle.rl_lint.specs.Text.{Text}
+use Rattle.rl_report.specs.Names.{Text}
 use Rattle.rl_lint.specs.declared.plan.Plan.{Plan}
 
 -- a walk with a visitor that was told of no visit before
@@ -40,9 +43,9 @@ walked-first old new paths before now none w = record {
 pub walked-universe : (old new : Moment) (paths : List Text) (c : Checked) → Walked old new paths (λ visits. visits ≡ []) (HasChecked c) → All IsOfItsUniverse c.entries
 walked-universe old new paths c w = (w.told [] refl).universe
 
-pub reports-walk : (s : Settings) (baseline : Option (List EntryKey)) (paths : List Text) (old new : Moment) (c : Checked) (visible : List Entry) (hidden : Option ℕ) (text : Text)
-    (finding : Bool) → Walked old new paths (λ visits. visits ≡ []) (HasChecked c) → c.settings ≡ s → visible ≡ visible_entries baseline c.entries
-    → hidden ≡ hidden_count baseline c.entries → IsReport s.format s hidden visible text → finding ≡ list_any (is_finding s.max_degree) visible
+pub reports-walk : (s : Settings) (baseline : Option (List EntryKey)) (paths : List Text) (old new : Moment) (c : Checked) (visible : List Entry) (hidden : Option ℕ) (text : Text) (finding : Bool)
+    → Walked old new paths (λ visits. visits ≡ []) (HasChecked c) → c.settings ≡ s → visible ≡ visible_entries baseline c.entries
+    → hidden ≡ hidden_count baseline c.entries → text ≡ report_in s.format s hidden visible → finding ≡ list_any (is_finding s.max_degree) visible
     → ReportsWalk s paths baseline old new (writes text finding c.has_unread)
 reports-walk s baseline paths old new c visible hidden text finding w same is so_many laid found = record {
   calls = w.calls;
@@ -51,30 +54,65 @@ reports-walk s baseline paths old new c visible hidden text finding w same is so
   right = w.right;
   told = λ earlier none.
       let checked = w.told earlier none in
+      let shown = visible_entries baseline c.entries in
+      let report = report_in s.format s (hidden_count baseline c.entries) shown in
+      let same_text : text ≡ report = laid ∙ ap (λ h. report_in s.format s h visible) so_many ∙ ap (report_in s.format s (hidden_count baseline c.entries)) is in
       record {
         entries = c.entries;
-        text = text;
         right = subst (λ x. AreRightFor x (earlier ++ w.visits) c.entries) same checked.right;
-        report = subst (λ h. IsReport s.format s h (visible_entries baseline c.entries) text) so_many (subst (λ es. IsReport s.format s hidden es text) is laid);
-        ends = ap (λ b. writes text b c.has_unread) (found ∙ ap (list_any (is_finding s.max_degree)) is)
-            ∙ ap (writes text (list_any (is_finding s.max_degree) (visible_entries baseline c.entries))) checked.unread;
+        ends = ap (λ t. writes t finding c.has_unread) same_text ∙ ap (λ b. writes report b c.has_unread) (found ∙ ap (list_any (is_finding s.max_degree)) is)
+            ∙ ap (writes report (list_any (is_finding s.max_degree) shown)) checked.unread;
       };
   failures = w.failures;
   cause = w.cause;
 }
 
--- no baseline is named, or one is
-pub check-plain : {E : Type 0} (result : Result Plan E) (s : Settings) (paths : List Text) (named : Option (Bor Text)) (old new : Moment) → named ≡ None
-    → IfOk result (λ plan. ReportsWalk s paths None old new (ending_of plan))
-    → IfOk result (λ plan. IsCheckEnding s paths (option_map (λ p. p.now) named) old new (ending_of plan))
-check-plain (Ok plan) s paths named old new is ends = subst (λ o. IsCheckEnding s paths (option_map (λ p. p.now) o) old new (ending_of plan)) (sym is) ends
-check-plain (Err error) s paths named old new is ends = tt
+-- a status is 1 exactly where there is a finding
+pub is-finding : (found : Bool) (status : ℕ) → status ≡ (if found then 1 else 0) → nat_eq status 1 ≡ found
+is-finding true status is = ap (λ n. nat_eq n 1) is
+is-finding false status is = ap (λ n. nat_eq n 1) is
 
-pub check-baseline : {E : Type 0} (result : Result Plan E) (s : Settings) (paths : List Text) (named : Option (Bor Text)) (file : Bor Text) (old new : Moment) → named ≡ Some file
-    → IfOk result (λ plan. ReadsThen (codes "baseline") first_bytes IsBaseline (λ keys. ReportsWalk s paths (Some keys)) file.now old new (ending_of plan))
-    → IfOk result (λ plan. IsCheckEnding s paths (option_map (λ p. p.now) named) old new (ending_of plan))
-check-baseline (Ok plan) s paths named file old new is ends = subst (λ o. IsCheckEnding s paths (option_map (λ p. p.now) o) old new (ending_of plan)) (sym is) ends
-check-baseline (Err error) s paths named file old new is ends = tt
+-- ---- by what the baseline gives
+
+pub no-keys : (bytes : Text) → ((keys : List EntryKey) → ¬ IsBaseline bytes keys) → (found : Option (List EntryKey)) → ¬ GivesKeys bytes found
+no-keys bytes none None = λ gives. absurd gives
+no-keys bytes none (Some keys) = none keys
+
+module _ (s : Settings) (paths : List Text) where
+  pub check-unreadable : (named : Option Text) (old new : Moment) (found : FileRead (Option (List EntryKey))) → IsNamedRead GivesKeys first_bytes None named old new found
+      → found ≡ Unreadable → IsCheckEnding s paths named old new (unreadable (codes "relint: baseline unreadable\n"))
+  check-unreadable None old new found read is = let never : Taken None ≡ Unreadable = sym read.1 ∙ is in cc
+  check-unreadable (Some file) old new found read is = by_read read.read read.reads (subst (IsGiven GivesKeys read.read) is read.gives)
+    where
+      by_read : (bytes : Option Text) → ReadsFile first_bytes file bytes old new → IsGiven GivesKeys bytes Unreadable
+          → IsCheckEnding s paths (Some file) old new (unreadable (codes "relint: baseline unreadable\n"))
+      by_read None reads gives = file_unreadable reads
+      by_read (Some bytes) reads gives = absurd gives
+
+  pub check-refused : (named : Option Text) (old new : Moment) (found : FileRead (Option (List EntryKey))) → IsNamedRead GivesKeys first_bytes None named old new found
+      → found ≡ Refused → IsCheckEnding s paths named old new (refuses (codes "relint: baseline refused\n"))
+  check-refused None old new found read is = let never : Taken None ≡ Refused = sym read.1 ∙ is in cc
+  check-refused (Some file) old new found read is = by_read read.read read.reads (subst (IsGiven GivesKeys read.read) is read.gives)
+    where
+      by_read : (bytes : Option Text) → ReadsFile first_bytes file bytes old new → IsGiven GivesKeys bytes Refused
+          → IsCheckEnding s paths (Some file) old new (refuses (codes "relint: baseline refused\n"))
+      by_read None reads gives = let never : Refused ≡ Unreadable = gives in cc
+      by_read (Some bytes) reads gives = file_refused reads (λ keys is. gives (Some keys) is)
+
+  pub check-taken : (named : Option Text) (old mid new : Moment) (found : FileRead (Option (List EntryKey))) (keys : Option (List EntryKey)) (ending : Ending)
+      → IsNamedRead GivesKeys first_bytes None named old mid found → found ≡ Taken keys → ReportsWalk s paths keys mid new ending → IsCheckEnding s paths named old new ending
+  check-taken None old mid new found keys ending read is reports =
+      let taken : Taken keys ≡ Taken None = sym is ∙ read.1 in
+      let none : keys ≡ None = cc in
+      subst (λ m. ReportsWalk s paths None m new ending) read.0 (subst (λ k. ReportsWalk s paths k mid new ending) none reports)
+  check-taken (Some file) old mid new found keys ending read is reports =
+      by_read read.read keys read.reads (subst (IsGiven GivesKeys read.read) is read.gives) reports
+    where
+      by_read : (bytes : Option Text) (k : Option (List EntryKey)) → ReadsFile first_bytes file bytes old mid → IsGiven GivesKeys bytes (Taken k) → ReportsWalk s paths k mid new ending
+          → IsCheckEnding s paths (Some file) old new ending
+      by_read None k reads gives w = let never : Taken k ≡ Unreadable = gives in cc
+      by_read (Some bytes) None reads gives w = absurd gives
+      by_read (Some bytes) (Some ks) reads gives w = file_taken reads gives w
 
 pub check-ends : {E : Type 0} (result : Result Plan E) (s : Settings) (options : Options) (action : Action) (paths given : List (Bor Text)) (old new : Moment)
     → action ≡ Check paths → given ≡ paths

@@ -15,7 +15,7 @@ use Rattle.rl_compare.specs.declared.error.CompareError.TheVariants as error
 use Rattle.rl_lint.specs.CompareEnding.{CompareEnds, compared_text, passed_line, relation_of, is_difference}
 use Rattle.rl_lint.specs.Endings.{writes}
 use Rattle.rl_lint.specs.internal.Plans.{ending_of}
-use Rattle.rl_lint.specs.Text.{Text}
+use Rattle.rl_report.specs.Names.{Text}
 use Rattle.rl_lint.specs.declared.plan.Plan.{Plan}
 use Rattle.rl_lint.specs.internal.Compared.{AreTexts, IsFound, PassesSize}
 
@@ -41,14 +41,14 @@ module _ (s : Tree) (e : MatchEnd) (t : Tree) (f : MatchEnd) where
       → IfOk result (λ plan. ending_of plan ≡ writes (compared_text c) (is_difference (relation_of c)) false)
       → IfOk result (λ plan. CompareEnds s e t f (ending_of plan))
   writes-regions (Ok plan) c found ends =
-      inr (record { compared = c; within = found.within; regions = found.regions; told = found.told; ends = ends })
+      inr (c, found.within, found.regions, found.told, ends)
   writes-regions (Err failed) c found ends = tt
 
   pub names-passed : {E : Type 0} (result : Result Plan E) (limit : CompareError) (line : Text)
       → IsComparePassed Str (matched_tree Str s e) (matched_tree Str t f) limit → passed_line limit ≡ Some line
       → IfOk result (λ plan. ending_of plan ≡ writes line false false) → IfOk result (λ plan. CompareEnds s e t f (ending_of plan))
   names-passed (Ok plan) limit line passed named ends =
-      inl (record { limit = limit; line = line; passed = passed; named = named; ends = ends })
+      inl (limit, line, passed, named, ends)
   names-passed (Err failed) limit line passed named ends = tt
 
 -- the texts of regions are such

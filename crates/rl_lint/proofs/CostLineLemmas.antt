@@ -10,7 +10,7 @@ use Rattle.rl_syntax.specs.declared.verdict.Limit.TheVariants as limit
 use Rattle.rl_prio.specs.Items.{longest}
 use Rattle.rl_prio.specs.Letters.{letters}
 use Rattle.rl_report.specs.Names.{limit_number}
-use Rattle.rl_lint.specs.Text.{Text}
+use Rattle.rl_report.specs.Names.{Text}
 use Rattle.rl_lint.specs.CostEnding.{cost_line}
 use Rattle.rl_lint.specs.Messages.{steps_line}
 

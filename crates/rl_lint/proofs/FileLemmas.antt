@@ -1,5 +1,5 @@
 -- Files that the words name: what a read gives, and how the run goes on.
-use Rattle.std.proofs.Common.{◌≡◌, ◌<◌, ◌++◌, ℕ, List, Option, Some, None, codes, length, take, Result, Ok, Err, IfOk, ap, sym, ◌∙◌, subst, refl, arith}
+use Rattle.std.proofs.Common.{Bor, ◌≡◌, ◌<◌, ◌++◌, ℕ, List, Option, Some, None, codes, length, take, Result, Ok, Err, IfOk, ap, sym, ◌∙◌, subst, refl, arith}
 use Rattle.std.specs.Prelude.{IfSome, IsSomeAnd, option_map}
 use Rattle.std.proofs.Math.Seq.{take-length}
 use Rattle.std.proofs.lemmas.List.{length-take, take_min}
@@ -10,11 +10,11 @@ use Rattle.rl_walk.specs.Visits.{Moment}
 use Rattle.rl_lint.specs.Endings.{Ending, refuses, unreadable}
 use Rattle.rl_lint.specs.internal.Plans.{ending_of}
 use Rattle.rl_lint.specs.Files.{ReadsFile, ReadsThen, file_refused, file_taken, file_unreadable, whole_bytes}
-use Rattle.rl_lint.specs.Text.{Text}
+use Rattle.rl_report.specs.Names.{Text}
 use Rattle.rl_lint.specs.declared.files.FileRead.{FileRead}
 use Rattle.rl_lint.specs.declared.files.FileRead.TheVariants.{Unreadable, Refused, Taken}
 use Rattle.rl_lint.specs.declared.plan.Plan.{Plan}
-use Rattle.rl_lint.specs.internal.Reads.{IsFileRead, IsGiven, bytes_up_to}
+use Rattle.rl_lint.specs.internal.Reads.{IsFileRead, IsGiven, IsNamedRead, bytes_up_to}
 
 -- ---- the bytes that are there
 
@@ -125,3 +125,19 @@ module _ {A : Type 0} (name : Text) (there : Text → List Node → Option Text)
       by_read None reads gives = let never : Taken x ≡ Unreadable = gives in cc
       by_read (Some bytes) reads gives = file_taken reads gives next
   reads-taken (Err e) mid new found x file is next = tt
+
+-- ---- a file that may be named
+
+module _ {A : Type 0} (Gives : Text → A → Type 0) (there : Text → List Node → Option Text) (default : A) (named : Option (Bor Text)) (old new : Moment) where
+  pub named-none : (found : FileRead A) → named ≡ None → new ≡ old → found ≡ Taken default
+      → IsNamedRead Gives there default (option_map (λ p. p.now) named) old new found
+  named-none found none still is = subst (λ o. IsNamedRead Gives there default (option_map (λ p. p.now) o) old new found) (sym none) (still, is)
+
+  pub named-some : (found : FileRead A) (path : Bor Text) → named ≡ Some path → IsFileRead Gives there path.now old new found
+      → IsNamedRead Gives there default (option_map (λ p. p.now) named) old new found
+  named-some found path some read = subst (λ o. IsNamedRead Gives there default (option_map (λ p. p.now) o) old new found) (sym some) read
+
+  pub named-result : {E : Type 0} (result : Result (FileRead A) E) (path : Bor Text) → named ≡ Some path → IfOk result (IsFileRead Gives there path.now old new)
+      → IfOk result (IsNamedRead Gives there default (option_map (λ p. p.now) named) old new)
+  named-result (Ok found) path some read = named-some found path some read
+  named-result (Err e) path some read = tt

@@ -9,7 +9,7 @@ use Rattle.rl_walk.specs.Visits.{Moment}
 use Rattle.rl_lint.specs.Endings.{Ending, refuses}
 use Rattle.rl_lint.specs.internal.Plans.{ending_of, message_text}
 use Rattle.rl_lint.specs.Patterns.{ParsesThen, pattern_parsed, pattern_refused}
-use Rattle.rl_lint.specs.Text.{Text}
+use Rattle.rl_report.specs.Names.{Text}
 use Rattle.rl_lint.specs.VerifyEnding.{IsVerifyEnding, TreeVerifies, verify_parsed, verify_refused}
 use Rattle.rl_lint.specs.declared.pattern_argument.PatternArgument.TheVariants.{Refused, Parsed}
 use Rattle.rl_lint.specs.declared.plan.Message.{Message}

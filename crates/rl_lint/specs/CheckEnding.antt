@@ -16,21 +16,19 @@ use Rattle.rl_judge.specs.RightReport.{AreRightFor}
 use Rattle.rl_lint.specs.Endings.{Ending, writes}
 use Rattle.rl_lint.specs.Files.{ReadsThen, first_bytes}
 use Rattle.rl_lint.specs.Filter.{hidden_count, visible_entries}
-use Rattle.rl_lint.specs.Text.{Text}
+use Rattle.rl_report.specs.Names.{Text}
 
--- the text is the report on the entries in the layout; where a number of hidden ones is given, it stands in the report
-abbrev pub IsReport : Layout → Settings → Option ℕ → List Entry → Text → Type 0
-IsReport (Report format) s hidden entries text = text ≡ report_text format s.max_degree s.max_pairs s.report hidden entries
-IsReport Sarif s hidden entries text = text ≡ sarif_text s.max_degree s.max_pairs entries
+-- the report on the entries in the layout; where a number of hidden ones is given, it stands in the report
+abbrev pub report_in : Layout → Settings → Option ℕ → List Entry → Text
+report_in (Report format) s hidden entries = report_text format s.max_degree s.max_pairs s.report hidden entries
+report_in Sarif s hidden entries = sarif_text s.max_degree s.max_pairs entries
 
 -- Of entries that are right for the visits, a report is written on those that the baseline doesn't hide. It has a finding where
 -- one of these is one
 pub record WritesReport (s : Settings) (baseline : Option (List EntryKey)) (visits : List Visit) (ending : Ending) : Type 0 where
   pub entries : List Entry
-  pub text : Text
   pub right : AreRightFor s visits entries
-  pub report : IsReport s.format s (hidden_count baseline entries) (visible_entries baseline entries) text
-  pub ends : ending ≡ writes text (list_any (is_finding s.max_degree) (visible_entries baseline entries)) (has_unreadable visits)
+  pub ends : ending ≡ writes (report_in s.format s (hidden_count baseline entries) (visible_entries baseline entries)) (list_any (is_finding s.max_degree) (visible_entries baseline entries)) (has_unreadable visits)
 
 -- the tree is walked from the paths on, and the report is on the visits of this walk and on no others
 abbrev pub ReportsWalk : Settings → List Text → Option (List EntryKey) → Moment → Moment → Ending → Type 0

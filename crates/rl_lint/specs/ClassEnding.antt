@@ -10,7 +10,7 @@ use Rattle.rl_report.specs.Layouts.{family_lines}
 use Rattle.rl_report.specs.Verdicts.{verdict_text}
 use Rattle.rl_lint.specs.Endings.{Ending, writes}
 use Rattle.rl_lint.specs.Patterns.{text_question}
-use Rattle.rl_lint.specs.Text.{Text}
+use Rattle.rl_report.specs.Names.{Text}
 
 -- the line of the verdict, and the line of the family where there is one
 abbrev pub class_text : ℕ → Verdict → Text

@@ -1,4 +1,4 @@
--- How `compare` ends, by its two patterns and their mode.
+-- How `compare` ends, by the trees of its two patterns.
 use Rattle.std.specs.Prelude.{◌≡◌, ◌⊎◌, ◌&&◌, ℕ, Bool, true, false, not, List, [], ◌++◌, Option, Some, None, is_some, codes, if◌then◌else◌}
 use Rattle.std.specs.Fmt.{decimal}
 use Rattle.rl_ranges.specs.declared.universe.Universe.TheVariants.{Str}
@@ -6,7 +6,6 @@ use Rattle.rl_syntax.specs.Cost.{matched}
 use Rattle.rl_syntax.specs.Tree.{Tree}
 use Rattle.rl_syntax.specs.declared.re.Ending.{Ending as MatchEnd}
 use Rattle.rl_syntax.specs.declared.limits.TheConstants.{MOST_SET_PAIRS}
-use Rattle.rl_syntax.specs.declared.re.Mode.{Mode}
 use Rattle.rl_syntax.specs.declared.verdict.Limit.TheVariants as limit
 use Rattle.rl_equiv.specs.Limits.{AreWithin}
 use Rattle.rl_equiv.specs.Regions.{AreRegions}
@@ -17,10 +16,9 @@ use Rattle.rl_compare.specs.Told.{AreTold}
 use Rattle.rl_compare.specs.declared.error.CompareError.{CompareError}
 use Rattle.rl_compare.specs.declared.error.CompareError.TheVariants as error
 use Rattle.rl_report.specs.Verdicts.{quoted_text}
-use Rattle.rl_lint.specs.CostEnding.{undecided_line}
+use Rattle.rl_lint.specs.Messages.{undecided_line}
 use Rattle.rl_lint.specs.Endings.{Ending, writes}
-use Rattle.rl_lint.specs.Patterns.{ParsesThen}
-use Rattle.rl_lint.specs.Text.{Text}
+use Rattle.rl_report.specs.Names.{Text}
 use Rattle.rl_lint.specs.declared.relation.Relation.{Relation}
 use Rattle.rl_lint.specs.declared.relation.Relation.TheVariants.{Overlapping, Passed, Equal, Included, Includes, Disjoint}
 
@@ -46,12 +44,9 @@ relation_name Disjoint = codes "disjoint"
 
 -- whether the relation is a finding
 abbrev pub is_difference : Relation → Bool
-is_difference Overlapping = true
 is_difference Passed = false
 is_difference Equal = false
-is_difference Included = true
-is_difference Includes = true
-is_difference Disjoint = true
+is_difference _ = true
 
 -- the line of a region, where there is a text
 abbrev pub region_line : Text → Option (List ℕ) → Text
@@ -66,34 +61,20 @@ compared_text c =
 
 -- the line on the limit that is passed. Out of memory is no limit
 abbrev pub passed_line : CompareError → Option Text
-passed_line error.Size = Some (undecided_line limit.Size)
-passed_line error.Letters = Some (undecided_line limit.Letters)
-passed_line error.Moves = Some (undecided_line limit.Moves)
+passed_line error.Size = Some (undecided_line 0 limit.Size)
+passed_line error.Letters = Some (undecided_line 0 limit.Letters)
+passed_line error.Moves = Some (undecided_line 0 limit.Moves)
 passed_line error.OutOfMemory = None
 
 -- ---- the endings
 
--- this is the first limit that one of two trees passes, the letters taken over both
-pub record NamesPassed (s t : Tree) (ending : Ending) : Type 0 where
-  pub limit : CompareError
-  pub line : Text
-  pub passed : IsComparePassed Str s t limit
-  pub named : passed_line limit ≡ Some line
-  pub ends : ending ≡ writes line false false
-
--- No limit is passed, and the texts are those of the regions. So each text is matched by the patterns that its region names and by no
--- other, and where no more set pairs are reached a region without a text has none at all
-pub record WritesRegions (s : Tree) (e : MatchEnd) (t : Tree) (f : MatchEnd) (ending : Ending) : Type 0 where
-  pub compared : Compared
-  pub within : AreWithin Str (matched_tree Str s e) (matched_tree Str t f)
-  pub regions : AreRegions Str (matched_tree Str s e) (matched_tree Str t f) MOST_SET_PAIRS compared
-  pub told : AreTold Str (matched s e) (matched t f) compared
-  pub ends : ending ≡ writes (compared_text compared) (is_difference (relation_of compared)) false
-
+-- Either a limit is named, the first that one of the two matched trees passes, the letters taken over both. Or none is passed, and
+-- the texts are those of the regions. So each text is matched by the patterns that its region names and by no other, and where no
+-- more set pairs are reached a region without a text has none at all
 abbrev pub CompareEnds : Tree → MatchEnd → Tree → MatchEnd → Ending → Type 0
-CompareEnds s e t f ending = NamesPassed (matched_tree Str s e) (matched_tree Str t f) ending ⊎ WritesRegions s e t f ending
-
--- the first of the two patterns that is refused is reported
-abbrev pub IsCompareEnding : List ℕ → List ℕ → Mode → Ending → Type 0
-IsCompareEnding first second mode ending =
-    ParsesThen first mode (λ s e. ParsesThen second mode (CompareEnds s e)) ending
+CompareEnds s e t f ending =
+    ((passed : CompareError) × (line : Text) × IsComparePassed Str (matched_tree Str s e) (matched_tree Str t f) passed
+    × (passed_line passed ≡ Some line) × (ending ≡ writes line false false))
+    ⊎ ((c : Compared) × AreWithin Str (matched_tree Str s e) (matched_tree Str t f)
+    × AreRegions Str (matched_tree Str s e) (matched_tree Str t f) MOST_SET_PAIRS c × AreTold Str (matched s e) (matched t f) c
+    × (ending ≡ writes (compared_text c) (is_difference (relation_of c)) false))

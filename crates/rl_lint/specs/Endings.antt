@@ -4,7 +4,7 @@ use Rattle.std.specs.Io.KnownBytes.{Appends, Keeps}
 use Rattle.rl_source.specs.Faults.{Rose}
 use Rattle.rl_source.specs.Written.{GainsLess}
 use Rattle.rl_lint.specs.Sinks.{GainsMessage, SinkChange}
-use Rattle.rl_lint.specs.Text.{Text}
+use Rattle.rl_report.specs.Names.{Text}
 
 -- what a run is to do, by its words and by what the tree answered
 pub data Ending : Type 0 where
@@ -19,15 +19,11 @@ pub data Ending : Type 0 where
 abbrev pub status_of : Bool → Bool → ℕ
 status_of finding failed = if failed then 3 else (if finding then 1 else 0)
 
--- the text is built whole and then written
-abbrev pub WritesText : Text → Bool → Bool → SinkChange → SinkChange → ℕ → Type 0
-WritesText text finding failed out err status =
-    ((status ≡ status_of finding failed) × Appends out.old out.new text × GainsMessage [] err)
-    ⊎ ((status ≡ 4) × Rose out.faults_old out.faults_new × GainsLess out.old out.new text
-    × GainsMessage (codes "relint: write fault\n") err)
-
--- the statuses, with what the sinks gained
+-- the statuses, with what the sinks gained; a text is built whole and then written
 abbrev pub EndsBy : Ending → SinkChange → SinkChange → ℕ → Type 0
 EndsBy (refuses message) out err status = (status ≡ 2) × Keeps out.old out.new × GainsMessage message err
 EndsBy (unreadable message) out err status = (status ≡ 3) × Keeps out.old out.new × GainsMessage message err
-EndsBy (writes text finding failed) out err status = WritesText text finding failed out err status
+EndsBy (writes text finding failed) out err status =
+    ((status ≡ status_of finding failed) × Appends out.old out.new text × GainsMessage [] err)
+    ⊎ ((status ≡ 4) × Rose out.faults_old out.faults_new × GainsLess out.old out.new text
+    × GainsMessage (codes "relint: write fault\n") err)

@@ -7,8 +7,9 @@ use Rattle.rl_source.specs.Told.{Told, after}
 use Rattle.rl_source.specs.declared.nodes.CallName.TheVariants.{Read}
 use Rattle.rl_source.specs.declared.nodes.Node.{Node}
 use Rattle.rl_walk.specs.Visits.{Moment}
+use Rattle.rl_lint.specs.declared.files.TheConstants.{MOST_READ}
 use Rattle.rl_lint.specs.Endings.{Ending, refuses, unreadable}
-use Rattle.rl_lint.specs.Text.{Text}
+use Rattle.rl_report.specs.Names.{Text}
 
 -- the bytes of the file at the path
 abbrev pub whole_bytes : Text → List Node → Option Text
@@ -16,7 +17,7 @@ whole_bytes path nodes = bytes_at nodes path
 
 -- the bytes of a baseline, and of a certificate: the first ones of the file, or all of them where there are fewer
 abbrev pub first_bytes : Text → List Node → Option Text
-first_bytes path nodes = option_map (take 67108865) (bytes_at nodes path)
+first_bytes path nodes = option_map (take MOST_READ) (bytes_at nodes path)
 
 -- Between the two moments the tree was asked for bytes of the file at the path and gave these, or none where the call failed. Where it
 -- tells its map and its trail, these are the bytes that are there, and the trail went on by this call, with its mark, and by no other

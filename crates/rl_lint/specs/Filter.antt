@@ -4,13 +4,9 @@ use Rattle.rl_report.specs.declared.report.Entry.{Entry}
 use Rattle.rl_sarif.specs.Keys.{EntryKey}
 use Rattle.rl_sarif.specs.Known.{unknown_positions}
 
--- the entries at these positions, in their order
-abbrev pub entries_at : List ℕ → List Entry → List Entry
-entries_at positions entries = filter_map (slice_get entries) positions
-
--- the entries that a baseline with these keys doesn't know
+-- the entries that a baseline with these keys doesn't know, in their order
 abbrev pub unknown_entries : List EntryKey → List Entry → List Entry
-unknown_entries keys entries = entries_at (unknown_positions keys entries) entries
+unknown_entries keys entries = filter_map (slice_get entries) (unknown_positions keys entries)
 
 -- those that a baseline with these keys doesn't know, or all of them where there is no baseline
 abbrev pub visible_entries : Option (List EntryKey) → List Entry → List Entry

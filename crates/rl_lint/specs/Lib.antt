@@ -1,4 +1,3 @@
-pub mod Text
 pub mod Sinks
 pub mod Endings
 pub mod Messages

@@ -1,5 +1,5 @@
 -- Which settings are in force: the values of the options, over those of the settings file, over the defaults.
-use Rattle.std.specs.Prelude.{◌≡◌, ℕ, Option, Some, None, option_map}
+use Rattle.std.specs.Prelude.{◌≡◌, Option, Some, option_map, unwrap_or}
 use Rattle.rl_syntax.specs.declared.re.Mode.{Mode}
 use Rattle.rl_syntax.specs.declared.re.Mode.TheVariants as mode
 use Rattle.rl_report.specs.declared.layouts.Format.TheVariants.{Text as in_text, Brief, Json}
@@ -12,12 +12,7 @@ use Rattle.rl_words.specs.declared.words.FormatWord.TheVariants as layout
 use Rattle.rl_words.specs.declared.words.ModeWord.{ModeWord}
 use Rattle.rl_words.specs.declared.words.ModeWord.TheVariants as word
 use Rattle.rl_words.specs.declared.words.PartialSettings.{PartialSettings}
-use Rattle.rl_lint.specs.Text.{Text}
-
--- the number that is given, or its default
-abbrev pub number_given : Option ℕ → ℕ → ℕ
-number_given None default = default
-number_given (Some n) default = n
+use Rattle.rl_report.specs.Names.{Text}
 
 abbrev pub mode_of : ModeWord → Mode
 mode_of word.Fullmatch = mode.Fullmatch
@@ -26,19 +21,13 @@ mode_of word.Search = mode.Search
 
 -- the mode that is given, or its default
 abbrev pub mode_given : Option ModeWord → Mode → Mode
-mode_given None default = default
-mode_given (Some given) default = mode_of given
+mode_given given default = unwrap_or (option_map mode_of given) default
 
 abbrev pub layout_of : FormatWord → Layout
 layout_of layout.Text = Report in_text
 layout_of layout.Brief = Report Brief
 layout_of layout.Json = Report Json
 layout_of layout.Sarif = Sarif
-
--- the layout that is given, or its default
-abbrev pub layout_given : Option FormatWord → Layout → Layout
-layout_given None default = default
-layout_given (Some given) default = layout_of given
 
 -- where nothing else is given, a call of `compile` counts as a search, a degree up to 2 is no finding, 600 live pairs are looked
 -- at, and the report is in text and of version 2
@@ -49,10 +38,10 @@ default_settings = record { compile_as = mode.Search; max_degree = 2; max_pairs 
 abbrev pub with_values : PartialSettings → Settings → Settings
 with_values values s = record {
   compile_as = mode_given values.mode s.compile_as;
-  max_degree = number_given values.max_degree s.max_degree;
-  max_pairs = number_given values.max_pairs s.max_pairs;
-  format = layout_given values.format s.format;
-  report = number_given values.report s.report;
+  max_degree = unwrap_or values.max_degree s.max_degree;
+  max_pairs = unwrap_or values.max_pairs s.max_pairs;
+  format = unwrap_or (option_map layout_of values.format) s.format;
+  report = unwrap_or values.report s.report;
 }
 
 -- the settings with the values of a settings file in their place, or none exactly where its bytes are refused

@@ -14,7 +14,7 @@ use Rattle.rl_pairs.specs.RightVerdict.{Question}
 use Rattle.rl_report.specs.Names.{feature_name}
 use Rattle.rl_lint.specs.Endings.{Ending, refuses}
 use Rattle.rl_lint.specs.Messages.{refused_at}
-use Rattle.rl_lint.specs.Text.{Text}
+use Rattle.rl_report.specs.Names.{Text}
 
 -- the message on a pattern that the reader of patterns refuses. Out of memory is no refusal
 abbrev pub refusal : PatError → Option Text

@@ -5,10 +5,11 @@ use Rattle.rl_source.specs.Told.{Told}
 use Rattle.rl_words.specs.Call.{Asked, Call, Chosen, check, class, cost, sample, prove, verify, compare}
 use Rattle.rl_sarif.specs.Baseline.{IsBaseline}
 use Rattle.rl_cert.specs.Form.{IsForm}
+use Rattle.rl_lint.specs.declared.cost.TheConstants.{MOST_TEXT_CODES}
 use Rattle.rl_lint.specs.Files.{HasRefused, first_bytes, whole_bytes}
 use Rattle.rl_lint.specs.Options.{GivesSettings}
 use Rattle.rl_lint.specs.Patterns.{IsRefusedPattern}
-use Rattle.rl_lint.specs.Text.{Text}
+use Rattle.rl_report.specs.Names.{Text}
 
 -- the reader of patterns refuses the word
 abbrev pub HasRefusedPattern : Text → Type 0
@@ -18,7 +19,7 @@ HasRefusedPattern word = (message : Text) × IsRefusedPattern (chars word) messa
 abbrev pub IsRefusedAction : Option Told → Chosen → Asked → Type 0
 IsRefusedAction told options (check paths) = HasRefused IsBaseline first_bytes options.baseline told
 IsRefusedAction told options (class pattern) = HasRefusedPattern pattern
-IsRefusedAction told options (cost pattern text) = HasRefusedPattern pattern ⊎ (65536 < length (chars text))
+IsRefusedAction told options (cost pattern text) = HasRefusedPattern pattern ⊎ (MOST_TEXT_CODES < length (chars text))
 IsRefusedAction told options (sample seed count) = ⊥
 IsRefusedAction told options (prove pattern) = HasRefusedPattern pattern
 IsRefusedAction told options (verify pattern file) = HasRefusedPattern pattern ⊎ HasRefused IsForm first_bytes (Some file) told

@@ -8,15 +8,15 @@ use Rattle.rl_words.specs.Call.{Asked, Call, Chosen, check, class, cost, sample,
 use Rattle.rl_words.specs.Usage.{usage_text}
 use Rattle.rl_lint.specs.CheckEnding.{IsCheckEnding}
 use Rattle.rl_lint.specs.ClassEnding.{ClassEnds}
-use Rattle.rl_lint.specs.CompareEnding.{IsCompareEnding}
+use Rattle.rl_lint.specs.CompareEnding.{CompareEnds}
 use Rattle.rl_lint.specs.CostEnding.{cost_ending}
 use Rattle.rl_lint.specs.Endings.{Ending, refuses}
 use Rattle.rl_lint.specs.Files.{ReadsThen, whole_bytes}
 use Rattle.rl_lint.specs.Options.{GivesSettings, default_settings, mode_given, with_values}
-use Rattle.rl_lint.specs.Patterns.{ParsesThen}
+use Rattle.rl_lint.specs.Patterns.{ParsesThen, text_question}
 use Rattle.rl_lint.specs.ProveEnding.{ProveEnds}
 use Rattle.rl_lint.specs.SampleEnding.{IsSampleEnding}
-use Rattle.rl_lint.specs.Text.{Text}
+use Rattle.rl_report.specs.Names.{Text}
 use Rattle.rl_lint.specs.VerifyEnding.{IsVerifyEnding}
 
 -- An action, under the settings in force and with the options of its call. `check` walks the tree, `verify` reads its file, and no other
@@ -29,11 +29,12 @@ IsActionEnding s options (cost pattern text) old new ending =
     (new ≡ old) × ParsesThen (chars pattern) (mode_given options.values.mode Fullmatch) (λ t at end. end ≡ cost_ending (chars text) t at) ending
 IsActionEnding s options (sample seed count) old new ending = (new ≡ old) × IsSampleEnding s seed count ending
 IsActionEnding s options (prove pattern) old new ending =
-    (new ≡ old) × ParsesThen (chars pattern) (mode_given options.values.mode Fullmatch) (ProveEnds s.max_pairs) ending
+    (new ≡ old) × ParsesThen (chars pattern) (mode_given options.values.mode Fullmatch) (λ t at. ProveEnds (text_question s.max_pairs t at)) ending
 IsActionEnding s options (verify pattern file) old new ending =
     IsVerifyEnding s.max_pairs (mode_given options.values.mode Fullmatch) (chars pattern) file old new ending
 IsActionEnding s options (compare first second) old new ending =
-    (new ≡ old) × IsCompareEnding (chars first) (chars second) (mode_given options.values.mode Fullmatch) ending
+    let mode = mode_given options.values.mode Fullmatch in
+    (new ≡ old) × ParsesThen (chars first) mode (λ s e. ParsesThen (chars second) mode (CompareEnds s e)) ending
 
 -- a call: its settings file is read first, where one is named, and the values of its options take the place of those there
 abbrev pub IsCallEnding : Call → Option Text → Moment → Moment → Ending → Type 0
@@ -51,12 +52,8 @@ IsRunEnding (Some call) old new ending = IsCallEnding call call.options.settings
 -- the action asks the tree
 abbrev pub asks_itself : Asked → Bool
 asks_itself (check paths) = true
-asks_itself (class pattern) = false
-asks_itself (cost pattern text) = false
-asks_itself (sample seed count) = false
-asks_itself (prove pattern) = false
 asks_itself (verify pattern file) = true
-asks_itself (compare first second) = false
+asks_itself _ = false
 
 -- the words are a valid call of `check` or `verify`, or of any action with a settings file
 abbrev pub asks_tree : Option Call → Bool

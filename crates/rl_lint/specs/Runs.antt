@@ -6,7 +6,7 @@ use Rattle.rl_words.specs.Given.{given_by}
 use Rattle.rl_lint.specs.Endings.{Ending, EndsBy}
 use Rattle.rl_lint.specs.RunEnding.{IsRunEnding}
 use Rattle.rl_lint.specs.Sinks.{GainsMessage, SinkChange}
-use Rattle.rl_lint.specs.Text.{Text}
+use Rattle.rl_report.specs.Names.{Text}
 
 -- the run came to its ending, which follows from its words and from what the tree answered between the two moments
 pub record Completes (words : List Text) (old new : Moment) (out err : SinkChange) (status : ℕ) : Type 0 where

@@ -3,7 +3,7 @@ use Rattle.std.specs.Prelude.{ℕ, Option, ◌⊎◌}
 use Rattle.std.specs.Io.KnownBytes.{Appends}
 use Rattle.rl_source.specs.Faults.{Rose}
 use Rattle.rl_source.specs.Written.{GainsSome}
-use Rattle.rl_lint.specs.Text.{Text}
+use Rattle.rl_report.specs.Names.{Text}
 
 -- a sink before and after: its bytes, where it tells them, and its count of faults
 pub record SinkChange : Type 0 where

@@ -17,7 +17,7 @@ use Rattle.rl_cert.specs.declared.certificate.Certificate.{Certificate}
 use Rattle.rl_lint.specs.Endings.{Ending, refuses, writes}
 use Rattle.rl_lint.specs.Files.{ReadsThen, first_bytes}
 use Rattle.rl_lint.specs.Patterns.{IsRefusedPattern, text_question}
-use Rattle.rl_lint.specs.Text.{Text}
+use Rattle.rl_report.specs.Names.{Text}
 
 -- whether the certificate holds is written, and the verdict where it does
 abbrev pub CertificateEnds : Question → Certificate → Ending → Type 0

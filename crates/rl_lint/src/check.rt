@@ -1,13 +1,10 @@
 //! The action `check`.
-ghost use Rattle.std.specs.Prelude.{◌≡◌, ◌≤◌, [], All, codes, map, option_map, IfOk, Some};
+ghost use Rattle.std.specs.Prelude.{◌≡◌, ◌≤◌, All, map, option_map, IfOk};
 ghost use Rattle.rl_judge.specs.RightEntries.{IsValid};
-ghost use Rattle.rl_judge.specs.RightReport.{HasChecked};
 ghost use Rattle.rl_report.specs.Layouts.{IsOfItsUniverse};
 ghost use Rattle.rl_report.specs.Reports.{report_text};
-ghost use Rattle.rl_walk.specs.Visits.{Walked, moment_of};
-ghost use Rattle.rl_sarif.specs.Baseline.{IsBaseline};
-ghost use Rattle.rl_lint.specs.CheckEnding.{IsCheckEnding, IsReport, ReportsWalk};
-ghost use Rattle.rl_lint.specs.Files.{ReadsThen, first_bytes};
+ghost use Rattle.rl_walk.specs.Visits.{moment_of};
+ghost use Rattle.rl_lint.specs.CheckEnding.{IsCheckEnding, report_in};
 ghost use Rattle.rl_lint.specs.internal.Plans.{ending_of};
 
 use crate::baseline::read_baseline;
@@ -17,32 +14,10 @@ use crate::plan::{Message, Plan};
 use rl_judge::{Checker, Layout, Settings, status_of};
 use rl_lists::{Bytes, OutOfMemory};
 use rl_report::{Format, render, render_shown};
-use rl_sarif::{KnownKeys, sarif};
+use rl_sarif::sarif;
 use rl_source::Tree;
 use rl_walk::walk;
 use std::alloc::Global;
-
-/// The entries of the visits of a walk from these paths.
-///
-/// # Errors
-/// [`OutOfMemory`]; the tree may have been read.
-fn check_paths<T: Tree>(
-    alloc: Global,
-    paths: &[&str],
-    settings: Settings,
-    tree: &mut T,
-) -> Result<Checker, OutOfMemory>
-    requires { IsValid settings }
-    ensures walked { IfOk result (λ c. Walked (moment_of T.told T.fault_count tree.old) (moment_of T.told T.fault_count tree.new)
-        (map (λ p. p.now) paths.now) (λ visits. visits ≡ []) (HasChecked c)) }
-    ensures settings { IfOk result (λ c. c.settings ≡ settings) }
-    ensures universe { IfOk result (λ c. All IsOfItsUniverse c.entries) }
-    ensures later { T.fault_count tree.old ≤ T.fault_count tree.new }
-{
-    let mut checker = Checker::new(alloc, settings);
-    walk(alloc, paths, tree, &mut checker)?;
-    Ok(checker)
-}
 
 /// The report on the visible entries, in a format.
 ///
@@ -78,14 +53,10 @@ fn report(
 ///
 /// # Errors
 /// [`OutOfMemory`].
-fn report_in_layout(
-    alloc: Global,
-    visible: &Visible,
-    settings: &Settings,
-) -> Result<Bytes, OutOfMemory>
+fn report_in(alloc: Global, visible: &Visible, settings: &Settings) -> Result<Bytes, OutOfMemory>
     requires valid { IsValid settings.now }
     requires universe { All IsOfItsUniverse visible.now.entries }
-    ensures { IfOk result (IsReport settings.now.format settings.now visible.now.hidden visible.now.entries) }
+    ensures { IfOk result (λ text. text ≡ report_in settings.now.format settings.now visible.now.hidden visible.now.entries) }
 {
     match settings.format {
         Layout::Report(format) => report(alloc, visible, format, settings),
@@ -95,60 +66,6 @@ fn report_in_layout(
             settings.max_degree,
             settings.max_pairs,
         ),
-    }
-}
-
-/// What `check` is to do for these paths under these settings, with the keys of a baseline where there is one. The tree is
-/// walked from the paths on.
-///
-/// # Errors
-/// [`OutOfMemory`]; the tree may have been read.
-fn walk_plan<T: Tree>(
-    alloc: Global,
-    paths: &[&str],
-    settings: Settings,
-    baseline: Option<KnownKeys>,
-    tree: &mut T,
-) -> Result<Plan, OutOfMemory>
-    requires { IsValid settings }
-    ensures reports { IfOk result (λ plan. ReportsWalk settings (map (λ p. p.now) paths.now) baseline
-        (moment_of T.told T.fault_count tree.old) (moment_of T.told T.fault_count tree.new) (ending_of plan)) }
-    ensures later { T.fault_count tree.old ≤ T.fault_count tree.new }
-{
-    let checker = check_paths(alloc, paths, settings, tree)?;
-    let failed = checker.has_unread();
-    let visible = visible_entries(alloc, checker.into_entries(), baseline)?;
-    let text = report_in_layout(alloc, &visible, &settings)?;
-    Ok(Plan::Writes {
-        text,
-        finding: status_of(&visible.entries, &settings) == 1,
-        failed,
-    })
-}
-
-/// What `check` is to do for these paths under these settings. The baseline at this path is read before the tree is walked.
-///
-/// # Errors
-/// [`OutOfMemory`]; the tree may have been read.
-fn baseline_plan<T: Tree>(
-    alloc: Global,
-    paths: &[&str],
-    settings: Settings,
-    path: &str,
-    tree: &mut T,
-) -> Result<Plan, OutOfMemory>
-    requires { IsValid settings }
-    ensures ending { IfOk result (λ plan. ReadsThen (codes "baseline") first_bytes IsBaseline
-        (λ keys. ReportsWalk settings (map (λ p. p.now) paths.now) (Some keys)) path.now
-        (moment_of T.told T.fault_count tree.old) (moment_of T.told T.fault_count tree.new) (ending_of plan)) }
-    ensures later { T.fault_count tree.old ≤ T.fault_count tree.new }
-{
-    match read_baseline(alloc, path, tree)? {
-        FileRead::Unreadable => Ok(Plan::Unreadable(Message::Fixed(
-            "relint: baseline unreadable\n",
-        ))),
-        FileRead::Refused => Ok(Plan::Refuses(Message::Fixed("relint: baseline refused\n"))),
-        FileRead::Taken(keys) => walk_plan(alloc, paths, settings, Some(keys), tree),
     }
 }
 
@@ -169,8 +86,21 @@ pub fn check_plan<T: Tree>(
         (moment_of T.told T.fault_count tree.old) (moment_of T.told T.fault_count tree.new) (ending_of plan)) }
     ensures later { T.fault_count tree.old ≤ T.fault_count tree.new }
 {
-    match baseline {
-        None => walk_plan(alloc, paths, settings, None, tree),
-        Some(path) => baseline_plan(alloc, paths, settings, path, tree),
-    }
+    let keys = match read_baseline(alloc, baseline, tree)? {
+        FileRead::Unreadable => {
+            return Ok(Plan::Unreadable(Message::Fixed("relint: baseline unreadable\n")));
+        }
+        FileRead::Refused => return Ok(Plan::Refuses(Message::Fixed("relint: baseline refused\n"))),
+        FileRead::Taken(keys) => keys,
+    };
+    let mut checker = Checker::new(alloc, settings);
+    walk(alloc, paths, tree, &mut checker)?;
+    let failed = checker.has_unread();
+    let visible = visible_entries(alloc, checker.into_entries(), keys)?;
+    let text = report_in(alloc, &visible, &settings)?;
+    Ok(Plan::Writes {
+        text,
+        finding: status_of(&visible.entries, &settings) == 1,
+        failed,
+    })
 }

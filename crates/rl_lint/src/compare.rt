@@ -8,17 +8,17 @@ ghost use Rattle.rl_compare.specs.Matched.{matched_tree};
 ghost use Rattle.rl_compare.specs.Passed.{IsComparePassed};
 ghost use Rattle.rl_lint.specs.Endings.{writes};
 ghost use Rattle.rl_lint.specs.internal.Plans.{ending_of};
-ghost use Rattle.rl_lint.specs.CostEnding.{undecided_line};
-ghost use Rattle.rl_lint.specs.CompareEnding.{CompareEnds, IsCompareEnding, compared_text, relation_of, is_difference};
+ghost use Rattle.rl_lint.specs.Messages.{undecided_line};
+ghost use Rattle.rl_lint.specs.CompareEnding.{CompareEnds, compared_text, relation_of, is_difference};
 ghost use Rattle.rl_lint.specs.internal.Compared.{AreTexts, IsFound, PassesSize};
 ghost use Rattle.rl_lint.specs.Patterns.{ParsesThen};
 
-use crate::cost_line::undecided_line;
+use crate::messages::undecided_line;
 use crate::pattern_argument::{PatternArgument, parse_argument};
 use crate::plan::Plan;
 use crate::relation::{Relation, compared_text};
 use rl_compare::{CompareError, Compared, compare};
-use rl_lists::{Bytes, OutOfMemory};
+use rl_lists::OutOfMemory;
 use rl_syntax::{Limit, LowerError, Lowered, MOST_SET_PAIRS, Mode, Pattern, Universe, lower};
 use std::alloc::Global;
 
@@ -66,11 +66,11 @@ fn compared(
 /// # Errors
 /// [`OutOfMemory`].
 fn limit_plan(alloc: Global, limit: Limit) -> Result<Plan, OutOfMemory>
-    ensures { IfOk result (λ plan. ending_of plan ≡ writes (undecided_line limit) false false) }
+    ensures { IfOk result (λ plan. ending_of plan ≡ writes (undecided_line 0 limit) false false) }
 {
-    let line = undecided_line(alloc, limit)?;
+    let text = undecided_line(alloc, 0, limit)?;
     Ok(Plan::Writes {
-        text: Bytes::from_vec(line.into_bytes()),
+        text,
         finding: false,
         failed: false,
     })
@@ -147,7 +147,7 @@ pub fn compare_plan(
     second: &str,
     mode: Mode,
 ) -> Result<Plan, OutOfMemory>
-    ensures { IfOk result (λ plan. IsCompareEnding (chars first.now) (chars second.now) mode (ending_of plan)) }
+    ensures { IfOk result (λ plan. ParsesThen (chars first.now) mode (λ s e. ParsesThen (chars second.now) mode (CompareEnds s e)) (ending_of plan)) }
 {
     match parse_argument(alloc, first)? {
         PatternArgument::Refused(message) => Ok(Plan::Refuses(message)),

@@ -1,9 +1,9 @@
 //! The settings to start with: the defaults, or those that a settings file gives.
-ghost use Rattle.std.specs.Prelude.{◌≤◌, IfOk, Some};
+ghost use Rattle.std.specs.Prelude.{◌≡◌, ◌≤◌, IfOk, None, Some, option_map};
 ghost use Rattle.rl_walk.specs.Visits.{moment_of};
 ghost use Rattle.rl_lint.specs.Files.{whole_bytes};
-ghost use Rattle.rl_lint.specs.Options.{GivesSettings};
-ghost use Rattle.rl_lint.specs.internal.Reads.{AreFit, IsFileRead, IsGiven};
+ghost use Rattle.rl_lint.specs.Options.{GivesSettings, default_settings};
+ghost use Rattle.rl_lint.specs.internal.Reads.{AreFit, IsGiven, IsNamedRead};
 
 use crate::files::{FileRead, read_file};
 use crate::settings::settings_from;
@@ -39,20 +39,25 @@ fn settings_in(alloc: Global, bytes: &Vec<u8>) -> Result<FileRead<Settings>, Out
     }
 }
 
-/// What the settings file at this path gives. It is read whole, by one call of the tree.
+/// What the settings file at this path gives, where one is named: it is read whole, by one call of the tree. Where none is named,
+/// these are the defaults.
 ///
 /// # Errors
 /// [`OutOfMemory`]; the tree may have been read.
 pub fn read_config<T: Tree>(
     alloc: Global,
-    path: &str,
+    path: Option<&str>,
     tree: &mut T,
 ) -> Result<FileRead<Settings>, OutOfMemory>
-    ensures read { IfOk result (IsFileRead GivesSettings whole_bytes path.now
+    ensures read { IfOk result (IsNamedRead GivesSettings whole_bytes default_settings (option_map (λ p. p.now) path.entry)
         (moment_of T.told T.fault_count tree.old) (moment_of T.told T.fault_count tree.new)) }
     ensures fit { IfOk result AreFit }
+    ensures still { path.entry ≡ None → T.told tree.new ≡ T.told tree.old }
     ensures later { T.fault_count tree.old ≤ T.fault_count tree.new }
 {
+    let Some(path) = path else {
+        return Ok(FileRead::Taken(DEFAULTS));
+    };
     match read_file(path, usize::MAX, tree)? {
         Some(bytes) => settings_in(alloc, &bytes),
         None => Ok(FileRead::Unreadable),

@@ -11,12 +11,12 @@ use crate::codes::codes_of;
 use crate::cost_line::cost_line;
 use crate::pattern_argument::{PatternArgument, parse_argument};
 use crate::plan::{Message, Plan};
-use rl_lists::{Bytes, OutOfMemory};
+use rl_lists::OutOfMemory;
 use rl_syntax::{Mode, Pattern};
 use std::alloc::Global;
 
-/// How many codes the text may have.
-const MAX_TEXT: usize = 65_536;
+/// The most codes of a text. A longer one is refused.
+pub const MOST_TEXT_CODES: usize = 65_536;
 
 /// What `cost` is to do for a text pattern and a text in a mode.
 ///
@@ -33,12 +33,12 @@ fn pattern_plan(
         ≡ cost_ending (chars text.now) (pattern_tree pattern.now mode) (pattern_ending pattern.now mode)) }
 {
     let text = codes_of(alloc, text)?;
-    if text.len() > MAX_TEXT {
+    if text.len() > MOST_TEXT_CODES {
         return Ok(Plan::Refuses(Message::Fixed("relint: text too long\n")));
     }
     let line = cost_line(alloc, pattern, mode, &text)?;
     Ok(Plan::Writes {
-        text: Bytes::from_vec(line.into_bytes()),
+        text: line,
         finding: false,
         failed: false,
     })

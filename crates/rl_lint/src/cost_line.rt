@@ -1,6 +1,5 @@
 //! The line that `cost` writes.
 ghost use Rattle.std.specs.Prelude.{◌≡◌, ◌<◌, ◌≤◌, All, IfOk};
-ghost use Rattle.std.specs.String.{string_bytes};
 ghost use Rattle.rl_ranges.specs.Text.{IsText};
 ghost use Rattle.rl_ranges.specs.declared.universe.Universe.TheVariants.{Str};
 ghost use Rattle.rl_syntax.specs.Cost.{cost, matched};
@@ -9,58 +8,45 @@ ghost use Rattle.rl_syntax.specs.Tree.{IsOver, Tree, size, tree_of};
 ghost use Rattle.rl_syntax.specs.declared.re.Ending.{Ending};
 ghost use Rattle.rl_prio.specs.StandsFor.{StandsFor};
 ghost use Rattle.rl_report.specs.Names.{limit_number};
-ghost use Rattle.rl_lint.specs.CostEnding.{cost_line, undecided_line};
+ghost use Rattle.rl_lint.specs.CostEnding.{cost_line};
 ghost use Rattle.rl_lint.specs.Messages.{steps_line};
 
-use crate::messages::steps_line;
-use rl_lists::{Codes, OutOfMemory};
+use crate::messages::{steps_line, undecided_line};
+use rl_lists::{Bytes, Codes, OutOfMemory};
 use rl_machine::cost;
 use rl_prio::{Prio, PrioError};
-use rl_report::{limit_name, limit_number};
 use rl_syntax::{Limit, LowerError, Lowered, Mode, Pattern, Universe, lower};
 use std::alloc::Global;
-
-/// The line on a limit that is passed, which is none on pairs.
-///
-/// # Errors
-/// [`OutOfMemory`].
-pub fn undecided_line(alloc: Global, limit: Limit) -> Result<String, OutOfMemory>
-    ensures { IfOk result (λ line. string_bytes line ≡ undecided_line limit) }
-{
-    let name = limit_name(limit);
-    let number = limit_number(limit, 0);
-    let line = format!(in alloc; "undecided {name} over {number}\n")?;
-    Ok(line)
-}
 
 /// The line on the steps of a text by an automaton.
 ///
 /// # Errors
 /// [`OutOfMemory`].
-fn counted_line(alloc: Global, automaton: &Prio, text: &Codes) -> Result<String, OutOfMemory>
+fn counted_line(alloc: Global, automaton: &Prio, text: &Codes) -> Result<Bytes, OutOfMemory>
     requires { All (λ code. code < automaton.now.table.codes) text.now }
     ensures { (t : Tree) (at : Ending) → StandsFor automaton.now t at
-        → IfOk result (λ line. string_bytes line ≡ steps_line (cost t at text.now) (matched t at text.now)) }
+        → IfOk result (λ line. line ≡ steps_line (cost t at text.now) (matched t at text.now)) }
 {
     let counted = cost(alloc, automaton, text)?;
-    steps_line(alloc, counted)
+    let line = steps_line(alloc, counted)?;
+    Ok(Bytes::from_vec(line.into_bytes()))
 }
 
 /// The line on a text by a lowered pattern.
 ///
 /// # Errors
 /// [`OutOfMemory`].
-fn lowered_line(alloc: Global, lowered: &Lowered, text: &Codes) -> Result<String, OutOfMemory>
+fn lowered_line(alloc: Global, lowered: &Lowered, text: &Codes) -> Result<Bytes, OutOfMemory>
     requires over { IsOver Str (tree_of lowered.now.tree) }
     requires small { size (tree_of lowered.now.tree) ≤ limit_number 0 Limit.Size }
     requires in_universe { IsText Str text.now }
-    ensures { IfOk result (λ line. string_bytes line
+    ensures { IfOk result (λ line. line
         ≡ cost_line (tree_of lowered.now.tree) lowered.now.ending text.now) }
 {
     match Prio::build(alloc, &lowered.tree, lowered.ending, Universe::Str) {
         Ok(automaton) => counted_line(alloc, &automaton, text),
-        Err(PrioError::Letters) => undecided_line(alloc, Limit::Letters),
-        Err(PrioError::Moves) => undecided_line(alloc, Limit::Moves),
+        Err(PrioError::Letters) => undecided_line(alloc, 0, Limit::Letters),
+        Err(PrioError::Moves) => undecided_line(alloc, 0, Limit::Moves),
         Err(PrioError::OutOfMemory) => Err(OutOfMemory),
     }
 }
@@ -74,15 +60,15 @@ pub fn cost_line(
     pattern: &Pattern,
     mode: Mode,
     text: &Codes,
-) -> Result<String, OutOfMemory>
+) -> Result<Bytes, OutOfMemory>
     requires of_text { universe_of pattern.now ≡ Str }
     requires in_universe { IsText Str text.now }
-    ensures { IfOk result (λ line. string_bytes line
+    ensures { IfOk result (λ line. line
         ≡ cost_line (pattern_tree pattern.now mode) (pattern_ending pattern.now mode) text.now) }
 {
     match lower(alloc, pattern, mode) {
         Ok(lowered) => lowered_line(alloc, &lowered, text),
-        Err(LowerError::TooLarge) => undecided_line(alloc, Limit::Size),
+        Err(LowerError::TooLarge) => undecided_line(alloc, 0, Limit::Size),
         Err(LowerError::OutOfMemory) => Err(OutOfMemory),
     }
 }

@@ -7,8 +7,8 @@ ghost use Rattle.rl_lint.specs.internal.Reads.{bytes_up_to};
 use rl_lists::OutOfMemory;
 use rl_source::{Tree, TreeError};
 
-/// How many bytes of a baseline or a certificate are read at most: one more than either has.
-pub const MOST_BYTES: usize = 67_108_865;
+/// How many bytes of a baseline or a certificate are read at most: one more than either may have, which shows that it is too long.
+pub const MOST_READ: usize = 67_108_865;
 
 /// What reading a file gives.
 #[derive(Drop)]

@@ -45,6 +45,7 @@ mod settings;
 mod stderr;
 mod verify;
 
+pub use cost::MOST_TEXT_CODES;
 pub use rl_judge::{JudgeError, Layout, Settings, judge, status_of};
 pub use rl_sample::sample_source;
 pub use rl_settings::SettingsError;

@@ -1,11 +1,13 @@
-//! The message on a pattern that is refused, and the line of `cost` on its steps.
-ghost use Rattle.std.specs.Prelude.{◌≡◌, ℕ, IfOk};
+//! The message on a pattern that is refused, the line of `cost` on its steps, and the line on a limit that is passed.
+ghost use Rattle.std.specs.Prelude.{◌≡◌, ℕ, IfOk, codes, if◌then◌else◌};
 ghost use Rattle.std.specs.String.{string_bytes};
 ghost use Rattle.rl_machine.specs.Counts.{Counts};
-ghost use Rattle.rl_lint.specs.Messages.{outcome, refused_at, steps_line};
+ghost use Rattle.rl_lint.specs.Messages.{refused_at, steps_line, undecided_line};
 
-use rl_lists::OutOfMemory;
+use rl_lists::{Bytes, OutOfMemory};
 use rl_machine::{Counted, Steps};
+use rl_report::verdict_line;
+use rl_syntax::{Limit, Verdict};
 use std::alloc::Global;
 
 /// The message on a pattern that is refused for this cause at this code.
@@ -19,9 +21,19 @@ pub fn refused_at(alloc: Global, cause: &str, place: u32) -> Result<String, OutO
     Ok(text)
 }
 
+/// The line on a limit that is passed, where so many live pairs are looked at.
+///
+/// # Errors
+/// [`OutOfMemory`].
+pub fn undecided_line(alloc: Global, max_pairs: u32, limit: Limit) -> Result<Bytes, OutOfMemory>
+    ensures { IfOk result (λ line. line ≡ undecided_line max_pairs limit) }
+{
+    verdict_line(alloc, &Verdict::Undecided(limit), max_pairs)
+}
+
 /// How a match ends.
 fn outcome(matched: bool) -> &'static str
-    ensures { result.now ≡ outcome matched }
+    ensures { result.now ≡ (if matched then codes " matched\n" else codes " refused\n") }
 {
     if matched { " matched\n" } else { " refused\n" }
 }

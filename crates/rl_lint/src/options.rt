@@ -1,8 +1,8 @@
 //! Values of options and of settings files, in the place of others.
-ghost use Rattle.std.specs.Prelude.{◌≡◌};
+ghost use Rattle.std.specs.Prelude.{◌≡◌, option_map, unwrap_or};
 ghost use Rattle.rl_words.specs.Call.{AreInRange};
 ghost use Rattle.rl_judge.specs.RightEntries.{IsValid};
-ghost use Rattle.rl_lint.specs.Options.{layout_given, mode_given, number_given, with_values};
+ghost use Rattle.rl_lint.specs.Options.{layout_of, mode_given, with_values};
 
 use rl_judge::{Layout, Settings};
 use rl_report::Format;
@@ -21,16 +21,9 @@ pub fn mode_given(word: Option<ModeWord>, default: Mode) -> Mode
     }
 }
 
-/// The number that is given, or its default.
-fn number_given(number: Option<u32>, default: u32) -> u32
-    ensures { result ≡ number_given number default }
-{
-    number.unwrap_or(default)
-}
-
 /// The layout that is given, or its default.
 fn layout_given(word: Option<FormatWord>, default: Layout) -> Layout
-    ensures { result ≡ layout_given word default }
+    ensures { result ≡ unwrap_or (option_map layout_of word) default }
 {
     match word {
         None => default,
@@ -50,9 +43,9 @@ pub fn with_values(values: &PartialSettings, start: &Settings) -> Settings
 {
     Settings {
         compile_as: mode_given(values.mode, start.compile_as),
-        max_degree: number_given(values.max_degree, start.max_degree),
-        max_pairs: number_given(values.max_pairs, start.max_pairs),
+        max_degree: values.max_degree.unwrap_or(start.max_degree),
+        max_pairs: values.max_pairs.unwrap_or(start.max_pairs),
         format: layout_given(values.format, start.format),
-        report: number_given(values.report, start.report),
+        report: values.report.unwrap_or(start.report),
     }
 }

@@ -1,21 +1,19 @@
 //! What a run is to do, worked out before anything is written.
-ghost use Rattle.std.specs.Prelude.{◌≡◌, ◌≤◌, codes, false, map, true, IfOk, Some};
+ghost use Rattle.std.specs.Prelude.{◌≡◌, ◌≤◌, false, map, true, IfOk};
 ghost use Rattle.std.specs.String.{string_bytes};
 ghost use Rattle.rl_judge.specs.RightEntries.{IsValid};
 ghost use Rattle.rl_source.specs.Faults.{Rose};
 ghost use Rattle.rl_walk.specs.Visits.{moment_of};
-ghost use Rattle.rl_words.specs.Call.{HasActionRanges, HasRanges, asked, chosen};
+ghost use Rattle.rl_words.specs.Call.{HasActionRanges, asked, chosen};
 ghost use Rattle.rl_words.specs.Given.{given_by};
-ghost use Rattle.rl_lint.specs.internal.Plans.{call_of, ending_of, has_fault, is_refusal, message_text};
-ghost use Rattle.rl_lint.specs.Files.{ReadsThen, whole_bytes};
-ghost use Rattle.rl_lint.specs.Options.{GivesSettings, with_values};
+ghost use Rattle.rl_lint.specs.internal.Plans.{ending_of, has_fault, is_refusal, message_text};
 ghost use Rattle.rl_lint.specs.Refusals.{IsRefused};
 ghost use Rattle.rl_lint.specs.RunEnding.{IsActionEnding, IsRunEnding, asks_itself, asks_tree};
 
 use crate::check::check_plan;
 use crate::class::class_plan;
 use crate::compare::compare_plan;
-use crate::config::{DEFAULTS, read_config};
+use crate::config::read_config;
 use crate::cost::cost_plan;
 use crate::files::FileRead;
 use crate::options::{mode_given, with_values};
@@ -102,61 +100,6 @@ fn action_plan<T: Tree>(
     }
 }
 
-/// What a run is to do for this action with these options. The settings file at this path is read first, and the values of
-/// the options take the place of those there.
-///
-/// # Errors
-/// [`OutOfMemory`]; the tree may have been read.
-fn config_plan<T: Tree>(
-    alloc: Global,
-    action: Action,
-    options: &Options,
-    path: &str,
-    tree: &mut T,
-) -> Result<Plan, OutOfMemory>
-    requires { HasRanges (call_of action options.now) }
-    ensures ending { IfOk result (λ plan. ReadsThen (codes "settings") whole_bytes GivesSettings
-        (λ start. IsActionEnding (with_values options.now.values start) (chosen options.now) (asked action.entry)) path.now
-        (moment_of T.told T.fault_count tree.old) (moment_of T.told T.fault_count tree.new) (ending_of plan)) }
-    ensures later { T.fault_count tree.old ≤ T.fault_count tree.new }
-{
-    match read_config(alloc, path, tree)? {
-        FileRead::Unreadable => Ok(Plan::Unreadable(Message::Fixed(
-            "relint: settings unreadable\n",
-        ))),
-        FileRead::Refused => Ok(Plan::Refuses(Message::Fixed("relint: settings refused\n"))),
-        FileRead::Taken(start) => {
-            let settings = with_values(&options.values, &start);
-            action_plan(alloc, action, options, settings, tree)
-        }
-    }
-}
-
-/// What a run is to do for this action with these options. The settings file is read first, where one is named.
-///
-/// # Errors
-/// [`OutOfMemory`]; the tree may have been read.
-fn call_plan<T: Tree>(
-    alloc: Global,
-    action: Action,
-    options: &Options,
-    tree: &mut T,
-) -> Result<Plan, OutOfMemory>
-    requires { HasRanges (call_of action options.now) }
-    ensures ending { IfOk result (λ plan. IsRunEnding (Some (call_of action.entry options.now))
-        (moment_of T.told T.fault_count tree.old) (moment_of T.told T.fault_count tree.new) (ending_of plan)) }
-    ensures trail { asks_tree (Some (call_of action.entry options.now)) ≡ false → T.told tree.new ≡ T.told tree.old }
-    ensures later { T.fault_count tree.old ≤ T.fault_count tree.new }
-{
-    match options.settings {
-        None => {
-            let settings = with_values(&options.values, &DEFAULTS);
-            action_plan(alloc, action, options, settings, tree)
-        }
-        Some(path) => config_plan(alloc, action, options, path, tree),
-    }
-}
-
 /// What a run with these words is to do. A settings file is read where the words name one. `check` reads its baseline
 /// where they name one and then walks over the tree, `verify` reads its certificate, and nothing else is asked of it.
 ///
@@ -176,9 +119,19 @@ pub fn plan_of<T: Tree>(
     ensures trail { asks_tree (given_by (map string_bytes words.now.items)) ≡ false → T.told tree.new ≡ T.told tree.old }
     ensures later { T.fault_count tree.old ≤ T.fault_count tree.new }
 {
-    match read_words(alloc, words) {
-        Ok(words) => call_plan(alloc, words.action, &words.options, tree),
-        Err(WordsError::Invalid) => Ok(Plan::Refuses(Message::Fixed(usage_text()))),
-        Err(WordsError::OutOfMemory) => Err(OutOfMemory),
+    let words = match read_words(alloc, words) {
+        Ok(words) => words,
+        Err(WordsError::Invalid) => return Ok(Plan::Refuses(Message::Fixed(usage_text()))),
+        Err(WordsError::OutOfMemory) => return Err(OutOfMemory),
+    };
+    match read_config(alloc, words.options.settings, tree)? {
+        FileRead::Unreadable => Ok(Plan::Unreadable(Message::Fixed(
+            "relint: settings unreadable\n",
+        ))),
+        FileRead::Refused => Ok(Plan::Refuses(Message::Fixed("relint: settings refused\n"))),
+        FileRead::Taken(start) => {
+            let settings = with_values(&words.options.values, &start);
+            action_plan(alloc, words.action, &words.options, settings, tree)
+        }
     }
 }

@@ -9,12 +9,12 @@ ghost use Rattle.rl_lint.specs.internal.Made.{IsMade, IsNotMade};
 ghost use Rattle.rl_lint.specs.Patterns.{ParsesThen, text_question};
 ghost use Rattle.rl_lint.specs.ProveEnding.{ProveEnds};
 
+use crate::messages::undecided_line;
 use crate::pattern_argument::{PatternArgument, parse_argument};
 use crate::plan::Plan;
 use rl_cert::{CertError, Certificate, make, write};
 use rl_lists::{Bytes, OutOfMemory};
-use rl_report::verdict_line;
-use rl_syntax::{Limit, LowerError, Mode, Pattern, Universe, Verdict, lower};
+use rl_syntax::{Limit, LowerError, Mode, Pattern, Universe, lower};
 use std::alloc::Global;
 
 /// A certificate for a text pattern in a mode.
@@ -64,13 +64,13 @@ fn pattern_plan(
     requires of_text { universe_of pattern.now ≡ Str }
     requires some { 1 ≤ max_pairs }
     requires few { max_pairs ≤ 1000 }
-    ensures { IfOk result (λ plan. ProveEnds max_pairs (pattern_tree pattern.now mode) (pattern_ending pattern.now mode)
+    ensures { IfOk result (λ plan. ProveEnds (text_question max_pairs (pattern_tree pattern.now mode) (pattern_ending pattern.now mode))
         (ending_of plan)) }
 {
     match certificate_of(alloc, pattern, mode, max_pairs) {
         Ok(certificate) => Ok(text_plan(write(alloc, &certificate)?)),
         Err(CertError::Undecided(limit)) => {
-            Ok(text_plan(verdict_line(alloc, &Verdict::Undecided(limit), max_pairs)?))
+            Ok(text_plan(undecided_line(alloc, max_pairs, limit)?))
         }
         Err(CertError::TooLarge) => {
             let line = String::from_str(alloc, "triples over 1000000\n")?;
@@ -92,7 +92,7 @@ pub fn prove_plan(
 ) -> Result<Plan, OutOfMemory>
     requires some { 1 ≤ max_pairs }
     requires few { max_pairs ≤ 1000 }
-    ensures { IfOk result (λ plan. ParsesThen (chars pattern.now) mode (ProveEnds max_pairs) (ending_of plan)) }
+    ensures { IfOk result (λ plan. ParsesThen (chars pattern.now) mode (λ t at. ProveEnds (text_question max_pairs t at)) (ending_of plan)) }
 {
     match parse_argument(alloc, pattern)? {
         PatternArgument::Refused(message) => Ok(Plan::Refuses(message)),

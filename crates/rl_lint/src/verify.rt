@@ -13,7 +13,7 @@ ghost use Rattle.rl_lint.specs.VerifyEnding.{CertificateEnds, IsVerifyEnding, Tr
 ghost use Rattle.rl_lint.specs.internal.Made.{held_text};
 ghost use Rattle.rl_lint.specs.internal.Reads.{IsFileRead, IsGiven};
 
-use crate::files::{FileRead, MOST_BYTES, read_file};
+use crate::files::{FileRead, MOST_READ, read_file};
 use crate::pattern_argument::{PatternArgument, parse_argument};
 use crate::plan::{Message, Plan};
 use rl_cert::{Certificate, ReadError, check, read};
@@ -51,7 +51,7 @@ fn read_certificate<T: Tree>(
         (moment_of T.told T.fault_count tree.old) (moment_of T.told T.fault_count tree.new)) }
     ensures later { T.fault_count tree.old ≤ T.fault_count tree.new }
 {
-    match read_file(path, MOST_BYTES, tree)? {
+    match read_file(path, MOST_READ, tree)? {
         Some(bytes) => certificate_in(alloc, bytes),
         None => Ok(FileRead::Unreadable),
     }

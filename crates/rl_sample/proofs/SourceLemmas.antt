@@ -1,13 +1,13 @@
 -- One more line of the source.
-use Rattle.std.proofs.Common.{◌≡◌, ℕ, zero, suc, ◌+◌, [], ◌∷◌, ◌++◌, refl, ap, ◌∙◌, map, codes, append_assoc, arith}
+use Rattle.std.proofs.Common.{◌≡◌, ℕ, zero, suc, ◌+◌, List, [], ◌∷◌, ◌++◌, refl, ap, ◌∙◌, map, codes, append_assoc, arith}
 use Rattle.std.specs.Fn.{iterate}
 use Rattle.std.specs.List.{concat, range_with_len}
 use Rattle.std.proofs.lemmas.List.{append-nil}
 use Rattle.std.proofs.lemmas.List.FromFn.{map-range_with_len_more}
 use Rattle.std.proofs.lemmas.List.Folds.{concat-append}
-use Rattle.rl_sample.specs.Generator.{Text, line_of, next_value, source_of, value_at}
+use Rattle.rl_sample.specs.Generator.{line_of, next_value, source_of, value_at}
 
-pub joined : (text a b c x y z : Text) → x ≡ text ++ a → y ≡ x ++ b → z ≡ y ++ c → z ≡ text ++ (a ++ b ++ c)
+pub joined : (text a b c x y z : List ℕ) → x ≡ text ++ a → y ≡ x ++ b → z ≡ y ++ c → z ≡ text ++ (a ++ b ++ c)
 joined text a b c x y z e f g =
     g ∙ ap (λ l. l ++ c) (f ∙ ap (λ l. l ++ b) e) ∙ simp append_assoc
 

@@ -6,6 +6,7 @@ use Rattle.std.specs.Str.{bytes_eq, is_utf8}
 use Rattle.toml.specs.Data.{Data, Members, get_member, member, no_members}
 use Rattle.toml.specs.Parse.{parse_document}
 use Rattle.rl_words.specs.Values.{◌>>=◌, optional}
+use Rattle.rl_words.specs.declared.ranges.TheConstants.{MAX_DEGREES, MAX_PAIRS, REPORT_VERSIONS}
 use Rattle.rl_words.specs.declared.words.PartialSettings.{PartialSettings}
 use Rattle.rl_settings.specs.Values.{format_in, mode_in, number_in}
 
@@ -14,31 +15,25 @@ abbrev pub known_keys : List (List ℕ)
 known_keys = codes "compile-as" ∷ codes "max-degree" ∷ codes "max-pairs" ∷ codes "format"
     ∷ codes "report" ∷ []
 
-abbrev pub is_known : List ℕ → Bool
-is_known key = list_any (bytes_eq key) known_keys
-
 -- the table has no other keys
 abbrev pub has_known_keys : Members → Bool
 has_known_keys no_members = true
-has_known_keys (member key value rest) = is_known key && has_known_keys rest
+has_known_keys (member key value rest) = list_any (bytes_eq key) known_keys && has_known_keys rest
 
 -- what a key gives, where its value isn't refused
 abbrev pub read_at : {A : Type 0} → List ℕ → (Data → Option A) → Members → Option (Option A)
 read_at key read table = optional read (get_member key table)
 
-abbrev pub known_values : Members → Option PartialSettings
-known_values table = do
+-- the settings that a table gives, where none of its keys and values is refused
+abbrev pub table_values : Members → Option PartialSettings
+table_values table = if has_known_keys table then (do
   Some (record {
     mode = (← read_at (codes "compile-as") mode_in table);
     format = (← read_at (codes "format") format_in table);
-    max_degree = (← read_at (codes "max-degree") (number_in 0 999999) table);
-    max_pairs = (← read_at (codes "max-pairs") (number_in 1 1000) table);
-    report = (← read_at (codes "report") (number_in 1 2) table);
-  })
-
--- the settings that a table gives, where none of its keys and values is refused
-abbrev pub table_values : Members → Option PartialSettings
-table_values table = if has_known_keys table then known_values table else None
+    max_degree = (← read_at (codes "max-degree") (number_in MAX_DEGREES) table);
+    max_pairs = (← read_at (codes "max-pairs") (number_in MAX_PAIRS) table);
+    report = (← read_at (codes "report") (number_in REPORT_VERSIONS) table);
+  })) else None
 
 -- the top table of the TOML document that the bytes are
 unfoldable pub document_of : List ℕ → Option Members

@@ -1,18 +1,22 @@
 //! The keys of the document.
 ghost use Rattle.std.specs.Prelude.{◌≡◌, IfSome, option_map};
+ghost use Rattle.std.specs.List.{list_any};
+ghost use Rattle.std.specs.Str.{bytes_eq};
 ghost use Rattle.toml.specs.Data.{get_member};
 ghost use Rattle.toml.specs.View.{table_view, view};
-ghost use Rattle.rl_words.specs.Call.{AreInRange, IsBetween};
+ghost use Rattle.rl_words.specs.Call.{AreInRange, IsWithin};
 ghost use Rattle.rl_settings.specs.Values.{format_in, mode_in, number_in};
-ghost use Rattle.rl_settings.specs.Settings.{has_known_keys, is_known, read_at, table_values};
+ghost use Rattle.rl_settings.specs.Settings.{has_known_keys, known_keys, read_at, table_values};
 
 use crate::values::{format_in, mode_in, number_in};
-use rl_words::{FormatWord, ModeWord, PartialSettings};
+use rl_words::{
+    FormatWord, MAX_DEGREES, MAX_PAIRS, ModeWord, NumberRange, PartialSettings, REPORT_VERSIONS,
+};
 use toml::{Table, Value};
 
 // Whether a settings file may have this key.
 fn is_known(key: &str) -> bool
-    ensures { result ≡ is_known key.now }
+    ensures { result ≡ list_any (bytes_eq key.now) known_keys }
 {
     matches!(
         key,
@@ -56,12 +60,12 @@ fn format_at(table: &Table, key: &str) -> Option<Option<FormatWord>>
     }
 }
 
-fn number_at(table: &Table, key: &str, low: u32, high: u32) -> Option<Option<u32>>
-    ensures value { result ≡ read_at key.now (number_in low high) (table_view table.now) }
-    ensures range { IfSome result (λ n. IfSome n (IsBetween low high)) }
+fn number_at(table: &Table, key: &str, range: NumberRange) -> Option<Option<u32>>
+    ensures value { result ≡ read_at key.now (number_in range) (table_view table.now) }
+    ensures range { IfSome result (λ n. IfSome n (IsWithin range)) }
 {
     match value_at(table, key) {
-        Some(value) => Some(Some(number_in(low, high, value)?)),
+        Some(value) => Some(Some(number_in(range, value)?)),
         None => Some(None),
     }
 }
@@ -77,8 +81,8 @@ pub(crate) fn table_values(table: &Table) -> Option<PartialSettings>
     Some(PartialSettings {
         mode: mode_at(table, "compile-as")?,
         format: format_at(table, "format")?,
-        max_degree: number_at(table, "max-degree", 0, 999_999)?,
-        max_pairs: number_at(table, "max-pairs", 1, 1000)?,
-        report: number_at(table, "report", 1, 2)?,
+        max_degree: number_at(table, "max-degree", MAX_DEGREES)?,
+        max_pairs: number_at(table, "max-pairs", MAX_PAIRS)?,
+        report: number_at(table, "report", REPORT_VERSIONS)?,
     })
 }

@@ -73,10 +73,8 @@ pub data IsWalk (nodes : List Node) : List Step → List (List ℕ) → List Cal
       → IsWalk nodes (folder path level ∷ rest) met (call_of call.Children path false ∷ calls) visits
 
 abbrev pub is_unreadable : Visit → Bool
-is_unreadable (Source path content) = false
 is_unreadable (Unreadable path) = true
-is_unreadable (TooDeep path) = false
-is_unreadable (NotPlain path) = false
+is_unreadable _ = false
 
 -- a call failed
 abbrev pub has_failed : List Call → Bool

@@ -27,10 +27,10 @@ pub trait Visitor {
 
     // The visitor, as it is now, was told of these visits in this order.
     ghost was_told: { Self → List Visit → Type 0 };
-    // The terms on which it takes them. No visit changes them.
-    ghost Terms: { Type 0 };
+    // Its configuration, which no visit changes.
+    ghost Config: { Type 0 };
 
-    ghost terms: { Self → Terms };
+    ghost config: { Self → Config };
 
     /// Takes the next visit.
     ///
@@ -38,15 +38,15 @@ pub trait Visitor {
     /// [`OutOfMemory`] when out of memory; the walk ends then.
     fn visit(&mut self, visit: Visit) -> Result<(), OutOfMemory>
         ensures told { OnOk result ((visits : List Visit) → was_told self.old visits → was_told self.new (visits ++ visit ∷ [])) }
-        ensures terms { terms self.new ≡ terms self.old };
+        ensures config { config self.new ≡ config self.old };
 }
 
 impl Visitor for Visits {
     ghost was_told = { λ list visits. list ≡ visits };
 
-    ghost Terms = { Unit {0} };
+    ghost Config = { Unit {0} };
 
-    ghost terms = { λ _. tt };
+    ghost config = { λ _. tt };
 
     fn visit(&mut self, visit: Visit) -> Result<(), OutOfMemory> {
         self.push(visit)

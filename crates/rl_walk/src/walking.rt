@@ -30,7 +30,7 @@ fn take_file<T: Tree, V: Visitor>(
         (moment_of T.told T.fault_count tree.old) (moment_of T.told T.fault_count tree.new)
         met.old met.new (V.was_told visitor.old) (V.was_told visitor.new)) }
     ensures later { T.fault_count tree.old ≤ T.fault_count tree.new }
-    ensures terms { V.terms visitor.new ≡ V.terms visitor.old }
+    ensures config { V.config visitor.new ≡ V.config visitor.old }
 {
     if !met.add(path)? {
         return Ok(());
@@ -62,7 +62,7 @@ fn enter<T: Tree, V: Visitor>(
         (moment_of T.told T.fault_count tree.old) (moment_of T.told T.fault_count tree.new)
         met.old met.new (V.was_told visitor.old) (V.was_told visitor.new)) }
     ensures later { T.fault_count tree.old ≤ T.fault_count tree.new }
-    ensures terms { V.terms visitor.new ≡ V.terms visitor.old }
+    ensures config { V.config visitor.new ≡ V.config visitor.old }
 {
     if !met.add(path)? {
         return Ok(());
@@ -100,7 +100,7 @@ fn take_children<T: Tree, V: Visitor>(
         (moment_of T.told T.fault_count tree.old) (moment_of T.told T.fault_count tree.new)
         met.old met.new (V.was_told visitor.old) (V.was_told visitor.new)) }
     ensures later { T.fault_count tree.old ≤ T.fault_count tree.new }
-    ensures terms { V.terms visitor.new ≡ V.terms visitor.old }
+    ensures config { V.config visitor.new ≡ V.config visitor.old }
 {
     for child in children {
         let below = path_below(alloc, path, child.name.as_str())?;
@@ -125,7 +125,7 @@ fn take_child<T: Tree, V: Visitor>(
         (moment_of T.told T.fault_count tree.old) (moment_of T.told T.fault_count tree.new)
         met.old met.new (V.was_told visitor.old) (V.was_told visitor.new)) }
     ensures later { T.fault_count tree.old ≤ T.fault_count tree.new }
-    ensures terms { V.terms visitor.new ≡ V.terms visitor.old }
+    ensures config { V.config visitor.new ≡ V.config visitor.old }
 {
     match child.kind {
         Kind::File => {
@@ -152,7 +152,7 @@ fn take_named<T: Tree, V: Visitor>(
         (moment_of T.told T.fault_count tree.old) (moment_of T.told T.fault_count tree.new)
         met.old met.new (V.was_told visitor.old) (V.was_told visitor.new)) }
     ensures later { T.fault_count tree.old ≤ T.fault_count tree.new }
-    ensures terms { V.terms visitor.new ≡ V.terms visitor.old }
+    ensures config { V.config visitor.new ≡ V.config visitor.old }
 {
     match tree.kind(path) {
         Ok(Kind::File) => take_file(alloc, path, tree, met, visitor),
@@ -189,7 +189,7 @@ pub fn walk<T: Tree, V: Visitor>(
         (moment_of T.told T.fault_count tree.old) (moment_of T.told T.fault_count tree.new)
         (map (λ p. p.now) paths.now) (V.was_told visitor.old) (V.was_told visitor.new)) }
     ensures later { T.fault_count tree.old ≤ T.fault_count tree.new }
-    ensures terms { V.terms visitor.new ≡ V.terms visitor.old }
+    ensures config { V.config visitor.new ≡ V.config visitor.old }
 {
     let mut met = Met::new(alloc);
     for path in paths {

@@ -1,6 +1,8 @@
 -- What a valid call asks for, over texts and numbers.
 use Rattle.std.specs.Prelude.{◌≤◌, ℕ, ⊤, IfSome, List, Option, option_map}
 use Rattle.clap.specs.Walk.{Text, texts}
+use Rattle.rl_words.specs.declared.ranges.NumberRange.{NumberRange}
+use Rattle.rl_words.specs.declared.ranges.TheConstants.{COUNTS, MAX_DEGREES, MAX_PAIRS, REPORT_VERSIONS, SEEDS}
 use Rattle.rl_words.specs.declared.words.Options.{Options}
 use Rattle.rl_words.specs.declared.words.PartialSettings.{PartialSettings}
 use Rattle.rl_words.specs.declared.words.Action.{Action}
@@ -49,17 +51,17 @@ said words = record { action = asked words.action; options = chosen words.option
 
 -- ---- the ranges of a call's numbers
 
-abbrev pub IsBetween : ℕ → ℕ → ℕ → Type 0
-IsBetween low high n = (low ≤ n) × (n ≤ high)
+abbrev pub IsWithin : NumberRange → ℕ → Type 0
+IsWithin range number = (range.low ≤ number) × (number ≤ range.high)
 
 abbrev pub HasActionRanges : Asked → Type 0
-HasActionRanges (sample seed count) = IsBetween 0 2147483647 seed × IsBetween 1 20000 count
+HasActionRanges (sample seed count) = IsWithin SEEDS seed × IsWithin COUNTS count
 HasActionRanges _ = ⊤
 
 pub record AreInRange (values : PartialSettings) : Type 0 where
-  pub max_degree : IfSome values.max_degree (IsBetween 0 999999)
-  pub max_pairs : IfSome values.max_pairs (IsBetween 1 1000)
-  pub report : IfSome values.report (IsBetween 1 2)
+  pub max_degree : IfSome values.max_degree (IsWithin MAX_DEGREES)
+  pub max_pairs : IfSome values.max_pairs (IsWithin MAX_PAIRS)
+  pub report : IfSome values.report (IsWithin REPORT_VERSIONS)
 
 pub record HasRanges (call : Call) : Type 0 where
   pub action : HasActionRanges call.action

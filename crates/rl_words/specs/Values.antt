@@ -6,6 +6,7 @@ use Rattle.std.specs.List.{list_all}
 use Rattle.std.specs.Str.{bytes_eq}
 use Rattle.std.specs.Str.Parse.{digits_value}
 use Rattle.clap.specs.Walk.{Text}
+use Rattle.rl_words.specs.declared.ranges.NumberRange.{NumberRange}
 use Rattle.rl_words.specs.declared.words.ModeWord.{ModeWord}
 use Rattle.rl_words.specs.declared.words.ModeWord.TheVariants as mode
 use Rattle.rl_words.specs.declared.words.FormatWord.{FormatWord}
@@ -19,12 +20,14 @@ abbrev pub is_numeral : ℕ → Text → Bool
 is_numeral digits text =
     is_filled text && (nat_le (length text) digits && list_all is_ascii_digit text)
 
--- the number from `low` to `high` that one to `digits` ASCII digits write
-abbrev pub number_of : ℕ → ℕ → ℕ → Text → Option ℕ
-number_of digits low high text =
+abbrev pub is_within : NumberRange → ℕ → Bool
+is_within range number = nat_le range.low number && nat_le number range.high
+
+-- the number in the range that one to `digits` ASCII digits write
+abbrev pub number_of : ℕ → NumberRange → Text → Option ℕ
+number_of digits range text =
     let number = digits_value 10 text in
-    if is_numeral digits text && (nat_le low number && nat_le number high) then Some number
-    else None
+    if is_numeral digits text && is_within range number then Some number else None
 
 abbrev pub mode_of : Text → Option ModeWord
 mode_of word = if bytes_eq word (codes "fullmatch") then Some mode.Fullmatch

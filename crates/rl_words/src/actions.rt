@@ -1,14 +1,14 @@
 //! ACTION with its arguments.
-ghost use Rattle.std.specs.Prelude.{◌≡◌, map, IfOk, IfSome, option_map};
+ghost use Rattle.std.specs.Prelude.{◌≡◌, ◌&&◌, ◌∷◌, [], map, not, IfOk, IfSome, option_map};
 ghost use Rattle.std.specs.List.{list_all};
-ghost use Rattle.clap.specs.Walk.{texts};
+ghost use Rattle.clap.specs.Walk.{is_empty, texts};
 ghost use Rattle.rl_words.specs.Call.{HasActionRanges, asked};
-ghost use Rattle.rl_words.specs.Given.{action_name_of, are_paths, asked_with};
-ghost use Rattle.rl_words.specs.Given.{check_of, one_of, sample_of, two_of, verify_of};
+ghost use Rattle.rl_words.specs.Given.{action_name_of, asked_with};
 ghost use Rattle.rl_words.specs.Values.{is_filled};
+ghost use Rattle.rl_words.specs.declared.action_name.ActionName.TheVariants as name;
 
 use crate::values::number_of;
-use crate::{Action, ActionName};
+use crate::{Action, ActionName, COUNTS, SEEDS};
 use rl_lists::{Items, OutOfMemory};
 use std::alloc::Global;
 
@@ -28,24 +28,6 @@ pub(crate) fn action_name_of(word: &str) -> Option<ActionName>
     }
 }
 
-fn one_of<'a>(args: &[&'a str]) -> Option<&'a str>
-    ensures { option_map (λ s. s.now) result ≡ one_of (texts args.now) }
-{
-    match args {
-        [only] => Some(*only),
-        _ => None,
-    }
-}
-
-fn two_of<'a>(args: &[&'a str]) -> Option<(&'a str, &'a str)>
-    ensures { option_map (λ p. (p.0.now, p.1.now)) result ≡ two_of (texts args.now) }
-{
-    match args {
-        [first, second] => Some((*first, *second)),
-        _ => None,
-    }
-}
-
 // Whether no text is empty.
 fn are_filled(texts: &[&str]) -> bool
     ensures { result ≡ list_all is_filled (map (λ s. s.now) texts.now) }
@@ -55,13 +37,13 @@ fn are_filled(texts: &[&str]) -> bool
 
 // Whether there is a path, and no path is empty.
 fn are_paths(paths: &[&str]) -> bool
-    ensures { result ≡ are_paths (texts paths.now) }
+    ensures { result ≡ (not (is_empty (texts paths.now)) && list_all is_filled (texts paths.now)) }
 {
     !paths.is_empty() && are_filled(paths)
 }
 
 fn check_of<'a>(alloc: Global, paths: &[&'a str]) -> Result<Option<Action<'a>>, OutOfMemory>
-    ensures { IfOk result (λ a. option_map asked a ≡ check_of (texts paths.now)) }
+    ensures { IfOk result (λ a. option_map asked a ≡ asked_with name.Check (texts paths.now)) }
 {
     if !are_paths(paths) {
         return Ok(None);
@@ -72,17 +54,17 @@ fn check_of<'a>(alloc: Global, paths: &[&'a str]) -> Result<Option<Action<'a>>, 
 
 // SEED and COUNT.
 fn sample_of<'a>(seed: &str, count: &str) -> Option<Action<'a>>
-    ensures value { option_map asked result ≡ sample_of (seed.now, count.now) }
+    ensures value { option_map asked result ≡ asked_with name.Sample (seed.now ∷ count.now ∷ []) }
     ensures ranges { IfSome result (λ action. HasActionRanges (asked action)) }
 {
-    let seed = number_of(10, 0, 2_147_483_647, seed)?;
-    let count = number_of(10, 1, 20_000, count)?;
+    let seed = number_of(10, SEEDS, seed)?;
+    let count = number_of(10, COUNTS, count)?;
     Some(Action::Sample { seed, count })
 }
 
 // FILE isn't empty.
 fn verify_of<'a>(pattern: &'a str, file: &'a str) -> Option<Action<'a>>
-    ensures { option_map asked result ≡ verify_of (pattern.entry.now, file.entry.now) }
+    ensures { option_map asked result ≡ asked_with name.Verify (pattern.entry.now ∷ file.entry.now ∷ []) }
 {
     if file.is_empty() {
         return None;
@@ -101,14 +83,35 @@ pub(crate) fn asked_with<'a>(
 {
     match name {
         ActionName::Check => check_of(alloc, args),
-        ActionName::Class => Ok(one_of(args).map(|pattern| Action::Class { pattern })),
-        ActionName::Cost => Ok(two_of(args).map(|(pattern, text)| Action::Cost { pattern, text })),
-        ActionName::Sample => Ok(two_of(args).and_then(|(seed, count)| sample_of(seed, count))),
-        ActionName::Prove => Ok(one_of(args).map(|pattern| Action::Prove { pattern })),
-        ActionName::Verify => Ok(two_of(args).and_then(|(pattern, file)| verify_of(pattern, file))),
-        ActionName::Compare => Ok(two_of(args).map(|(first, second)| Action::Compare {
-            first,
-            second,
-        })),
+        ActionName::Class => match args {
+            [pattern] => Ok(Some(Action::Class { pattern: *pattern })),
+            _ => Ok(None),
+        },
+        ActionName::Cost => match args {
+            [pattern, text] => Ok(Some(Action::Cost {
+                pattern: *pattern,
+                text: *text,
+            })),
+            _ => Ok(None),
+        },
+        ActionName::Sample => match args {
+            [seed, count] => Ok(sample_of(seed, count)),
+            _ => Ok(None),
+        },
+        ActionName::Prove => match args {
+            [pattern] => Ok(Some(Action::Prove { pattern: *pattern })),
+            _ => Ok(None),
+        },
+        ActionName::Verify => match args {
+            [pattern, file] => Ok(verify_of(pattern, file)),
+            _ => Ok(None),
+        },
+        ActionName::Compare => match args {
+            [first, second] => Ok(Some(Action::Compare {
+                first: *first,
+                second: *second,
+            })),
+            _ => Ok(None),
+        },
     }
 }

@@ -6,6 +6,7 @@ mod actions;
 mod command;
 mod error;
 mod options;
+mod ranges;
 mod read;
 mod usage;
 mod values;
@@ -13,6 +14,7 @@ mod words;
 
 pub use action_name::ActionName;
 pub use error::WordsError;
+pub use ranges::{COUNTS, MAX_DEGREES, MAX_PAIRS, NumberRange, REPORT_VERSIONS, SEEDS};
 pub use read::read_words;
 pub use usage::usage_text;
 pub use values::{format_of, mode_of};

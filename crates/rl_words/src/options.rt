@@ -2,13 +2,16 @@
 ghost use Rattle.std.specs.Prelude.{◌≡◌, IfSome, option_map, codes};
 ghost use Rattle.clap.specs.Walk.{first_of, rows_of};
 ghost use Rattle.clap.specs.Matches.{found_of};
-ghost use Rattle.rl_words.specs.Call.{AreInRange, IsBetween, chosen};
-ghost use Rattle.rl_words.specs.Given.{given, number_given, options_given, settings_given};
-ghost use Rattle.rl_words.specs.Values.{format_of, mode_of, path_of};
+ghost use Rattle.rl_words.specs.Call.{AreInRange, IsWithin, chosen};
+ghost use Rattle.rl_words.specs.Given.{given, options_given, settings_given};
+ghost use Rattle.rl_words.specs.Values.{format_of, mode_of, number_of, path_of};
 
 use crate::command::value_of;
 use crate::values::{format_of, mode_of, number_of, path_of};
-use crate::{FormatWord, ModeWord, Options, PartialSettings};
+use crate::{
+    FormatWord, MAX_DEGREES, MAX_PAIRS, ModeWord, NumberRange, Options, PartialSettings,
+    REPORT_VERSIONS,
+};
 use clap::ArgMatches;
 
 // In each of these `Some(None)` says that the option isn't given, and `None` that its value is
@@ -32,12 +35,12 @@ fn format_given(matches: &ArgMatches) -> Option<Option<FormatWord>>
     }
 }
 
-fn number_given(matches: &ArgMatches, name: &str, low: u32, high: u32) -> Option<Option<u32>>
-    ensures value { result ≡ number_given name.now low high (rows_of (found_of matches.now)) }
-    ensures range { IfSome result (λ n. IfSome n (IsBetween low high)) }
+fn number_given(matches: &ArgMatches, name: &str, range: NumberRange) -> Option<Option<u32>>
+    ensures value { result ≡ given name.now (number_of 6 range) (rows_of (found_of matches.now)) }
+    ensures range { IfSome result (λ n. IfSome n (IsWithin range)) }
 {
     match value_of(matches, name) {
-        Some(text) => Some(Some(number_of(6, low, high, text)?)),
+        Some(text) => Some(Some(number_of(6, range, text)?)),
         None => Some(None),
     }
 }
@@ -59,9 +62,9 @@ fn settings_given(matches: &ArgMatches) -> Option<PartialSettings>
     Some(PartialSettings {
         mode: mode_given(matches)?,
         format: format_given(matches)?,
-        max_degree: number_given(matches, "max-degree", 0, 999_999)?,
-        max_pairs: number_given(matches, "max-pairs", 1, 1000)?,
-        report: number_given(matches, "report", 1, 2)?,
+        max_degree: number_given(matches, "max-degree", MAX_DEGREES)?,
+        max_pairs: number_given(matches, "max-pairs", MAX_PAIRS)?,
+        report: number_given(matches, "report", REPORT_VERSIONS)?,
     })
 }
 

@@ -2,10 +2,10 @@
 ghost use Rattle.std.specs.Prelude.{◌≡◌, IfSome, option_map};
 ghost use Rattle.std.specs.Char.{is_ascii_digit};
 ghost use Rattle.std.specs.List.{list_all};
-ghost use Rattle.rl_words.specs.Call.{IsBetween};
+ghost use Rattle.rl_words.specs.Call.{IsWithin};
 ghost use Rattle.rl_words.specs.Values.{format_of, is_numeral, mode_of, number_of, path_of};
 
-use crate::{FormatWord, ModeWord};
+use crate::{FormatWord, ModeWord, NumberRange};
 
 // Whether each byte is an ASCII digit.
 fn has_digits_only(text: &str) -> bool
@@ -21,16 +21,16 @@ fn is_numeral(digits: usize, text: &str) -> bool
     !text.is_empty() && text.len() <= digits && has_digits_only(text)
 }
 
-/// The number from `low` to `high` that one to `digits` ASCII digits write.
-pub(crate) fn number_of(digits: usize, low: u32, high: u32, text: &str) -> Option<u32>
-    ensures value { result ≡ number_of digits low high text.now }
-    ensures range { IfSome result (IsBetween low high) }
+/// The number in the range that one to `digits` ASCII digits write.
+pub(crate) fn number_of(digits: usize, range: NumberRange, text: &str) -> Option<u32>
+    ensures value { result ≡ number_of digits range text.now }
+    ensures range { IfSome result (IsWithin range) }
 {
     if !is_numeral(digits, text) {
         return None;
     }
     match text.parse::<u32>() {
-        Ok(number) if low <= number && number <= high => Some(number),
+        Ok(number) if range.has(number) => Some(number),
         Ok(_) => None,
         Err(_) => None,
     }

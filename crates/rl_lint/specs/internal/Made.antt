@@ -9,7 +9,7 @@ use Rattle.rl_cert.specs.TooLarge.{IsTooLarge}
 use Rattle.rl_cert.specs.declared.certificate.Certificate.{Certificate}
 use Rattle.rl_cert.specs.declared.making.CertError.{CertError}
 use Rattle.rl_cert.specs.declared.making.CertError.TheVariants as error
-use Rattle.rl_lint.specs.Text.{Text}
+use Rattle.rl_report.specs.Names.{Text}
 
 -- a certificate that is made
 pub record IsMade (q : Question) (c : Certificate) : Type 0 where

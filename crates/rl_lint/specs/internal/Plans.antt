@@ -1,11 +1,8 @@
--- For private contracts: the ending that a plan stands for, and the call that the typed words stand for.
+-- For private contracts: the ending that a plan stands for.
 use Rattle.std.specs.Prelude.{Bool, true, false}
 use Rattle.std.specs.String.{string_bytes}
-use Rattle.rl_words.specs.Call.{Call, asked, chosen}
-use Rattle.rl_words.specs.declared.words.Action.{Action}
-use Rattle.rl_words.specs.declared.words.Options.{Options}
 use Rattle.rl_lint.specs.Endings.{Ending, refuses, unreadable, writes}
-use Rattle.rl_lint.specs.Text.{Text}
+use Rattle.rl_report.specs.Names.{Text}
 use Rattle.rl_lint.specs.declared.plan.Message.{Message}
 use Rattle.rl_lint.specs.declared.plan.Message.TheVariants.{Fixed, Made}
 use Rattle.rl_lint.specs.declared.plan.Plan.{Plan}
@@ -23,15 +20,10 @@ ending_of (Writes text finding failed) = writes text finding failed
 -- whether something is refused
 abbrev pub is_refusal : Ending → Bool
 is_refusal (refuses message) = true
-is_refusal (unreadable message) = false
-is_refusal (writes text finding failed) = false
+is_refusal _ = false
 
 -- whether a call of the tree failed
 abbrev pub has_fault : Ending → Bool
 has_fault (refuses message) = false
 has_fault (unreadable message) = true
 has_fault (writes text finding failed) = failed
-
--- the call of the typed words
-abbrev pub call_of : Action → Options → Call
-call_of action options = record { action = asked action; options = chosen options }

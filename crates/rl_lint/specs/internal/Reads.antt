@@ -3,10 +3,12 @@ use Rattle.std.specs.Prelude.{◌≡◌, ⊤, ℕ, List, take, Option, Some, Non
 use Rattle.rl_source.specs.NodeMap.{bytes_at}
 use Rattle.rl_source.specs.declared.nodes.Node.{Node}
 use Rattle.rl_walk.specs.Visits.{Moment}
+use Rattle.rl_sarif.specs.Baseline.{IsBaseline}
+use Rattle.rl_sarif.specs.Keys.{EntryKey}
 use Rattle.rl_judge.specs.RightEntries.{IsValid}
 use Rattle.rl_judge.specs.declared.settings.Settings.{Settings}
 use Rattle.rl_lint.specs.Files.{ReadsFile}
-use Rattle.rl_lint.specs.Text.{Text}
+use Rattle.rl_report.specs.Names.{Text}
 use Rattle.rl_lint.specs.declared.files.FileRead.{FileRead}
 use Rattle.rl_lint.specs.declared.files.FileRead.TheVariants.{Unreadable, Refused, Taken}
 
@@ -32,3 +34,13 @@ abbrev pub AreFit : FileRead Settings → Type 0
 AreFit Unreadable = ⊤
 AreFit Refused = ⊤
 AreFit (Taken s) = IsValid s
+
+-- the file is read where one is named, and this is what it gives; else the tree isn't asked, and it is the default
+abbrev pub IsNamedRead : {A : Type 0} → (Text → A → Type 0) → (Text → List Node → Option Text) → A → Option Text → Moment → Moment → FileRead A → Type 0
+IsNamedRead Gives there default None old new found = (new ≡ old) × (found ≡ Taken default)
+IsNamedRead Gives there default (Some path) old new found = IsFileRead Gives there path old new found
+
+-- what a baseline's bytes give, where one is named
+abbrev pub GivesKeys : Text → Option (List EntryKey) → Type 0
+GivesKeys bytes None = ⊥
+GivesKeys bytes (Some keys) = IsBaseline bytes keys

@@ -1,6 +1,6 @@
+use Rattle.std.specs.Prelude.{filter_map, slice_get}
 use Rattle.std.proofs.Common.{◌≡◌, ◌∙◌, ap, refl, length, sym, take, arith}
 use Rattle.rl_sarif.specs.Known.{unknown_positions}
-use Rattle.rl_lint.specs.Filter.{entries_at}
 use Rattle.rl_lint.proofs.FilterLemmas.{Rises, below, few, moved-all, moved-more, moved-none, rises-of}
 use Rattle.rl_lint.proofs.filter.unknown_entries.Goals as goal
 
@@ -42,4 +42,4 @@ returns c =
     let many : c.len.result ≡ length ps = c.len.ensures ∙ ap length (sym c.as_slice-position-items.ensures) in
     c.from_vec.ensures ∙ c.truncate.ensures.items ∙ ap (λ n. take n c.loop-place.moved.items) many
     ∙ moved-all ps all c.loop-place.moved.items c.loop-place.place rises (omega (arith, c.loop-place-test.false)) c.loop-place.invariant
-    ∙ ap (λ positions. entries_at positions all) are ∙ ap (λ es. entries_at (unknown_positions keys c.args.entries) es) c.into_vec-moved.ensures
+    ∙ ap (λ positions. filter_map (slice_get all) positions) are ∙ ap (λ es. filter_map (slice_get es) (unknown_positions keys c.args.entries)) c.into_vec-moved.ensures

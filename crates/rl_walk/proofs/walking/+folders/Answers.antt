@@ -41,7 +41,7 @@ take_child-returns-in-Other-clause-does g t c =
     Does-nothing _ _ _ _ (ap (λ k. child_steps k c.args.child.now.name c.args.path.now c.args.level) c.in-Other.is)
 
 pub take_children-loop-child-init : goal.take_children-loop-child-init
-take_children-loop-child-init g t c = record { does = Does-none _ _ _; later = omega arith; terms = refl }
+take_children-loop-child-init g t c = record { does = Does-none _ _ _; later = omega arith; config = refl }
 
 pub take_children-loop-child-preserved : goal.take_children-loop-child-preserved
 take_children-loop-child-preserved g t c =
@@ -52,5 +52,5 @@ take_children-loop-child-preserved g t c =
       does = children-turn c.args.path.now c.args.level c.args.children.now c.loop-child.child-index c.child-item.result c.as_str-in-loop-child.result.now within c.child-item.is at
           c.loop-child.invariant.does c.in_ok-take_child.ensures.does c.loop-child.invariant.later c.in_ok-take_child.ensures.later;
       later = omega (arith, c.loop-child.invariant.later, c.in_ok-take_child.ensures.later);
-      terms = c.in_ok-take_child.ensures.terms ∙ c.loop-child.invariant.terms;
+      config = c.in_ok-take_child.ensures.config ∙ c.loop-child.invariant.config;
     }

@@ -11,7 +11,7 @@ loop-path-init g c =
     record {
       does = subst (λ m. Does [] now now [] m was was) (sym c.new-met.ensures) (Does-none now [] was);
       later = omega arith;
-      terms = refl;
+      config = refl;
     }
 
 pub loop-path-preserved : goal.loop-path-preserved
@@ -20,7 +20,7 @@ loop-path-preserved g c =
     record {
       does = named-turn c.args.paths.now c.loop-path.path-index _ within c.loop-path.invariant.does c.in_ok-take_named.ensures.does c.loop-path.invariant.later c.in_ok-take_named.ensures.later;
       later = omega (arith, c.loop-path.invariant.later, c.in_ok-take_named.ensures.later);
-      terms = c.in_ok-take_named.ensures.terms ∙ c.loop-path.invariant.terms;
+      config = c.in_ok-take_named.ensures.config ∙ c.loop-path.invariant.config;
     }
 
 pub returns-clause-walked : goal.returns-clause-walked

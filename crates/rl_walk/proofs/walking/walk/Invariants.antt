@@ -10,5 +10,5 @@ invariant-loop-path g l = record {
       (moment_of g.T.Tree.told g.T.Tree.fault_count l.initial.tree) (moment_of g.T.Tree.told g.T.Tree.fault_count l.tree)
       [] l.met (g.V.Visitor.was_told l.initial.visitor) (g.V.Visitor.was_told l.visitor);
   later : g.T.Tree.fault_count l.initial.tree ≤ g.T.Tree.fault_count l.tree;
-  terms : g.V.Visitor.terms l.visitor ≡ g.V.Visitor.terms l.initial.visitor;
+  config : g.V.Visitor.config l.visitor ≡ g.V.Visitor.config l.initial.visitor;
 }

@@ -1,6 +1,0 @@
--- Texts.
-use Rattle.std.specs.Prelude.{ℕ, List}
-
--- a text, as its bytes
-abbrev pub Text : Type 0
-Text = List ℕ

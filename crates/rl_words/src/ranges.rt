@@ -1,0 +1,43 @@
+//! The ranges of the numbers that options, settings files and `sample` take.
+ghost use Rattle.std.specs.Prelude.{◌≡◌};
+ghost use Rattle.rl_words.specs.Values.{is_within};
+
+/// The numbers from `low` to `high`.
+#[derive(Clone, Copy, Debug, PartialEq, Eq)]
+pub struct NumberRange {
+    pub low: u32,
+    pub high: u32,
+}
+
+/// What `--max-degree` takes.
+pub const MAX_DEGREES: NumberRange = NumberRange {
+    low: 0,
+    high: 999_999,
+};
+
+/// What `--max-pairs` takes.
+pub const MAX_PAIRS: NumberRange = NumberRange { low: 1, high: 1000 };
+
+/// What `--report` takes.
+pub const REPORT_VERSIONS: NumberRange = NumberRange { low: 1, high: 2 };
+
+/// What SEED may be.
+pub const SEEDS: NumberRange = NumberRange {
+    low: 0,
+    high: 2_147_483_647,
+};
+
+/// What COUNT may be.
+pub const COUNTS: NumberRange = NumberRange {
+    low: 1,
+    high: 20_000,
+};
+
+impl NumberRange {
+    /// Whether the number lies in the range.
+    pub fn has(self, number: u32) -> bool
+        ensures { result ≡ is_within self number }
+    {
+        self.low <= number && number <= self.high
+    }
+}
