@@ -1,12 +1,14 @@
 //! Certificates made.
 
-ghost use Rattle.std.specs.Prelude.{◌≡◌, ℕ, ◌+◌, ◌<◌, ◌≤◌, [], ◌∷◌, length, IfOk, IfErr};
+ghost use Rattle.std.specs.Prelude.{◌≡◌, ℕ, ◌+◌, ◌<◌, ◌≤◌, [], ◌∷◌, List, length, IfOk, IfErr};
 ghost use Rattle.rl_graph.specs.Paths.{paths};
 ghost use Rattle.rl_graph.specs.Twins.{HasNoTwin, IsTwin};
 ghost use Rattle.rl_degree.specs.Chains.{links_of, HasNoCycle};
-ghost use Rattle.rl_pairs.specs.PairTable.{moves_in};
+ghost use Rattle.rl_pairs.specs.PairTable.{moves_in, pair_in};
 ghost use Rattle.rl_growth.specs.Questions.{StandsForSome, IsLed};
-ghost use Rattle.rl_growth.specs.Routes.{state_after, IsLongest};
+ghost use Rattle.rl_growth.specs.Routes.{state_after, IsRoute, IsLongest};
+ghost use Rattle.rl_growth.specs.FamilyWords.{IsChainWords};
+ghost use Rattle.rl_pairs.specs.Families.{Spells};
 ghost use Rattle.rl_cert.specs.Ways.{chain_anchors};
 ghost use Rattle.rl_cert.specs.internal.Made.{IsMade, IsLarge};
 ghost use Rattle.rl_syntax.specs.Tree.{tree_of, size, IsOver};
@@ -135,6 +137,28 @@ fn anchors_of(alloc: Global, splits: &[Split], alone: u32) -> Result<Anchors, Ou
     Ok(anchors)
 }
 
+/// The family of a chain of splits that ends on a cycle.
+fn chain_family(
+    alloc: Global,
+    a: &Prio,
+    g: &PairGraph,
+    splits: &[Split],
+    cycle: &Loop,
+) -> Result<Family, OutOfMemory>
+    requires stands { StandsForSome a.now }
+    requires led { IsLed a.now g.now }
+    requires route { IsRoute (moves_in g.now) g.now.graph.states splits.now }
+    requires state_in { cycle.now.state < g.now.graph.states }
+    requires some { 1 ≤ length cycle.now.word }
+    requires cycle { 1 ≤ paths (moves_in g.now) cycle.now.state cycle.now.state cycle.now.word }
+    ensures { IfOk result (λ f. (heads pumps : List (List ℕ))
+        × IsChainWords a.now (moves_in g.now) (pair_in g.now) splits.now cycle.now.state heads pumps × Spells a.now f heads pumps) }
+{
+    let words = chain_words(alloc, g, splits, cycle)?;
+    let family = family_of(alloc, a, &words)?;
+    Ok(family)
+}
+
 /// The certificate of a longest chain of splits and a cycle.
 fn graded(
     alloc: Global,
@@ -155,8 +179,7 @@ fn graded(
     ensures too_large { result ≡ Err CertError.TooLarge → IsLarge a.now g.now }
 {
     let splits = chain.links.as_slice();
-    let words = chain_words(alloc, g, splits, cycle)?;
-    let family = family_of(alloc, a, &words)?;
+    let family = chain_family(alloc, a, g, splits, cycle)?;
     let anchors = anchors_of(alloc, splits, cycle.state)?;
     let ranks = Items::from_slice(alloc, chain.ranks.as_slice())?;
     let doubles = doubles_of(alloc, g.graph())?;

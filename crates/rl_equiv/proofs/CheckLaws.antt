@@ -10,7 +10,7 @@ use Rattle.rl_prio.specs.Automaton.{Automaton, letters_count, accepting_state}
 use Rattle.rl_sets.specs.Live.{holds, image}
 use Rattle.rl_sets.specs.Walk.{Walk, set_at, set_of}
 use Rattle.rl_equiv.specs.declared.pair.SetPair.{SetPair}
-use Rattle.rl_equiv.specs.SetPairs.{SetPairs, differs, set_pairs, IsKept, IsClosed}
+use Rattle.rl_equiv.specs.SetPairs.{SetPairs, set_pairs, IsKept, IsClosed}
 use Rattle.rl_equiv.specs.Languages.{SameLanguage}
 use Rattle.rl_equiv.specs.Limits.{AreWithin}
 use Rattle.rl_equiv.specs.Joined.{StandTogether}
@@ -29,41 +29,24 @@ set-image a w set letter is proper = ap (λ s. image a s letter) is ∙ image-se
 pub set-ends : (a : Automaton) (w : Walk) (set : List ℕ) → set_at w 0 ≡ set_of a set → all_proper a set ≡ true → ends a (set_at w 0) ≡ ends a set
 set-ends a w set is proper = ap (λ s. holds s (accepting_state a)) (set-image a w set (letters_count a) is proper)
 
--- where the letters of a set pair have come so far: its walks, and its next set pairs
+-- where the letters of two walks' first sets have come so far: the walks, and the next set pairs
 pub record AreNext (a b : Automaton) (relation : List SetPair) (p : SetPair) (v w : Walk) (letter : ℕ) : Type 0 where
   pub first_begun : IsBegun a v
   pub second_begun : IsBegun b w
   pub first_few : length v.sets ≤ suc (suc letter)
   pub second_few : length w.sets ≤ suc (suc letter)
-  pub first_is : set_at v 0 ≡ set_of a p.first
-  pub second_is : set_at w 0 ≡ set_of b p.second
+  pub first_is : set_at v 0 ≡ p.first
+  pub second_is : set_at w 0 ≡ p.second
   pub nexts : (l : ℕ) → l < letter → Contains relation (pair_on a b p l)
 
-not-beq : (x y : Bool) → not (beq x y) ≡ true → x ≡ y → ⊥
+pub not-beq : (x y : Bool) → not (beq x y) ≡ true → x ≡ y → ⊥
 not-beq x y e same = false≢true (sym (ap not (true-beq x y same)) ∙ e)
 
-beq-not : (x y : Bool) → not (beq x y) ≡ false → x ≡ y
+pub beq-not : (x y : Bool) → not (beq x y) ≡ false → x ≡ y
 beq-not x y e = beq-true x y (not-false (beq x y) e)
 
-module _ (a b : Automaton) (relation : List SetPair) (p : SetPair) (proper : (pairs_of a b).proper p ≡ true) where
-  -- the ends that were read are those of the set pair
-  ends-read : (v w : Walk) (x y : Bool) → set_at v 0 ≡ set_of a p.first → set_at w 0 ≡ set_of b p.second → x ≡ ends a (set_at v 0) → y ≡ ends b (set_at w 0)
-      → (x ≡ ends a p.first) × (y ≡ ends b p.second)
-  ends-read v w x y f g e h = (e ∙ set-ends a v p.first f (first-proper a b p proper), h ∙ set-ends b w p.second g (second-proper a b p proper))
-
-  pub ends-apart : (v w : Walk) (x y : Bool) → set_at v 0 ≡ set_of a p.first → set_at w 0 ≡ set_of b p.second → x ≡ ends a (set_at v 0) → y ≡ ends b (set_at w 0)
-      → not (beq x y) ≡ true → IsKept (pairs_of a b) relation p → ⊥
-  ends-apart v w x y f g e h apart k =
-      let r = ends-read v w x y f g e h in
-      not-beq x y apart (r.0 ∙ ends-same a b p k.no_difference ∙ sym r.1)
-
-  pub ends-agree : (v w : Walk) (x y : Bool) → set_at v 0 ≡ set_of a p.first → set_at w 0 ≡ set_of b p.second → x ≡ ends a (set_at v 0) → y ≡ ends b (set_at w 0)
-      → not (beq x y) ≡ false → differs (pairs_of a b) p ≡ false
-  ends-agree v w x y f g e h agree =
-      let r = ends-read v w x y f g e h in
-      same-ends a b p (sym r.0 ∙ beq-not x y agree ∙ r.1)
-
-  pub next-start : (v w x y : Walk) → GoesOn a v x → GoesOn b w y → length v.sets ≡ 1 → length w.sets ≡ 1 → set_at v 0 ≡ set_of a p.first → set_at w 0 ≡ set_of b p.second
+module _ (a b : Automaton) (relation : List SetPair) (p : SetPair) where
+  pub next-start : (v w x y : Walk) → GoesOn a v x → GoesOn b w y → length v.sets ≡ 1 → length w.sets ≡ 1 → set_at v 0 ≡ p.first → set_at w 0 ≡ p.second
       → AreNext a b relation p x y 0
   next-start v w x y g h one one' f f' = record {
     first_begun = g.begun;
@@ -78,13 +61,13 @@ module _ (a b : Automaton) (relation : List SetPair) (p : SetPair) (proper : (pa
   next-read : (v w : Walk) (letter : ℕ) (x y : List ℕ) → AreNext a b relation p v w letter → x ≡ image a (set_at v 0) letter → y ≡ image b (set_at w 0) letter
       → pair_on a b p letter ≡ record { first = x; second = y }
   next-read v w letter x y n e h =
-      let f = e ∙ set-image a v p.first letter n.first_is (first-proper a b p proper) in
-      let g = h ∙ set-image b w p.second letter n.second_is (second-proper a b p proper) in
+      let f = e ∙ ap (λ (s : List ℕ). image a s letter) n.first_is in
+      let g = h ∙ ap (λ (s : List ℕ). image b s letter) n.second_is in
       λ i. record { first = sym f i; second = sym g i }
 
   pub next-missing : (v w : Walk) (letter : ℕ) (x y : List ℕ) → AreNext a b relation p v w letter → x ≡ image a (set_at v 0) letter → y ≡ image b (set_at w 0) letter
-      → letter < letters_count a → (Contains relation (record { first = x; second = y }) → ⊥) → IsKept (pairs_of a b) relation p → ⊥
-  next-missing v w letter x y n e h lt none k = none (subst (Contains relation) (next-read v w letter x y n e h) (next-in a b relation p k.nexts_in letter lt))
+      → (Contains relation (record { first = x; second = y }) → ⊥) → Contains relation (pair_on a b p letter) → ⊥
+  next-missing v w letter x y n e h none there = none (subst (Contains relation) (next-read v w letter x y n e h) there)
 
   pub next-more : (v w v' w' : Walk) (letter : ℕ) (x y : List ℕ) → AreNext a b relation p v w letter → GoesOn a v v' → GoesOn b w w' → x ≡ image a (set_at v 0) letter → y ≡ image b (set_at w 0) letter
       → Contains relation (record { first = x; second = y }) → AreNext a b relation p v' w' (letter + 1)
@@ -104,12 +87,35 @@ module _ (a b : Automaton) (relation : List SetPair) (p : SetPair) (proper : (pa
           let here : letter ≡ l = omega arith in
           subst (λ (k : ℕ). Contains relation (pair_on a b p k)) here (subst (Contains relation) (sym (next-read v w letter x y n e e')) in')
 
-  pub next-all : (v w : Walk) (letter : ℕ) → AreNext a b relation p v w letter → letters_count a ≤ letter → differs (pairs_of a b) p ≡ false → IsKept (pairs_of a b) relation p
-  next-all v w letter n le same = record {
-    is_proper = proper;
-    no_difference = same;
-    nexts_in = in-next a b relation p (λ l lt. n.nexts l (omega arith));
+-- two walks' first sets are kept where those of the members are
+module _ (a b : Automaton) (relation : List SetPair) (p : SetPair) (proper : (pairs_of a b).proper p ≡ true) (v w : Walk) (first : set_at v 0 ≡ set_of a p.first) (second : set_at w 0 ≡ set_of b p.second) where
+  first-ends : ends a (set_at v 0) ≡ ends a p.first
+  first-ends = set-ends a v p.first first (first-proper a b p proper)
+
+  second-ends : ends b (set_at w 0) ≡ ends b p.second
+  second-ends = set-ends b w p.second second (second-proper a b p proper)
+
+  same-next : (l : ℕ) → pair_on a b (record { first = set_at v 0; second = set_at w 0 }) l ≡ pair_on a b p l
+  same-next l = λ i. record {
+    first = set-image a v p.first l first (first-proper a b p proper) i;
+    second = set-image b w p.second l second (second-proper a b p proper) i;
   }
+
+  pub sets-kept : {E : Type 0} (r : Result Bool E)
+      → IfOk r (λ ok. IsTrue ok ↔ ((ends a (set_at v 0) ≡ ends b (set_at w 0)) × ((l : ℕ) → l < letters_count a → Contains relation (pair_on a b (record { first = set_at v 0; second = set_at w 0 }) l))))
+      → IfOk r (λ ok. IsTrue ok ↔ IsKept (pairs_of a b) relation p)
+  sets-kept (Err e) h = tt
+  sets-kept (Ok ok) h = (
+    λ i. record {
+      is_proper = proper;
+      no_difference = same-ends a b p (sym first-ends ∙ (h.0 i).0 ∙ second-ends);
+      nexts_in = in-next a b relation p (λ l lt. subst (Contains relation) (same-next l) ((h.0 i).1 l lt));
+    },
+    λ k. h.1 (
+      first-ends ∙ ends-same a b p k.no_difference ∙ sym second-ends,
+      λ l lt. subst (Contains relation) (sym (same-next l)) (next-in a b relation p k.nexts_in l lt),
+    ),
+  )
 
 -- one more member is kept
 pub kept-more : (d : SetPairs) (relation : List SetPair) (i : ℕ) (p : SetPair) → i < length relation → p ≡ get_or relation i p → IsKept d relation p

@@ -1,5 +1,5 @@
 -- Walks over the sets of one of two automata that are read side by side.
-use Rattle.std.specs.Prelude.{◌≡◌, ℕ, ◌+◌, ◌<◌, List, [], ◌∷◌, length, Option, None, Some, Contains}
+use Rattle.std.specs.Prelude.{◌≡◌, ℕ, ◌+◌, ◌<◌, [], ◌∷◌, length, Option, None, Some, Contains}
 use Rattle.rl_prio.specs.Automaton.{Automaton, accepting_state}
 use Rattle.rl_sets.specs.Walk.{Walk, set_of, IsMadeFor}
 

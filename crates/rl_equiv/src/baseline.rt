@@ -1,6 +1,6 @@
 //! Comparisons of one tree with others that tell no more codes apart.
 
-ghost use Rattle.std.specs.Prelude.{◌≡◌, ◌≤◌, IfOk, IfErr, OnOk};
+ghost use Rattle.std.specs.Prelude.{◌≡◌, ◌≤◌, Some, IfOk, IfErr, OnOk};
 ghost use Rattle.rl_syntax.specs.Tree.{tree_of, IsOver, Tree};
 ghost use Rattle.rl_syntax.specs.declared.limits.TheConstants.{MOST_SET_PAIRS};
 ghost use Rattle.rl_equiv.specs.SetPairs.{set_pairs};
@@ -9,11 +9,15 @@ ghost use Rattle.rl_equiv.specs.Joined.{StandTogether};
 ghost use Rattle.rl_equiv.specs.Languages.{IsTold};
 ghost use Rattle.rl_equiv.specs.Limits.{AreWithin, IsPassed, IsWithin, IsPassedBy};
 ghost use Rattle.rl_equiv.specs.Numbering.{IsAnswer};
+ghost use Rattle.rl_equiv.specs.Sides.{IsKeptSide};
+ghost use Rattle.rl_equiv.specs.internal.Machines.{pairs_of};
+ghost use Rattle.rl_equiv.specs.internal.Searching.{AreReaders, TellsApart};
 
 use crate::error::SameError;
 use crate::sameness::Sameness;
 use crate::searching::Search;
 use crate::sides::kept_side;
+use rl_lists::OutOfMemory;
 use rl_prio::Prio;
 use rl_ranges::Universe;
 use rl_sets::SetWalk;
@@ -72,6 +76,29 @@ fn beside(alloc: Global, first: &Prio, other: &Re, u: Universe) -> Result<Prio, 
     Ok(second)
 }
 
+/// What the first set pairs of two automata show, and the walk over the sets of the first automaton, which goes on with the
+/// images that the kept one has made.
+fn search_on(
+    alloc: Global,
+    a: &Prio,
+    b: &Prio,
+    kept: Option<SetWalk>,
+    limit: u32,
+) -> Result<(Sameness, SetWalk), OutOfMemory>
+    requires readers { AreReaders a.now b.now }
+    requires kept { IsKeptSide a.now kept }
+    requires some { 1 ≤ limit }
+    requires low { limit ≤ MOST_SET_PAIRS }
+    ensures answer { IfOk result (λ r. IsAnswer (pairs_of a.now b.now) limit r.0) }
+    ensures apart { IfOk result (λ r. TellsApart a.now b.now r.0) }
+    ensures kept { IfOk result (λ r. IsKeptSide a.now (Some r.1)) }
+{
+    let walk = kept_side(alloc, a, kept)?;
+    let mut search = Search::go_on(alloc, a, b, walk, limit)?;
+    let found = search.run(alloc, a, b)?;
+    Ok((found, search.first))
+}
+
 impl Baseline {
     /// The tree with which others are compared, if it passes no limit.
     ///
@@ -117,10 +144,8 @@ impl Baseline {
     {
         let second = beside(alloc, &self.automaton, other, self.universe)?;
         let kept = self.walk.take();
-        let walk = kept_side(alloc, &self.automaton, kept)?;
-        let mut search = Search::go_on(alloc, &self.automaton, &second, walk, limit)?;
-        let found = search.run(alloc, &self.automaton, &second)?;
-        self.walk = Some(search.first);
+        let (found, walk) = search_on(alloc, &self.automaton, &second, kept, limit)?;
+        self.walk = Some(walk);
         Ok(found)
     }
 }

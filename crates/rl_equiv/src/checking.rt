@@ -1,11 +1,14 @@
 //! Whether a relation is closed.
 
-ghost use Rattle.std.specs.Prelude.{◌≡◌, ◌↔◌, ◌<◌, ◌≤◌, true, IsTrue, length, IfOk, Contains};
+ghost use Rattle.std.specs.Prelude.{◌≡◌, ◌↔◌, ℕ, ◌<◌, ◌≤◌, true, IsTrue, length, IfOk, Contains};
 ghost use Rattle.rl_syntax.specs.Tree.{tree_of, IsOver};
-ghost use Rattle.rl_equiv.specs.SetPairs.{set_pairs, IsKept, IsClosed};
+ghost use Rattle.rl_equiv.specs.SetPairs.{first_pair, set_pairs, IsKept, IsClosed};
 ghost use Rattle.rl_equiv.specs.Languages.{SameLanguage};
 ghost use Rattle.rl_equiv.specs.Limits.{AreWithin};
-ghost use Rattle.rl_equiv.specs.internal.Machines.{pairs_of, ShareLetters};
+ghost use Rattle.rl_equiv.specs.internal.Machines.{ends, pair_on, pairs_of, ShareLetters};
+ghost use Rattle.rl_equiv.specs.internal.Walks.{IsBegun};
+ghost use Rattle.rl_prio.specs.Automaton.{letters_count};
+ghost use Rattle.rl_sets.specs.Walk.{set_at};
 
 use crate::error::SameError;
 use crate::index::Index;
@@ -15,6 +18,7 @@ use crate::walks::{are_proper, ends_in, image_in, walk_from};
 use rl_lists::{Items, OutOfMemory};
 use rl_prio::Prio;
 use rl_ranges::Universe;
+use rl_sets::SetWalk;
 use rl_syntax::Re;
 use std::alloc::Global;
 
@@ -25,6 +29,39 @@ fn is_proper(a: &Prio, b: &Prio, pair: &SetPair) -> bool
     let first = are_proper(a, &pair.first);
     let second = are_proper(b, &pair.second);
     first && second
+}
+
+/// Whether the set pair of two walks' first sets shows no difference and has its next ones in the index.
+fn keeps_sets(
+    a: &Prio,
+    b: &Prio,
+    index: &Index,
+    first: &mut SetWalk,
+    second: &mut SetWalk,
+) -> Result<bool, OutOfMemory>
+    requires letters { ShareLetters a.now b.now }
+    requires first_begun { IsBegun a.now first.old }
+    requires second_begun { IsBegun b.now second.old }
+    requires first_one { length first.old.sets ≡ 1 }
+    requires second_one { length second.old.sets ≡ 1 }
+    ensures { IfOk result (λ ok. IsTrue ok ↔ ((ends a.now (set_at first.old 0) ≡ ends b.now (set_at second.old 0))
+        × ((letter : ℕ) → letter < letters_count a.now
+        → Contains index.now (pair_on a.now b.now (record { first = set_at first.old 0; second = set_at second.old 0 }) letter)))) }
+{
+    let ended = ends_in(first, a)?;
+    let also_ended = ends_in(second, b)?;
+    if ended != also_ended {
+        return Ok(false);
+    }
+    let end = a.letters().count();
+    for letter in 0..end {
+        let left = image_in(first, a, letter)?;
+        let right = image_in(second, b, letter)?;
+        if !index.has(left, right) {
+            return Ok(false);
+        }
+    }
+    Ok(true)
 }
 
 /// Whether a set pair is proper, shows no difference and has its next ones in the index.
@@ -43,20 +80,16 @@ fn keeps(
     }
     let mut first = walk_from(alloc, a, &pair.first)?;
     let mut second = walk_from(alloc, b, &pair.second)?;
-    let ended = ends_in(&mut first, a)?;
-    let also_ended = ends_in(&mut second, b)?;
-    if ended != also_ended {
-        return Ok(false);
-    }
-    let end = a.letters().count();
-    for letter in 0..end {
-        let left = image_in(&mut first, a, letter)?;
-        let right = image_in(&mut second, b, letter)?;
-        if !index.has(left, right) {
-            return Ok(false);
-        }
-    }
-    Ok(true)
+    keeps_sets(a, b, index, &mut first, &mut second)
+}
+
+/// Whether the pair of the sets of both starts is in the index.
+fn has_start(alloc: Global, index: &Index) -> Result<bool, OutOfMemory>
+    ensures { IfOk result (λ has. IsTrue has ↔ Contains index.now first_pair) }
+{
+    let first = Items::from_slice(alloc, &[0])?;
+    let second = Items::from_slice(alloc, &[0])?;
+    Ok(index.has(first, second))
 }
 
 /// Whether a list of set pairs of two automata is closed.
@@ -65,9 +98,8 @@ fn is_closed(alloc: Global, a: &Prio, b: &Prio, relation: &[SetPair]) -> Result<
     ensures { IfOk result (λ ok. IsTrue ok ↔ IsClosed (pairs_of a.now b.now) relation.now) }
 {
     let index = Index::of(alloc, relation)?;
-    let first = Items::from_slice(alloc, &[0])?;
-    let second = Items::from_slice(alloc, &[0])?;
-    if !index.has(first, second) {
+    let start_in = has_start(alloc, &index)?;
+    if !start_in {
         return Ok(false);
     }
     for pair in relation {

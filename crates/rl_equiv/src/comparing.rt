@@ -7,14 +7,30 @@ ghost use Rattle.rl_equiv.specs.SetPairs.{set_pairs};
 ghost use Rattle.rl_equiv.specs.Languages.{IsTold};
 ghost use Rattle.rl_equiv.specs.Limits.{AreWithin, IsPassed};
 ghost use Rattle.rl_equiv.specs.Numbering.{IsAnswer};
+ghost use Rattle.rl_equiv.specs.internal.Machines.{pairs_of};
+ghost use Rattle.rl_equiv.specs.internal.Searching.{AreReaders, TellsApart};
 
 use crate::error::SameError;
 use crate::joint::Joint;
 use crate::sameness::Sameness;
 use crate::searching::Search;
+use rl_lists::OutOfMemory;
+use rl_prio::Prio;
 use rl_ranges::Universe;
 use rl_syntax::Re;
 use std::alloc::Global;
+
+/// What the first set pairs of two automata show.
+fn sameness(alloc: Global, a: &Prio, b: &Prio, limit: u32) -> Result<Sameness, OutOfMemory>
+    requires readers { AreReaders a.now b.now }
+    requires some { 1 ≤ limit }
+    requires low { limit ≤ MOST_SET_PAIRS }
+    ensures answer { IfOk result (IsAnswer (pairs_of a.now b.now) limit) }
+    ensures apart { IfOk result (TellsApart a.now b.now) }
+{
+    let mut search = Search::new(alloc, a, b, limit)?;
+    search.run(alloc, a, b)
+}
 
 /// Whether two trees, each as fullmatch, span the same texts of the universe, by their first set pairs, `limit` at most: a
 /// breadth-first search of the product of the powerset constructions of both.
@@ -39,7 +55,6 @@ pub fn same(alloc: Global, a: &Re, b: &Re, u: Universe, limit: u32) -> Result<Sa
     ensures told { IfOk result (IsTold u (tree_of a.now) (tree_of b.now)) }
 {
     let joint = Joint::new(alloc, a, b, u)?;
-    let mut search = Search::new(alloc, &joint.first, &joint.second, limit)?;
-    let found = search.run(alloc, &joint.first, &joint.second)?;
+    let found = sameness(alloc, &joint.first, &joint.second, limit)?;
     Ok(found)
 }

@@ -4,12 +4,13 @@ ghost use Rattle.std.specs.Prelude.{◌≡◌, ◌≤◌, ◌&&◌, IfOk, IfErr,
 ghost use Rattle.std.proofs.Math.Bool.{beq};
 ghost use Rattle.rl_syntax.specs.declared.re.Ending.TheVariants.{AtEnd};
 ghost use Rattle.rl_syntax.specs.Cost.{matched};
-ghost use Rattle.rl_syntax.specs.Tree.{tree_of, IsOver};
+ghost use Rattle.rl_syntax.specs.Tree.{tree_of, IsOver, Tree};
 ghost use Rattle.rl_syntax.specs.declared.limits.TheConstants.{MOST_SET_PAIRS};
 ghost use Rattle.rl_equiv.specs.Limits.{AreWithin, IsPassed};
+ghost use Rattle.rl_equiv.specs.Joined.{StandTogether};
 ghost use Rattle.rl_equiv.specs.Regions.{AreRegions};
 ghost use Rattle.rl_equiv.specs.Told.{AreTold};
-ghost use Rattle.rl_equiv.specs.internal.Searching.{AreReaders, state_of, IsSeen, IsFirstText};
+ghost use Rattle.rl_equiv.specs.internal.Searching.{AreReaders, state_of, IsSeen, IsThrough, IsFirstText};
 
 use crate::compared::Compared;
 use crate::error::SameError;
@@ -51,6 +52,44 @@ fn text_of(
     Ok(None)
 }
 
+/// The texts of the regions of two automata, by their set pairs that were seen.
+fn texts_of(
+    alloc: Global,
+    a: &Prio,
+    b: &Prio,
+    search: &Search,
+    seen: &Vec<Ends>,
+    limit: u32,
+) -> Result<Compared, OutOfMemory>
+    requires readers { AreReaders a.now b.now }
+    requires seen { IsSeen a.now b.now limit (state_of search.now) seen.now.items }
+    requires through { IsThrough limit (state_of search.now) seen.now.items }
+    ensures { IfOk result (λ r. (u : Universe) (s t : Tree) → StandTogether u s t a.now b.now → AreRegions u s t limit r) }
+{
+    let first = text_of(alloc, a, b, search, seen, true, false)?;
+    let second = text_of(alloc, a, b, search, seen, false, true)?;
+    let both = text_of(alloc, a, b, search, seen, true, true)?;
+    let more = search.keys.len() > limit as usize;
+    Ok(Compared {
+        first,
+        second,
+        both,
+        more,
+    })
+}
+
+/// The texts of the regions of two automata, by their first set pairs.
+fn regions_of(alloc: Global, a: &Prio, b: &Prio, limit: u32) -> Result<Compared, OutOfMemory>
+    requires readers { AreReaders a.now b.now }
+    requires some { 1 ≤ limit }
+    requires low { limit ≤ MOST_SET_PAIRS }
+    ensures { IfOk result (λ r. (u : Universe) (s t : Tree) → StandTogether u s t a.now b.now → AreRegions u s t limit r) }
+{
+    let mut search = Search::new(alloc, a, b, limit)?;
+    let seen = search.look(alloc, a, b, true)?;
+    texts_of(alloc, a, b, &search, &seen, limit)
+}
+
 /// The texts of the regions of two trees, each as fullmatch, by their first set pairs in breadth-first order, `limit` at
 /// most: one that the first tree alone matches, one that the second alone does and one that both do, and whether more set
 /// pairs are reached.
@@ -74,40 +113,6 @@ pub fn regions(
     ensures told { IfOk result (AreTold u (matched (tree_of a.now) AtEnd) (matched (tree_of b.now) AtEnd)) }
 {
     let joint = Joint::new(alloc, a, b, u)?;
-    let mut search = Search::new(alloc, &joint.first, &joint.second, limit)?;
-    let seen = search.look(alloc, &joint.first, &joint.second, true)?;
-    let first = text_of(
-        alloc,
-        &joint.first,
-        &joint.second,
-        &search,
-        &seen,
-        true,
-        false,
-    )?;
-    let second = text_of(
-        alloc,
-        &joint.first,
-        &joint.second,
-        &search,
-        &seen,
-        false,
-        true,
-    )?;
-    let both = text_of(
-        alloc,
-        &joint.first,
-        &joint.second,
-        &search,
-        &seen,
-        true,
-        true,
-    )?;
-    let more = search.keys.len() > limit as usize;
-    Ok(Compared {
-        first,
-        second,
-        both,
-        more,
-    })
+    let texts = regions_of(alloc, &joint.first, &joint.second, limit)?;
+    Ok(texts)
 }

@@ -7,7 +7,7 @@ ghost use Rattle.rl_equiv.specs.declared.pair.SetPair.{SetPair};
 ghost use Rattle.rl_equiv.specs.SetPairs.{first_pair};
 ghost use Rattle.rl_equiv.specs.Numbering.{Reached, next_reached, with_all_reached, IsAnswer};
 ghost use Rattle.rl_equiv.specs.internal.Machines.{pair_on, pairs_of};
-ghost use Rattle.rl_equiv.specs.internal.Searching.{AreReaders, state_of, pairs_in, pair_at, key_at, way_at, reached_in, reached_at, reached_on, with_reached_within, IsSearch, IsOnward, AreCapped, ends_of, is_apart, IsSeen, IsThrough, IsSeenApart, Leads, sample_of, TellsApart};
+ghost use Rattle.rl_equiv.specs.internal.Searching.{AreReaders, no_way, state_of, pairs_in, pair_at, key_at, way_at, reached_in, reached_at, reached_on, with_reached_within, IsSearch, IsOnward, AreCapped, ends_of, is_apart, IsSeen, IsThrough, IsSeenApart, Leads, sample_of, TellsApart};
 ghost use Rattle.rl_equiv.specs.Sides.{IsSide};
 
 use crate::pair::{Relation, SetPair};
@@ -69,6 +69,28 @@ fn stops(all: bool, ends: Ends) -> bool
     !all && ends.first != ends.second
 }
 
+/// The set pair of two starts, as the only one that is found.
+fn first_found(
+    alloc: Global,
+    start: u32,
+    other_start: u32,
+) -> Result<(IndexSet<Key>, Vec<Way>), OutOfMemory>
+    ensures keys { IfOk result (λ r. r.0.keys ≡ record { first = start; second = other_start } ∷ []) }
+    ensures ways { IfOk result (λ r. r.1.items ≡ no_way ∷ []) }
+{
+    let mut keys = IndexSet::new(alloc);
+    keys.insert(Key {
+        first: start,
+        second: other_start,
+    })?;
+    let mut ways = Vec::new(alloc);
+    ways.push(Way {
+        parent: 0,
+        letter: 0,
+    })?;
+    Ok((keys, ways))
+}
+
 impl Search {
     /// A search that has found the first set pair.
     pub(crate) fn new(alloc: Global, a: &Prio, b: &Prio, limit: u32) -> Result<Search, OutOfMemory>
@@ -102,16 +124,7 @@ impl Search {
         let other = begin_side(alloc, b)?;
         let (first, start) = start_side(alloc, a, walk)?;
         let (second, other_start) = start_side(alloc, b, other)?;
-        let mut keys = IndexSet::new(alloc);
-        keys.insert(Key {
-            first: start,
-            second: other_start,
-        })?;
-        let mut ways = Vec::new(alloc);
-        ways.push(Way {
-            parent: 0,
-            letter: 0,
-        })?;
+        let (keys, ways) = first_found(alloc, start, other_start)?;
         Ok(Search {
             limit,
             first,

@@ -34,6 +34,18 @@ fn put(walk: &mut SetWalk, a: &Prio, members: &Vec<u32>) -> Result<u32, OutOfMem
     }
 }
 
+/// The number of the set of one state.
+fn put_one(alloc: Global, walk: &mut SetWalk, a: &Prio, state: u32) -> Result<u32, OutOfMemory>
+    requires made { IsMadeFor walk.old a.now }
+    requires state_in { state < a.now.states }
+    requires alive { state ≢ dead_state a.now }
+    requires room { length walk.old.sets < walk.old.limit }
+    ensures { IfOk result (Gets a.now walk.old walk.new (set_of a.now (state ∷ []))) }
+{
+    let members = vec![in alloc; state]?;
+    put(walk, a, &members)
+}
+
 /// A new walk with the sets that the end letter gives.
 pub(crate) fn begin_side(alloc: Global, a: &Prio) -> Result<SetWalk, OutOfMemory>
     requires { IsReader a.now }
@@ -42,8 +54,7 @@ pub(crate) fn begin_side(alloc: Global, a: &Prio) -> Result<SetWalk, OutOfMemory
     let mut walk = SetWalk::new(alloc, a, MOST_SETS)?;
     let none = Vec::new(alloc);
     put(&mut walk, a, &none)?;
-    let accepting = vec![in alloc; a.states() - 2]?;
-    put(&mut walk, a, &accepting)?;
+    put_one(alloc, &mut walk, a, a.states() - 2)?;
     Ok(walk)
 }
 
@@ -75,8 +86,7 @@ pub(crate) fn start_side(
     ensures inside { IfOk result (λ r. r.1 < length r.0.sets) }
     ensures start { IfOk result (λ r. set_at r.0 r.1 ≡ 0 ∷ []) }
 {
-    let first = vec![in alloc; 0]?;
-    let start = put(&mut walk, a, &first)?;
+    let start = put_one(alloc, &mut walk, a, 0)?;
     Ok((walk, start))
 }
 

@@ -1,5 +1,5 @@
 -- What the search of the triples finds, said of the graph and not of the graph of the moves that stay on a rank.
-use Rattle.std.proofs.Common.{◌≡◌, ◌≢◌, ℕ, ◌+◌, ◌*◌, ◌<◌, ◌≤◌, inl, All, List, length, get_or, refl, sym, subst, arith, mul_comm}
+use Rattle.std.proofs.Common.{◌≡◌, ◌≢◌, ℕ, ◌+◌, ◌*◌, ◌<◌, ◌≤◌, inl, All, List, length, get_or, Result, Ok, Err, IfOk, IfErr, OnOk, ◌∙◌, refl, sym, ap, subst, arith, mul_comm}
 use Rattle.std.proofs.lemmas.Nat.{mul-add-lt}
 use Rattle.rl_graph.specs.Graph.{Graph, edges_of, IsWhole}
 use Rattle.rl_graph.specs.Parts.{PartTable, IsParts, cycle_of}
@@ -14,6 +14,10 @@ use Rattle.rl_numbers.specs.Numbered.{AreTriples}
 use Rattle.rl_numbers.specs.Reached.{IsReached, IsReach, AreMore}
 use Rattle.rl_numbers.specs.Starts.{AreStartsUpTo}
 use Rattle.rl_numbers.specs.Triples.{triple_moves, among_moves}
+use Rattle.rl_numbers.specs.internal.ReachedTriples.{AreReachedTriples}
+use Rattle.rl_numbers.specs.declared.numbering.TriplesError.{TriplesError}
+use Rattle.rl_numbers.specs.declared.numbering.TriplesError.TheVariants.{TooMany}
+use Rattle.rl_numbers.specs.declared.triple.Triple.{Triple}
 use Rattle.rl_numbers.proofs.FoundLaws.{found_holds, found_more, found_few}
 use Rattle.rl_kernel.proofs.InnerLaws.{move-letter}
 
@@ -73,3 +77,19 @@ module _ (g h : Graph) (rank : ℕ → ℕ) (components : PartTable) (starts : L
   triples-few keys m reach few more =
       found_few (edges_of g) rank h starts level-here within sound complete keys m reach few
       (subst (λ (n : ℕ). AreMoreThan m (LeastTriple (edges_of g) n rank)) (sym level.states) more)
+
+  -- the same of the triples that are reached, where there are not too many
+  pub triples-from : {E : Type 0} → HasNoEqualSplit (edges_of g) g.states rank → (r : Result (List Triple) E) → IfOk r (AreReachedTriples h starts) → IfOk r (AreTriples (edges_of g) g.states rank)
+  triples-from none (Ok l) f =
+      let same : l ≡ listing f.parts g.states 0 f.keys = f.same ∙ ap (λ (n : ℕ). listing f.parts n 0 f.keys) level.states in
+      subst (AreTriples (edges_of g) g.states rank) (sym same) (triples-held f.keys f.parts f.whole none f.reach f.inside f.are_parts)
+  triples-from none (Err e) f = tt
+
+  pub few-from : {E : Type 0} → (r : Result (List Triple) E) → IfOk r (AreReachedTriples h starts) → OnOk r (AreMoreThan 1000000 (LeastTriple (edges_of g) g.states rank) → ⊥)
+  few-from (Ok l) f = triples-few f.keys 1000000 f.reach f.few
+  few-from (Err e) f = tt
+
+  pub more-from : (r : Result (List Triple) TriplesError) → IfErr r (λ e. e ≡ TooMany → AreMore 1000000 (IsReached (triple_moves (edges_of h) h.states) starts))
+      → IfErr r (λ e. e ≡ TooMany → AreMoreThan 1000000 (LeastTriple (edges_of g) g.states rank))
+  more-from (Ok l) f = tt
+  more-from (Err e) f = λ same. triples-more 1000000 (f same)

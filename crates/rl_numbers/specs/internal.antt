@@ -5,3 +5,4 @@ pub mod Marks
 pub mod DoubledFalls
 pub mod NumberedFalls
 pub mod Spreading
+pub mod ReachedTriples

@@ -11,6 +11,9 @@ ghost use Rattle.rl_numbers.specs.Least.{LeastTriple, AreMoreThan};
 ghost use Rattle.rl_numbers.specs.Level.{IsLevelOf};
 ghost use Rattle.rl_numbers.specs.Numbered.{AreTriples};
 ghost use Rattle.rl_numbers.specs.Reached.{IsReached, IsReach, AreMore};
+ghost use Rattle.rl_numbers.specs.Starts.{AreStartsUpTo};
+ghost use Rattle.rl_numbers.specs.internal.ReachedTriples.{AreReachedTriples};
+ghost use Rattle.rl_graph.specs.Parts.{PartTable, IsParts, cycle_of};
 ghost use Rattle.rl_numbers.specs.Triples.{triple_moves};
 
 use crate::among::Among;
@@ -105,6 +108,32 @@ fn keys_of(alloc: Global, level: &Level, starts: &[u64]) -> Result<IndexSet<u64>
     }
 }
 
+/// The numbers of the triples from which the others are reached.
+fn first_triples(alloc: Global, g: &Multigraph, ranks: &[u32]) -> Result<Vec<u64>, OutOfMemory>
+    requires few_states { g.now.states < 65536 }
+    requires size { length ranks.now ≡ g.now.states }
+    ensures { IfOk result (λ v. (components : PartTable) × IsParts (edges_of g.now) g.now.states components
+        × AreStartsUpTo g.now.states (slice_index ranks.now) (cycle_of components) g.now.states 0 v.items) }
+{
+    let components = g.components()?;
+    let starts = starts_of(alloc, g.states(), ranks, &components)?;
+    Ok(starts)
+}
+
+/// The triples that are reached, each with the number of its part.
+fn triples_from(alloc: Global, level: &Level, starts: &[u64]) -> Result<Triples, TriplesError>
+    requires { All (λ s. s < level.now.states * level.now.states * level.now.states) starts.now }
+    ensures triples { IfOk result (AreReachedTriples level.now starts.now) }
+    ensures too_many { IfErr result (λ e. e ≡ TriplesError.TooMany → AreMore 1000000 (IsReached (triple_moves (edges_of level.now) level.now.states) starts.now)) }
+{
+    let states = level.graph().states();
+    let keys = keys_of(alloc, level, starts)?;
+    let among = Among { level, keys: &keys };
+    let parts = parts_of(alloc, &among)?;
+    let triples = listed(alloc, states, &keys, &parts)?;
+    Ok(triples)
+}
+
 /// The triples of a graph without a split between states of one rank.
 ///
 /// # Errors
@@ -118,20 +147,9 @@ pub fn triples_of(alloc: Global, g: &Multigraph, ranks: &[u32]) -> Result<Triple
     ensures few { OnOk result (AreMoreThan 1000000 (LeastTriple (edges_of g.now) g.now.states (slice_index ranks.now)) → ⊥) }
     ensures too_many { IfErr result (λ e. e ≡ TriplesError.TooMany → AreMoreThan 1000000 (LeastTriple (edges_of g.now) g.now.states (slice_index ranks.now))) }
 {
-    let states = g.states();
-    let _letters = g.letters();
-    let components = g.components()?;
-    let starts = starts_of(alloc, states, ranks, &components)?;
+    // Reading the numbers shows that it is a whole graph.
+    let _read = (g.states(), g.letters());
+    let starts = first_triples(alloc, g, ranks)?;
     let level = level(alloc, g, ranks)?;
-    let _kept = level.graph().states();
-    let keys = keys_of(alloc, &level, &starts)?;
-    let parts = parts_of(
-        alloc,
-        &Among {
-            level: &level,
-            keys: &keys,
-        },
-    )?;
-    let triples = listed(alloc, states, &keys, &parts)?;
-    Ok(triples)
+    triples_from(alloc, &level, &starts)
 }

@@ -1,6 +1,6 @@
 -- Where the search for a difference stands. Each of two walks numbers the sets of one automaton; a set pair is found by the
 -- numbers of its sets, and keeps the place of the one whose next it is, and the letter.
-use Rattle.std.specs.Prelude.{◌≡◌, ◌≢◌, ℕ, suc, ◌+◌, ◌<◌, ◌≤◌, ◌⊎◌, List, [], ◌∷◌, ◌++◌, length, map, slice_index_or, slice_get, Option, None, Some, All, Contains, Bool, true, false, not, ◌&&◌, nat_lt, if◌then◌else◌}
+use Rattle.std.specs.Prelude.{◌≡◌, ◌≢◌, ℕ, suc, ◌<◌, ◌≤◌, ◌⊎◌, List, [], ◌∷◌, ◌++◌, length, map, slice_index_or, slice_get, Option, None, Some, All, Bool, true, false, not, ◌&&◌, nat_lt, if◌then◌else◌}
 use Rattle.rl_prio.specs.Automaton.{Automaton, IsAutomaton, letters_count, accepting_state}
 use Rattle.rl_sets.specs.Live.{image, refuses}
 use Rattle.rl_sets.specs.Walk.{Walk, set_at, set_of, IsMadeFor, IsListed}

@@ -1,8 +1,8 @@
-use Rattle.std.proofs.Common.{◌∙◌, true, false, refl, sym, arith}
+use Rattle.std.proofs.Common.{◌∙◌, refl, sym, arith}
 use Rattle.std.proofs.lemmas.Bool.{false≢true}
 use Rattle.rl_equiv.specs.internal.Machines.{pairs_of}
 use Rattle.rl_equiv.proofs.CheckLaws.{kept-more}
-use Rattle.rl_equiv.proofs.IndexLaws.{first-there, kept-same, not-first, one-not-kept, all-kept}
+use Rattle.rl_equiv.proofs.IndexLaws.{kept-same, not-first, one-not-kept, all-kept}
 use Rattle.rl_equiv.proofs.checking.is_closed.Goals as goal
 
 pub loop-pair-preserved : goal.loop-pair-preserved
@@ -11,12 +11,12 @@ loop-pair-preserved c =
     let kept = kept-same d c.in_ok-index.index c.args.relation.now c.pair-item.result c.in_ok-index.ensures (c.in_ok-keeps.ensures.0 c.if-not-branch.false) in
     kept-more d c.args.relation.now c.loop-pair.pair-index c.pair-item.result (omega arith) c.pair-item.is kept c.loop-pair.invariant
 
-pub returns-then-not-has : goal.returns-then-not-has
-returns-then-not-has c =
-    let h = first-there c.in_ok-index.index c.in_ok-first.first c.in_ok-second.second false c.in_ok-first.ensures c.in_ok-second.ensures c.if-not-has.ensures in (
-      λ i. absurd (false≢true i),
-      λ k. absurd (not-first (pairs_of c.args.a.now c.args.b.now) c.in_ok-index.index c.args.relation.now c.in_ok-index.ensures (λ x. false≢true (h.1 x)) k),
-    )
+pub returns-then-not-start_in : goal.returns-then-not-start_in
+returns-then-not-start_in c = (
+  λ i. absurd (false≢true i),
+  λ k. absurd (not-first (pairs_of c.args.a.now c.args.b.now) c.in_ok-index.index c.args.relation.now c.in_ok-index.ensures
+      (λ x. false≢true (sym c.if-not-start_in.true ∙ c.in_ok-start_in.ensures.1 x)) k),
+)
 
 pub returns-then-not-branch : goal.returns-then-not-branch
 returns-then-not-branch c = (
@@ -26,6 +26,8 @@ returns-then-not-branch c = (
 )
 
 pub returns : goal.returns
-returns c =
-    let h = first-there c.in_ok-index.index c.in_ok-first.first c.in_ok-second.second true c.in_ok-first.ensures c.in_ok-second.ensures c.if-not-has.ensures in
-    (λ i. all-kept (pairs_of c.args.a.now c.args.b.now) c.in_ok-index.index c.args.relation.now c.in_ok-index.ensures c.loop-pair.pair-index (omega arith) (h.0 refl) c.loop-pair.invariant, λ k. refl)
+returns c = (
+  λ i. all-kept (pairs_of c.args.a.now c.args.b.now) c.in_ok-index.index c.args.relation.now c.in_ok-index.ensures c.loop-pair.pair-index (omega arith)
+      (c.in_ok-start_in.ensures.0 c.if-not-start_in.false) c.loop-pair.invariant,
+  λ k. refl,
+)

@@ -1,16 +1,10 @@
-use Rattle.std.proofs.Common.{ℕ, subst}
 use Rattle.std.proofs.lemmas.Result.{err_from_is_err_and}
 use Rattle.rl_syntax.specs.Tree.{tree_of}
-use Rattle.rl_equiv.specs.Numbering.{IsAnswer}
-use Rattle.rl_equiv.specs.internal.Machines.{pairs_of}
 use Rattle.rl_equiv.proofs.ReaderLaws.{are-readers, answer-told}
 use Rattle.rl_equiv.proofs.comparing.same.Goals as goal
 
-pub new-requires-2-clause-readers : goal.new-requires-2-clause-readers
-new-requires-2-clause-readers c = are-readers c.args.u (tree_of c.args.a.now) (tree_of c.args.b.now) c.in_ok-joint.joint.first c.in_ok-joint.joint.second c.in_ok-joint.ensures.stand
-
-pub run-requires-clause-readers : goal.run-requires-clause-readers
-run-requires-clause-readers c = are-readers c.args.u (tree_of c.args.a.now) (tree_of c.args.b.now) c.in_ok-joint.joint.first c.in_ok-joint.joint.second c.in_ok-joint.ensures.stand
+pub sameness-requires-clause-readers : goal.sameness-requires-clause-readers
+sameness-requires-clause-readers c = are-readers c.args.u (tree_of c.args.a.now) (tree_of c.args.b.now) c.in_ok-joint.joint.first c.in_ok-joint.joint.second c.in_ok-joint.ensures.stand
 
 pub returns-in_err-found-clause-passed : goal.returns-in_err-found-clause-passed
 returns-in_err-found-clause-passed c =
@@ -19,10 +13,8 @@ returns-in_err-found-clause-passed c =
 
 pub returns-clause-answer : goal.returns-clause-answer
 returns-clause-answer c =
-    let answer = subst (λ (n : ℕ). IsAnswer (pairs_of c.in_ok-joint.joint.first c.in_ok-joint.joint.second) n c.in_ok-found.found) c.in_ok-search.ensures.limit c.in_ok-found.ensures.answer in
-    (answer-told c.args.u (tree_of c.args.a.now) (tree_of c.args.b.now) c.in_ok-joint.joint.first c.in_ok-joint.joint.second c.in_ok-joint.ensures.stand c.args.limit c.in_ok-found.found answer c.in_ok-found.ensures.apart).0
+    (answer-told c.args.u (tree_of c.args.a.now) (tree_of c.args.b.now) c.in_ok-joint.joint.first c.in_ok-joint.joint.second c.in_ok-joint.ensures.stand c.args.limit c.in_ok-found.found c.in_ok-found.ensures.answer c.in_ok-found.ensures.apart).0
 
 pub returns-clause-told : goal.returns-clause-told
 returns-clause-told c =
-    let answer = subst (λ (n : ℕ). IsAnswer (pairs_of c.in_ok-joint.joint.first c.in_ok-joint.joint.second) n c.in_ok-found.found) c.in_ok-search.ensures.limit c.in_ok-found.ensures.answer in
-    (answer-told c.args.u (tree_of c.args.a.now) (tree_of c.args.b.now) c.in_ok-joint.joint.first c.in_ok-joint.joint.second c.in_ok-joint.ensures.stand c.args.limit c.in_ok-found.found answer c.in_ok-found.ensures.apart).1
+    (answer-told c.args.u (tree_of c.args.a.now) (tree_of c.args.b.now) c.in_ok-joint.joint.first c.in_ok-joint.joint.second c.in_ok-joint.ensures.stand c.args.limit c.in_ok-found.found c.in_ok-found.ensures.answer c.in_ok-found.ensures.apart).1

@@ -1,4 +1,4 @@
-use Rattle.std.proofs.Common.{◌≡◌, [], ◌∷◌, refl, ap, ◌∙◌}
+use Rattle.std.proofs.Common.{[], ◌∷◌, refl, ◌∙◌}
 use Rattle.rl_syntax.specs.declared.limits.TheConstants.{MOST_SET_PAIRS}
 use Rattle.rl_sets.specs.Walk.{set_of}
 use Rattle.rl_equiv.proofs.SideLaws.{start-set, gets-set, side-gets}
@@ -6,10 +6,9 @@ use Rattle.rl_equiv.proofs.sides.start_side.Goals as goal
 
 pub returns-clause-side : goal.returns-clause-side
 returns-clause-side c =
-    side-gets c.args.a.now MOST_SET_PAIRS 0 1 c.args.walk c.put.new.walk (set_of c.args.a.now c.in_ok-first.first.items) c.in_ok-start.start refl c.requires.side c.in_ok-start.ensures
+    side-gets c.args.a.now MOST_SET_PAIRS 0 1 c.args.walk c.put_one.new.walk (set_of c.args.a.now (0 ∷ [])) c.in_ok-start.start refl c.requires.side c.in_ok-start.ensures
 
 pub returns-clause-start : goal.returns-clause-start
 returns-clause-start c =
     let a = c.args.a.now in
-    let first : c.in_ok-first.first.items ≡ 0 ∷ [] = c.in_ok-first.ensures.items in
-    gets-set a c.args.walk c.put.new.walk (set_of a c.in_ok-first.first.items) c.in_ok-start.start c.in_ok-start.ensures ∙ ap (set_of a) first ∙ start-set a c.requires.reads.whole.three_states
+    gets-set a c.args.walk c.put_one.new.walk (set_of a (0 ∷ [])) c.in_ok-start.start c.in_ok-start.ensures ∙ start-set a c.requires.reads.whole.three_states

@@ -1,4 +1,4 @@
-use Rattle.std.proofs.Common.{ℕ, sym, subst}
+use Rattle.std.proofs.Common.{sym, subst}
 use Rattle.std.proofs.lemmas.Result.{err_from_is_err_and}
 use Rattle.rl_syntax.specs.Tree.{tree_of, IsOver}
 use Rattle.rl_equiv.specs.Bases.{Base, TellsNoMore}
@@ -6,7 +6,6 @@ use Rattle.rl_equiv.specs.Languages.{IsTold}
 use Rattle.rl_equiv.specs.Limits.{AreWithin}
 use Rattle.rl_equiv.specs.Numbering.{IsAnswer}
 use Rattle.rl_equiv.specs.SetPairs.{set_pairs}
-use Rattle.rl_equiv.specs.internal.Machines.{pairs_of}
 use Rattle.rl_equiv.proofs.ReaderLaws.{are-readers, answer-told}
 use Rattle.rl_equiv.proofs.baseline.Baseline.compare.Goals as goal
 
@@ -17,18 +16,8 @@ beside-requires-clause-base c =
 pub beside-requires-clause-inside : goal.beside-requires-clause-inside
 beside-requires-clause-inside c = subst (λ (x : Base). IsOver x.universe (tree_of c.args.other.now)) (sym c.self.view_is) c.requires.inside
 
-pub go_on-requires-clause-readers : goal.go_on-requires-clause-readers
-go_on-requires-clause-readers c =
-    let tells = subst (λ (x : Base). TellsNoMore (tree_of x.tree) (tree_of c.args.other.now)) (sym c.self.view_is) c.requires.letters in
-    are-readers c.self.inside.universe (tree_of c.self.inside.tree) (tree_of c.args.other.now) c.self.inside.automaton c.in_ok-second.second (c.in_ok-second.ensures.stand (tree_of c.self.inside.tree) c.self.invariant.0 tells)
-
-pub kept_side-requires-clause-reads : goal.kept_side-requires-clause-reads
-kept_side-requires-clause-reads c =
-    let tells = subst (λ (x : Base). TellsNoMore (tree_of x.tree) (tree_of c.args.other.now)) (sym c.self.view_is) c.requires.letters in
-    (are-readers c.self.inside.universe (tree_of c.self.inside.tree) (tree_of c.args.other.now) c.self.inside.automaton c.in_ok-second.second (c.in_ok-second.ensures.stand (tree_of c.self.inside.tree) c.self.invariant.0 tells)).first_reads
-
-pub run-requires-clause-readers : goal.run-requires-clause-readers
-run-requires-clause-readers c =
+pub search_on-requires-clause-readers : goal.search_on-requires-clause-readers
+search_on-requires-clause-readers c =
     let tells = subst (λ (x : Base). TellsNoMore (tree_of x.tree) (tree_of c.args.other.now)) (sym c.self.view_is) c.requires.letters in
     are-readers c.self.inside.universe (tree_of c.self.inside.tree) (tree_of c.args.other.now) c.self.inside.automaton c.in_ok-second.second (c.in_ok-second.ensures.stand (tree_of c.self.inside.tree) c.self.invariant.0 tells)
 
@@ -37,16 +26,6 @@ returns-in_err-second-clause-passed c =
     let tells = subst (λ (x : Base). TellsNoMore (tree_of x.tree) (tree_of c.args.other.now)) (sym c.self.view_is) c.requires.letters in
     let p = err_from_is_err_and c.from_residual.result c.from_residual.ensures.1 in
     rw (p.1, p.2, sym c.self.view_is) (c.in_err-second.ensures.passed (tree_of c.self.inside.tree) c.self.invariant.0 tells)
-
-pub returns-in_err-walk-clause-passed : goal.returns-in_err-walk-clause-passed
-returns-in_err-walk-clause-passed c =
-    let p = err_from_is_err_and c.from_residual-in_err-walk.result c.from_residual-in_err-walk.ensures.1 in
-    rw (p.1, p.2) tt
-
-pub returns-in_err-search-clause-passed : goal.returns-in_err-search-clause-passed
-returns-in_err-search-clause-passed c =
-    let p = err_from_is_err_and c.from_residual-in_err-search.result c.from_residual-in_err-search.ensures.1 in
-    rw (p.1, p.2) tt
 
 pub returns-in_err-found-clause-passed : goal.returns-in_err-found-clause-passed
 returns-in_err-found-clause-passed c =
@@ -61,15 +40,13 @@ returns-clause-within c =
 pub returns-clause-answer : goal.returns-clause-answer
 returns-clause-answer c =
     let tells = subst (λ (x : Base). TellsNoMore (tree_of x.tree) (tree_of c.args.other.now)) (sym c.self.view_is) c.requires.letters in
-    let answer = subst (λ (n : ℕ). IsAnswer (pairs_of c.self.inside.automaton c.in_ok-second.second) n c.in_ok-found.found) c.in_ok-search.ensures.limit c.in_ok-found.ensures.answer in
     subst (λ (x : Base). IsAnswer (set_pairs x.universe (tree_of x.tree) (tree_of c.args.other.now)) c.args.limit c.in_ok-found.found) c.self.view_is
     (answer-told c.self.inside.universe (tree_of c.self.inside.tree) (tree_of c.args.other.now) c.self.inside.automaton c.in_ok-second.second (c.in_ok-second.ensures.stand (tree_of c.self.inside.tree) c.self.invariant.0 tells)
-    c.args.limit c.in_ok-found.found answer c.in_ok-found.ensures.apart).0
+    c.args.limit c.in_ok-found.found c.in_ok-found.ensures.answer c.in_ok-found.ensures.apart).0
 
 pub returns-clause-told : goal.returns-clause-told
 returns-clause-told c =
     let tells = subst (λ (x : Base). TellsNoMore (tree_of x.tree) (tree_of c.args.other.now)) (sym c.self.view_is) c.requires.letters in
-    let answer = subst (λ (n : ℕ). IsAnswer (pairs_of c.self.inside.automaton c.in_ok-second.second) n c.in_ok-found.found) c.in_ok-search.ensures.limit c.in_ok-found.ensures.answer in
     subst (λ (x : Base). IsTold x.universe (tree_of x.tree) (tree_of c.args.other.now) c.in_ok-found.found) c.self.view_is
     (answer-told c.self.inside.universe (tree_of c.self.inside.tree) (tree_of c.args.other.now) c.self.inside.automaton c.in_ok-second.second (c.in_ok-second.ensures.stand (tree_of c.self.inside.tree) c.self.invariant.0 tells)
-    c.args.limit c.in_ok-found.found answer c.in_ok-found.ensures.apart).1
+    c.args.limit c.in_ok-found.found c.in_ok-found.ensures.answer c.in_ok-found.ensures.apart).1
