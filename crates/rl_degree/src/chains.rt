@@ -142,6 +142,45 @@ fn some_loop(
     Ok(None)
 }
 
+/// A longest chain of splits of a graph without a twin, all ranks and a cycle, found over the graph's strongly connected
+/// components.
+///
+/// The components must be those of the graph, as [`Multigraph::components`] makes them: so a caller that needs them for more than
+/// one search makes them once. The search is that of [`degree`].
+///
+/// # Errors
+/// [`OutOfMemory`] where there was no memory for the search or the answer.
+pub fn degree_over(
+    alloc: Global,
+    g: &Multigraph,
+    components: Components,
+) -> Result<Chain, OutOfMemory>
+    requires parts { IsParts (edges_of g.now) g.now.states components }
+    requires no_twin { HasNoTwin (edges_of g.now) }
+    ensures links { IfOk result (λ c. IsChain (edges_of g.now) c.links) }
+    ensures states { IfOk result (λ c. All (IsSplitIn g.now.states) c.links) }
+    ensures longest { IfOk result (λ c. (s : ℕ) (ms : List Link) → s < g.now.states → ChainFrom (edges_of g.now) s ms → length ms ≤ length c.links) }
+    ensures ranks { IfOk result (λ c. AreRanks (edges_of g.now) g.now.states c.ranks) }
+    ensures cycle { IfOk result (λ c. IfSome c.cycle (IsLoop (edges_of g.now) g.now.states)) }
+    ensures no_cycle { IfOk result (λ c. IfNone c.cycle (HasNoCycle (edges_of g.now))) }
+{
+    let _states = g.states();
+    let table = table_of(alloc, g, components)?;
+    let bests = all_bests(alloc, g, &table)?;
+    let ranks = ranks_of(alloc, g, &table.components, &bests)?;
+    let links = if ranks.is_empty() {
+        Items::new(alloc)
+    } else {
+        chain_from(alloc, g, &table, &bests, top_place(ranks.as_slice()) as u32)?
+    };
+    let cycle = some_loop(alloc, g, &table.components)?;
+    Ok(Chain {
+        links,
+        ranks,
+        cycle,
+    })
+}
+
 /// A longest chain of splits of a graph without a twin, all ranks and a cycle.
 ///
 /// A split leads from a state on a cycle to one in a lower component. Where two components have such states, it takes the parts
@@ -163,19 +202,6 @@ pub fn degree(alloc: Global, g: &Multigraph) -> Result<Chain, OutOfMemory>
     ensures cycle { IfOk result (λ c. IfSome c.cycle (IsLoop (edges_of g.now) g.now.states)) }
     ensures no_cycle { IfOk result (λ c. IfNone c.cycle (HasNoCycle (edges_of g.now))) }
 {
-    let _states = g.states();
-    let table = table_of(alloc, g)?;
-    let bests = all_bests(alloc, g, &table)?;
-    let ranks = ranks_of(alloc, g, &table.components, &bests)?;
-    let links = if ranks.is_empty() {
-        Items::new(alloc)
-    } else {
-        chain_from(alloc, g, &table, &bests, top_place(ranks.as_slice()) as u32)?
-    };
-    let cycle = some_loop(alloc, g, &table.components)?;
-    Ok(Chain {
-        links,
-        ranks,
-        cycle,
-    })
+    let components = g.components()?;
+    degree_over(alloc, g, components)
 }

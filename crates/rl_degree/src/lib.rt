@@ -5,7 +5,7 @@
 //! where there is no twin. [`degree`] takes a graph without a twin and returns a [`Chain`]: as many splits as possible, each
 //! reached from the one before. With them come the rank of each state, which is the length of the longest chain from it, and
 //! a [`Loop`], if the graph has a cycle. It works by strongly connected components, and searches triples of states only where
-//! a pair of the product may be a split.
+//! a pair of the product may be a split. [`degree_over`] does the same over components that the caller has found.
 //!
 //! # What is proved
 //!
@@ -41,4 +41,4 @@ mod ranks;
 mod rows;
 mod searches;
 
-pub use chains::{Chain, Loop, Split, Splits, degree};
+pub use chains::{Chain, Loop, Split, Splits, degree, degree_over};

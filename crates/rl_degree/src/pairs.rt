@@ -1,7 +1,8 @@
 //! The pairs of states that may be splits, part by part of the product of two copies of the graph of inner moves.
 
 ghost use Rattle.std.specs.Prelude.{◌≡◌, ℕ, ◌<◌, ◌+◌, ◌*◌, ◌^◌, false, length, slice_index, MatchOption, IfOk, OnOk};
-ghost use Rattle.rl_graph.specs.Parts.{number_of};
+ghost use Rattle.rl_graph.specs.Graph.{edges_of};
+ghost use Rattle.rl_graph.specs.Parts.{IsParts, number_of};
 ghost use Rattle.rl_kernel.specs.Members.{is_member, IsPlace};
 ghost use Rattle.rl_degree.specs.internal.Moves.{AreMoveTables};
 ghost use Rattle.rl_degree.specs.internal.Pairs.{is_wanted, lists_of, row_of, HasOwnList, HaveOwnLists, IsOwnList, IsPut, IsBarePlaced, IsPlaced, IsTable};
@@ -184,14 +185,18 @@ fn tables_for(
     }
 }
 
-/// The tables of a graph.
+/// The tables of a graph with its components.
 ///
 /// # Errors
 /// [`OutOfMemory`] where there was no memory for them.
-pub(crate) fn table_of(alloc: Global, g: &Multigraph) -> Result<PairTable, OutOfMemory>
+pub(crate) fn table_of(
+    alloc: Global,
+    g: &Multigraph,
+    components: Components,
+) -> Result<PairTable, OutOfMemory>
+    requires parts { IsParts (edges_of g.now) g.now.states components }
     ensures { IfOk result (IsTable g.now) }
 {
-    let components = g.components()?;
     let kernel = kernel_of(alloc, &components, g.states())?;
     let inner = inner_graph(alloc, g, &components, &kernel)?;
     let count = u64::from(inner.states());

@@ -3,12 +3,12 @@
 //! A twin is a state with two different paths back to itself on one word: a witness of EDA, the criterion of Weber and Seidl
 //! (1991) for an exponential degree of ambiguity. [`twin`] looks for one. It finds the strongly connected components of a
 //! graph, builds the product of each component that may hold a twin with itself, and looks there for two moves of a state on
-//! one letter from whose targets one word leads back. [`TwinPaths`] has the state, the word, and both paths as lists of move
-//! numbers.
+//! one letter from whose targets one word leads back. [`twin_over`] is the same search over components that the caller has
+//! found. [`TwinPaths`] has the state, the word, and both paths as lists of move numbers.
 //!
 //! # What is proved
 //!
-//! What [`twin`] returns is a twin, and it returns `None` exactly where the graph has none.
+//! What [`twin`] and [`twin_over`] return is a twin, and they return `None` exactly where the graph has none.
 //!
 //! # Example
 //!
@@ -30,4 +30,4 @@ mod forks;
 mod stays;
 mod twins;
 
-pub use twins::{TwinPaths, twin};
+pub use twins::{TwinPaths, twin, twin_over};

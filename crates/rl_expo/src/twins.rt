@@ -2,6 +2,7 @@
 
 ghost use Rattle.std.specs.Prelude.{◌≡◌, ℕ, ◌+◌, ◌*◌, ◌<◌, List, [], length, All, IfOk, OnOk, IfSome, IfNone};
 ghost use Rattle.rl_graph.specs.Graph.{edges_of};
+ghost use Rattle.rl_graph.specs.Parts.{IsParts};
 ghost use Rattle.rl_graph.specs.Paths.{IsPath};
 ghost use Rattle.rl_graph.specs.Product.{pair_moves};
 ghost use Rattle.rl_graph.specs.Twins.{IsTwin, HasNoTwin};
@@ -11,7 +12,7 @@ ghost use Rattle.rl_expo.specs.internal.Sides.{AreSides};
 use crate::blocks::fork_in;
 use crate::forks::Fork;
 use crate::stays::forking;
-use rl_graph::{FoundPath, Multigraph, Twice, path_between};
+use rl_graph::{Components, FoundPath, Multigraph, Twice, path_between};
 use rl_lists::{Items, OutOfMemory, Path, Word};
 use std::alloc::Global;
 
@@ -140,6 +141,32 @@ fn twin_of(alloc: Global, g: &Multigraph, fork: Fork) -> Result<Option<TwinPaths
     }
 }
 
+/// A twin of a graph, found over its strongly connected components; `None` exactly where the graph has none.
+///
+/// The components must be those of the graph, as [`Multigraph::components`] makes them: so a caller that needs them for more than
+/// one search makes them once. The search is that of [`twin`].
+///
+/// # Errors
+/// [`OutOfMemory`] where there was no memory for the search or the twin.
+pub fn twin_over(
+    alloc: Global,
+    g: &Multigraph,
+    components: &Components,
+) -> Result<Option<TwinPaths>, OutOfMemory>
+    requires parts { IsParts (edges_of g.now) g.now.states components.now }
+    ensures twin { IfOk result (λ o. IfSome o (λ t. IsTwin (edges_of g.now) t.state t.word t.first t.second)) }
+    ensures state { IfOk result (λ o. IfSome o (λ t. t.state < g.now.states)) }
+    ensures letters { IfOk result (λ o. IfSome o (λ t. All (λ l. l < g.now.letters) t.word)) }
+    ensures none { IfOk result (λ o. IfNone o (HasNoTwin (edges_of g.now))) }
+    ensures no_paths { IfOk result (λ o. IfNone o ((q : ℕ) (w p r : List ℕ) → IsTwin (edges_of g.now) q w p r → ⊥)) }
+{
+    let marks = forking(alloc, g, components)?;
+    match fork_in(alloc, g, components, &marks)? {
+        Some(fork) => twin_of(alloc, g, fork),
+        None => Ok(None),
+    }
+}
+
 /// A twin of a graph; `None` exactly where the graph has none.
 ///
 /// A twin lies in one component. For each component with a state that has two moves on one letter that stay there, it takes the
@@ -158,9 +185,5 @@ pub fn twin(alloc: Global, g: &Multigraph) -> Result<Option<TwinPaths>, OutOfMem
     ensures no_paths { IfOk result (λ o. IfNone o ((q : ℕ) (w p r : List ℕ) → IsTwin (edges_of g.now) q w p r → ⊥)) }
 {
     let components = g.components()?;
-    let marks = forking(alloc, g, &components)?;
-    match fork_in(alloc, g, &components, &marks)? {
-        Some(fork) => twin_of(alloc, g, fork),
-        None => Ok(None),
-    }
+    twin_over(alloc, g, &components)
 }

@@ -18,8 +18,8 @@ returns c =
     let placed : IsPlaced levels parts inner.states p =
     subst (λ (z : ℕ). IsPlaced levels parts z p) count (subst (λ (l : List ℕ). IsPlaced l parts c.from-count.result p) c.deref-2.ensures.value c.in_ok-placed.ensures) in
     record {
-      components = c.in_ok-components.ensures;
-      kernel = subst (λ (z : ℕ). IsKernel c.in_ok-components.components z (seats_of kernel)) c.states.ensures.number c.in_ok-kernel.ensures;
+      components = c.requires.parts;
+      kernel = subst (λ (z : ℕ). IsKernel c.args.components z (seats_of kernel)) c.states.ensures.number c.in_ok-kernel.ensures;
       inner = c.in_ok-inner.ensures;
       parts = subst (λ (l : List ℕ). IsParted (falling_moves (edges_of inner) l inner.states) (inner.states * inner.states) parts) c.deref.ensures.value c.in_ok-parts.ensures;
       placed = placed;

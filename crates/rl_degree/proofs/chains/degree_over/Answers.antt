@@ -5,8 +5,8 @@ use Rattle.rl_graph.specs.Parts.{number_of}
 use Rattle.rl_degree.specs.internal.Ranks.{best_at}
 use Rattle.rl_degree.specs.declared.ranks.Best.{Best}
 use Rattle.rl_degree.proofs.ChainLaws.{chain-is, longest-there}
-use Rattle.rl_degree.proofs.chains.degree.Goals as goal
-use Rattle.rl_degree.proofs.chains.degree.Goals.{then-is_empty, else-is_empty+in_ok-links}
+use Rattle.rl_degree.proofs.chains.degree_over.Goals as goal
+use Rattle.rl_degree.proofs.chains.degree_over.Goals.{then-is_empty, else-is_empty+in_ok-links}
 
 pub returns-clause-longest : goal.returns-clause-longest
 returns-clause-longest c =
