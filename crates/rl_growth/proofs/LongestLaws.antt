@@ -1,5 +1,5 @@
 -- A longest chain, as the call below answers it, in the words of this crate.
-use Rattle.std.proofs.Common.{◌≡◌, ℕ, zero, suc, ◌<◌, ◌≤◌, List, [], ◌∷◌, length, get_or, All, IfNone, sym, subst, arith}
+use Rattle.std.proofs.Common.{◌≡◌, ℕ, zero, suc, ◌<◌, ◌≤◌, List, [], ◌∷◌, length, All, IfNone, sym, subst, arith}
 use Rattle.rl_graph.specs.Paths.{paths, Reaches}
 use Rattle.rl_graph.specs.Graph.{Graph, edges_of}
 use Rattle.rl_graph.specs.Twins.{IsSplit, Link, ChainFrom}

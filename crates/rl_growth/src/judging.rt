@@ -2,6 +2,7 @@
 
 ghost use Rattle.std.specs.Prelude.{◌≡◌, ℕ, ◌<◌, ◌≤◌, [], ◌∷◌, IfOk};
 ghost use Rattle.rl_graph.specs.Graph.{edges_of};
+ghost use Rattle.rl_graph.specs.Parts.{IsParts};
 ghost use Rattle.rl_graph.specs.Twins.{HasNoTwin, IsTwin};
 ghost use Rattle.rl_syntax.specs.Tree.{tree_of, size, IsOver};
 ghost use Rattle.rl_syntax.specs.declared.limits.TheConstants.{MOST_PAIRS};
@@ -13,8 +14,9 @@ ghost use Rattle.rl_growth.specs.Degrees.{IsClassOf, HasClass};
 
 use crate::spelling::family_of;
 use crate::words::{chain_words, twin_words};
-use rl_degree::degree;
-use rl_expo::{TwinPaths, twin};
+use rl_degree::degree_over;
+use rl_expo::{TwinPaths, twin_over};
+use rl_graph::Components;
 use rl_lists::{Items, OutOfMemory};
 use rl_pairs::{PairGraph, PairsError, pairs};
 use rl_prio::{Prio, PrioError};
@@ -53,16 +55,22 @@ fn flat(alloc: Global) -> Result<Family, OutOfMemory>
     })
 }
 
-/// The verdict on a graph of live pairs that has no twin: one more than the splits of its longest chain, or 0 where it has no
-/// cycle.
-fn polynomial(alloc: Global, a: &Prio, g: &PairGraph) -> Result<Verdict, OutOfMemory>
+/// The verdict on a graph of live pairs that has no twin, over its components: one more than the splits of its longest chain, or 0
+/// where it has no cycle.
+fn polynomial(
+    alloc: Global,
+    a: &Prio,
+    g: &PairGraph,
+    components: Components,
+) -> Result<Verdict, OutOfMemory>
     requires stands { StandsForSome a.now }
     requires led { IsLed a.now g.now }
+    requires parts { IsParts (moves_in g.now) g.now.graph.states components }
     requires no_twin { HasNoTwin (moves_in g.now) }
     ensures right { IfOk result (DecidesFor a.now) }
     ensures class { IfOk result (IsClassOf (moves_in g.now)) }
 {
-    let chain = degree(alloc, g.graph())?;
+    let chain = degree_over(alloc, g.graph(), components)?;
     match &chain.cycle {
         None => Ok(Verdict::Degree(0, flat(alloc)?)),
         Some(cycle) => {
@@ -74,16 +82,18 @@ fn polynomial(alloc: Global, a: &Prio, g: &PairGraph) -> Result<Verdict, OutOfMe
     }
 }
 
-/// The verdict on a graph of live pairs.
+/// The verdict on a graph of live pairs. Its components are made once, for both searches.
 fn judged(alloc: Global, a: &Prio, g: &PairGraph) -> Result<Verdict, OutOfMemory>
     requires stands { StandsForSome a.now }
     requires led { IsLed a.now g.now }
     ensures right { IfOk result (DecidesFor a.now) }
     ensures class { IfOk result (IsClassOf (moves_in g.now)) }
 {
-    match twin(alloc, g.graph())? {
+    let graph = g.graph();
+    let components = graph.components()?;
+    match twin_over(alloc, graph, &components)? {
         Some(twin) => exponential(alloc, a, g, &twin),
-        None => polynomial(alloc, a, g),
+        None => polynomial(alloc, a, g, components),
     }
 }
 
