@@ -1,9 +1,8 @@
 -- What is written of a certificate is read back.
-use Rattle.std.proofs.Common.{◌≡◌, ◌∙◌, ℕ, suc, ◌<◌, ◌≤◌, ◌^◌, Bool, true, false, List, [], ◌∷◌, length, map, Option, Some, None, option_map, option_and_then, All, codes, lt-ltb, refl, sym, ap, subst, arith}
+use Rattle.std.proofs.Common.{◌≡◌, ◌∙◌, ℕ, suc, ◌≤◌, ◌^◌, true, List, [], ◌∷◌, length, map, Option, Some, option_map, option_and_then, All, codes, lt-ltb, refl, sym, ap, arith}
 use Rattle.std.proofs.lemmas.List.Elements.{All-head, All-tail}
 use Rattle.json.proofs.Printed.Utf8.{IsUtf8-are_ascii, are_ascii}
-use Rattle.serde_json.specs.Data.{Data, Members, no_members, object, array, string, put}
-use Rattle.serde_json.specs.Find.{get_member}
+use Rattle.serde_json.specs.Data.{Data, Members, no_members, object, string, put}
 use Rattle.serde_json.specs.View.{items_of}
 use Rattle.rl_syntax.specs.declared.verdict.Family.{Family}
 use Rattle.rl_syntax.specs.declared.verdict.Verdict.{Verdict}
@@ -12,7 +11,7 @@ use Rattle.rl_cert.specs.declared.certificate.Anchor.{Anchor}
 use Rattle.rl_numbers.specs.declared.double.Double.{Double}
 use Rattle.rl_numbers.specs.declared.triple.Triple.{Triple}
 use Rattle.rl_cert.specs.declared.certificate.Certificate.{Certificate}
-use Rattle.rl_cert.specs.Form.{whole, row_data, rows_data, anchor_row, double_row, triple_row, common_members, form_members, form_text, fitting, number_read, items_read, row_read, rows_read, all_of, anchor_of, double_of, triple_of, anchors_read, doubles_read, triples_read, lists_read, verdict_read, certificate_read, IsForm, IsSmall, AreSmall, IsSmallVerdict, IsWritten}
+use Rattle.rl_cert.specs.Form.{whole, row_data, rows_data, anchor_row, double_row, triple_row, common_members, form_members, form_text, number_read, items_read, row_read, rows_read, all_of, anchor_of, double_of, triple_of, anchors_read, doubles_read, triples_read, lists_read, verdict_read, certificate_read, IsForm, IsSmall, AreSmall, IsSmallVerdict, IsWritten}
 use Rattle.rl_json.proofs.Writable.{IsWritable, AreWritable, AreWritableItems, put-writable, line-reads, line-utf8}
 
 -- ---- lists

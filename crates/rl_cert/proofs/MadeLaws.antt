@@ -56,7 +56,6 @@ use Rattle.rl_numbers.specs.Numbered.{AreTriples}
 use Rattle.rl_cert.specs.declared.certificate.Anchor.{Anchor}
 use Rattle.rl_cert.specs.declared.certificate.Certificate.{Certificate}
 use Rattle.rl_cert.specs.Ways.{IsWay, IsTwinWay, chain_anchors}
-use Rattle.rl_cert.specs.Numbered.{AreLevels}
 use Rattle.rl_cert.specs.Holds.{Holds, IsField, Shows, ShowsDegree, ShowsDegreeOf, words_of}
 use Rattle.rl_cert.specs.TooLarge.{IsTooLarge}
 use Rattle.rl_cert.proofs.OneGraph.{moves-same}

@@ -1,29 +1,23 @@
 -- What a certificate shows is the same in each numbered graph of the live pairs of a question.
-use Rattle.std.proofs.Common.{◌≡◌, ◌∙◌, ℕ, zero, suc, ◌<◌, ◌≤◌, inl, inr, List, [], ◌∷◌, ◌++◌, map, All, Bool, true, refl, sym, ap, ap₂, subst, arith}
-use Rattle.rl_graph.specs.Paths.{Has, paths}
-use Rattle.rl_graph.specs.Twins.{IsSplit}
+use Rattle.std.proofs.Common.{◌≡◌, ◌∙◌, ℕ, zero, suc, ◌<◌, inl, inr, List, [], ◌∷◌, ◌++◌, map, All, refl, sym, ap, ap₂, subst}
+use Rattle.rl_graph.specs.Paths.{Has}
 use Rattle.rl_ranges.specs.Letters.{letter_at, class_of}
 use Rattle.rl_ranges.specs.Text.{code_count, IsText}
 use Rattle.rl_syntax.specs.declared.verdict.Family.{Family}
 use Rattle.rl_syntax.specs.declared.verdict.Verdict.{Verdict}
 use Rattle.rl_syntax.specs.declared.verdict.Verdict.TheVariants.{Degree, Expo, Undecided}
-use Rattle.rl_prio.specs.Automaton.{Automaton, letters_count}
+use Rattle.rl_prio.specs.Automaton.{Automaton}
 use Rattle.rl_prio.specs.Letters.{all_sets}
-use Rattle.rl_degree.specs.Chains.{HasNoCycle}
 use Rattle.rl_pairs.specs.declared.pair.Pair.{Pair}
 use Rattle.rl_pairs.specs.Families.{letters_in, to_end}
-use Rattle.rl_pairs.specs.LivePairs.{refused}
 use Rattle.rl_pairs.specs.RightVerdict.{Question}
 use Rattle.rl_sets.specs.Live.{refuses}
 use Rattle.rl_pairs.proofs.StillLaws.{All-has}
-use Rattle.rl_pairs.proofs.SameLaws.{SameMoves, same-machines, refuses-same}
+use Rattle.rl_pairs.proofs.SameLaws.{same-machines, refuses-same}
 use Rattle.rl_cert.specs.declared.certificate.Anchor.{Anchor}
 use Rattle.rl_cert.specs.declared.certificate.Certificate.{Certificate}
-use Rattle.rl_numbers.specs.Numbered.{AreTriples}
-use Rattle.rl_numbers.specs.Doubled.{AreDoubles}
-use Rattle.rl_cert.specs.Numbered.{AreLevels}
 use Rattle.rl_cert.specs.Ways.{Refuses, IsWay, IsTwinWay}
-use Rattle.rl_cert.specs.Holds.{IsField, words_of, ShowsDegree, ShowsDegreeOf, Shows}
+use Rattle.rl_cert.specs.Holds.{IsField, words_of, ShowsDegreeOf, Shows}
 use Rattle.rl_cert.proofs.OneGraph.{count-same, moves-same, pairs-same}
 
 map-same : {A B : Type 0} (f g : A → B) (l : List A) → ((x : A) → Has x l → f x ≡ g x) → map f l ≡ map g l

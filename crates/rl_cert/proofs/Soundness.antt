@@ -1,20 +1,19 @@
 -- A certificate that holds has a right verdict: the way shows the bound from below, the numbers show the bound from above.
-use Rattle.std.proofs.Common.{◌≡◌, ◌≢◌, ◌∙◌, ℕ, zero, suc, ◌+◌, ◌*◌, ◌^◌, ◌<◌, ◌≤◌, ◌⊎◌, inl, inr, List, [], ◌∷◌, length, map, get_or, All, Bool, true, refl, sym, ap, subst, arith}
+use Rattle.std.proofs.Common.{◌≡◌, ◌≢◌, ◌∙◌, ℕ, zero, suc, ◌<◌, ◌≤◌, ◌⊎◌, inl, inr, List, [], ◌∷◌, length, get_or, All, true, refl, sym, ap, subst, arith}
 use Rattle.std.proofs.lemmas.Bool.{cases_lt}
-use Rattle.std.proofs.lemmas.List.{length-map, get_or_past}
-use Rattle.rl_graph.specs.Paths.{Has, Each, paths, IsWithin, IsBounded}
+use Rattle.std.proofs.lemmas.List.{length-map}
+use Rattle.rl_graph.specs.Paths.{Has, paths, IsWithin, IsBounded}
 use Rattle.rl_graph.specs.Twins.{HasNoTwin, IsSplit, Link}
-use Rattle.rl_graph.specs.Bounds.{bound_n, bound_k, bound_h}
+use Rattle.rl_graph.specs.Bounds.{bound_n, bound_k}
 use Rattle.rl_graph.proofs.Sums.{has-map, total-there}
 use Rattle.rl_graph.proofs.PathLaws.{nil-same}
-use Rattle.rl_ranges.specs.Text.{code_count}
 use Rattle.rl_syntax.specs.declared.verdict.Family.{Family}
 use Rattle.rl_syntax.specs.declared.verdict.Limit.{Limit}
 use Rattle.rl_syntax.specs.declared.verdict.Verdict.{Verdict}
 use Rattle.rl_syntax.specs.declared.verdict.Verdict.TheVariants.{Degree, Expo, Undecided}
 use Rattle.rl_syntax.specs.Tree.{size}
 use Rattle.rl_syntax.specs.Family.{IsFamily}
-use Rattle.rl_prio.specs.Automaton.{Automaton, IsAutomaton, letters_count}
+use Rattle.rl_prio.specs.Automaton.{Automaton, letters_count}
 use Rattle.rl_prio.specs.Letters.{all_sets}
 use Rattle.rl_degree.specs.Chains.{HasNoCycle}
 use Rattle.rl_degree.specs.Leavers.{NeverRises, HasNoEqualSplit}
@@ -22,7 +21,6 @@ use Rattle.rl_degree.proofs.FallingLaws.{doubles_exclude, triples_exclude}
 use Rattle.rl_degree.proofs.RankPaths.{by_ranks}
 use Rattle.rl_degree.proofs.WithoutSplit.{without_cycle}
 use Rattle.rl_pairs.specs.declared.pair.Pair.{Pair}
-use Rattle.rl_pairs.specs.PairGraph.{IsPairGraph, IsNumbered}
 use Rattle.rl_pairs.specs.Families.{Chained, chain_heads, chain_pumps, letters_in, to_end, Reads}
 use Rattle.rl_pairs.specs.LivePairs.{refused}
 use Rattle.rl_pairs.specs.RightVerdict.{Question, IsPassed, HasDegree, IsExpo, IsBounded as IsBoundedCost, RightVerdict}
@@ -35,7 +33,7 @@ use Rattle.rl_numbers.specs.Numbered.{AreTriples, is_triple, triple_number}
 use Rattle.rl_numbers.specs.Doubled.{AreDoubles, is_double, double_number}
 use Rattle.rl_cert.specs.Numbered.{AreLevels}
 use Rattle.rl_cert.specs.Ways.{IsWay, IsTwinWay}
-use Rattle.rl_cert.specs.Holds.{IsField, words_of, ShowsDegree, ShowsDegreeOf, Shows, Holds}
+use Rattle.rl_cert.specs.Holds.{IsField, words_of, ShowsDegreeOf, Shows, Holds}
 
 -- the chain along a way
 record IsChainOf (a : Automaton) (next : ℕ → ℕ → List ℕ) (at : ℕ → Pair) (s : ℕ) (heads pumps : List (List ℕ)) : Type 0 where

@@ -1,5 +1,5 @@
 -- Marks of the targets of moves that are on a rank, and the moves to marked states.
-use Rattle.std.proofs.Common.{◌≡◌, ◌≢◌, ℕ, ◌+◌, ◌<◌, ◌≤◌, ◌⊎◌, inl, inr, List, Bool, true, false, true≢false, length, get_or, set, replicate, eqb, refl, sym, ◌∙◌, ap, subst, arith, eq-eqb, length-set, get_or-set_same, get_or-set_other}
+use Rattle.std.proofs.Common.{◌≡◌, ◌≢◌, ℕ, ◌+◌, ◌<◌, ◌≤◌, ◌⊎◌, inl, inr, List, Bool, true, false, true≢false, length, get_or, set, eqb, sym, ◌∙◌, ap, subst, arith, eq-eqb, length-set, get_or-set_same, get_or-set_other}
 use Rattle.std.proofs.lemmas.Bool.{cases_eq, cases_lt, eqb-true}
 use Rattle.std.proofs.lemmas.Grind.{get_or_default_zero}
 use Rattle.rl_graph.specs.Paths.{Has}

@@ -1,8 +1,7 @@
 -- The product of three copies of a graph: its moves by number, and its bounds.
-use Rattle.std.proofs.Common.{◌≡◌, ◌∙◌, ℕ, zero, suc, ◌+◌, ◌*◌, ◌/◌, ◌%◌, ◌<◌, ◌≤◌, ◌^◌, inl, List, [], ◌∷◌, length, get_or, map, flat_map, sym, refl, ap, ap₂, subst, arith, mul_comm, mul-le-mul}
+use Rattle.std.proofs.Common.{◌≡◌, ◌∙◌, ℕ, zero, suc, ◌+◌, ◌*◌, ◌/◌, ◌%◌, ◌<◌, ◌≤◌, ◌^◌, List, length, get_or, map, flat_map, sym, refl, ap, ap₂, subst, arith, mul_comm, mul-le-mul}
 use Rattle.std.proofs.lemmas.Nat.{mul-add-lt, div_below, mod_below}
-use Rattle.rl_graph.specs.Graph.{Graph, edges_of, IsWhole}
-use Rattle.rl_kernel.proofs.InnerLaws.{move-state, move-letter}
+use Rattle.rl_graph.specs.Graph.{Graph, edges_of}
 use Rattle.rl_graph.specs.Paths.{Has, IsBounded}
 use Rattle.rl_graph.specs.Product.{pair_moves}
 use Rattle.rl_graph.proofs.Sums.{has-map, has-flat_map}

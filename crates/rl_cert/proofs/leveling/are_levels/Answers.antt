@@ -1,4 +1,4 @@
-use Rattle.std.proofs.Common.{◌≡◌, ◌<◌, ◌≤◌, ℕ, get_or, arith, sym, true, false, true≢false, below_more, refl}
+use Rattle.std.proofs.Common.{◌<◌, ◌≤◌, ℕ, get_or, arith, sym, true≢false, below_more, refl}
 use Rattle.rl_graph.specs.Graph.{edges_of}
 use Rattle.rl_graph.specs.Paths.{Has}
 use Rattle.rl_numbers.proofs.RowLoops.{never-both}

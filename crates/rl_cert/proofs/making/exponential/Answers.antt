@@ -1,4 +1,3 @@
-use Rattle.std.proofs.Common.{arith}
 use Rattle.rl_pairs.specs.PairTable.{moves_in, pair_in}
 use Rattle.rl_growth.proofs.FamilyLaws.{twin_letters}
 use Rattle.rl_cert.proofs.MadeLaws.{twin-made, one-pushed}

@@ -1,4 +1,3 @@
-use Rattle.rl_pairs.specs.PairTable.{moves_in}
 use Rattle.rl_growth.proofs.LongestLaws.{longest_of}
 use Rattle.rl_cert.proofs.making.polynomial.Goals as goal
 

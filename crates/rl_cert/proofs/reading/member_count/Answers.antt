@@ -1,4 +1,4 @@
-use Rattle.std.proofs.Common.{◌≡◌, ◌∙◌, Option, sym, ap}
+use Rattle.std.proofs.Common.{◌∙◌, Option, sym, ap}
 use Rattle.std.specs.Option.{option_map_or}
 use Rattle.serde_json.specs.Data.{Members}
 use Rattle.serde_json.specs.Events.{members_len}

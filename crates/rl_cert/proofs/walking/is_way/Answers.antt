@@ -1,4 +1,4 @@
-use Rattle.std.proofs.Common.{◌≡◌, ◌∙◌, ◌↔◌, IsTrue, ◌+◌, ◌-◌, ◌<◌, ℕ, List, [], length, get_or, drop, true, false, refl, sym, ap, subst, arith, true≢false}
+use Rattle.std.proofs.Common.{◌≡◌, ◌↔◌, IsTrue, ◌+◌, ◌-◌, ◌<◌, length, get_or, sym, arith, true≢false}
 use Rattle.std.proofs.lemmas.Result.{IfOk-weaker}
 use Rattle.rl_numbers.proofs.RowLoops.{never-both}
 use Rattle.rl_pairs.specs.PairTable.{moves_in, pair_in}

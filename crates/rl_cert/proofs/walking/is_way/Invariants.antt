@@ -1,4 +1,4 @@
-use Rattle.std.proofs.Common.{◌<◌, ◌≤◌, drop}
+use Rattle.std.proofs.Common.{◌<◌, drop}
 use Rattle.rl_pairs.specs.PairTable.{moves_in, pair_in}
 use Rattle.rl_cert.specs.Ways.{IsWay}
 use Rattle.rl_cert.proofs.walking.is_way.Given as goal

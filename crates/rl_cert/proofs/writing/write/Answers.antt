@@ -1,4 +1,4 @@
-use Rattle.std.proofs.Common.{◌≡◌, ◌∙◌, ap}
+use Rattle.std.proofs.Common.{◌∙◌, ap}
 use Rattle.serde_json.specs.Written.{has_float}
 use Rattle.rl_cert.proofs.Plain.{form-plain}
 use Rattle.rl_cert.proofs.writing.write.Goals as goal

@@ -1,7 +1,5 @@
-use Rattle.std.proofs.Common.{◌≡◌, ◌<◌, ◌≤◌, ℕ, List, All, length, get_or, sym, ap, subst, ◌∙◌, arith}
-use Rattle.std.proofs.lemmas.List.{get_or_read}
+use Rattle.std.proofs.Common.{◌<◌, ℕ, List, All, length, get_or, sym, subst, arith}
 use Rattle.rl_graph.specs.Graph.{edges_of}
-use Rattle.rl_graph.proofs.Sums.{Has-get_or}
 use Rattle.rl_numbers.proofs.MarkLaws.{Has-read}
 use Rattle.rl_numbers.proofs.leveling.add_level_on.Goals as goal
 

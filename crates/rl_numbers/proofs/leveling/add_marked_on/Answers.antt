@@ -1,8 +1,6 @@
-use Rattle.std.proofs.Common.{◌≡◌, ◌<◌, ◌≤◌, ℕ, true, false, length, get_or, ◌∙◌, sym, ap, arith}
-use Rattle.std.proofs.lemmas.List.{get_or_read}
-use Rattle.rl_graph.specs.Paths.{Has}
+use Rattle.std.proofs.Common.{◌≡◌, ◌<◌, true, false, length, get_or, arith}
 use Rattle.rl_graph.specs.Graph.{edges_of, IsAdded}
-use Rattle.rl_kernel.proofs.InnerLaws.{filling-first, filling-added, filling-passed}
+use Rattle.rl_kernel.proofs.InnerLaws.{filling-added, filling-passed}
 use Rattle.rl_numbers.proofs.InnerLaws.{inner-added, inner-full}
 use Rattle.rl_numbers.proofs.MarkLaws.{marked-more, marked-passed}
 use Rattle.rl_numbers.specs.internal.Inner.{IsKept}

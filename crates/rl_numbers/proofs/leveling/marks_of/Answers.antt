@@ -1,4 +1,4 @@
-use Rattle.std.proofs.Common.{◌≡◌, ◌<◌, ◌≤◌, ℕ, Bool, false, length, get_or, sym, ap, subst, ◌∙◌, arith}
+use Rattle.std.proofs.Common.{◌<◌, length, arith}
 use Rattle.rl_numbers.proofs.MarkLaws.{marks-more, marks-done}
 use Rattle.rl_numbers.proofs.leveling.marks_of.Goals as goal
 
