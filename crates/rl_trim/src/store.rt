@@ -14,7 +14,7 @@ use rl_sets::{SetWalk, SetsError};
 use std::alloc::Global;
 
 /// The most sets that a walk may have.
-const MOST_SETS: u32 = 60_000;
+pub(crate) const MOST_SETS: u32 = 60_000;
 
 /// The most sets that are reached from the start. Where there are more, quick trials don't pay.
 const MOST_REACHED: u32 = 10_000;
