@@ -17,7 +17,7 @@ use std::alloc::Global;
 pub(crate) const MOST_SETS: u32 = 60_000;
 
 /// The most sets that are reached from the start. Where there are more, quick trials don't pay.
-const MOST_REACHED: u32 = 10_000;
+const MOST_REACHED: u32 = 1_000;
 
 /// The sets that are reached from the start, which are the first ones of a walk.
 #[derive(Drop)]
