@@ -16,9 +16,6 @@ use std::alloc::Global;
 /// The most sets that a walk may have.
 pub(crate) const MOST_SETS: u32 = 60_000;
 
-/// The most sets that are reached from the start. Where there are more, quick trials don't pay.
-const MOST_REACHED: u32 = 1_000;
-
 /// The sets that are reached from the start, which are the first ones of a walk.
 #[derive(Drop)]
 pub(crate) struct Reached {
@@ -98,7 +95,7 @@ impl Store {
         })
     }
 
-    /// The sets that are reached from the start, or the first of them where there are too many.
+    /// The sets that are reached from the start, or the first of them where there are as many as states: then quick trials don't pay.
     ///
     /// # Errors
     /// [`SetsError::Sets`] where there are more than a walk may have, and [`SetsError::OutOfMemory`] where there was no memory
@@ -113,7 +110,7 @@ impl Store {
                 letter: 0
             },
         ]?;
-        for set in 0..MOST_REACHED {
+        for set in 0..a.states() {
             if set == walk.len() {
                 let holders = holders_of(alloc, a, &walk, set)?;
                 return Ok(Store {
