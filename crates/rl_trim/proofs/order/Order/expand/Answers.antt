@@ -17,8 +17,8 @@ visit-requires-clause-place_in c =
 pub loop-letter-preserved : goal.loop-letter-preserved
 loop-letter-preserved c = record {
   following =
-    following-more c.args.branch.now.automaton.now c.args.branch.now.keep.now c.args.walk.now c.loop-letter.walk c.args.self.now.keys.keys c.loop-letter.self.keys.keys c.args.place c.loop-letter.letter c.loop-letter.invariant.following c.requires.place_in
-    c.visit.new.walk c.visit.new.self.keys.keys c.in_ok-visit.ensures.grown c.in_ok-visit.ensures.keys c.in_ok-visit.ensures.pairs;
+      following-more c.args.branch.now.automaton.now c.args.branch.now.keep.now c.args.walk.now c.loop-letter.walk c.args.self.now.keys.keys c.loop-letter.self.keys.keys c.args.place c.loop-letter.letter c.loop-letter.invariant.following c.requires.place_in
+      c.visit.new.walk c.visit.new.self.keys.keys c.in_ok-visit.ensures.grown c.in_ok-visit.ensures.keys c.in_ok-visit.ensures.pairs;
   arrived = c.in_ok-visit.ensures.arrived;
 }
 
