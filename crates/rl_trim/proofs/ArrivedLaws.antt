@@ -1,5 +1,5 @@
 -- Laws of the sets that a trial in order has found with themselves without the states that aren't kept.
-use Rattle.std.proofs.Common.{◌≡◌, ◌∙◌, ℕ, ◌<◌, ◌⊎◌, inl, inr, List, [], ◌∷◌, ◌++◌, length, get_or, replicate, Bool, true, false, cond, refl, sym, ap, ap₂, subst, arith}
+use Rattle.std.proofs.Common.{◌≡◌, ◌∙◌, ℕ, ◌<◌, ◌⊎◌, inl, inr, List, [], ◌∷◌, ◌++◌, length, get_or, replicate, Bool, true, false, cond, sym, ap, ap₂, subst, arith}
 use Rattle.std.specs.List.{list_any}
 use Rattle.std.proofs.lemmas.Bool.{both_ways}
 use Rattle.std.proofs.lemmas.List.Folds.{list_any_at}
@@ -12,7 +12,7 @@ use Rattle.rl_equiv.specs.SetPairs.{first_pair}
 use Rattle.rl_equiv.specs.Numbering.{same_pair, with_one}
 use Rattle.rl_trim.specs.declared.key.Key.{Key}
 use Rattle.rl_trim.specs.internal.Trims.{trimmed, trim_on}
-use Rattle.rl_trim.specs.internal.Quick.{IsGrown, IsNumbered, IsInside, IsKeyOf, IsOnward, HasPair, key_at, pair_of, pair_at, root}
+use Rattle.rl_trim.specs.internal.Quick.{IsGrown, IsNumbered, IsInside, IsKeyOf, IsOnward, HasPair, key_at, pair_of, root}
 use Rattle.rl_trim.specs.internal.Orders.{with_key, pairs_in, AreKeys, AreArrived}
 use Rattle.rl_trim.proofs.OrderLaws.{same-pairs}
 use Rattle.rl_trim.proofs.PairLaws.{inserted, has-onward, has-put, onward-put, onward-grown, root-grown}

@@ -1,9 +1,8 @@
 use Rattle.std.proofs.Common.{◌≡◌, ◌∙◌, List, sym, ap, subst}
 use Rattle.rl_trim.specs.declared.key.Key.{Key}
 use Rattle.rl_trim.specs.internal.Orders.{pairs_in, AreArrived}
-use Rattle.rl_trim.proofs.SetLaws.{grown-grown}
 use Rattle.rl_trim.proofs.PairLaws.{next-same}
-use Rattle.rl_trim.proofs.KeyOrder.{keys-grown, keys-put, pairs-put}
+use Rattle.rl_trim.proofs.KeyOrder.{keys-grown, pairs-put}
 use Rattle.rl_trim.proofs.ArrivedLaws.{arrived-grown, arrived-put, arrived-noted, whole-there, whole-put}
 use Rattle.rl_trim.proofs.order.Order.visit_whole.Goals as goal
 
