@@ -200,14 +200,7 @@ fn trial_of(
     }
     let kept = tries.base.take();
     let mut base = base_of(alloc, p, tries.dropped.as_slice(), kept)?;
-    let trial = compare_branch(
-        alloc,
-        p,
-        branch,
-        tries.dropped.as_slice(),
-        &mut base,
-        limit,
-    )?;
+    let trial = compare_branch(alloc, p, branch, tries.dropped.as_slice(), &mut base, limit)?;
     tries.base = Some(base);
     Ok(trial)
 }
