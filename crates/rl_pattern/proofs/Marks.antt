@@ -1,13 +1,14 @@
 -- The quantifiers that are taken out are told apart by their spans.
 use Rattle.std.proofs.Common.{◌≡◌, ℕ, ◌<◌, ◌≤◌, Bool, true, false, not, ◌||◌, ◌&&◌, ◌==◌, if◌then◌else◌, List, [], ◌∷◌, ◌++◌, Option, Some, None, refl, sym, ap, ◌∙◌, subst, arith, true≢false}
 use Rattle.std.proofs.lemmas.Bool.{eqb-true, cond_both}
+use Rattle.std.proofs.lemmas.List.{append-nil}
 use mathlib.Core.Logic.{⊎_elim}
 use Rattle.rl_syntax.specs.declared.span.Span.{Span}
 use Rattle.rl_syntax.specs.PatTree.{PatTree, PatTrees, BranchTrees, nothing, class, seq, choice, repeat, group, anchor, boundary, outside, no_items, item, no_branches, branch}
 use Rattle.rl_pattern.specs.Cut.{choice_of, left, left_items, left_branches}
 use Rattle.rl_syntax.specs.AllowedPair.{AllowedPair, any_in_any, some_in_any, option_in_any, some_in_some}
 use Rattle.rl_pattern.proofs.Merged.{MayMerge, AllMayMerge, BranchesMayMerge, MergesUnder, MergesIn}
-use Rattle.rl_pattern.specs.Suggested.{same_span, among, no_span, holds_capture, is_any, is_some, is_option, is_allowed, merged_in, items_merged, branches_merged, merged_under, merged_inside}
+use Rattle.rl_pattern.specs.Suggested.{same_span, among, no_span, holds_capture, is_any, is_some, is_option, is_allowed, merged_in, items_merged, branches_merged, under, merged_at, inside}
 use Rattle.rl_pattern.proofs.Linking.{and_first, and_second, no_true}
 use Rattle.rl_pattern.proofs.Holes.{or_cases, or_false, or_assoc}
 
@@ -123,6 +124,11 @@ among_within [] i j q h e = absurd (true≢false (sym e))
 among_within (r ∷ rs) i j q ((a, b, c), hs) e =
     ⊎_elim (λ (z : same_span r q ≡ true). let f = eqb-true r.from q.from (and_first (r.from == q.from) (r.upto == q.upto) z) in let t = eqb-true r.upto q.upto (and_second (r.from == q.from) (r.upto == q.upto) z) in (omega (arith, a, f), omega (arith, c, t))) (λ (z : among rs q ≡ true). among_within rs i j q hs z) (or_cases (same_span r q) (among rs q) e)
 
+-- a last span that is there or not
+pub own_last : (b : Bool) (rs : List Span) (q : Span) → (if b then rs ++ q ∷ [] else rs) ≡ rs ++ (if b then q ∷ [] else [])
+own_last true rs q = refl
+own_last false rs q = sym (append-nil rs)
+
 -- what is taken out of a part stands in it
 if_within : (b : Bool) (q : Span) (i j : ℕ) → i ≤ q.from → q.from < q.upto → q.upto ≤ j → Within i j (if b then q ∷ [] else [])
 if_within true q i j a b c = ((a, b, c), tt)
@@ -134,7 +140,7 @@ mutual
   in_within (class s set) i j h = tt
   in_within (seq s ps) i j h = items_within ps i j h
   in_within (choice s bs) i j h = branches_within bs i j h
-  in_within (repeat s q l m g p) i j (k, h, a, b, c) = within_more (merged_under p l m) i k i j (omega arith) (omega (arith, a, b, c)) (under_within p i k l m h)
+  in_within (repeat s q l m g p) i j (k, h, a, b, c) = within_more (merged_at (under l m) p) i k i j (omega arith) (omega (arith, a, b, c)) (under_within p i k l m h)
   in_within (group s c p) i j h = in_within p i j h
   in_within (anchor s k m) i j h = tt
   in_within (boundary s n a) i j h = tt
@@ -149,25 +155,25 @@ mutual
   branches_within (branch s p bs) i j (c, h, hs) =
       within_join (merged_in p) (branches_merged bs) i j (within_more (merged_in p) s.from s.upto i j c (branches_le bs s.upto j hs) (in_within p s.from s.upto h)) (within_more (branches_merged bs) s.upto j i j (omega (arith, c, placed_le p s.from s.upto h)) (omega arith) (branches_within bs s.upto j hs))
 
-  under_within : (p : PatTree) (i j : ℕ) (least : ℕ) (most : Option ℕ) → Placed p i j → Within i j (merged_under p least most)
+  under_within : (p : PatTree) (i j : ℕ) (least : ℕ) (most : Option ℕ) → Placed p i j → Within i j (merged_at (under least most) p)
   under_within (nothing s) i j x y h = tt
   under_within (class s set) i j x y h = tt
   under_within (seq s ps) i j x y h = items_within ps i j h
   under_within (choice s bs) i j x y h = branches_within bs i j h
-  under_within (repeat s q l m g p) i j x y (k, h, a, b, c) = within_more (merged_under p l m) i k i j (omega arith) (omega (arith, a, b, c)) (under_within p i k l m h)
+  under_within (repeat s q l m g p) i j x y (k, h, a, b, c) = within_more (merged_at (under l m) p) i k i j (omega arith) (omega (arith, a, b, c)) (under_within p i k l m h)
   under_within (group s c p) i j x y h = inside_within p i j c x y h
   under_within (anchor s k m) i j x y h = tt
   under_within (boundary s n a) i j x y h = tt
   under_within (outside s f) i j x y h = tt
 
-  inside_within : (p : PatTree) (i j : ℕ) (captures : Bool) (least : ℕ) (most : Option ℕ) → Placed p i j → Within i j (merged_inside p captures least most)
+  inside_within : (p : PatTree) (i j : ℕ) (captures : Bool) (least : ℕ) (most : Option ℕ) → Placed p i j → Within i j (merged_at (inside captures least most) p)
   inside_within (nothing s) i j v x y h = tt
   inside_within (class s set) i j v x y h = tt
   inside_within (seq s ps) i j v x y h = items_within ps i j h
   inside_within (choice s bs) i j v x y h = branches_within bs i j h
   inside_within (repeat s q l m g p) i j v x y (k, h, a, b, c) =
       let test = not v && (not (holds_capture p) && is_allowed l m x y) in
-      within_join (merged_under p l m) (if test then q ∷ [] else []) i j (within_more (merged_under p l m) i k i j (omega arith) (omega (arith, a, b, c)) (under_within p i k l m h)) (if_within test q i j (omega (arith, placed_le p i k h, a)) b c)
+      subst (Within i j) (sym (own_last test (merged_at (under l m) p) q)) (within_join (merged_at (under l m) p) (if test then q ∷ [] else []) i j (within_more (merged_at (under l m) p) i k i j (omega arith) (omega (arith, a, b, c)) (under_within p i k l m h)) (if_within test q i j (omega (arith, placed_le p i k h, a)) b c))
   inside_within (group s c p) i j v x y h = in_within p i j h
   inside_within (anchor s k m) i j v x y h = tt
   inside_within (boundary s n a) i j v x y h = tt
@@ -230,7 +236,7 @@ module _ (ms : List Span) where
     merge_of (choice s bs) i j h o = branches_merge bs i j h o
     merge_of (repeat s q l m g p) i j (k, h, a, b, c) o =
         let le = placed_le p i k h in
-        (o q (omega (arith, le, a)) b c ∙ own_free (merged_under p l m) i k q (under_within p i k l m h) a b, under_merge p i k l m h (out_part (merged_under p l m) i j i k (omega arith) (omega (arith, a, b, c)) o))
+        (o q (omega (arith, le, a)) b c ∙ own_free (merged_at (under l m) p) i k q (under_within p i k l m h) a b, under_merge p i k l m h (out_part (merged_at (under l m) p) i j i k (omega arith) (omega (arith, a, b, c)) o))
     merge_of (group s c p) i j h o = merge_of p i j h o
     merge_of (anchor s k m) i j h o = tt
     merge_of (boundary s n a) i j h o = tt
@@ -247,28 +253,29 @@ module _ (ms : List Span) where
       branches_merge bs s.upto j hs (out_right (merged_in p) (branches_merged bs) i s.upto j (omega (arith, c, placed_le p s.from s.upto h)) (within_more (merged_in p) s.from s.upto i s.upto c (omega arith) (in_within p s.from s.upto h)) o),
     )
 
-    under_merge : (p : PatTree) (i j : ℕ) (least : ℕ) (most : Option ℕ) → Placed p i j → OutIs (merged_under p least most) i j → MergesUnder (among ms) p least most
+    under_merge : (p : PatTree) (i j : ℕ) (least : ℕ) (most : Option ℕ) → Placed p i j → OutIs (merged_at (under least most) p) i j → MergesUnder (among ms) p least most
     under_merge (nothing s) i j x y h o = tt
     under_merge (class s set) i j x y h o = tt
     under_merge (seq s ps) i j x y h o = items_merge ps i j h o
     under_merge (choice s bs) i j x y h o = branches_merge bs i j h o
     under_merge (repeat s q l m g p) i j x y (k, h, a, b, c) o =
         let le = placed_le p i k h in
-        (o q (omega (arith, le, a)) b c ∙ own_free (merged_under p l m) i k q (under_within p i k l m h) a b, under_merge p i k l m h (out_part (merged_under p l m) i j i k (omega arith) (omega (arith, a, b, c)) o))
+        (o q (omega (arith, le, a)) b c ∙ own_free (merged_at (under l m) p) i k q (under_within p i k l m h) a b, under_merge p i k l m h (out_part (merged_at (under l m) p) i j i k (omega arith) (omega (arith, a, b, c)) o))
     under_merge (group s c p) i j x y h o = inside_merge p i j c x y h o
     under_merge (anchor s k m) i j x y h o = tt
     under_merge (boundary s n a) i j x y h o = tt
     under_merge (outside s f) i j x y h o = tt
 
-    inside_merge : (p : PatTree) (i j : ℕ) (captures : Bool) (least : ℕ) (most : Option ℕ) → Placed p i j → OutIs (merged_inside p captures least most) i j → MergesIn (among ms) p least most
+    inside_merge : (p : PatTree) (i j : ℕ) (captures : Bool) (least : ℕ) (most : Option ℕ) → Placed p i j → OutIs (merged_at (inside captures least most) p) i j → MergesIn (among ms) p least most
     inside_merge (nothing s) i j v x y h o = tt
     inside_merge (class s set) i j v x y h o = tt
     inside_merge (seq s ps) i j v x y h o = items_merge ps i j h o
     inside_merge (choice s bs) i j v x y h o = branches_merge bs i j h o
-    inside_merge (repeat s q l m g p) i j v x y (k, h, a, b, c) o =
+    inside_merge (repeat s q l m g p) i j v x y (k, h, a, b, c) out =
         let test = not v && (not (holds_capture p) && is_allowed l m x y) in
-        let rs = merged_under p l m in
+        let rs = merged_at (under l m) p in
         let ss = if test then q ∷ [] else [] in
+        let o = subst (λ xs. OutIs xs i j) (own_last test rs q) out in
         let le = placed_le p i k h in (
           λ e. allowed_pair l m x y (and_second (not (holds_capture p)) (is_allowed l m x y) (and_second (not v) (not (holds_capture p) && is_allowed l m x y) (if_true test q q (sym (ap (λ z. z || among ss q) (own_free rs i k q (under_within p i k l m h) a b)) ∙ sym (among_join rs ss q) ∙ sym (o q (omega (arith, le, a)) b c) ∙ e)))),
           under_merge p i k l m h (λ r d e f. o r d e (omega (arith, f, a, b, c)) ∙ among_join rs ss r ∙ ap (λ z. among rs r || z) (if_free test q r k a e f) ∙ or_false (among rs r)),

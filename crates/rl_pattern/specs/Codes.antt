@@ -59,9 +59,8 @@ numeral c =
     else no_digit)
 
 abbrev pub is_some_digit : Numeral → Bool
-is_some_digit (low_digit d) = true
-is_some_digit high_digit = true
 is_some_digit no_digit = false
+is_some_digit _ = true
 
 unfoldable pub is_digit : ℕ → Bool
 is_digit c = is_some_digit (numeral c)
@@ -133,10 +132,7 @@ hex_code n = code_up_to 0x10FFFF n
 
 abbrev pub is_kind : Escaped → Bool
 is_kind (kind k n) = true
-is_kind (code c) = false
-is_kind too_large = false
-is_kind by_name = false
-is_kind reference = false
+is_kind _ = false
 
 -- the letters of flags
 unfoldable pub on_letter : ℕ → Bool
@@ -206,22 +202,12 @@ scoped_flags on off f =
 -- the flags inside a group
 abbrev pub inside : Kind → Flags → Flags
 inside (scoped on off) f = scoped_flags on off f
-inside capturing f = f
-inside (named n) f = f
-inside lookaround f = f
-inside atomic f = f
-inside conditional f = f
+inside _ f = f
 
 -- a conditional has at most two branches: whether a | may follow these
 abbrev pub splits : Kind → List Branch → Bool
 splits conditional (b ∷ c ∷ bs) = false
-splits conditional (b ∷ []) = true
-splits conditional [] = true
-splits capturing bs = true
-splits (named n) bs = true
-splits (scoped on off) bs = true
-splits lookaround bs = true
-splits atomic bs = true
+splits _ _ = true
 
 -- a number in a base, and one digit more. 4294967295 stands for all numbers from there on
 abbrev pub with_digit : ℕ → ℕ → ℕ → ℕ

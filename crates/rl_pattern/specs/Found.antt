@@ -52,23 +52,15 @@ first_fault (a ∷ faults) = first_of_two a (first_fault faults)
 
 -- the faults of a code or escape at this place
 abbrev pub escaped_faults : ℕ → Escaped → List Fault
-escaped_faults i (code c) = []
 escaped_faults i too_large = fault i is_code_too_large ∷ []
 escaped_faults i by_name = fault i is_named_escape ∷ []
-escaped_faults i (kind k n) = []
 escaped_faults i reference = fault i is_backreference ∷ []
+escaped_faults i _ = []
 
 -- whether a range has its greater code first
 abbrev pub reversed : Escaped → Escaped → Bool
 reversed (code c) (code d) = nat_lt d c
-reversed (code c) too_large = false
-reversed (code c) by_name = false
-reversed (code c) (kind k n) = false
-reversed (code c) reference = false
-reversed too_large d = false
-reversed by_name d = false
-reversed (kind k n) d = false
-reversed reference d = false
+reversed _ _ = false
 
 -- a fault in a class has the place of its member
 abbrev pub member_faults : Member → List Fault
@@ -87,10 +79,7 @@ leaf_faults s (members inverse ms) = members_faults ms
 -- a $ without MULTILINE that is no outer anchor
 abbrev pub mark_faults : Span → Flags → Mark → List Fault
 mark_faults s f dollar = fault_if (not f.multiline) s.from is_inner_anchor
-mark_faults s f caret = []
-mark_faults s f text_start = []
-mark_faults s f text_end = []
-mark_faults s f (boundary negated) = []
+mark_faults s f _ = []
 
 abbrev pub is_most : ℕ → Option ℕ → Bool
 is_most m None = false
@@ -101,9 +90,8 @@ below_least m None = false
 below_least m (Some n) = nat_lt n m
 
 abbrev pub is_possessive : Greed → Bool
-is_possessive greedy = false
-is_possessive lazy = false
 is_possessive possessive = true
+is_possessive _ = false
 
 -- the faults of a quantifier at this place
 abbrev pub count_faults : ℕ → Count → Greed → List Fault
@@ -116,12 +104,11 @@ overlap f g = (f.ignore_case && g.ignore_case) || ((f.multiline && g.multiline) 
 
 -- the faults of a group's head at this place, apart from its name
 abbrev pub kind_faults : Bool → ℕ → Kind → List Fault
-kind_faults text i capturing = []
-kind_faults text i (named n) = []
 kind_faults text i (scoped on off) = fault_if on.locale i is_locale ++ fault_if (on.unicode && (on.ascii || not text) || overlap on off) i is_flag_clash
 kind_faults text i lookaround = fault i is_lookaround ∷ []
 kind_faults text i atomic = fault i is_atomic ∷ []
 kind_faults text i conditional = fault i is_conditional ∷ []
+kind_faults text i _ = []
 
 -- the faults of a node, apart from names that stand twice
 abbrev mutual
@@ -149,11 +136,7 @@ pub record Called : Type 0 where
 
 abbrev pub kind_names : ℕ → Kind → List Called
 kind_names i (named n) = record { place = i; name = n } ∷ []
-kind_names i capturing = []
-kind_names i (scoped on off) = []
-kind_names i lookaround = []
-kind_names i atomic = []
-kind_names i conditional = []
+kind_names i _ = []
 
 -- the names of groups in the order of their parentheses
 abbrev mutual
@@ -176,9 +159,8 @@ abbrev mutual
 
 abbrev pub same_name : List ℕ → List ℕ → Bool
 same_name [] [] = true
-same_name [] (d ∷ ds) = false
-same_name (c ∷ cs) [] = false
 same_name (c ∷ cs) (d ∷ ds) = c == d && same_name cs ds
+same_name _ _ = false
 
 abbrev pub is_among : List ℕ → List Called → Bool
 is_among n [] = false
@@ -202,36 +184,19 @@ front_faults text f (g ∷ gs) = front_own text f g ++ front_faults text (joined
 abbrev pub is_leading : Node → Bool
 is_leading (mark s f text_start) = true
 is_leading (mark s f caret) = not f.multiline
-is_leading (mark s f dollar) = false
-is_leading (mark s f text_end) = false
-is_leading (mark s f (boundary n)) = false
-is_leading (leaf s f x) = false
-is_leading (repeat s q n g p) = false
-is_leading (group s k p) = false
-is_leading (nothing s) = false
-is_leading (seq s ps) = false
-is_leading (choice s bs) = false
+is_leading _ = false
 
 abbrev pub trail_of : Node → Trail
 trail_of (mark s f text_end) = end_trail
 trail_of (mark s f dollar) = if f.multiline then no_trail else dollar_trail
-trail_of (mark s f text_start) = no_trail
-trail_of (mark s f caret) = no_trail
-trail_of (mark s f (boundary n)) = no_trail
-trail_of (leaf s f x) = no_trail
-trail_of (repeat s q n g p) = no_trail
-trail_of (group s k p) = no_trail
-trail_of (nothing s) = no_trail
-trail_of (seq s ps) = no_trail
-trail_of (choice s bs) = no_trail
+trail_of _ = no_trail
 
 -- \Z where one of two has it
 abbrev pub both_trails : Trail → Trail → Trail
 both_trails end_trail t = end_trail
 both_trails no_trail t = t
 both_trails dollar_trail end_trail = end_trail
-both_trails dollar_trail no_trail = dollar_trail
-both_trails dollar_trail dollar_trail = dollar_trail
+both_trails dollar_trail _ = dollar_trail
 
 -- items without the longest run of leading anchors
 abbrev pub without_leading : List Node → List Node
@@ -254,8 +219,7 @@ trailing_run (p ∷ ps) = run_of (trail_of p) (trailing_run ps)
 
 abbrev pub drops : Trail → Bool
 drops no_trail = false
-drops dollar_trail = true
-drops end_trail = true
+drops _ = true
 
 -- the items without that run, from the end
 abbrev pub without_trailing : List Node → List Node
@@ -274,10 +238,7 @@ abbrev pub items_of : Node → Option (List Node)
 items_of (nothing s) = Some []
 items_of (seq s ps) = Some (listed ps)
 items_of (choice s bs) = None
-items_of (leaf s f x) = Some (leaf s f x ∷ [])
-items_of (mark s f m) = Some (mark s f m ∷ [])
-items_of (repeat s q n g p) = Some (repeat s q n g p ∷ [])
-items_of (group s k p) = Some (group s k p ∷ [])
+items_of p = Some (p ∷ [])
 
 -- a pattern without its outer anchors
 pub record Inner : Type 0 where
@@ -326,34 +287,17 @@ module _ (named_class : Bool → Named → ℕ → Bool) (closed : Bool → (ℕ
   abbrev pub escaped_holds : Escaped → ℕ → Bool
   escaped_holds (code d) c = closing (λ x. x == d) c
   escaped_holds (kind k n) c = kind_holds k n c
-  escaped_holds too_large c = false
-  escaped_holds by_name c = false
-  escaped_holds reference c = false
+  escaped_holds _ c = false
 
   -- single codes and ranges of a class
   abbrev pub code_member : Member → ℕ → Bool
   code_member (one s (code d)) c = c == d
-  code_member (one s (kind k n)) c = false
-  code_member (one s too_large) c = false
-  code_member (one s by_name) c = false
-  code_member (one s reference) c = false
   code_member (range s (code d) (code e)) c = nat_le d c && nat_le c e
-  code_member (range s (code d) (kind k n)) c = false
-  code_member (range s (code d) too_large) c = false
-  code_member (range s (code d) by_name) c = false
-  code_member (range s (code d) reference) c = false
-  code_member (range s (kind k n) e) c = false
-  code_member (range s too_large e) c = false
-  code_member (range s by_name e) c = false
-  code_member (range s reference e) c = false
+  code_member _ c = false
 
   abbrev pub kind_member : Member → ℕ → Bool
   kind_member (one s (kind k n)) c = kind_holds k n c
-  kind_member (one s (code d)) c = false
-  kind_member (one s too_large) c = false
-  kind_member (one s by_name) c = false
-  kind_member (one s reference) c = false
-  kind_member (range s d e) c = false
+  kind_member _ c = false
 
   abbrev pub some_member : (Member → ℕ → Bool) → List Member → ℕ → Bool
   some_member holds [] c = false

@@ -77,6 +77,4 @@ abbrev pub IsOutcome : Flags → Universe → t.Whole → Result Pattern PatErro
 IsOutcome flags u whole (Ok found) = (refused flags (is_text u) whole ≡ None) × IsPatternOf u (inner whole) found
 IsOutcome flags u whole (Err (error.Outside p what)) = refused flags (is_text u) whole ≡ Some (fault p what)
 IsOutcome flags u whole (Err error.OutOfMemory) = Unit {0}
-IsOutcome flags u whole (Err error.TooLong) = ⊥
-IsOutcome flags u whole (Err (error.TooDeep p)) = ⊥
-IsOutcome flags u whole (Err (error.Syntax n)) = ⊥
+IsOutcome flags u whole _ = ⊥

@@ -47,16 +47,14 @@ mark_shape u place f (boundary negated) = s.boundary place negated (f.ascii || n
 
 abbrev pub is_greedy : Greed → Bool
 is_greedy greedy = true
-is_greedy lazy = false
-is_greedy possessive = false
+is_greedy _ = false
 
 abbrev pub group_shape : Span → Kind → s.PatTree → s.PatTree
-group_shape place capturing p = s.group place true p
-group_shape place (named name) p = s.group place true p
 group_shape place (scoped on off) p = s.group place false p
 group_shape place lookaround p = s.outside place is_lookaround
 group_shape place atomic p = s.outside place is_atomic
 group_shape place conditional p = s.outside place is_conditional
+group_shape place _ p = s.group place true p
 
 abbrev mutual
   pub shape : Universe → Node → s.PatTree

@@ -17,60 +17,49 @@ among (r ∷ rs) s = same_span r s || among rs s
 abbrev pub no_span : Span → Bool
 no_span s = false
 
--- whether a part holds a group that captures
-abbrev mutual
-  pub holds_capture : PatTree → Bool
-  holds_capture (nothing s) = false
-  holds_capture (class s set) = false
-  holds_capture (seq s ps) = some_capture ps
-  holds_capture (choice s bs) = branch_capture bs
-  holds_capture (repeat s q least most greedy p) = holds_capture p
-  holds_capture (group s captures p) = captures || holds_capture p
-  holds_capture (anchor s kind multiline) = false
-  holds_capture (boundary s negated ascii) = false
-  holds_capture (outside s what) = false
+-- whether some part of a pattern passes a test
+module _ (test : PatTree → Bool) where
+  abbrev mutual
+    pub any_part : PatTree → Bool
+    any_part (seq s ps) = test (seq s ps) || any_item ps
+    any_part (choice s bs) = test (choice s bs) || any_branch bs
+    any_part (repeat s q least most greedy p) = test (repeat s q least most greedy p) || any_part p
+    any_part (group s captures p) = test (group s captures p) || any_part p
+    any_part p = test p
 
-  pub some_capture : PatTrees → Bool
-  some_capture no_items = false
-  some_capture (item p ps) = holds_capture p || some_capture ps
+    pub any_item : PatTrees → Bool
+    any_item no_items = false
+    any_item (item p ps) = any_part p || any_item ps
 
-  pub branch_capture : BranchTrees → Bool
-  branch_capture no_branches = false
-  branch_capture (branch s p bs) = holds_capture p || branch_capture bs
+    pub any_branch : BranchTrees → Bool
+    any_branch no_branches = false
+    any_branch (branch s p bs) = any_part p || any_branch bs
 
--- whether a part holds a guard: an anchor or a boundary
-abbrev mutual
-  pub holds_guard : PatTree → Bool
-  holds_guard (nothing s) = false
-  holds_guard (class s set) = false
-  holds_guard (seq s ps) = some_guard ps
-  holds_guard (choice s bs) = branch_guard bs
-  holds_guard (repeat s q least most greedy p) = holds_guard p
-  holds_guard (group s captures p) = holds_guard p
-  holds_guard (anchor s kind multiline) = true
-  holds_guard (boundary s negated ascii) = true
-  holds_guard (outside s what) = false
+abbrev pub is_capture : PatTree → Bool
+is_capture (group s captures p) = captures
+is_capture _ = false
 
-  pub some_guard : PatTrees → Bool
-  some_guard no_items = false
-  some_guard (item p ps) = holds_guard p || some_guard ps
+abbrev pub is_guard : PatTree → Bool
+is_guard (anchor s kind multiline) = true
+is_guard (boundary s negated ascii) = true
+is_guard _ = false
 
-  pub branch_guard : BranchTrees → Bool
-  branch_guard no_branches = false
-  branch_guard (branch s p bs) = holds_guard p || branch_guard bs
+-- whether a part is a group that captures
+abbrev pub holds_capture : PatTree → Bool
+holds_capture p = any_part is_capture p
+
+-- whether a part is a guard: an anchor or a boundary
+abbrev pub holds_guard : PatTree → Bool
+holds_guard p = any_part is_guard p
 
 -- the spans of the branches, by rising place
 abbrev mutual
   pub branches_in : PatTree → List Span
-  branches_in (nothing s) = []
-  branches_in (class s set) = []
   branches_in (seq s ps) = items_branches ps
   branches_in (choice s bs) = choice_branches bs
   branches_in (repeat s q least most greedy p) = branches_in p
   branches_in (group s captures p) = branches_in p
-  branches_in (anchor s kind multiline) = []
-  branches_in (boundary s negated ascii) = []
-  branches_in (outside s what) = []
+  branches_in _ = []
 
   pub items_branches : PatTrees → List Span
   items_branches no_items = []
@@ -89,15 +78,11 @@ some_kept drop (branch s p bs) = not (drop s) || some_kept drop bs
 module _ (drop : Span → Bool) where
   abbrev mutual
     pub may_go : PatTree → Bool
-    may_go (nothing s) = true
-    may_go (class s set) = true
     may_go (seq s ps) = items_may_go ps
     may_go (choice s bs) = some_kept drop bs && branches_may_go bs
     may_go (repeat s q least most greedy p) = may_go p
     may_go (group s captures p) = may_go p
-    may_go (anchor s kind multiline) = true
-    may_go (boundary s negated ascii) = true
-    may_go (outside s what) = true
+    may_go _ = true
 
     pub items_may_go : PatTrees → Bool
     items_may_go no_items = true
@@ -141,52 +126,43 @@ is_option least (Some most) = least == 0 && most == 1
 abbrev pub is_allowed : ℕ → Option ℕ → ℕ → Option ℕ → Bool
 is_allowed l m least most = (is_any least most && (is_any l m || (is_some l m || is_option l m))) || (is_some least most && is_some l m)
 
--- the quantifiers that are taken out, by rising place: each is that of a repeat that is the whole content of a group, which
--- doesn't capture and is the body of another repeat
+-- where a part stands: it is the body of a repeat with these numbers, or the whole content of a group that is such a body, the
+-- flag says whether one that captures, or neither
+pub data Around : Type 0 where
+  elsewhere : Around
+  under : ℕ → Option ℕ → Around
+  inside : Bool → ℕ → Option ℕ → Around
+
+-- the content of a group that stands there
+abbrev pub content : Around → Bool → Around
+content (under least most) captures = inside captures least most
+content _ captures = elsewhere
+
+-- the quantifier of a repeat goes that is the whole content of a group, which doesn't capture and is the body of another repeat,
+-- where the repeated part holds no group that captures and the two quantifiers are such a pair
+abbrev pub goes_out : Around → ℕ → Option ℕ → PatTree → Bool
+goes_out (inside captures least most) l m p = not captures && (not (holds_capture p) && is_allowed l m least most)
+goes_out _ l m p = false
+
+-- the quantifiers that are taken out of a part that stands there, by rising place
 abbrev mutual
-  pub merged_in : PatTree → List Span
-  merged_in (nothing s) = []
-  merged_in (class s set) = []
-  merged_in (seq s ps) = items_merged ps
-  merged_in (choice s bs) = branches_merged bs
-  merged_in (repeat s q least most greedy p) = merged_under p least most
-  merged_in (group s captures p) = merged_in p
-  merged_in (anchor s kind multiline) = []
-  merged_in (boundary s negated ascii) = []
-  merged_in (outside s what) = []
+  pub merged_at : Around → PatTree → List Span
+  merged_at around (seq s ps) = items_merged ps
+  merged_at around (choice s bs) = branches_merged bs
+  merged_at around (repeat s q l m greedy p) = if goes_out around l m p then merged_at (under l m) p ++ q ∷ [] else merged_at (under l m) p
+  merged_at around (group s captures p) = merged_at (content around captures) p
+  merged_at around _ = []
 
   pub items_merged : PatTrees → List Span
   items_merged no_items = []
-  items_merged (item p ps) = merged_in p ++ items_merged ps
+  items_merged (item p ps) = merged_at elsewhere p ++ items_merged ps
 
   pub branches_merged : BranchTrees → List Span
   branches_merged no_branches = []
-  branches_merged (branch s p bs) = merged_in p ++ branches_merged bs
+  branches_merged (branch s p bs) = merged_at elsewhere p ++ branches_merged bs
 
-  -- of the body of a repeat with these numbers
-  pub merged_under : PatTree → ℕ → Option ℕ → List Span
-  merged_under (group s captures p) least most = merged_inside p captures least most
-  merged_under (repeat s q l m greedy p) least most = merged_under p l m
-  merged_under (nothing s) least most = []
-  merged_under (class s set) least most = []
-  merged_under (seq s ps) least most = items_merged ps
-  merged_under (choice s bs) least most = branches_merged bs
-  merged_under (anchor s kind multiline) least most = []
-  merged_under (boundary s negated ascii) least most = []
-  merged_under (outside s what) least most = []
-
-  -- of the content of a group that is the body of a repeat with these numbers
-  pub merged_inside : PatTree → Bool → ℕ → Option ℕ → List Span
-  merged_inside (repeat s q l m greedy p) captures least most =
-      merged_under p l m ++ (if not captures && (not (holds_capture p) && is_allowed l m least most) then q ∷ [] else [])
-  merged_inside (nothing s) captures least most = []
-  merged_inside (class s set) captures least most = []
-  merged_inside (seq s ps) captures least most = items_merged ps
-  merged_inside (choice s bs) captures least most = branches_merged bs
-  merged_inside (group s c p) captures least most = merged_in p
-  merged_inside (anchor s kind multiline) captures least most = []
-  merged_inside (boundary s negated ascii) captures least most = []
-  merged_inside (outside s what) captures least most = []
+abbrev pub merged_in : PatTree → List Span
+merged_in p = merged_at elsewhere p
 
 -- the codes that are left
 abbrev pub text_of : PatTree → List Span → List Span → List ℕ → List ℕ
@@ -194,8 +170,7 @@ text_of body dropped merged codes = kept_from (λ t. not (gone (among dropped) (
 
 abbrev pub text_if : PatTree → List Span → List Span → List ℕ → Option (List ℕ)
 text_if body [] [] codes = None
-text_if body [] (m ∷ ms) codes = Some (text_of body [] (m ∷ ms) codes)
-text_if body (d ∷ ds) ms codes = Some (text_of body (d ∷ ds) ms codes)
+text_if body dropped merged codes = Some (text_of body dropped merged codes)
 
 -- a right suggestion: its branches that were dropped, its quantifiers that were taken out, the branches whose test passed its
 -- limit, and the simpler codes

@@ -3,8 +3,8 @@
 ghost use Rattle.std.specs.Prelude.{◌≡◌, ◌++◌, map, IfOk};
 ghost use Rattle.rl_syntax.specs.PatTree.{pat_of, items_of, branches_of};
 ghost use Rattle.rl_syntax.specs.Counting.{branch_tree};
-ghost use Rattle.rl_pattern.specs.Suggested.{is_any as any_times, is_some as some_times, is_option as one_at_most, is_allowed as allowed_pair, items_merged, branches_merged};
-ghost use Rattle.rl_rewrite.specs.internal.Merges.{merged_at, goes_at, inside_of};
+ghost use Rattle.rl_pattern.specs.Suggested.{is_any as any_times, is_some as some_times, is_option as one_at_most, is_allowed as allowed_pair, goes_out, content, merged_at, items_merged, branches_merged};
+ghost use Rattle.rl_rewrite.specs.internal.Merges.{around_of};
 
 use crate::parts::holds_capture;
 use rl_lists::OutOfMemory;
@@ -65,7 +65,7 @@ fn is_allowed(inner: Times, outer: Times) -> bool
 
 /// Whether the quantifier of a repeat at a place is taken out.
 fn goes(place: Place, inner: Times, body: &Pat) -> bool
-    ensures { result ≡ goes_at place inner (pat_of body.now) }
+    ensures { result ≡ goes_out (around_of place) inner.least inner.most (pat_of body.now) }
 {
     match place {
         Place::Inside(captures, outer) => !captures
@@ -77,7 +77,7 @@ fn goes(place: Place, inner: Times, body: &Pat) -> bool
 
 /// The place of the content of a group.
 fn inside(place: Place, captures: bool) -> Place
-    ensures { result ≡ inside_of place captures }
+    ensures { around_of result ≡ content (around_of place) captures }
 {
     match place {
         Place::Under(outer) => Place::Inside(captures, outer),
@@ -93,7 +93,7 @@ pub(crate) fn with_merged(
     place: Place,
     found: Spans,
 ) -> Result<Spans, OutOfMemory>
-    ensures { IfOk result (λ all. all ≡ found ++ merged_at place (pat_of part.now)) }
+    ensures { IfOk result (λ all. all ≡ found ++ merged_at (around_of place) (pat_of part.now)) }
 {
     match part {
         Pat::Nothing { .. }
