@@ -7,7 +7,8 @@ use Rattle.rl_pattern.specs.declared.tree.Node.TheViews as V
 use Rattle.rl_pattern.specs.declared.tree.Node.TheFolds.{the_lemmas}
 use Rattle.rl_pattern.specs.internal.Views.{node_of}
 use Rattle.rl_pattern.specs.Tree.{Span, Node, leaf, mark, repeat, group, nothing, seq, choice, nodes, branch_body, caret, text_start, dollar, text_end, boundary}
-use Rattle.rl_pattern.specs.Found.{Trail, no_trail, is_leading, begins_leading, without_leading, trail_of, run_of, trailing_run, without_trailing, inner_items, inner_of, listed}
+use Rattle.rl_pattern.specs.internal.Judged.{without_leading, without_trailing}
+use Rattle.rl_pattern.specs.Found.{Trail, no_trail, is_leading, begins_leading, trail_of, run_of, trailing_run, inner_items, inner_of, listed}
 
 pub listed-nodes : (ps : List Node) → listed (nodes ps) ≡ ps
 listed-nodes [] = refl

@@ -1,5 +1,5 @@
 -- Whatever the machine is in the middle of, a few codes more make a spelled pattern.
-use Rattle.std.proofs.Common.{◌≡◌, ℕ, zero, suc, sub-one, ◌-◌, ◌<◌, Bool, true, false, cond, nat_le, List, [], ◌∷◌, ◌++◌, length, replicate, Some, refl, sym, ap, ◌∙◌, subst, append_assoc, arith}
+use Rattle.std.proofs.Common.{◌≡◌, ℕ, zero, suc, sub-one, ◌-◌, ◌<◌, Bool, true, false, cond, if◌then◌else◌, nat_le, List, [], ◌∷◌, ◌++◌, length, replicate, Some, refl, sym, ap, ◌∙◌, subst, append_assoc, arith}
 use Rattle.std.specs.Prelude.{All}
 use Rattle.std.specs.List.{list_all}
 use Rattle.std.proofs.Math.Dec.{ltb}
@@ -7,9 +7,11 @@ use Rattle.std.proofs.lemmas.Bool.{ne_eqb, cond_both, ltb-true}
 use Rattle.std.proofs.lemmas.List.Elements.{All-append, All-replicate, All-weaker}
 use Rattle.std.proofs.lemmas.List.Sums.{AllPass-from_list_all}
 use Rattle.rl_ranges.specs.Text.{code_count, IsText}
-use Rattle.rl_pattern.specs.Viable.{universe_if}
+use Rattle.rl_ranges.specs.declared.universe.Universe.{Universe}
+use Rattle.rl_ranges.specs.declared.universe.Universe.TheVariants.{Str, Bytes}
 use Rattle.rl_pattern.specs.Tree.{span, Escaped, code, too_large, by_name, reference, Member, range, glyph, members, Whole, greedy, Kind, named, scoped, lookaround, conditional}
-use Rattle.rl_pattern.specs.Codes.{with_digit, sign, numeral, is_digit, hex, slashed, begins_name, goes_in_name, on_letter, off_letter, headed, no_flags, with_letter, counts, octal_code, hex_code, code_up_to, is_kind}
+use Rattle.rl_pattern.specs.internal.Signs.{code_up_to}
+use Rattle.rl_pattern.specs.Codes.{with_digit, sign, numeral, is_digit, hex, slashed, begins_name, goes_in_name, on_letter, off_letter, headed, no_flags, with_letter, counts, octal_code, hex_code, is_kind}
 use Rattle.rl_pattern.specs.internal.Machine.{stops, goes, ends, InEscape, in_hex, name_brace, name_begins, name_goes, in_octal, after_low, after_high, after_two, escape_next, escape_rest, InSet, set_first, set_next, set_slash, set_escape, set_side, set_dash, dash_slash, dash_escape, in_set, escape_set_next, escape_dash_next, set_answer, InHead, paren, quest, after_p, after_less, group_name, group_name_goes, reference_name, reference_name_goes, asks, asks_digits, asks_name_goes, letters_on, letters_dash, letters_off, Frame, Base, Lex, between, line, remark, in_braces, counted, at_slash, in_escape, in_head, set_open, in_class, State, at, put_leaf, put_code, put_codes, no_count, put_repeat, open_group, close, escape_step, step_at, observe, finish_below, finish_escape, finish_at}
 
 -- how an escape ends that was begun
@@ -114,6 +116,10 @@ ending_ascii (set_open a) = ascii (48 ∷ 93 ∷ []) refl
 ending_ascii (in_class a v s) = set_ascii s.part
 
 -- text and bytes have the codes of ASCII
+-- the universe of text, or that of bytes
+abbrev pub universe_if : Bool → Universe
+universe_if text = if text then Str else Bytes
+
 ascii_in : (text : Bool) (c : ℕ) → c < 128 → c < code_count (universe_if text)
 ascii_in true c l = omega (arith, l)
 ascii_in false c l = omega (arith, l)

@@ -14,7 +14,8 @@ use Rattle.rl_pattern.specs.declared.parsing.PatError.{PatError}
 use Rattle.rl_pattern.specs.declared.parsing.PatError.TheVariants as error
 use Rattle.rl_pattern.specs.Tree.{Span, span, Node, leaf, mark, repeat, group, nothing, seq, choice, nodes, Branch, branch_body, branch, whole_body, Whole}
 use Rattle.rl_pattern.specs.Grammar.{IsBranches, first_branch, next_branch, spelled, Spells}
-use Rattle.rl_pattern.specs.Found.{Inner, is_leading, trail_of, drops, without_leading, without_trailing, inner_items, items_of, inner_of, inner, front_faults, name_faults, node_names, node_faults, whole_faults}
+use Rattle.rl_pattern.specs.internal.Judged.{without_leading, without_trailing}
+use Rattle.rl_pattern.specs.Found.{Inner, is_leading, trail_of, drops, inner_items, items_of, inner_of, inner, front_faults, name_faults, node_names, node_faults, whole_faults}
 use Rattle.rl_pattern.specs.Shape.{is_text, shape}
 use Rattle.rl_pattern.specs.Parsed.{IsSpelled, IsParsed}
 use Rattle.rl_pattern.specs.Thinned.{kept_from}

@@ -1,12 +1,13 @@
 -- What is left of a whole pattern without its outer anchors, and that nothing in it is refused.
-use Rattle.std.proofs.Common.{◌≡◌, ◌⊎◌, ℕ, Bool, true, false, not, ◌||◌, ◌&&◌, if◌then◌else◌, List, [], ◌∷◌, ◌++◌, map, reverse, Some, None, refl, sym, ap, ◌∙◌, subst, true≢false}
+use Rattle.std.proofs.Common.{bytes_eq, ◌≡◌, ◌⊎◌, ℕ, Bool, true, false, not, ◌||◌, ◌&&◌, if◌then◌else◌, List, [], ◌∷◌, ◌++◌, map, reverse, Some, None, refl, sym, ap, ◌∙◌, subst, true≢false}
 use Rattle.std.proofs.lemmas.List.{map-append, reverse-append, reverse-reverse}
 use mathlib.Core.Logic.{⊎_elim}
 use Rattle.rl_ranges.specs.declared.universe.Universe.{Universe}
 use Rattle.rl_pattern.specs.declared.flags.Flags.{Flags}
 use Rattle.rl_pattern.specs.Tree.{Span, Node, Branch, branch_body, branch, whole_body, Front, Whole}
 use Rattle.rl_pattern.specs.Codes.{joined}
-use Rattle.rl_pattern.specs.Found.{fault_if, Called, is_among, same_name, name_faults, node_names, node_faults, is_leading, trail_of, no_trail, run_of, drops, begins_leading, without_leading, without_trailing, trailing_run, inner_items, items_of, Inner, inner_of, inner, front_own, front_faults, whole_faults, refused, first_fault, is_locale, is_flag_clash, is_duplicate_name}
+use Rattle.rl_pattern.specs.internal.Judged.{is_among, without_leading, without_trailing}
+use Rattle.rl_pattern.specs.Found.{fault_if, Called, name_faults, node_names, node_faults, is_leading, trail_of, no_trail, run_of, drops, begins_leading, trailing_run, inner_items, items_of, Inner, inner_of, inner, front_own, front_faults, whole_faults, refused, first_fault, is_locale, is_flag_clash, is_duplicate_name}
 use Rattle.rl_pattern.specs.Shape.{is_text}
 use Rattle.rl_pattern.specs.internal.Left.{moved_front}
 use Rattle.rl_pattern.proofs.InnerBare.{AllItems, branch_items}
@@ -18,7 +19,7 @@ among_same : (n : List ℕ) (cs ds : List Called) → map name_of cs ≡ map nam
 among_same n [] [] e = refl
 among_same n [] (d ∷ ds) e = absurd (cc e)
 among_same n (c ∷ cs) [] e = absurd (cc e)
-among_same n (c ∷ cs) (d ∷ ds) e = let h : c.name ≡ d.name = cc e in let t : map name_of cs ≡ map name_of ds = cc e in ap (λ m. same_name n m || is_among n cs) h ∙ ap (λ b. same_name n d.name || b) (among_same n cs ds t)
+among_same n (c ∷ cs) (d ∷ ds) e = let h : c.name ≡ d.name = cc e in let t : map name_of cs ≡ map name_of ds = cc e in ap (λ m. bytes_eq n m || is_among n cs) h ∙ ap (λ b. bytes_eq n d.name || b) (among_same n cs ds t)
 
 names_once : (bs cs ds es : List Called) → map name_of bs ≡ map name_of ds → map name_of cs ≡ map name_of es → name_faults bs cs ≡ [] → name_faults ds es ≡ []
 names_once bs [] ds [] e f h = refl

@@ -4,7 +4,8 @@ use Rattle.std.proofs.lemmas.List.{reverse-append, reverse-reverse}
 use Rattle.rl_ranges.specs.declared.universe.Universe.{Universe}
 use Rattle.rl_syntax.specs.PatTree as s
 use Rattle.rl_pattern.specs.Tree.{Span, Node, leaf, mark, repeat, group, nothing, seq, choice, nodes, branches, Branch, branch_body, whole_body, caret, text_start, dollar, text_end, boundary}
-use Rattle.rl_pattern.specs.Found.{is_leading, trail_of, drops, no_trail, without_leading, without_trailing, inner_items, items_of, inner_of}
+use Rattle.rl_pattern.specs.internal.Judged.{without_leading, without_trailing}
+use Rattle.rl_pattern.specs.Found.{is_leading, trail_of, drops, no_trail, inner_items, items_of, inner_of}
 use Rattle.rl_pattern.specs.Shape.{shape, shapes, branch_shapes}
 use Rattle.rl_pattern.specs.Suggested.{holds_guard, any_item, is_guard, any_branch}
 use Rattle.rl_pattern.proofs.Holes.{hole, holes, body_holes, mark_hole, holes_snoc}

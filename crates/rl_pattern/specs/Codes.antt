@@ -119,16 +119,12 @@ unfoldable pub slashed : Bool → Bool → ℕ → Slashed
 slashed text in_class c =
     if is_letter c then slashed_letter text in_class c else slashed_digit in_class (numeral c) c
 
--- what a number is as a code
-abbrev pub code_up_to : ℕ → ℕ → Escaped
-code_up_to greatest n = if nat_le n greatest then code n else too_large
-
--- an octal number, at most 255, and one in hexadecimal digits, at most 0x10FFFF
+-- what an octal number is as a code, and one in hexadecimal digits
 abbrev pub octal_code : ℕ → Escaped
-octal_code n = code_up_to 255 n
+octal_code n = if nat_le n 255 then code n else too_large
 
 abbrev pub hex_code : ℕ → Escaped
-hex_code n = code_up_to 0x10FFFF n
+hex_code n = if nat_le n 0x10FFFF then code n else too_large
 
 abbrev pub is_kind : Escaped → Bool
 is_kind (kind k n) = true

@@ -1,5 +1,6 @@
 -- Right suggestions. Branches and quantifiers are named by their spans in the pattern as written.
 use Rattle.std.specs.Prelude.{◌≡◌, ℕ, Bool, true, false, not, ◌&&◌, ◌||◌, ◌==◌, if◌then◌else◌, List, [], ◌∷◌, ◌++◌, Option, Some, None}
+use Rattle.std.specs.List.{list_any}
 use Rattle.rl_syntax.specs.declared.span.Span.{Span}
 use Rattle.rl_syntax.specs.Tree.{Tree}
 use Rattle.rl_syntax.specs.Lowering.{lowered}
@@ -11,8 +12,7 @@ abbrev pub same_span : Span → Span → Bool
 same_span r s = r.from == s.from && r.upto == s.upto
 
 abbrev pub among : List Span → Span → Bool
-among [] s = false
-among (r ∷ rs) s = same_span r s || among rs s
+among spans s = list_any (λ r. same_span r s) spans
 
 abbrev pub no_span : Span → Bool
 no_span s = false

@@ -8,14 +8,10 @@ use Rattle.rl_pattern.specs.Tree.{Kind, Node, Branch, Front, Whole}
 use Rattle.rl_pattern.specs.Codes.{inside, splits}
 use Rattle.rl_pattern.specs.Grammar.{Stands, Opening, Items, IsBranches, Fronts, outermost, Spells}
 
--- the universe of text, or that of bytes
-abbrev pub universe_if : Bool → Universe
-universe_if text = if text then Str else Bytes
-
 -- some codes more, of the universe, make a spelled pattern of these
 pub record Begins (call : Flags) (text : Bool) (u : List ℕ) : Type 0 where
   pub rest : List ℕ
-  pub codes : IsText (universe_if text) rest
+  pub codes : IsText (if text then Str else Bytes) rest
   pub whole : Whole
   pub spelled : Spells call text (u ++ rest) whole
 

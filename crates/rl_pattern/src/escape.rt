@@ -1,7 +1,8 @@
 //! The reader within an escape.
 
 ghost use Rattle.std.specs.Prelude.{◌≡◌, ℕ};
-ghost use Rattle.rl_pattern.specs.Codes.{with_digit, code_up_to, octal_code, hex_code, is_kind};
+ghost use Rattle.rl_pattern.specs.internal.Signs.{code_up_to};
+ghost use Rattle.rl_pattern.specs.Codes.{with_digit, octal_code, hex_code, is_kind};
 ghost use Rattle.rl_pattern.specs.internal.Machine.{escape_first, escape_next, escape_rest, hex_next, octal_next, low_next, high_next, two_next};
 
 use crate::codes::{hex, numeral};

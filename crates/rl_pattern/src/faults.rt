@@ -1,6 +1,6 @@
 //! What is refused in a tree: the first fault by its place, and of two at one place by the order of features.
 
-ghost use Rattle.std.specs.Prelude.{◌≡◌, ℕ, Bool, List, map, ◌||◌, ◌&&◌};
+ghost use Rattle.std.specs.Prelude.{◌≡◌, ℕ, Bool, List, map, ◌||◌, ◌&&◌, flat_map};
 ghost use Rattle.rl_pattern.specs.internal.Views.{node_of, branch_of};
 ghost use Rattle.rl_pattern.specs.Tree as t;
 ghost use Rattle.rl_pattern.specs.Found as f;
@@ -125,7 +125,7 @@ fn member_fault(member: Member) -> Option<Fault>
 
 /// The first fault of the members of a class.
 fn members_fault(members: &[Member]) -> Option<Fault>
-    ensures { result ≡ f.first_fault (f.members_faults members.now) }
+    ensures { result ≡ f.first_fault (flat_map f.member_faults members.now) }
 {
     let mut best = None;
     for member in members {

@@ -2,7 +2,7 @@
 
 ghost use Rattle.std.specs.Prelude.{◌≡◌, List, [], ◌∷◌, map, reverse, Some, IfOk};
 ghost use Rattle.rl_pattern.specs.internal.Views.{node_of, branch_of, whole_of};
-ghost use Rattle.rl_pattern.specs.internal.Judged.{left_of, trail_at};
+ghost use Rattle.rl_pattern.specs.internal.Judged.{left_of, trail_at, without_leading, without_trailing, both_trails as anchor_of_both};
 ghost use Rattle.rl_pattern.specs.Tree as t;
 ghost use Rattle.rl_pattern.specs.Found as f;
 
@@ -69,7 +69,7 @@ fn trail_of(node: &Node) -> Trail
 
 /// The anchor of two: `\Z` where one of them is it.
 fn both_trails(first: Trail, second: Trail) -> Trail
-    ensures { result ≡ f.both_trails first second }
+    ensures { result ≡ anchor_of_both first second }
 {
     match first {
         Trail::End => Trail::End,
@@ -113,7 +113,7 @@ fn last_trail(items: &[Node]) -> Trail
 
 /// Takes the longest run of anchors off the end of the items, which stand from the end.
 fn take_from_back(items: &mut Vec<Node>)
-    ensures { reverse (map node_of items.new.items) ≡ f.without_leading (reverse (map node_of items.old.items)) }
+    ensures { reverse (map node_of items.new.items) ≡ without_leading (reverse (map node_of items.old.items)) }
 {
     while ends_leading(items.as_slice()) {
         items.pop();
@@ -122,7 +122,7 @@ fn take_from_back(items: &mut Vec<Node>)
 
 /// Takes the longest run of leading anchors off the items.
 fn take_leading(items: &mut Vec<Node>)
-    ensures { map node_of items.new.items ≡ f.without_leading (map node_of items.old.items) }
+    ensures { map node_of items.new.items ≡ without_leading (map node_of items.old.items) }
 {
     items.reverse();
     take_from_back(items);
@@ -131,7 +131,7 @@ fn take_leading(items: &mut Vec<Node>)
 
 /// Takes the longest run of trailing anchors off the items, and answers which it was.
 fn take_trailing(items: &mut Vec<Node>) -> Trail
-    ensures rest { reverse (map node_of items.new.items) ≡ f.without_trailing (reverse (map node_of items.old.items)) }
+    ensures rest { reverse (map node_of items.new.items) ≡ without_trailing (reverse (map node_of items.old.items)) }
     ensures run { result ≡ f.trailing_run (reverse (map node_of items.old.items)) }
 {
     let mut run = Trail::None;

@@ -1,9 +1,10 @@
 -- For private clauses: the signs and heads that codes begin with.
-use Rattle.std.specs.Prelude.{◌≡◌, ℕ, true}
+use Rattle.std.specs.Prelude.{◌≡◌, ℕ, true, nat_le, if◌then◌else◌}
 use Rattle.rl_pattern.specs.declared.lex.Sign.{Sign}
 use Rattle.rl_pattern.specs.declared.lex.Sign.TheVariants.{Left as left, Right as right, Bar as bar, Brace as brace, Slash as slash, Dot as dot, Bracket as bracket, Times as times, Edge as edge, Blank as blank, Sharp as sharp, Plain as plain}
 use Rattle.rl_pattern.specs.declared.lex.Headed.{Headed}
 use Rattle.rl_pattern.specs.declared.lex.Headed.TheVariants.{Letter as letter, Colon as colon, Minus as minus, LetterP as letter_p, Sharps as sharps, Less as less, Greater as greater, Condition as condition, Looks as looks, NoHead as no_head}
+use Rattle.rl_pattern.specs.Tree.{Escaped, code, too_large}
 use Rattle.rl_pattern.specs.Codes.{code_of, on_letter}
 
 -- the single code that a sign names
@@ -33,3 +34,7 @@ HeadIs greater c = c ≡ code_of ">"
 HeadIs condition c = c ≡ code_of "("
 HeadIs looks c = Unit {0}
 HeadIs no_head c = Unit {0}
+
+-- what a number is as a code that is at most the greatest
+abbrev pub code_up_to : ℕ → ℕ → Escaped
+code_up_to greatest n = if nat_le n greatest then code n else too_large
