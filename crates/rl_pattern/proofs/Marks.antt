@@ -8,7 +8,7 @@ use Rattle.rl_syntax.specs.PatTree.{PatTree, PatTrees, BranchTrees, nothing, cla
 use Rattle.rl_pattern.specs.Cut.{choice_of, left, left_items, left_branches}
 use Rattle.rl_syntax.specs.AllowedPair.{AllowedPair, any_in_any, some_in_any, option_in_any, some_in_some}
 use Rattle.rl_pattern.proofs.Merged.{MayMerge, AllMayMerge, BranchesMayMerge, MergesUnder, MergesIn}
-use Rattle.rl_pattern.specs.Suggested.{same_span, among, no_span, holds_capture, is_any, is_some, is_option, is_allowed, merged_in, items_merged, branches_merged, under, merged_at, inside}
+use Rattle.rl_pattern.specs.Suggested.{same_span, among, no_span, holds_capture, is_allowed, merged_in, items_merged, branches_merged, under, merged_at, inside}
 use Rattle.rl_pattern.proofs.Linking.{and_first, and_second, no_true}
 use Rattle.rl_pattern.proofs.Holes.{or_cases, or_false, or_assoc}
 
@@ -180,27 +180,24 @@ mutual
   inside_within (outside s f) i j v x y h = tt
 
 -- the pairs that are allowed
-pair_any : (l : ℕ) (m : Option ℕ) (least : ℕ) (most : Option ℕ) → is_any least most ≡ true → (is_any l m || (is_some l m || is_option l m)) ≡ true → AllowedPair l m least most
-pair_any l m least (Some most) a h = absurd (true≢false (sym a))
-pair_any l None least None a h =
-    let zero_least = eqb-true least 0 a in
-    subst (λ x. AllowedPair l None x None) (sym zero_least) (⊎_elim (λ (z : (l == 0) ≡ true). subst (λ x. AllowedPair x None 0 None) (sym (eqb-true l 0 z)) any_in_any) (λ (z : ((l == 1) || false) ≡ true). subst (λ x. AllowedPair x None 0 None) (sym (eqb-true l 1 (sym (or_false (l == 1)) ∙ z))) some_in_any) (or_cases (l == 0) ((l == 1) || false) h))
-pair_any l (Some m) least None a h =
-    let zero_least = eqb-true least 0 a in
-    let zero_l = eqb-true l 0 (and_first (l == 0) (m == 1) h) in
-    let one_m = eqb-true m 1 (and_second (l == 0) (m == 1) h) in
-    subst (λ x. AllowedPair l (Some m) x None) (sym zero_least) (subst (λ x. AllowedPair x (Some m) 0 None) (sym zero_l) (subst (λ x. AllowedPair 0 (Some x) 0 None) (sym one_m) option_in_any))
+under_any : (l least : ℕ) → (least == 0) ≡ true → (l == 0 || l == 1) ≡ true → AllowedPair l None least None
+under_any l least a h =
+    subst (λ x. AllowedPair l None x None) (sym (eqb-true least 0 a)) (⊎_elim (λ (z : (l == 0) ≡ true). subst (λ x. AllowedPair x None 0 None) (sym (eqb-true l 0 z)) any_in_any) (λ (z : (l == 1) ≡ true). subst (λ x. AllowedPair x None 0 None) (sym (eqb-true l 1 z)) some_in_any) (or_cases (l == 0) (l == 1) h))
 
-pair_some : (l : ℕ) (m : Option ℕ) (least : ℕ) (most : Option ℕ) → is_some least most ≡ true → is_some l m ≡ true → AllowedPair l m least most
-pair_some l m least (Some most) a h = absurd (true≢false (sym a))
-pair_some l (Some m) least None a h = absurd (true≢false (sym h))
-pair_some l None least None a h = subst (λ x. AllowedPair l None x None) (sym (eqb-true least 1 a)) (subst (λ x. AllowedPair x None 1 None) (sym (eqb-true l 1 h)) some_in_some)
+under_some : (l least : ℕ) → (least == 1) ≡ true → (l == 1) ≡ true → AllowedPair l None least None
+under_some l least a h = subst (λ x. AllowedPair l None x None) (sym (eqb-true least 1 a)) (subst (λ x. AllowedPair x None 1 None) (sym (eqb-true l 1 h)) some_in_some)
 
 allowed_pair : (l : ℕ) (m : Option ℕ) (least : ℕ) (most : Option ℕ) → is_allowed l m least most ≡ true → AllowedPair l m least most
-allowed_pair l m least most h =
-    let a = is_any least most && (is_any l m || (is_some l m || is_option l m)) in
-    let b = is_some least most && is_some l m in
-    ⊎_elim (λ (z : a ≡ true). pair_any l m least most (and_first (is_any least most) (is_any l m || (is_some l m || is_option l m)) z) (and_second (is_any least most) (is_any l m || (is_some l m || is_option l m)) z)) (λ (z : b ≡ true). pair_some l m least most (and_first (is_some least most) (is_some l m) z) (and_second (is_some least most) (is_some l m) z)) (or_cases a b h)
+allowed_pair l None least None h =
+    ⊎_elim (λ (z : (least == 0 && (l == 0 || l == 1)) ≡ true). under_any l least (and_first (least == 0) (l == 0 || l == 1) z) (and_second (least == 0) (l == 0 || l == 1) z)) (λ (z : (least == 1 && l == 1) ≡ true). under_some l least (and_first (least == 1) (l == 1) z) (and_second (least == 1) (l == 1) z)) (or_cases (least == 0 && (l == 0 || l == 1)) (least == 1 && l == 1) h)
+allowed_pair l (Some m) least None h =
+    let zero_least = eqb-true least 0 (and_first (least == 0) (l == 0 && m == 1) h) in
+    let pair = and_second (least == 0) (l == 0 && m == 1) h in
+    let zero_l = eqb-true l 0 (and_first (l == 0) (m == 1) pair) in
+    let one_m = eqb-true m 1 (and_second (l == 0) (m == 1) pair) in
+    subst (λ x. AllowedPair l (Some m) x None) (sym zero_least) (subst (λ x. AllowedPair x (Some m) 0 None) (sym zero_l) (subst (λ x. AllowedPair 0 (Some x) 0 None) (sym one_m) option_in_any))
+allowed_pair l None least (Some k) h = absurd (true≢false (sym h))
+allowed_pair l (Some m) least (Some k) h = absurd (true≢false (sym h))
 
 module _ (ms : List Span) where
   -- between these places, those that are taken out are these

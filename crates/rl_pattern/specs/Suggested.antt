@@ -110,21 +110,11 @@ module _ (Answers : Tree → Tree → Verdict → Type 0) (body : PatTree) where
     kept_one : {bs dropped passed : List Span} {b : Span} → Tried bs dropped passed → may_go (among (b ∷ dropped)) body ≡ true → Answers (without dropped body) (without (b ∷ dropped) body) apart → Tried (b ∷ bs) dropped passed
     passed_one : {bs dropped passed : List Span} {b : Span} → Tried bs dropped passed → may_go (among (b ∷ dropped)) body ≡ true → Answers (without dropped body) (without (b ∷ dropped) body) passed_by → Tried (b ∷ bs) dropped (b ∷ passed)
 
--- the pairs of an inner quantifier and an outer one of which the inner one may go
-abbrev pub is_any : ℕ → Option ℕ → Bool
-is_any least None = least == 0
-is_any least (Some most) = false
-
-abbrev pub is_some : ℕ → Option ℕ → Bool
-is_some least None = least == 1
-is_some least (Some most) = false
-
-abbrev pub is_option : ℕ → Option ℕ → Bool
-is_option least None = false
-is_option least (Some most) = least == 0 && most == 1
-
+-- the pairs of an inner quantifier and an outer one of which the inner one may go: *, + or ? in *, and + in +
 abbrev pub is_allowed : ℕ → Option ℕ → ℕ → Option ℕ → Bool
-is_allowed l m least most = (is_any least most && (is_any l m || (is_some l m || is_option l m))) || (is_some least most && is_some l m)
+is_allowed l None least None = (least == 0 && (l == 0 || l == 1)) || (least == 1 && l == 1)
+is_allowed l (Some m) least None = least == 0 && (l == 0 && m == 1)
+is_allowed _ _ _ _ = false
 
 -- where a part stands: it is the body of a repeat with these numbers, or the whole content of a group that is such a body, the
 -- flag says whether one that captures, or neither

@@ -4,6 +4,7 @@ use Rattle.rl_ranges.specs.Text.{IsText}
 use Rattle.rl_ranges.specs.declared.universe.Universe.{Universe}
 use Rattle.rl_ranges.specs.declared.universe.Universe.TheVariants.{Str, Bytes}
 use Rattle.rl_pattern.specs.declared.flags.Flags.{Flags}
+use Rattle.rl_pattern.specs.declared.limits.TheConstants.{MOST_OPEN_GROUPS}
 use Rattle.rl_pattern.specs.Tree.{Kind, Node, Branch, Front, Whole}
 use Rattle.rl_pattern.specs.Codes.{inside, splits}
 use Rattle.rl_pattern.specs.Grammar.{Stands, Opening, Items, IsBranches, Fronts, outermost, Spells}
@@ -32,9 +33,9 @@ module _ (text : Bool) (w : List ℕ) where
     none_open : {i k : ℕ} {fl : Flags} {gs : List Front} → Fronts text w call i fl gs → Part outermost fl i k → Open call outermost fl k 0
     one_open : {j k l d : ℕ} {kd outer : Kind} {fl : Flags} → Open call outer fl k d → Opening text w k j kd → Part kd (inside kd fl) j l → Open call kd (inside kd fl) l (suc d)
 
--- the code at p opens a group while 100 are open, by the codes up to p; a (?# and a (?P= open none
+-- the code at p opens a group while as many are open as may be, by the codes up to p; a (?# and a (?P= open none
 pub record TooDeepAt (call : Flags) (text : Bool) (w : List ℕ) (p : ℕ) : Type 0 where
   pub opens : Stands text w p "("
   pub no_remark : ¬ Stands text w p "(?#"
   pub no_reference : ¬ Stands text w p "(?P="
-  pub deep : (kd : Kind) × (fl : Flags) × Open text (take (suc p) w) call kd fl p 100
+  pub deep : (kd : Kind) × (fl : Flags) × Open text (take (suc p) w) call kd fl p MOST_OPEN_GROUPS

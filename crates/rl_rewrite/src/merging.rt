@@ -3,7 +3,7 @@
 ghost use Rattle.std.specs.Prelude.{◌≡◌, ◌++◌, map, IfOk};
 ghost use Rattle.rl_syntax.specs.PatTree.{pat_of, items_of, branches_of};
 ghost use Rattle.rl_syntax.specs.Counting.{branch_tree};
-ghost use Rattle.rl_pattern.specs.Suggested.{is_any as any_times, is_some as some_times, is_option as one_at_most, is_allowed as allowed_pair, goes_out, content, merged_at, items_merged, branches_merged};
+ghost use Rattle.rl_pattern.specs.Suggested.{is_allowed as allowed_pair, goes_out, content, merged_at, items_merged, branches_merged};
 ghost use Rattle.rl_rewrite.specs.internal.Merges.{around_of};
 
 use crate::parts::holds_capture;
@@ -31,36 +31,16 @@ pub(crate) enum Place {
     Inside(bool, Times),
 }
 
-/// Whether it is `*`.
-fn is_any(times: Times) -> bool
-    ensures { result ≡ any_times times.least times.most }
-{
-    times.least == 0 && times.most.is_none()
-}
-
-/// Whether it is `+`.
-fn is_some(times: Times) -> bool
-    ensures { result ≡ some_times times.least times.most }
-{
-    times.least == 1 && times.most.is_none()
-}
-
-/// Whether it is `?`.
-fn is_option(times: Times) -> bool
-    ensures { result ≡ one_at_most times.least times.most }
-{
-    match times.most {
-        Some(most) => times.least == 0 && most == 1,
-        None => false,
-    }
-}
-
-/// Whether an inner repeat may go under an outer one.
+/// Whether an inner repeat may go under an outer one: `*`, `+` or `?` under `*`, and `+` under `+`.
 fn is_allowed(inner: Times, outer: Times) -> bool
     ensures { result ≡ allowed_pair inner.least inner.most outer.least outer.most }
 {
-    let under_any = is_any(inner) || is_some(inner) || is_option(inner);
-    is_any(outer) && under_any || is_some(outer) && is_some(inner)
+    match (inner.most, outer.most) {
+        (None, None) => outer.least == 0 && (inner.least == 0 || inner.least == 1)
+            || outer.least == 1 && inner.least == 1,
+        (Some(most), None) => outer.least == 0 && inner.least == 0 && most == 1,
+        (None, Some(_)) | (Some(_), Some(_)) => false,
+    }
 }
 
 /// Whether the quantifier of a repeat at a place is taken out.
