@@ -7,7 +7,7 @@ use Rattle.rl_syntax.specs.Tree as y
 use Rattle.rl_syntax.specs.PatTree as s
 use Rattle.rl_syntax.specs.Lowering.{in_turn, one_of, lowered, items_lowered, branches_lowered}
 use Rattle.rl_pattern.specs.declared.flags.Flags.{Flags}
-use Rattle.rl_pattern.specs.Tree.{Span, Count, Greed, Escaped, code, too_large, by_name, kind, reference, Member, one, range, Leaf, any, glyph, members, Kind, capturing, named, scoped, lookaround, atomic, conditional, Node, nodes, branches, Branch, branch_body, branch, whole_body}
+use Rattle.rl_pattern.specs.Tree.{Span, Count, Greed, Escaped, code, too_large, by_name, kind, reference, Member, one, range, Leaf, any, glyph, members, Kind, capturing, named, scoped, lookaround, atomic, conditional, SyntaxNode, nodes, branches, Branch, branch_body, branch, whole_body}
 use Rattle.rl_pattern.specs.internal.LeafSets.{some_member}
 use Rattle.rl_pattern.specs.Found.{is_bound, Feature, fault_if, escaped_faults, member_faults, leaf_faults, count_faults, kind_faults, node_faults, nodes_faults, branches_faults, Called, node_names, nodes_names, branches_names, is_leading, trail_of, reversed, is_possessive, overlap, is_locale, is_flag_clash, is_repeat_too_large, is_repeat_order, is_possessive_count, is_reversed_range}
 use Rattle.rl_pattern.specs.Shape.{is_text, shape, shapes, branch_shapes, leaf_codes, closed_holds, within, code_member, kind_member, members_hold, closing}
@@ -120,58 +120,58 @@ module _ (g : ℕ → ℕ) where
 abbrev pub name_of : Called → List ℕ
 name_of c = c.name
 
-abbrev pub names_of : Node → List (List ℕ)
+abbrev pub names_of : SyntaxNode → List (List ℕ)
 names_of p = map name_of (node_names p)
 
 module _ (u : Universe) (drop out : Span → Bool) where
-  abbrev pub tree : Node → y.Tree
+  abbrev pub tree : SyntaxNode → y.Tree
   tree p = lowered (shape u p)
 
-  abbrev pub left_tree : Node → y.Tree
+  abbrev pub left_tree : SyntaxNode → y.Tree
   left_tree p = lowered (left drop out (shape u p))
 
   -- the second is what is left of the first: its tree is the same, it has no fault, and the same groups have names
-  pub record Leaves (p q : Node) : Type 0 where
+  pub record Leaves (p q : SyntaxNode) : Type 0 where
     pub same : tree q ≡ left_tree p
     pub faultless : node_faults (is_text u) p ≡ [] → node_faults (is_text u) q ≡ []
     pub names : names_of q ≡ names_of p
     pub nested : (n : ℕ) → Has q n → Has p n
 
   -- and it is the same outer anchor, if one
-  pub record AlikeEdge (p q : Node) : Type 0 where
+  pub record AlikeEdge (p q : SyntaxNode) : Type 0 where
     pub leads : is_leading q ≡ is_leading p
     pub trails : trail_of q ≡ trail_of p
     pub stays_item : is_item q ≡ true
 
-  pub data LeavesAll : List Node → List Node → Type 0 where
+  pub data LeavesAll : List SyntaxNode → List SyntaxNode → Type 0 where
     all_none : LeavesAll [] []
-    all_more : {p q : Node} {ps qs : List Node} → Leaves p q → AlikeEdge p q → LeavesAll ps qs → LeavesAll (p ∷ ps) (q ∷ qs)
+    all_more : {p q : SyntaxNode} {ps qs : List SyntaxNode} → Leaves p q → AlikeEdge p q → LeavesAll ps qs → LeavesAll (p ∷ ps) (q ∷ qs)
 
-  pub all_snoc : {ps qs : List Node} {p q : Node} → LeavesAll ps qs → Leaves p q → AlikeEdge p q → LeavesAll (ps ++ p ∷ []) (qs ++ q ∷ [])
+  pub all_snoc : {ps qs : List SyntaxNode} {p q : SyntaxNode} → LeavesAll ps qs → Leaves p q → AlikeEdge p q → LeavesAll (ps ++ p ∷ []) (qs ++ q ∷ [])
   all_snoc all_none h e = all_more h e all_none
   all_snoc (all_more a b hs) h e = all_more a b (all_snoc hs h e)
 
-  items_same : {ps qs : List Node} → LeavesAll ps qs → items_lowered (s.items_of (shapes u (nodes qs))) ≡ items_lowered (left_items drop out (s.items_of (shapes u (nodes ps))))
+  items_same : {ps qs : List SyntaxNode} → LeavesAll ps qs → items_lowered (s.items_of (shapes u (nodes qs))) ≡ items_lowered (left_items drop out (s.items_of (shapes u (nodes ps))))
   items_same all_none = refl
   items_same (all_more {p = p} {q = q} {qs = qs} h e hs) = ap (λ t. t ∷ items_lowered (s.items_of (shapes u (nodes qs)))) h.same ∙ ap (λ ts. left_tree p ∷ ts) (items_same hs)
 
-  items_faultless : {ps qs : List Node} → LeavesAll ps qs → nodes_faults (is_text u) (nodes ps) ≡ [] → nodes_faults (is_text u) (nodes qs) ≡ []
+  items_faultless : {ps qs : List SyntaxNode} → LeavesAll ps qs → nodes_faults (is_text u) (nodes ps) ≡ [] → nodes_faults (is_text u) (nodes qs) ≡ []
   items_faultless all_none fine = refl
   items_faultless (all_more {p = p} {q = q} {ps = ps} {qs = qs} h e hs) fine =
       let a = nil_parts (node_faults (is_text u) p) (nodes_faults (is_text u) (nodes ps)) fine in
       nil_join (node_faults (is_text u) q) (nodes_faults (is_text u) (nodes qs)) (h.faultless a.0) (items_faultless hs a.1)
 
-  items_names : {ps qs : List Node} → LeavesAll ps qs → map name_of (nodes_names (nodes qs)) ≡ map name_of (nodes_names (nodes ps))
+  items_names : {ps qs : List SyntaxNode} → LeavesAll ps qs → map name_of (nodes_names (nodes qs)) ≡ map name_of (nodes_names (nodes ps))
   items_names all_none = refl
   items_names (all_more {p = p} {q = q} {ps = ps} {qs = qs} h e hs) =
       map-append name_of (node_names q) (nodes_names (nodes qs)) ∙ ap (λ z. z ++ map name_of (nodes_names (nodes qs))) h.names ∙ ap (λ z. names_of p ++ z) (items_names hs) ∙ sym (map-append name_of (node_names p) (nodes_names (nodes ps)))
 
-  items_nested : {ps qs : List Node} → LeavesAll ps qs → (n : ℕ) → HasSome (nodes qs) n → HasSome (nodes ps) n
+  items_nested : {ps qs : List SyntaxNode} → LeavesAll ps qs → (n : ℕ) → HasSome (nodes qs) n → HasSome (nodes ps) n
   items_nested all_none n x = x
   items_nested (all_more h e hs) n (inl x) = inl (h.nested n x)
   items_nested (all_more h e hs) n (inr x) = inr (items_nested hs n x)
 
-  pub body_leaves : (r t : Span) {ps qs : List Node} → LeavesAll ps qs → Leaves (branch_body r ps) (branch_body t qs)
+  pub body_leaves : (r t : Span) {ps qs : List SyntaxNode} → LeavesAll ps qs → Leaves (branch_body r ps) (branch_body t qs)
   body_leaves r t all_none = record { same = refl; faultless = λ e. refl; names = refl; nested = λ n x. x }
   body_leaves r t (all_more h e all_none) = h
   body_leaves r t (all_more h e (all_more h2 e2 hs)) =
@@ -181,10 +181,10 @@ module _ (u : Universe) (drop out : Span → Bool) where
   -- what is left of branches, where `d` says which are dropped
   pub data LeavesSome (d : Span → Bool) : List Branch → List Branch → Type 0 where
     some_none : LeavesSome d [] []
-    some_stays : {r t : Span} {ps qs : List Node} {bs cs : List Branch} → d r ≡ false → AllItems ps → LeavesAll ps qs → LeavesSome d bs cs → LeavesSome d (branch r ps ∷ bs) (branch t qs ∷ cs)
+    some_stays : {r t : Span} {ps qs : List SyntaxNode} {bs cs : List Branch} → d r ≡ false → AllItems ps → LeavesAll ps qs → LeavesSome d bs cs → LeavesSome d (branch r ps ∷ bs) (branch t qs ∷ cs)
     some_goes : {b : Branch} {bs cs : List Branch} → d b.place ≡ true → node_names b.body ≡ [] → LeavesSome d bs cs → LeavesSome d (b ∷ bs) cs
 
-  pub stays_snoc : (r t : Span) (ps qs : List Node) {d : Span → Bool} {bs cs : List Branch} → LeavesSome d bs cs → d r ≡ false → AllItems ps → LeavesAll ps qs → LeavesSome d (bs ++ branch r ps ∷ []) (cs ++ branch t qs ∷ [])
+  pub stays_snoc : (r t : Span) (ps qs : List SyntaxNode) {d : Span → Bool} {bs cs : List Branch} → LeavesSome d bs cs → d r ≡ false → AllItems ps → LeavesAll ps qs → LeavesSome d (bs ++ branch r ps ∷ []) (cs ++ branch t qs ∷ [])
   stays_snoc r t ps qs some_none e i h = some_stays e i h some_none
   stays_snoc r t ps qs (some_stays x i z hs) e i2 h = some_stays x i z (stays_snoc r t ps qs hs e i2 h)
   stays_snoc r t ps qs (some_goes x z hs) e i h = some_goes x z (stays_snoc r t ps qs hs e i h)

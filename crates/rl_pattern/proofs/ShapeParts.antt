@@ -11,7 +11,7 @@ use Rattle.rl_syntax.specs.Guards.{is_word}
 use Rattle.rl_syntax.specs.PatTree as s
 use Rattle.rl_syntax.specs.IsPattern.{IsPart, AreParts, AreBranches, InOrder}
 use Rattle.rl_pattern.specs.declared.flags.Flags.{Flags}
-use Rattle.rl_pattern.specs.Tree.{Span, Count, Greed, Leaf, Mark, caret, text_start, dollar, text_end, boundary, Kind, capturing, named, scoped, lookaround, atomic, conditional, Node, leaf, mark, repeat, group, nothing, seq, choice, Nodes, no_nodes, more_nodes, Branches, no_branches, more_branches}
+use Rattle.rl_pattern.specs.Tree.{Span, Count, Greed, Leaf, Assertion, caret, text_start, dollar, text_end, boundary, Kind, capturing, named, scoped, lookaround, atomic, conditional, SyntaxNode, leaf, mark, repeat, group, nothing, seq, choice, Nodes, no_nodes, more_nodes, Branches, no_branches, more_branches}
 use Rattle.rl_pattern.specs.Found.{is_bound, Fault, Feature, fault_if, comes_first, earlier, first_fault, is_possessive, count_faults, kind_faults, mark_faults, node_faults, nodes_faults, branches_faults, is_repeat_too_large, is_repeat_order, is_possessive_count}
 use Rattle.rl_pattern.specs.Shape.{is_text, leaf_codes, mark_shape, group_shape, shape, shapes, branch_shapes}
 use Rattle.rl_pattern.proofs.LeafLaws.{ascii_rule}
@@ -49,7 +49,7 @@ word_lies : (u : Universe) (ascii : Bool) → LiesIn u (is_word (ascii || not (i
 unfolding is_word
 word_lies u ascii code h = named_inside Word ascii u code (sym (ap (λ a. is_named Word a code) (ascii_rule ascii u)) ∙ h)
 
-mark_part : (u : Universe) (place : Span) (f : Flags) (m : Mark) → mark_faults place f m ≡ [] → IsPart u (mark_shape u place f m)
+mark_part : (u : Universe) (place : Span) (f : Flags) (m : Assertion) → mark_faults place f m ≡ [] → IsPart u (mark_shape u place f m)
 mark_part u place f caret e = refl
 mark_part u place f text_start e = refl
 mark_part u place f text_end e = refl
@@ -78,7 +78,7 @@ group_part u place atomic t e h = absurd (cc e)
 group_part u place conditional t e h = absurd (cc e)
 
 mutual
-  pub part_of : (u : Universe) (p : Node) → node_faults (is_text u) p ≡ [] → IsPart u (shape u p)
+  pub part_of : (u : Universe) (p : SyntaxNode) → node_faults (is_text u) p ≡ [] → IsPart u (shape u p)
   part_of u (leaf place f x) e = leaf_lies u f x
   part_of u (mark place f m) e = mark_part u place f m e
   part_of u (repeat place q n g p) e =

@@ -5,14 +5,14 @@ use Rattle.std.specs.Prelude.{[], ℕ, ◌+◌, ◌-◌, ◌*◌, Bool, true, fa
 use Rattle.std.specs.List.{list_any}
 pub use Prim.Native.Char.{code as code_of}
 use Rattle.rl_pattern.specs.declared.flags.Flags.{Flags}
-pub use Rattle.rl_pattern.specs.declared.lex.Sign.{Sign}
-pub use Rattle.rl_pattern.specs.declared.lex.Sign.TheVariants.{Left as left, Right as right, Bar as bar, Brace as brace, Slash as slash, Dot as dot, Bracket as bracket, Times as times, Edge as edge, Blank as blank, Sharp as sharp, Plain as plain}
+pub use Rattle.rl_pattern.specs.declared.lex.TokenClass.{TokenClass}
+pub use Rattle.rl_pattern.specs.declared.lex.TokenClass.TheVariants.{Left as left, Right as right, Bar as bar, Brace as brace, Slash as slash, Dot as dot, Bracket as bracket, Times as times, Edge as edge, Blank as blank, Sharp as sharp, Plain as plain}
 pub use Rattle.rl_pattern.specs.declared.lex.Numeral.{Numeral}
 pub use Rattle.rl_pattern.specs.declared.lex.Numeral.TheVariants.{LowDigit as low_digit, HighDigit as high_digit, NoDigit as no_digit}
-pub use Rattle.rl_pattern.specs.declared.lex.Slashed.{Slashed}
-pub use Rattle.rl_pattern.specs.declared.lex.Slashed.TheVariants.{Single as single, Kinds as kinds, Hexes as hexes, Naming as naming, Octal as octal, Low as low, High as high, Edges as edges, NoEscape as no_escape}
-pub use Rattle.rl_pattern.specs.declared.lex.Headed.{Headed}
-pub use Rattle.rl_pattern.specs.declared.lex.Headed.TheVariants.{Letter as letter, Colon as colon, Minus as minus, LetterP as letter_p, Sharps as sharps, Less as less, Greater as greater, Condition as condition, Looks as looks, NoHead as no_head}
+pub use Rattle.rl_pattern.specs.declared.lex.EscapeClass.{EscapeClass}
+pub use Rattle.rl_pattern.specs.declared.lex.EscapeClass.TheVariants.{Single as single, Kinds as kinds, Hexes as hexes, Naming as naming, Octal as octal, Low as low, High as high, Edges as edges, NoEscape as no_escape}
+pub use Rattle.rl_pattern.specs.declared.lex.GroupPrefix.{GroupPrefix}
+pub use Rattle.rl_pattern.specs.declared.lex.GroupPrefix.TheVariants.{Letter as letter, Colon as colon, Minus as minus, LetterP as letter_p, Sharps as sharps, Less as less, Greater as greater, Condition as condition, Looks as looks, NoHead as no_head}
 use Rattle.rl_pattern.specs.Tree.{Count, digits, spaces, words, caret, text_start, dollar, text_end, boundary, Escaped, code, too_large, by_name, kind, reference, Kind, capturing, named, scoped, lookaround, atomic, conditional, Branch}
 
 -- c is the code of this character
@@ -34,7 +34,7 @@ is_blank c = is " " c || is_from "\t" "\r" c
 abbrev pub count : ℕ → Option ℕ → Count
 count m n = record { least = m; most = n }
 
-unfoldable pub sign : ℕ → Sign
+unfoldable pub sign : ℕ → TokenClass
 sign c =
     if is "(" c then left
     else (if is ")" c then right
@@ -85,7 +85,7 @@ unfoldable pub goes_in_name : Bool → ℕ → Bool
 goes_in_name text c = begins_name text c || is_digit c
 
 -- a letter behind a backslash, in text or not, in a class or not. BEL is 7, backspace 8, vertical tab 11, form feed 12
-abbrev pub slashed_letter : Bool → Bool → ℕ → Slashed
+abbrev pub slashed_letter : Bool → Bool → ℕ → EscapeClass
 slashed_letter text in_class c =
     if is "a" c then single 7
     else (if is "f" c then single 12
@@ -110,12 +110,12 @@ slashed_letter text in_class c =
     else no_escape)))))))))))))))))))
 
 -- a digit behind a backslash
-abbrev pub slashed_digit : Bool → Numeral → ℕ → Slashed
+abbrev pub slashed_digit : Bool → Numeral → ℕ → EscapeClass
 slashed_digit in_class (low_digit d) c = if in_class || d == 0 then octal d else low d
 slashed_digit in_class high_digit c = if in_class then no_escape else high
 slashed_digit in_class no_digit c = single c
 
-unfoldable pub slashed : Bool → Bool → ℕ → Slashed
+unfoldable pub slashed : Bool → Bool → ℕ → EscapeClass
 slashed text in_class c =
     if is_letter c then slashed_letter text in_class c else slashed_digit in_class (numeral c) c
 
@@ -139,7 +139,7 @@ unfoldable pub off_letter : ℕ → Bool
 off_letter c = is_in "imsx" c
 
 -- what a code is behind (?
-unfoldable pub headed : ℕ → Headed
+unfoldable pub headed : ℕ → GroupPrefix
 headed c =
     if on_letter c then letter
     else (if is ":" c then colon

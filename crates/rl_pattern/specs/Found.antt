@@ -8,7 +8,7 @@ pub use Rattle.rl_syntax.specs.declared.feature.Feature.TheVariants.{Locale as i
 pub use Rattle.rl_syntax.specs.declared.anchors.Trail.{Trail}
 pub use Rattle.rl_syntax.specs.declared.anchors.Trail.TheVariants.{None as no_trail, Dollar as dollar_trail, End as end_trail}
 pub use Rattle.rl_pattern.specs.declared.faults.Fault.{Fault}
-use Rattle.rl_pattern.specs.Tree.{Span, Named, Count, Greed, greedy, lazy, possessive, Escaped, code, too_large, by_name, kind, reference, Member, one, range, Leaf, any, glyph, members, Mark, caret, text_start, dollar, text_end, boundary, Kind, capturing, named, scoped, lookaround, atomic, conditional, Node, leaf, mark, repeat, group, nothing, seq, choice, Nodes, no_nodes, more_nodes, Branches, no_branches, more_branches, branch_body, Front, Whole}
+use Rattle.rl_pattern.specs.Tree.{Span, Named, Count, Greed, greedy, lazy, possessive, Escaped, code, too_large, by_name, kind, reference, Member, one, range, Leaf, any, glyph, members, Assertion, caret, text_start, dollar, text_end, boundary, Kind, capturing, named, scoped, lookaround, atomic, conditional, SyntaxNode, leaf, mark, repeat, group, nothing, seq, choice, Nodes, no_nodes, more_nodes, Branches, no_branches, more_branches, branch_body, Front, Whole}
 use Rattle.rl_pattern.specs.Codes.{joined}
 
 -- the features in the order that decides at one place
@@ -72,7 +72,7 @@ leaf_faults s (glyph e) = escaped_faults s.from e
 leaf_faults s (members inverse ms) = flat_map member_faults ms
 
 -- a $ without MULTILINE that is no outer anchor
-abbrev pub mark_faults : Span → Flags → Mark → List Fault
+abbrev pub mark_faults : Span → Flags → Assertion → List Fault
 mark_faults s f dollar = fault_if (not f.multiline) s.from is_inner_anchor
 mark_faults s f _ = []
 
@@ -104,7 +104,7 @@ kind_faults text i _ = []
 
 -- the faults of a node, apart from names that stand twice
 abbrev mutual
-  pub node_faults : Bool → Node → List Fault
+  pub node_faults : Bool → SyntaxNode → List Fault
   node_faults text (leaf s f x) = leaf_faults s x
   node_faults text (mark s f m) = mark_faults s f m
   node_faults text (repeat s q n g p) = count_faults q.from n g ++ node_faults text p
@@ -132,7 +132,7 @@ kind_names i _ = []
 
 -- the names of groups in the order of their parentheses
 abbrev mutual
-  pub node_names : Node → List Called
+  pub node_names : SyntaxNode → List Called
   node_names (leaf s f x) = []
   node_names (mark s f m) = []
   node_names (repeat s q n g p) = node_names p
@@ -164,12 +164,12 @@ front_faults text f [] = []
 front_faults text f (g ∷ gs) = front_own text f g ++ front_faults text (joined f g.letters) gs
 
 -- the outer anchors
-abbrev pub is_leading : Node → Bool
+abbrev pub is_leading : SyntaxNode → Bool
 is_leading (mark s f text_start) = true
 is_leading (mark s f caret) = not f.multiline
 is_leading _ = false
 
-abbrev pub trail_of : Node → Trail
+abbrev pub trail_of : SyntaxNode → Trail
 trail_of (mark s f text_end) = end_trail
 trail_of (mark s f dollar) = if f.multiline then no_trail else dollar_trail
 trail_of _ = no_trail
@@ -179,7 +179,7 @@ abbrev pub without_run : {X : Type 0} → (X → Bool) → List X → List X
 without_run test [] = []
 without_run test (x ∷ xs) = if test x then without_run test xs else x ∷ xs
 
-abbrev pub begins_leading : List Node → Bool
+abbrev pub begins_leading : List SyntaxNode → Bool
 begins_leading [] = false
 begins_leading (p ∷ ps) = is_leading p
 
@@ -189,7 +189,7 @@ run_of dollar_trail end_trail = end_trail
 run_of t _ = t
 
 -- the longest run of trailing anchors of items that are given from the end
-abbrev pub trailing_run : List Node → Trail
+abbrev pub trailing_run : List SyntaxNode → Trail
 trailing_run [] = no_trail
 trailing_run (p ∷ ps) = run_of (trail_of p) (trailing_run ps)
 
@@ -198,15 +198,15 @@ drops no_trail = false
 drops _ = true
 
 -- items without the longest runs of leading and of trailing anchors
-abbrev pub inner_items : List Node → List Node
+abbrev pub inner_items : List SyntaxNode → List SyntaxNode
 inner_items ps = reverse (without_run (λ p. drops (trail_of p)) (reverse (without_run is_leading ps)))
 
-abbrev pub listed : Nodes → List Node
+abbrev pub listed : Nodes → List SyntaxNode
 listed no_nodes = []
 listed (more_nodes p ps) = p ∷ listed ps
 
 -- the items of a body of one branch, and nothing for one of several
-abbrev pub items_of : Node → Option (List Node)
+abbrev pub items_of : SyntaxNode → Option (List SyntaxNode)
 items_of (nothing s) = Some []
 items_of (seq s ps) = Some (listed ps)
 items_of (choice s bs) = None
@@ -214,11 +214,11 @@ items_of p = Some (p ∷ [])
 
 -- a pattern without its outer anchors
 pub record Inner : Type 0 where
-  pub body : Node
+  pub body : SyntaxNode
   pub leading : Bool
   pub trail : Trail
 
-abbrev pub inner_of : Span → Node → Option (List Node) → Inner
+abbrev pub inner_of : Span → SyntaxNode → Option (List SyntaxNode) → Inner
 inner_of s p None = record { body = p; leading = false; trail = no_trail }
 inner_of s p (Some ps) = record { body = branch_body s (inner_items ps); leading = begins_leading ps; trail = trailing_run (reverse ps) }
 

@@ -9,7 +9,7 @@ use Rattle.rl_ranges.specs.declared.universe.Universe.TheVariants.{Str, Bytes}
 use Rattle.rl_syntax.specs.declared.anchors.AnchorKind.TheVariants as anchor
 use Rattle.rl_syntax.specs.PatTree as s
 use Rattle.rl_pattern.specs.declared.flags.Flags.{Flags}
-use Rattle.rl_pattern.specs.Tree.{Span, Named, Greed, greedy, lazy, possessive, Escaped, code, kind, Member, one, range, Leaf, any, glyph, members, Mark, caret, text_start, dollar, text_end, boundary, Kind, capturing, named, scoped, lookaround, atomic, conditional, Node, leaf, mark, repeat, group, nothing, seq, choice, Nodes, no_nodes, more_nodes, Branches, no_branches, more_branches}
+use Rattle.rl_pattern.specs.Tree.{Span, Named, Greed, greedy, lazy, possessive, Escaped, code, kind, Member, one, range, Leaf, any, glyph, members, Assertion, caret, text_start, dollar, text_end, boundary, Kind, capturing, named, scoped, lookaround, atomic, conditional, SyntaxNode, leaf, mark, repeat, group, nothing, seq, choice, Nodes, no_nodes, more_nodes, Branches, no_branches, more_branches}
 use Rattle.rl_pattern.specs.Found.{is_lookaround, is_atomic, is_conditional}
 
 -- whether the universe is text
@@ -75,7 +75,7 @@ unfoldable pub leaf_codes : Universe → Flags → Leaf → ℕ → Bool
 leaf_codes u f x = within u (leaf_holds u f x)
 
 -- an anchor with MULTILINE as it is in force, and a boundary, whose words are the ASCII ones under ASCII and in bytes
-abbrev pub mark_shape : Universe → Span → Flags → Mark → s.PatTree
+abbrev pub mark_shape : Universe → Span → Flags → Assertion → s.PatTree
 mark_shape u place f caret = s.anchor place anchor.Caret f.multiline
 mark_shape u place f text_start = s.anchor place anchor.TextStart f.multiline
 mark_shape u place f dollar = s.anchor place anchor.Dollar f.multiline
@@ -94,7 +94,7 @@ group_shape place conditional p = s.outside place is_conditional
 group_shape place _ p = s.group place true p
 
 abbrev mutual
-  pub shape : Universe → Node → s.PatTree
+  pub shape : Universe → SyntaxNode → s.PatTree
   shape u (leaf place f x) = s.class place (leaf_codes u f x)
   shape u (mark place f m) = mark_shape u place f m
   shape u (repeat place q n g p) = s.repeat place q n.least n.most (is_greedy g) (shape u p)

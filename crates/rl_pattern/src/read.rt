@@ -65,7 +65,7 @@ fn at_paren(lex: &Lex) -> bool
         Lex::InHead(_, head) => behind_paren(head),
         Lex::Between
         | Lex::Line
-        | Lex::Remark
+        | Lex::Comment
         | Lex::InBraces(_, _)
         | Lex::Counted(_, _, _, _)
         | Lex::AtSlash(_)
@@ -79,7 +79,9 @@ fn at_paren(lex: &Lex) -> bool
 fn is_too_deep(state: &State, codes: &[u32], place: u32) -> bool
     ensures { result ≡ is_too_deep (state_of state.now) codes.now place }
 {
-    at_paren(&state.lex) && state.base.below.len() == MOST_OPEN_GROUPS && !opens_none(codes, place as usize)
+    at_paren(&state.lex)
+        && state.base.below.len() == MOST_OPEN_GROUPS
+        && !opens_none(codes, place as usize)
 }
 
 /// The state with the code at `place`.

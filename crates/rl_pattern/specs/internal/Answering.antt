@@ -11,7 +11,7 @@ use Rattle.rl_pattern.specs.Codes.{code_of}
 use Rattle.rl_pattern.specs.Grammar.{Spells}
 use Rattle.rl_pattern.specs.Viable.{Begins, Viable, TooDeepAt}
 use Rattle.rl_pattern.specs.internal.Views.{state_of, whole_of}
-use Rattle.rl_pattern.specs.internal.Machine.{State, Lex, between, line, remark, in_braces, counted, at_slash, in_escape, in_head, set_open, in_class, behind_paren, run, start}
+use Rattle.rl_pattern.specs.internal.Machine.{State, Lex, between, line, comment, in_braces, counted, at_slash, in_escape, in_head, set_open, in_class, behind_paren, run, start}
 use Rattle.rl_pattern.specs.Answers.{Shallow}
 
 -- a group that opens too deep comes first, the first of several, then that no pattern is spelled, with the length of the
@@ -36,7 +36,7 @@ abbrev pub at_paren : Lex → Bool
 at_paren (in_head a h) = behind_paren h
 at_paren between = false
 at_paren line = false
-at_paren remark = false
+at_paren comment = false
 at_paren (in_braces a t) = false
 at_paren (counted a p q n) = false
 at_paren (at_slash a) = false

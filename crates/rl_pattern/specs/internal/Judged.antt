@@ -27,14 +27,14 @@ both_trails f.no_trail second = second
 both_trails first second = f.run_of first second
 
 -- items without the longest run of leading anchors, and from the end, without that of trailing ones
-abbrev pub without_leading : List t.Node → List t.Node
+abbrev pub without_leading : List t.SyntaxNode → List t.SyntaxNode
 without_leading ps = f.without_run f.is_leading ps
 
-abbrev pub without_trailing : List t.Node → List t.Node
+abbrev pub without_trailing : List t.SyntaxNode → List t.SyntaxNode
 without_trailing ps = f.without_run (λ p. f.drops (f.trail_of p)) ps
 
 -- the trailing anchor that the first of these items is
-abbrev pub trail_at : List t.Node → f.Trail
+abbrev pub trail_at : List t.SyntaxNode → f.Trail
 trail_at [] = f.no_trail
 trail_at (p ∷ ps) = f.trail_of p
 
