@@ -9,7 +9,7 @@ use Rattle.rl_syntax.specs.PatTree.{PatTree, PatTrees, BranchTrees, nothing, cla
 use Rattle.rl_syntax.specs.SameSpans.{Unguarded, OneLanguage}
 use Rattle.rl_syntax.proofs.Guardless.{AllUnguarded, turn_unguarded, one_unguarded, times_unguarded}
 use Rattle.rl_pattern.specs.Cut.{choice_of, left, left_items, left_branches}
-use Rattle.rl_pattern.specs.Suggested.{among, holds_guard, any_item, is_guard, any_branch, may_go, without, Verdict, equal, Tried, none_tried, left_alone, dropped_one, kept_one, passed_one}
+use Rattle.rl_pattern.specs.Suggested.{among, holds_guard, some_guard, branch_guard, may_go, without, Verdict, equal, Tried, none_tried, left_alone, dropped_one, kept_one, passed_one}
 use Rattle.rl_pattern.proofs.Linking.{or_none}
 use Rattle.rl_pattern.proofs.Rising.{Fewer, none_fewer, left_out, taken}
 
@@ -65,14 +65,14 @@ module _ (drop out : Span → Bool) where
     left_unguarded (boundary s n a) h = absurd (true≢false h)
     left_unguarded (outside s f) h = tt
 
-    items_unguarded : (ps : PatTrees) → any_item is_guard ps ≡ false → AllUnguarded (items_lowered (left_items drop out ps))
+    items_unguarded : (ps : PatTrees) → some_guard ps ≡ false → AllUnguarded (items_lowered (left_items drop out ps))
     items_unguarded no_items h = tt
-    items_unguarded (item p ps) h = let c = or_none (holds_guard p) (any_item is_guard ps) h in (left_unguarded p c.0, items_unguarded ps c.1)
+    items_unguarded (item p ps) h = let c = or_none (holds_guard p) (some_guard ps) h in (left_unguarded p c.0, items_unguarded ps c.1)
 
-    branches_unguarded : (bs : BranchTrees) → any_branch is_guard bs ≡ false → AllUnguarded (branches_lowered (left_branches drop out bs))
+    branches_unguarded : (bs : BranchTrees) → branch_guard bs ≡ false → AllUnguarded (branches_lowered (left_branches drop out bs))
     branches_unguarded no_branches h = tt
     branches_unguarded (branch s p bs) h =
-        let c = or_none (holds_guard p) (any_branch is_guard bs) h in
+        let c = or_none (holds_guard p) (branch_guard bs) h in
         let k = left_unguarded p c.0 in
         let ks = branches_unguarded bs c.1 in
         cond_both (drop s) (left_branches drop out bs) (branch s (left drop out p) (left_branches drop out bs)) (λ t. AllUnguarded (branches_lowered t)) (λ z. ks) (λ z. (k, ks))

@@ -5,7 +5,7 @@ use Rattle.rl_syntax.specs.PatTree as s
 use Rattle.rl_pattern.specs.Tree.{Span, Kind, capturing, named, scoped, lookaround, atomic, conditional, SyntaxNode, leaf, mark, repeat, group, nothing, seq, choice, Nodes, no_nodes, more_nodes, Branches, no_branches, more_branches}
 use Rattle.rl_pattern.specs.Found.{kind_faults, count_faults, node_faults, nodes_faults, branches_faults, node_names, nodes_names, branches_names, kind_names}
 use Rattle.rl_pattern.specs.Shape.{is_text, shape, shapes, branch_shapes, group_shape}
-use Rattle.rl_pattern.specs.Suggested.{holds_capture, any_item, is_capture, any_branch, some_kept, may_go, items_may_go, branches_may_go}
+use Rattle.rl_pattern.specs.Suggested.{holds_capture, some_capture, branch_capture, some_kept, may_go, items_may_go, branches_may_go}
 use Rattle.rl_pattern.proofs.Leaves.{nil_parts}
 use Rattle.rl_pattern.proofs.Linking.{Good, AllGood, GoodBranches, some_stay, is_plain, and_first, and_second, or_none, not_true}
 
@@ -43,18 +43,18 @@ module _ (u : Universe) where
     nameless (seq r ps) e h = items_nameless ps e h
     nameless (choice r bs) e h = branches_nameless bs e h
 
-    items_nameless : (ps : Nodes) → nodes_faults (is_text u) ps ≡ [] → any_item is_capture (s.items_of (shapes u ps)) ≡ false → nodes_names ps ≡ []
+    items_nameless : (ps : Nodes) → nodes_faults (is_text u) ps ≡ [] → some_capture (s.items_of (shapes u ps)) ≡ false → nodes_names ps ≡ []
     items_nameless no_nodes e h = refl
     items_nameless (more_nodes p ps) e h =
         let fs = nil_parts (node_faults (is_text u) p) (nodes_faults (is_text u) ps) e in
-        let c = or_none (holds_capture (shape u p)) (any_item is_capture (s.items_of (shapes u ps))) h in
+        let c = or_none (holds_capture (shape u p)) (some_capture (s.items_of (shapes u ps))) h in
         nil_both (node_names p) (nodes_names ps) (nameless p fs.0 c.0) (items_nameless ps fs.1 c.1)
 
-    branches_nameless : (bs : Branches) → branches_faults (is_text u) bs ≡ [] → any_branch is_capture (s.branches_of (branch_shapes u bs)) ≡ false → branches_names bs ≡ []
+    branches_nameless : (bs : Branches) → branches_faults (is_text u) bs ≡ [] → branch_capture (s.branches_of (branch_shapes u bs)) ≡ false → branches_names bs ≡ []
     branches_nameless no_branches e h = refl
     branches_nameless (more_branches r p bs) e h =
         let fs = nil_parts (node_faults (is_text u) p) (branches_faults (is_text u) bs) e in
-        let c = or_none (holds_capture (shape u p)) (any_branch is_capture (s.branches_of (branch_shapes u bs))) h in
+        let c = or_none (holds_capture (shape u p)) (branch_capture (s.branches_of (branch_shapes u bs))) h in
         nil_both (node_names p) (branches_names bs) (nameless p fs.0 c.0) (branches_nameless bs fs.1 c.1)
 
   module _ (drop out : Span → Bool) where

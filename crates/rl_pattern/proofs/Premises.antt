@@ -7,7 +7,7 @@ use Rattle.rl_pattern.specs.Tree.{Span, SyntaxNode, leaf, mark, repeat, group, n
 use Rattle.rl_pattern.specs.internal.Judged.{without_leading, without_trailing}
 use Rattle.rl_pattern.specs.Found.{is_leading, trail_of, drops, no_trail, inner_items, items_of, inner_of}
 use Rattle.rl_pattern.specs.Shape.{shape, shapes, branch_shapes}
-use Rattle.rl_pattern.specs.Suggested.{holds_guard, any_item, is_guard, any_branch}
+use Rattle.rl_pattern.specs.Suggested.{holds_guard, some_guard, branch_guard}
 use Rattle.rl_pattern.proofs.Holes.{hole, holes, body_holes, mark_hole, holes_snoc}
 use Rattle.rl_pattern.proofs.Linking.{Good, AllGood, or_none, no_true}
 use Rattle.rl_pattern.proofs.OuterAnchors.{AllBare, BareSome}
@@ -103,10 +103,10 @@ module _ (u : Universe) (drop out : Span → Bool) where
   item_bare (seq r ps) h = (refl, refl)
   item_bare (choice r bs) h = (refl, refl)
 
-  list_bare : (ps : List SyntaxNode) → any_item is_guard (s.items_of (shapes u (nodes ps))) ≡ false → AllBare ps
+  list_bare : (ps : List SyntaxNode) → some_guard (s.items_of (shapes u (nodes ps))) ≡ false → AllBare ps
   list_bare [] h = tt
   list_bare (p ∷ ps) h =
-      let c = or_none (holds_guard (shape u p)) (any_item is_guard (s.items_of (shapes u (nodes ps)))) h in
+      let c = or_none (holds_guard (shape u p)) (some_guard (s.items_of (shapes u (nodes ps)))) h in
       let b = item_bare p c.0 in
       (b.0, b.1, list_bare ps c.1)
 
@@ -115,10 +115,10 @@ module _ (u : Universe) (drop out : Span → Bool) where
   body_bare r (p ∷ []) h = let b = item_bare p h in (b.0, b.1, tt)
   body_bare r (p ∷ q ∷ ps) h = list_bare (p ∷ q ∷ ps) h
 
-  some_bare : (bs : List Branch) → any_branch is_guard (s.branches_of (branch_shapes u (branches bs))) ≡ false → BareSome u drop out bs
+  some_bare : (bs : List Branch) → branch_guard (s.branches_of (branch_shapes u (branches bs))) ≡ false → BareSome u drop out bs
   some_bare [] h = tt
   some_bare (b ∷ bs) h =
-      let c = or_none (holds_guard (shape u b.body)) (any_branch is_guard (s.branches_of (branch_shapes u (branches bs)))) h in
+      let c = or_none (holds_guard (shape u b.body)) (branch_guard (s.branches_of (branch_shapes u (branches bs)))) h in
       ((λ r ps e. body_bare r ps (sym (ap (λ x. holds_guard (shape u x.body)) e) ∙ c.0)), some_bare bs c.1)
 
   pub whole_bare : (r : Span) (bs : List Branch) → holds_guard (shape u (whole_body r bs)) ≡ false → BareSome u drop out bs

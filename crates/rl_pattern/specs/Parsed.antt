@@ -52,7 +52,7 @@ pub record IsMisspelled (flags : Flags) (u : Universe) (w : List ℕ) (n : ℕ) 
   pub none : (whole : t.Whole) → Spells flags (is_text u) w whole → ⊥
   pub shallow : Shallow flags (is_text u) w
 
--- the first group that opens while as many are open as may be stands at `p`, and the codes up to it begin a spelled pattern
+-- the first group that opens while MOST_OPEN_GROUPS are open stands at `p`, and the codes up to it begin a spelled pattern
 pub record IsTooDeep (flags : Flags) (u : Universe) (w : List ℕ) (p : ℕ) : Type 0 where
   pub asked : IsAsked flags u w
   pub deep : TooDeepAt flags (is_text u) w p

@@ -1,6 +1,5 @@
 -- Right suggestions. Branches and quantifiers are named by their spans in the pattern as written.
 use Rattle.std.specs.Prelude.{◌≡◌, ℕ, Bool, true, false, not, ◌&&◌, ◌||◌, ◌==◌, if◌then◌else◌, List, [], ◌∷◌, ◌++◌, Option, Some, None}
-use Rattle.std.specs.List.{list_any}
 use Rattle.rl_syntax.specs.declared.span.Span.{Span}
 use Rattle.rl_syntax.specs.Tree.{Tree}
 use Rattle.rl_syntax.specs.Lowering.{lowered}
@@ -12,45 +11,47 @@ abbrev pub same_span : Span → Span → Bool
 same_span r s = r.from == s.from && r.upto == s.upto
 
 abbrev pub among : List Span → Span → Bool
-among spans s = list_any (λ r. same_span r s) spans
+among [] s = false
+among (r ∷ rs) s = same_span r s || among rs s
 
 abbrev pub no_span : Span → Bool
 no_span s = false
 
--- whether some part of a pattern passes a test
-module _ (test : PatTree → Bool) where
-  abbrev mutual
-    pub any_part : PatTree → Bool
-    any_part (seq s ps) = test (seq s ps) || any_item ps
-    any_part (choice s bs) = test (choice s bs) || any_branch bs
-    any_part (repeat s q least most greedy p) = test (repeat s q least most greedy p) || any_part p
-    any_part (group s captures p) = test (group s captures p) || any_part p
-    any_part p = test p
+-- whether a part holds a group that captures
+abbrev mutual
+  pub holds_capture : PatTree → Bool
+  holds_capture (seq s ps) = some_capture ps
+  holds_capture (choice s bs) = branch_capture bs
+  holds_capture (repeat s q least most greedy p) = holds_capture p
+  holds_capture (group s captures p) = captures || holds_capture p
+  holds_capture _ = false
 
-    pub any_item : PatTrees → Bool
-    any_item no_items = false
-    any_item (item p ps) = any_part p || any_item ps
+  pub some_capture : PatTrees → Bool
+  some_capture no_items = false
+  some_capture (item p ps) = holds_capture p || some_capture ps
 
-    pub any_branch : BranchTrees → Bool
-    any_branch no_branches = false
-    any_branch (branch s p bs) = any_part p || any_branch bs
+  pub branch_capture : BranchTrees → Bool
+  branch_capture no_branches = false
+  branch_capture (branch s p bs) = holds_capture p || branch_capture bs
 
-abbrev pub is_capture : PatTree → Bool
-is_capture (group s captures p) = captures
-is_capture _ = false
+-- whether a part holds a guard: an anchor or a boundary
+abbrev mutual
+  pub holds_guard : PatTree → Bool
+  holds_guard (seq s ps) = some_guard ps
+  holds_guard (choice s bs) = branch_guard bs
+  holds_guard (repeat s q least most greedy p) = holds_guard p
+  holds_guard (group s captures p) = holds_guard p
+  holds_guard (anchor s kind multiline) = true
+  holds_guard (boundary s negated ascii) = true
+  holds_guard _ = false
 
-abbrev pub is_guard : PatTree → Bool
-is_guard (anchor s kind multiline) = true
-is_guard (boundary s negated ascii) = true
-is_guard _ = false
+  pub some_guard : PatTrees → Bool
+  some_guard no_items = false
+  some_guard (item p ps) = holds_guard p || some_guard ps
 
--- whether a part is a group that captures
-abbrev pub holds_capture : PatTree → Bool
-holds_capture p = any_part is_capture p
-
--- whether a part is a guard: an anchor or a boundary
-abbrev pub holds_guard : PatTree → Bool
-holds_guard p = any_part is_guard p
+  pub branch_guard : BranchTrees → Bool
+  branch_guard no_branches = false
+  branch_guard (branch s p bs) = holds_guard p || branch_guard bs
 
 -- the spans of the branches, by rising place
 abbrev mutual

@@ -33,7 +33,7 @@ module _ (text : Bool) (w : List ℕ) where
     none_open : {i k : ℕ} {fl : Flags} {gs : List Front} → Fronts text w call i fl gs → Part outermost fl i k → Open call outermost fl k 0
     one_open : {j k l d : ℕ} {kd outer : Kind} {fl : Flags} → Open call outer fl k d → Opening text w k j kd → Part kd (inside kd fl) j l → Open call kd (inside kd fl) l (suc d)
 
--- the code at p opens a group while as many are open as may be, by the codes up to p; a (?# and a (?P= open none
+-- the code at p opens a group while MOST_OPEN_GROUPS are open, by the codes up to p; a (?# and a (?P= open none
 pub record TooDeepAt (call : Flags) (text : Bool) (w : List ℕ) (p : ℕ) : Type 0 where
   pub opens : Stands text w p "("
   pub no_comment : ¬ Stands text w p "(?#"

@@ -6,7 +6,7 @@ use Rattle.rl_syntax.specs.declared.span.Span.{Span}
 use Rattle.rl_syntax.specs.IsPattern.{IsPart, AreParts, AreBranches, IsPattern, is_leading_item, is_trailing_item, begins_anchored, ends_anchored, is_bare}
 use Rattle.rl_syntax.specs.PatTree.{PatTree, PatTrees, BranchTrees, nothing, class, seq, choice, repeat, group, anchor, boundary, outside, no_items, item, no_branches, branch, items_of, branches_of}
 use Rattle.rl_pattern.specs.Cut.{choice_of, left, left_items, left_branches}
-use Rattle.rl_pattern.specs.Suggested.{no_span, holds_guard, any_item, is_guard, any_branch}
+use Rattle.rl_pattern.specs.Suggested.{no_span, holds_guard, some_guard, branch_guard}
 use Rattle.rl_pattern.proofs.Linking.{or_none}
 use Rattle.rl_rewrite.specs.internal.LeftLists.{all_left, some_left}
 
@@ -58,7 +58,7 @@ both_none true b p q = absurd (true≢false p)
 both_none false true p q = absurd (true≢false q)
 
 module _ (drop : Span → Bool) where
-  choice_guardless : (s : Span) (bs : BranchTrees) → any_branch is_guard bs ≡ false → holds_guard (choice_of s bs) ≡ false
+  choice_guardless : (s : Span) (bs : BranchTrees) → branch_guard bs ≡ false → holds_guard (choice_of s bs) ≡ false
   choice_guardless s no_branches h = refl
   choice_guardless s (branch r p no_branches) h = (or_none (holds_guard p) false h).0
   choice_guardless s (branch r p (branch t q bs)) h = h
@@ -75,17 +75,17 @@ module _ (drop : Span → Bool) where
     left_guardless (boundary s n a) h = h
     left_guardless (outside s f) h = h
 
-    items_guardless : (ps : PatTrees) → any_item is_guard ps ≡ false → any_item is_guard (left_items drop no_span ps) ≡ false
+    items_guardless : (ps : PatTrees) → some_guard ps ≡ false → some_guard (left_items drop no_span ps) ≡ false
     items_guardless no_items h = refl
-    items_guardless (item p ps) h = let c = or_none (holds_guard p) (any_item is_guard ps) h in both_none (holds_guard (left drop no_span p)) (any_item is_guard (left_items drop no_span ps)) (left_guardless p c.0) (items_guardless ps c.1)
+    items_guardless (item p ps) h = let c = or_none (holds_guard p) (some_guard ps) h in both_none (holds_guard (left drop no_span p)) (some_guard (left_items drop no_span ps)) (left_guardless p c.0) (items_guardless ps c.1)
 
-    branches_guardless : (bs : BranchTrees) → any_branch is_guard bs ≡ false → any_branch is_guard (left_branches drop no_span bs) ≡ false
+    branches_guardless : (bs : BranchTrees) → branch_guard bs ≡ false → branch_guard (left_branches drop no_span bs) ≡ false
     branches_guardless no_branches h = refl
     branches_guardless (branch s p bs) h =
-        let c = or_none (holds_guard p) (any_branch is_guard bs) h in
+        let c = or_none (holds_guard p) (branch_guard bs) h in
         let one = left_guardless p c.0 in
         let more = branches_guardless bs c.1 in
-        cond_both (drop s) (left_branches drop no_span bs) (branch s (left drop no_span p) (left_branches drop no_span bs)) (λ b. any_branch is_guard b ≡ false) (λ z. more) (λ z. both_none (holds_guard (left drop no_span p)) (any_branch is_guard (left_branches drop no_span bs)) one more)
+        cond_both (drop s) (left_branches drop no_span bs) (branch s (left drop no_span p) (left_branches drop no_span bs)) (λ b. branch_guard b ≡ false) (λ z. more) (λ z. both_none (holds_guard (left drop no_span p)) (branch_guard (left_branches drop no_span bs)) one more)
 
 no_leading : (p : PatTree) → holds_guard p ≡ false → is_leading_item p ≡ false
 no_leading (nothing s) h = refl
@@ -109,14 +109,14 @@ no_trailing (anchor s k m) h = absurd (true≢false h)
 no_trailing (boundary s n a) h = refl
 no_trailing (outside s f) h = refl
 
-no_begin : (ps : PatTrees) → any_item is_guard ps ≡ false → begins_anchored ps ≡ false
+no_begin : (ps : PatTrees) → some_guard ps ≡ false → begins_anchored ps ≡ false
 no_begin no_items h = refl
-no_begin (item p ps) h = no_leading p (or_none (holds_guard p) (any_item is_guard ps) h).0
+no_begin (item p ps) h = no_leading p (or_none (holds_guard p) (some_guard ps) h).0
 
-no_end : (ps : PatTrees) → any_item is_guard ps ≡ false → ends_anchored ps ≡ false
+no_end : (ps : PatTrees) → some_guard ps ≡ false → ends_anchored ps ≡ false
 no_end no_items h = refl
 no_end (item p no_items) h = no_trailing p (or_none (holds_guard p) false h).0
-no_end (item p (item q ps)) h = no_end (item q ps) (or_none (holds_guard p) (any_item is_guard (item q ps)) h).1
+no_end (item p (item q ps)) h = no_end (item q ps) (or_none (holds_guard p) (some_guard (item q ps)) h).1
 
 both_not : (a b : Bool) → a ≡ false → b ≡ false → (not a && not b) ≡ true
 both_not false false p q = refl

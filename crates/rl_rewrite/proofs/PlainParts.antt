@@ -12,7 +12,7 @@ use Rattle.rl_syntax.specs.declared.pat.Branch.{Branch}
 use Rattle.rl_syntax.specs.declared.pat.Pat.TheVariants as V
 use Rattle.rl_pattern.specs.declared.flags.Flags.{Flags}
 use Rattle.rl_pattern.specs.Cut.{left, left_items}
-use Rattle.rl_pattern.specs.Suggested.{among, no_span, holds_capture, any_item, is_capture, branches_in, items_branches, choice_branches, is_allowed, merged_in, items_merged, under, merged_at, inside, Tried, none_tried}
+use Rattle.rl_pattern.specs.Suggested.{among, no_span, holds_capture, some_capture, branches_in, items_branches, choice_branches, is_allowed, merged_in, items_merged, under, merged_at, inside, Tried, none_tried}
 use Rattle.rl_pattern.proofs.Linking.{or_none}
 use Rattle.rl_rewrite.specs.Plain.{IsPlain, empty_suggestion}
 use Rattle.rl_rewrite.specs.RightSuggestion.{IsRightSuggestion}
@@ -95,10 +95,10 @@ mutual
   captures_left (boundary s n a) h = refl
   captures_left (outside s f) h = refl
 
-  some_captures : (ps : PatTrees) → items_branches ps ≡ [] → any_item is_capture (left_items (among []) no_span ps) ≡ any_item is_capture ps
+  some_captures : (ps : PatTrees) → items_branches ps ≡ [] → some_capture (left_items (among []) no_span ps) ≡ some_capture ps
   some_captures no_items h = refl
   some_captures (item p ps) h =
-      ap (λ b. b || any_item is_capture (left_items (among []) no_span ps)) (captures_left p (none_first (branches_in p) (items_branches ps) h))
+      ap (λ b. b || some_capture (left_items (among []) no_span ps)) (captures_left p (none_first (branches_in p) (items_branches ps) h))
       ∙ ap (λ b. holds_capture p || b) (some_captures ps (none_last (branches_in p) (items_branches ps) h))
 
 -- and the same quantifiers are taken out of it

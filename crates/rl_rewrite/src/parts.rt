@@ -4,7 +4,8 @@ ghost use Rattle.std.specs.Prelude.{◌≡◌, map};
 ghost use Rattle.rl_syntax.specs.PatTree.{pat_of, items_of, branches_of};
 ghost use Rattle.rl_syntax.specs.Counting.{branch_tree};
 ghost use Rattle.rl_pattern.specs.Suggested.{among as lies_among};
-ghost use Rattle.rl_pattern.specs.Suggested.{any_item, any_branch, is_guard, is_capture, holds_guard as guard_in, holds_capture as capture_in};
+ghost use Rattle.rl_pattern.specs.Suggested.{holds_guard as guard_in, some_guard, branch_guard};
+ghost use Rattle.rl_pattern.specs.Suggested.{holds_capture as capture_in, some_capture, branch_capture};
 
 use rl_syntax::{Branch, Pat, Span};
 
@@ -36,7 +37,7 @@ pub(crate) fn holds_guard(part: &Pat) -> bool
 /// Whether one of the items does.
 #[cycle(guards)]
 fn items_hold_guard(items: &[Pat]) -> bool
-    ensures { result ≡ any_item is_guard (items_of (map pat_of items.now)) }
+    ensures { result ≡ some_guard (items_of (map pat_of items.now)) }
 {
     let mut held = false;
     for item in items {
@@ -48,7 +49,7 @@ fn items_hold_guard(items: &[Pat]) -> bool
 /// Whether one of the branches does.
 #[cycle(guards)]
 fn branches_hold_guard(branches: &[Branch]) -> bool
-    ensures { result ≡ any_branch is_guard (branches_of (map branch_tree branches.now)) }
+    ensures { result ≡ branch_guard (branches_of (map branch_tree branches.now)) }
 {
     let mut held = false;
     for branch in branches {
@@ -78,7 +79,7 @@ pub(crate) fn holds_capture(part: &Pat) -> bool
 /// Whether one of the items does.
 #[cycle(captures)]
 fn items_hold_capture(items: &[Pat]) -> bool
-    ensures { result ≡ any_item is_capture (items_of (map pat_of items.now)) }
+    ensures { result ≡ some_capture (items_of (map pat_of items.now)) }
 {
     let mut held = false;
     for item in items {
@@ -90,7 +91,7 @@ fn items_hold_capture(items: &[Pat]) -> bool
 /// Whether one of the branches does.
 #[cycle(captures)]
 fn branches_hold_capture(branches: &[Branch]) -> bool
-    ensures { result ≡ any_branch is_capture (branches_of (map branch_tree branches.now)) }
+    ensures { result ≡ branch_capture (branches_of (map branch_tree branches.now)) }
 {
     let mut held = false;
     for branch in branches {

@@ -2,11 +2,11 @@
 use Rattle.std.proofs.Common.{◌≡◌, drop, map, ◌||◌}
 use Rattle.rl_syntax.specs.PatTree.{pat_of, items_of, branches_of}
 use Rattle.rl_syntax.specs.Counting.{branch_tree}
-use Rattle.rl_pattern.specs.Suggested.{any_item, is_capture, any_branch}
+use Rattle.rl_pattern.specs.Suggested.{some_capture, branch_capture}
 use Rattle.rl_rewrite.proofs.parts.+captures.Given as goal
 
 abbrev pub invariant-branches_hold_capture-loop-branch : goal.invariant-branches_hold_capture-loop-branch
-invariant-branches_hold_capture-loop-branch l = (l.held || any_branch is_capture (branches_of (map branch_tree (drop l.branch-index l.branches)))) ≡ any_branch is_capture (branches_of (map branch_tree l.branches))
+invariant-branches_hold_capture-loop-branch l = (l.held || branch_capture (branches_of (map branch_tree (drop l.branch-index l.branches)))) ≡ branch_capture (branches_of (map branch_tree l.branches))
 
 abbrev pub invariant-items_hold_capture-loop-item : goal.invariant-items_hold_capture-loop-item
-invariant-items_hold_capture-loop-item l = (l.held || any_item is_capture (items_of (map pat_of (drop l.item-index l.items)))) ≡ any_item is_capture (items_of (map pat_of l.items))
+invariant-items_hold_capture-loop-item l = (l.held || some_capture (items_of (map pat_of (drop l.item-index l.items)))) ≡ some_capture (items_of (map pat_of l.items))
