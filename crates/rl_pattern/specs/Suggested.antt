@@ -20,11 +20,15 @@ no_span s = false
 -- whether a part holds a group that captures
 abbrev mutual
   pub holds_capture : PatTree → Bool
+  holds_capture (nothing s) = false
+  holds_capture (class s set) = false
   holds_capture (seq s ps) = some_capture ps
   holds_capture (choice s bs) = branch_capture bs
   holds_capture (repeat s q least most greedy p) = holds_capture p
   holds_capture (group s captures p) = captures || holds_capture p
-  holds_capture _ = false
+  holds_capture (anchor s kind multiline) = false
+  holds_capture (boundary s negated ascii) = false
+  holds_capture (outside s what) = false
 
   pub some_capture : PatTrees → Bool
   some_capture no_items = false
@@ -37,13 +41,15 @@ abbrev mutual
 -- whether a part holds a guard: an anchor or a boundary
 abbrev mutual
   pub holds_guard : PatTree → Bool
+  holds_guard (nothing s) = false
+  holds_guard (class s set) = false
   holds_guard (seq s ps) = some_guard ps
   holds_guard (choice s bs) = branch_guard bs
   holds_guard (repeat s q least most greedy p) = holds_guard p
   holds_guard (group s captures p) = holds_guard p
   holds_guard (anchor s kind multiline) = true
   holds_guard (boundary s negated ascii) = true
-  holds_guard _ = false
+  holds_guard (outside s what) = false
 
   pub some_guard : PatTrees → Bool
   some_guard no_items = false
@@ -79,11 +85,15 @@ some_kept drop (branch s p bs) = not (drop s) || some_kept drop bs
 module _ (drop : Span → Bool) where
   abbrev mutual
     pub may_go : PatTree → Bool
+    may_go (nothing s) = true
+    may_go (class s set) = true
     may_go (seq s ps) = items_may_go ps
     may_go (choice s bs) = some_kept drop bs && branches_may_go bs
     may_go (repeat s q least most greedy p) = may_go p
     may_go (group s captures p) = may_go p
-    may_go _ = true
+    may_go (anchor s kind multiline) = true
+    may_go (boundary s negated ascii) = true
+    may_go (outside s what) = true
 
     pub items_may_go : PatTrees → Bool
     items_may_go no_items = true
