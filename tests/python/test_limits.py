@@ -12,6 +12,8 @@ CONSTANT = re.compile(r"^ *(?:pub(?:\(crate\))? )?const ([A-Z_]+): [a-z0-9]+ = (
 NUMBER = re.compile(r"[0-9][0-9,]*")
 # the constant that decides, for what a row names first
 DECIDES = {
+    "characters of a pattern": "rl_pattern/src/limits.rt MOST_CODES",
+    "open groups": "rl_pattern/src/limits.rt MOST_OPEN_GROUPS",
     "`size`": "rl_syntax/src/limits.rt MOST_NODES",
     "`letters`": "rl_ranges/src/letters.rt MOST_LETTERS",
     "`moves`": "rl_syntax/src/limits.rt MOST_MOVES",
@@ -24,8 +26,8 @@ DECIDES = {
     "bytes of a baseline or a certificate": "rl_sarif/src/reading.rt MAX_BYTES",
     "levels of folders": "rl_walk/src/walking.rt MOST_LEVELS",
 }
-# rows whose number stands in the code without a name
-UNNAMED = ("characters of a pattern", "open groups", "the number in `{m,n}`")
+# the row whose number stands in the code without a name
+UNNAMED = ("the number in `{m,n}`",)
 
 
 def rows() -> Dict[str, List[str]]:

@@ -2,19 +2,20 @@
 use Rattle.std.proofs.Common.{◌≡◌, Bool, true, false, cond, List, [], ◌∷◌, ◌++◌, map, reverse, Some, refl, sym, ap, ◌∙◌}
 use Rattle.std.proofs.lemmas.Bool.{false≢true}
 use Rattle.std.proofs.lemmas.List.{map-append, reverse-append, reverse-reverse}
-use Rattle.rl_pattern.specs.declared.tree.Node.{Node as Spelled}
-use Rattle.rl_pattern.specs.declared.tree.Node.TheViews as V
-use Rattle.rl_pattern.specs.declared.tree.Node.TheFolds.{the_lemmas}
+use Rattle.rl_pattern.specs.declared.tree.SyntaxNode.{SyntaxNode as Spelled}
+use Rattle.rl_pattern.specs.declared.tree.SyntaxNode.TheViews as V
+use Rattle.rl_pattern.specs.declared.tree.SyntaxNode.TheFolds.{the_lemmas}
 use Rattle.rl_pattern.specs.internal.Views.{node_of}
-use Rattle.rl_pattern.specs.Tree.{Span, Node, leaf, mark, repeat, group, nothing, seq, choice, nodes, branch_body, caret, text_start, dollar, text_end, boundary}
-use Rattle.rl_pattern.specs.Found.{Trail, no_trail, is_leading, begins_leading, without_leading, trail_of, run_of, trailing_run, without_trailing, inner_items, inner_of, listed}
+use Rattle.rl_pattern.specs.Tree.{Span, SyntaxNode, leaf, mark, repeat, group, nothing, seq, choice, nodes, branch_body, caret, text_start, dollar, text_end, boundary}
+use Rattle.rl_pattern.specs.internal.Judged.{without_leading, without_trailing}
+use Rattle.rl_pattern.specs.Found.{Trail, no_trail, is_leading, begins_leading, trail_of, run_of, trailing_run, inner_items, inner_of, listed}
 
-pub listed-nodes : (ps : List Node) → listed (nodes ps) ≡ ps
+pub listed-nodes : (ps : List SyntaxNode) → listed (nodes ps) ≡ ps
 listed-nodes [] = refl
 listed-nodes (p ∷ ps) = ap (λ qs. p ∷ qs) (listed-nodes ps)
 
 -- an anchor for the beginning is none for the end
-leading_is_no_trail : (p : Node) → is_leading p ≡ true → trail_of p ≡ no_trail
+leading_is_no_trail : (p : SyntaxNode) → is_leading p ≡ true → trail_of p ≡ no_trail
 leading_is_no_trail (mark s f text_start) h = refl
 leading_is_no_trail (mark s f caret) h = refl
 leading_is_no_trail (mark s f dollar) h = absurd (false≢true h)
@@ -27,12 +28,12 @@ leading_is_no_trail (nothing s) h = refl
 leading_is_no_trail (seq s ps) h = refl
 leading_is_no_trail (choice s bs) h = refl
 
-run_before : (ps : List Node) (p : Node) → trail_of p ≡ no_trail → trailing_run (ps ++ p ∷ []) ≡ trailing_run ps
+run_before : (ps : List SyntaxNode) (p : SyntaxNode) → trail_of p ≡ no_trail → trailing_run (ps ++ p ∷ []) ≡ trailing_run ps
 run_before [] p h = ap (λ t. run_of t no_trail) h
 run_before (q ∷ ps) p h = ap (run_of (trail_of q)) (run_before ps p h)
 
 -- the run at the end doesn't go on into the one at the beginning
-pub run_of_rest : (ps : List Node) → trailing_run (reverse (without_leading ps)) ≡ trailing_run (reverse ps)
+pub run_of_rest : (ps : List SyntaxNode) → trailing_run (reverse (without_leading ps)) ≡ trailing_run (reverse ps)
 run_of_rest [] = refl
 run_of_rest (p ∷ ps) = go (is_leading p) refl (run_of_rest ps)
   where
@@ -43,7 +44,7 @@ run_of_rest (p ∷ ps) = go (is_leading p) refl (run_of_rest ps)
         ∙ sym (ap trailing_run (reverse-append (p ∷ []) ps) ∙ run_before (reverse ps) p (leading_is_no_trail p e))
     go false e h = ap (λ b. trailing_run (reverse (cond b (without_leading ps) (p ∷ ps)))) e
 
-pub map-reverse : {A : Type 0} (f : A → Node) (xs : List A) → map f (reverse xs) ≡ reverse (map f xs)
+pub map-reverse : {A : Type 0} (f : A → SyntaxNode) (xs : List A) → map f (reverse xs) ≡ reverse (map f xs)
 map-reverse f [] = refl
 map-reverse f (x ∷ xs) =
     ap (map f) (reverse-append (x ∷ []) xs)
@@ -52,7 +53,7 @@ map-reverse f (x ∷ xs) =
     ∙ sym (reverse-append (f x ∷ []) (map f xs))
 
 -- turned, taken from the end, and turned back
-pub taken_in_front : {A : Type 0} (f : A → Node) (xs turned rest back : List A) → turned ≡ reverse xs → reverse (map f rest) ≡ without_leading (reverse (map f turned)) → back ≡ reverse rest → map f back ≡ without_leading (map f xs)
+pub taken_in_front : {A : Type 0} (f : A → SyntaxNode) (xs turned rest back : List A) → turned ≡ reverse xs → reverse (map f rest) ≡ without_leading (reverse (map f turned)) → back ≡ reverse rest → map f back ≡ without_leading (map f xs)
 taken_in_front f xs turned rest back e h b =
     ap (map f) b
     ∙ map-reverse f rest
@@ -62,7 +63,7 @@ taken_in_front f xs turned rest back e h b =
     ∙ ap without_leading (reverse-reverse (map f xs))
 
 -- what is left of the items of a branch, where their ends were taken off one after the other
-pub ends_taken : (s : Span) (ps rest middle : List Node) (body : Node) (leading : Bool) (run : Trail) → leading ≡ begins_leading ps → rest ≡ without_leading ps → reverse middle ≡ without_trailing (reverse rest) → run ≡ trailing_run (reverse rest) → body ≡ branch_body s middle → record { body = body; leading = leading; trail = run } ≡ inner_of s (nothing s) (Some ps)
+pub ends_taken : (s : Span) (ps rest middle : List SyntaxNode) (body : SyntaxNode) (leading : Bool) (run : Trail) → leading ≡ begins_leading ps → rest ≡ without_leading ps → reverse middle ≡ without_trailing (reverse rest) → run ≡ trailing_run (reverse rest) → body ≡ branch_body s middle → record { body = body; leading = leading; trail = run } ≡ inner_of s (nothing s) (Some ps)
 ends_taken s ps rest middle body leading run l r m t b = made l whole_run whole_body
   where
     whole_run : run ≡ trailing_run (reverse ps)

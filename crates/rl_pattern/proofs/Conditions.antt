@@ -2,7 +2,7 @@
 use Rattle.std.proofs.Common.{◌≡◌, ℕ, Bool, true, false, not, ◌||◌, if◌then◌else◌, List, [], ◌++◌, refl, sym, ap, ◌∙◌, true≢false}
 use Rattle.rl_ranges.specs.declared.universe.Universe.{Universe}
 use Rattle.rl_syntax.specs.PatTree as s
-use Rattle.rl_pattern.specs.Tree.{Span, Kind, capturing, named, scoped, lookaround, atomic, conditional, Node, leaf, mark, repeat, group, nothing, seq, choice, Nodes, no_nodes, more_nodes, Branches, no_branches, more_branches}
+use Rattle.rl_pattern.specs.Tree.{Span, Kind, capturing, named, scoped, lookaround, atomic, conditional, SyntaxNode, leaf, mark, repeat, group, nothing, seq, choice, Nodes, no_nodes, more_nodes, Branches, no_branches, more_branches}
 use Rattle.rl_pattern.specs.Found.{kind_faults, count_faults, node_faults, nodes_faults, branches_faults, node_names, nodes_names, branches_names, kind_names}
 use Rattle.rl_pattern.specs.Shape.{is_text, shape, shapes, branch_shapes, group_shape}
 use Rattle.rl_pattern.specs.Suggested.{holds_capture, some_capture, branch_capture, some_kept, may_go, items_may_go, branches_may_go}
@@ -31,7 +31,7 @@ module _ (u : Universe) where
   group_capture r i conditional p pl h = absurd (true≢false (sym pl))
 
   mutual
-    nameless : (p : Node) → node_faults (is_text u) p ≡ [] → holds_capture (shape u p) ≡ false → node_names p ≡ []
+    nameless : (p : SyntaxNode) → node_faults (is_text u) p ≡ [] → holds_capture (shape u p) ≡ false → node_names p ≡ []
     nameless (leaf r f x) e h = refl
     nameless (mark r f m) e h = refl
     nameless (repeat r q n g p) e h = nameless p (nil_parts (count_faults q.from n g) (node_faults (is_text u) p) e).1 h
@@ -71,7 +71,7 @@ module _ (u : Universe) where
     group_may_go r conditional p pl h = absurd (true≢false (sym pl))
 
     mutual
-      pub good_of : (p : Node) → node_faults (is_text u) p ≡ [] → may_go drop (shape u p) ≡ true → Good u drop out p
+      pub good_of : (p : SyntaxNode) → node_faults (is_text u) p ≡ [] → may_go drop (shape u p) ≡ true → Good u drop out p
       good_of (leaf r f x) e h = tt
       good_of (mark r f m) e h = tt
       good_of (repeat r q n g p) e h = good_of p (nil_parts (count_faults q.from n g) (node_faults (is_text u) p) e).1 h

@@ -4,7 +4,7 @@ use Rattle.std.proofs.lemmas.Option.{slice_get_within}
 use mathlib.Core.Logic.{inl, inr, ⊎_elim}
 use Rattle.rl_ranges.specs.declared.universe.Universe.{Universe}
 use Rattle.rl_pattern.specs.declared.flags.Flags.{Flags}
-use Rattle.rl_pattern.specs.Tree.{Span, span, Node, Branch, branch, branch_body, whole_body, Front, Whole}
+use Rattle.rl_pattern.specs.Tree.{Span, span, SyntaxNode, Branch, branch, branch_body, whole_body, Front, Whole}
 use Rattle.rl_pattern.specs.Grammar.{IsBranches, first_branch, next_branch, Fronts, outermost, spelled, Spells}
 use Rattle.rl_pattern.specs.Shape.{is_text, shape}
 use Rattle.rl_pattern.specs.Thinned.{kept_from}
@@ -67,7 +67,7 @@ module _ (kept : ℕ → Bool) where
       at_zero i = let e : 0 + i ≡ i = omega arith in ap kept e
 
 -- the places that are kept where branches and quantifiers are taken out of a tree
-abbrev pub stays : Universe → (Span → Bool) → (Span → Bool) → Node → ℕ → Bool
+abbrev pub stays : Universe → (Span → Bool) → (Span → Bool) → SyntaxNode → ℕ → Bool
 stays u drop out p t = not (gone drop out (shape u p) t)
 
 module _ (u : Universe) (drop out : Span → Bool) (call : Flags) (w : List ℕ) where
@@ -103,7 +103,7 @@ module _ (u : Universe) (drop out : Span → Bool) (call : Flags) (w : List ℕ)
     n : ℕ
     n = length w
 
-    abbrev the_body : Node
+    abbrev the_body : SyntaxNode
     the_body = whole_body (span i (length w)) bs
 
     abbrev the_kept : ℕ → Bool

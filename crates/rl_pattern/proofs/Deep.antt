@@ -2,11 +2,11 @@
 use Rattle.std.proofs.Common.{◌≡◌, ℕ, zero, suc, ◌+◌, Bool, List, [], ◌∷◌, length, take, Option, Some, None, refl, sym, ap, ◌∙◌, subst, slice_get, arith, append-nil, length-take-le}
 use Rattle.std.proofs.lemmas.Option.{same_Some, none-some, slice_get_within}
 use Rattle.rl_pattern.specs.declared.flags.Flags.{Flags}
-use Rattle.rl_pattern.specs.Tree.{Kind, Node, Branch, Front}
+use Rattle.rl_pattern.specs.Tree.{Kind, SyntaxNode, Branch, Front}
 use Rattle.rl_pattern.specs.Codes.{left, inside}
 use Rattle.rl_pattern.specs.Grammar.{At, Stands, Items, outermost}
 use Rattle.rl_pattern.specs.Viable.{Begins, Part, part_first, part_next, Open, none_open, one_open, TooDeepAt}
-use Rattle.rl_pattern.specs.internal.Machine.{Frame, Last, nothing_yet, Base, Lex, between, line, remark, in_braces, counted, at_slash, in_escape, in_head, set_open, in_class, State, at, settled, InHead, paren, quest, after_p, after_less, group_name, group_name_goes, reference_name, reference_name_goes, asks, asks_digits, asks_name_goes, letters_on, letters_dash, letters_off, run, observe, start}
+use Rattle.rl_pattern.specs.internal.Machine.{Frame, Last, nothing_yet, Base, Lex, between, line, comment, in_braces, counted, at_slash, in_escape, in_head, set_open, in_class, State, at, settled, InHead, paren, quest, after_p, after_less, group_name, group_name_goes, reference_name, reference_name_goes, asks, asks_digits, asks_name_goes, letters_on, letters_dash, letters_off, run, observe, start}
 use Rattle.rl_pattern.proofs.Steps.{Fair, reads_from, sign_goes}
 use Rattle.rl_pattern.proofs.Reading.{Out, frame, base, Bt, items_go, branches_go, Outermost, fronts_go, opening_between, at_the_end, at_the_start, signs, bar_goes}
 use Rattle.rl_pattern.proofs.Sound.{LexOk, BaseOk, BelowOk, BranchesOk, none_yet, some_yet, all_items}
@@ -32,7 +32,7 @@ abbrev opened_lex : ℕ → Lex → Option ℕ
 opened_lex n (in_head a h) = is_paren n h
 opened_lex n between = None
 opened_lex n line = None
-opened_lex n remark = None
+opened_lex n comment = None
 opened_lex n (in_braces a t) = None
 opened_lex n (counted a p q m) = None
 opened_lex n (at_slash a) = None
@@ -62,7 +62,7 @@ module _ (text : Bool) (w : List ℕ) where
   record PartRead (fl : Flags) (kd : Kind) (o : Out) (i k : ℕ) : Type 0 where
     from : ℕ
     before : List Branch
-    its : List Node
+    its : List SyntaxNode
     end : Last
     reads : From i (Bt text w opened opened_fair fl kd o i [] [] nothing_yet) ≡ From k (Bt text w opened opened_fair fl kd o from before its end)
 
@@ -77,7 +77,7 @@ module _ (text : Bool) (w : List ℕ) where
     out : Out
     from : ℕ
     before : List Branch
-    its : List Node
+    its : List SyntaxNode
     end : Last
     deep : length out.below ≡ d
     reads : From 0 (start call) ≡ From k (Bt text w opened opened_fair fl kd out from before its end)
@@ -108,11 +108,11 @@ open_seen call text w kd fl k d h at_k len =
     sym (at_the_start text w opened (start call)) ∙ r.reads ∙ sign_goes text w opened k 40 b left (at b (in_head k paren)) at_k signs.0 refl ∙ ap (λ n. reads_from text w opened n (at b (in_head k paren))) (sym len) ∙ at_the_end text w opened (at b (in_head k paren)) ∙ ap Some r.deep
 
 module _ (call : Flags) (text : Bool) (w : List ℕ) where
-  part_of : (kd : Kind) (fl : Flags) (st f k : ℕ) (ds : List Branch) (ps : List Node) → BranchesOk call text w kd fl st f ds → Items text w fl f k ps → Part text w kd fl st k
+  part_of : (kd : Kind) (fl : Flags) (st f k : ℕ) (ds : List Branch) (ps : List SyntaxNode) → BranchesOk call text w kd fl st f ds → Items text w fl f k ps → Part text w kd fl st k
   part_of kd fl st f k ds ps none_yet its = part_first its
   part_of kd fl st f k ds ps (some_yet h at_j may) its = part_next h at_j may its
 
-  open_of : (gs : List Front) (fl : Flags) (kd : Kind) (op st f k : ℕ) (ds : List Branch) (ps : List Node) (fs : List Frame) → BranchesOk call text w kd fl st f ds → Items text w fl f k ps → BelowOk call text w gs fl kd op st fs → Open text w call kd fl k (length fs)
+  open_of : (gs : List Front) (fl : Flags) (kd : Kind) (op st f k : ℕ) (ds : List Branch) (ps : List SyntaxNode) (fs : List Frame) → BranchesOk call text w kd fl st f ds → Items text w fl f k ps → BelowOk call text w gs fl kd op st fs → Open text w call kd fl k (length fs)
   open_of gs fl kd op st f k ds ps [] before its (fr, e) = subst (λ z. Open text w call z fl k 0) (sym e) (none_open fr (part_of outermost fl st f k ds ps (subst (λ z. BranchesOk call text w z fl st f ds) e before) its))
   open_of gs fl kd op st f k ds ps (g ∷ fs) before its (b0, its0, o, inner, below) =
       let outer = open_of gs g.flags g.kind g.opened g.start g.from op g.branches g.items fs b0 its0 below in
@@ -149,7 +149,7 @@ lex_from : (n d : ℕ) (x : Lex) → opened_lex n x ≡ Some d → (a : ℕ) × 
 lex_from n d (in_head a h) e = let r = paren_from n d a h e in (a, ap (in_head a) r.0, r.1)
 lex_from n d between e = absurd (none-some d e)
 lex_from n d line e = absurd (none-some d e)
-lex_from n d remark e = absurd (none-some d e)
+lex_from n d comment e = absurd (none-some d e)
 lex_from n d (in_braces a t) e = absurd (none-some d e)
 lex_from n d (counted a p q m) e = absurd (none-some d e)
 lex_from n d (at_slash a) e = absurd (none-some d e)
@@ -191,7 +191,7 @@ pub seen_too_deep : (call : Flags) (text : Bool) (w : List ℕ) (p : ℕ) → Be
 seen_too_deep call text w p h at_p no_r no_f =
     record {
       opens = at_p;
-      no_remark = no_r;
+      no_comment = no_r;
       no_reference = no_f;
       deep = (h.state.base.top.kind, h.state.base.top.flags, subst (λ d. Open text (take (suc p) w) call h.state.base.top.kind h.state.base.top.flags p d) h.deep (seen_open call text (take (suc p) w) h.state p h.runs h.lex));
     }

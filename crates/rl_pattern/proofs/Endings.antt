@@ -1,5 +1,5 @@
 -- Whatever the machine is in the middle of, a few codes more make a spelled pattern.
-use Rattle.std.proofs.Common.{◌≡◌, ℕ, zero, suc, sub-one, ◌-◌, ◌<◌, Bool, true, false, cond, nat_le, List, [], ◌∷◌, ◌++◌, length, replicate, Some, refl, sym, ap, ◌∙◌, subst, append_assoc, arith}
+use Rattle.std.proofs.Common.{◌≡◌, ℕ, zero, suc, sub-one, ◌-◌, ◌<◌, Bool, true, false, cond, if◌then◌else◌, nat_le, List, [], ◌∷◌, ◌++◌, length, replicate, Some, refl, sym, ap, ◌∙◌, subst, append_assoc, arith}
 use Rattle.std.specs.Prelude.{All}
 use Rattle.std.specs.List.{list_all}
 use Rattle.std.proofs.Math.Dec.{ltb}
@@ -7,10 +7,12 @@ use Rattle.std.proofs.lemmas.Bool.{ne_eqb, cond_both, ltb-true}
 use Rattle.std.proofs.lemmas.List.Elements.{All-append, All-replicate, All-weaker}
 use Rattle.std.proofs.lemmas.List.Sums.{AllPass-from_list_all}
 use Rattle.rl_ranges.specs.Text.{code_count, IsText}
-use Rattle.rl_pattern.specs.Viable.{universe_if}
+use Rattle.rl_ranges.specs.declared.universe.Universe.{Universe}
+use Rattle.rl_ranges.specs.declared.universe.Universe.TheVariants.{Str, Bytes}
 use Rattle.rl_pattern.specs.Tree.{span, Escaped, code, too_large, by_name, reference, Member, range, glyph, members, Whole, greedy, Kind, named, scoped, lookaround, conditional}
-use Rattle.rl_pattern.specs.Codes.{with_digit, sign, numeral, is_digit, hex, slashed, begins_name, goes_in_name, on_letter, off_letter, headed, no_flags, with_letter, counts, octal_code, hex_code, code_up_to, is_kind}
-use Rattle.rl_pattern.specs.internal.Machine.{stops, goes, ends, InEscape, in_hex, name_brace, name_begins, name_goes, in_octal, after_low, after_high, after_two, escape_next, escape_rest, InSet, set_first, set_next, set_slash, set_escape, set_side, set_dash, dash_slash, dash_escape, in_set, escape_set_next, escape_dash_next, set_answer, InHead, paren, quest, after_p, after_less, group_name, group_name_goes, reference_name, reference_name_goes, asks, asks_digits, asks_name_goes, letters_on, letters_dash, letters_off, Frame, Base, Lex, between, line, remark, in_braces, counted, at_slash, in_escape, in_head, set_open, in_class, State, at, put_leaf, put_code, put_codes, no_count, put_repeat, open_group, close, escape_step, step_at, observe, finish_below, finish_escape, finish_at}
+use Rattle.rl_pattern.specs.internal.Signs.{code_up_to}
+use Rattle.rl_pattern.specs.Codes.{with_digit, sign, numeral, is_digit, hex, slashed, begins_name, goes_in_name, on_letter, off_letter, headed, no_flags, with_letter, counts, octal_code, hex_code, is_kind}
+use Rattle.rl_pattern.specs.internal.Machine.{stops, goes, ends, InEscape, in_hex, name_brace, name_begins, name_goes, in_octal, after_low, after_high, after_two, escape_next, escape_rest, InSet, set_first, set_next, set_slash, set_escape, set_side, set_dash, dash_slash, dash_escape, in_set, escape_set_next, escape_dash_next, set_answer, InHead, paren, quest, after_p, after_less, group_name, group_name_goes, reference_name, reference_name_goes, asks, asks_digits, asks_name_goes, letters_on, letters_dash, letters_off, Frame, Base, Lex, between, line, comment, in_braces, counted, at_slash, in_escape, in_head, set_open, in_class, State, at, put_leaf, put_code, put_codes, no_count, put_repeat, open_group, close, escape_step, step_at, observe, finish_below, finish_escape, finish_at}
 
 -- how an escape ends that was begun
 abbrev pub escape_ending : InEscape → List ℕ
@@ -52,7 +54,7 @@ head_ending (letters_off f g) = 58 ∷ 41 ∷ []
 abbrev pub ending : Lex → List ℕ
 ending between = []
 ending line = 10 ∷ []
-ending remark = 41 ∷ []
+ending comment = 41 ∷ []
 ending (in_braces a t) = []
 ending (counted a p q n) = []
 ending (at_slash a) = 46 ∷ []
@@ -104,7 +106,7 @@ head_ascii (letters_off f g) = ascii (58 ∷ 41 ∷ []) refl
 ending_ascii : (x : Lex) → All (λ c. c < 128) (ending x)
 ending_ascii between = ascii [] refl
 ending_ascii line = ascii (10 ∷ []) refl
-ending_ascii remark = ascii (41 ∷ []) refl
+ending_ascii comment = ascii (41 ∷ []) refl
 ending_ascii (in_braces a t) = ascii [] refl
 ending_ascii (counted a p q n) = ascii [] refl
 ending_ascii (at_slash a) = ascii (46 ∷ []) refl
@@ -114,6 +116,10 @@ ending_ascii (set_open a) = ascii (48 ∷ 93 ∷ []) refl
 ending_ascii (in_class a v s) = set_ascii s.part
 
 -- text and bytes have the codes of ASCII
+-- the universe of text, or that of bytes
+abbrev pub universe_if : Bool → Universe
+universe_if text = if text then Str else Bytes
+
 ascii_in : (text : Bool) (c : ℕ) → c < 128 → c < code_count (universe_if text)
 ascii_in true c l = omega (arith, l)
 ascii_in false c l = omega (arith, l)
@@ -152,7 +158,7 @@ LexMayEnd (in_escape a x) = MayEnd x
 LexMayEnd (in_class a v s) = SetMayEnd s.part
 LexMayEnd between = Unit {0}
 LexMayEnd line = Unit {0}
-LexMayEnd remark = Unit {0}
+LexMayEnd comment = Unit {0}
 LexMayEnd (in_braces a t) = Unit {0}
 LexMayEnd (counted a p q n) = Unit {0}
 LexMayEnd (at_slash a) = Unit {0}
@@ -301,7 +307,7 @@ module _ (text : Bool) where
   unfolding slashed numeral counts is_digit
   ends_all k b between h = closed k b
   ends_all k b line h = read_step k 10 _ _ (replicate (length b.below) 41) refl (closed (suc k) b)
-  ends_all k b remark h = read_step k 41 _ _ (replicate (length b.below) 41) refl (closed (suc k) b)
+  ends_all k b comment h = read_step k 41 _ _ (replicate (length b.below) 41) refl (closed (suc k) b)
   ends_all k b (in_braces a t) h = pending k _ (at (no_count b a t) between) (length b.below) refl refl (subst (λ fs. IsRead k (at (no_count b a t) between) (replicate (length fs) 41)) (codes_below (put_code b a 123) (suc a) t) (closed k (no_count b a t)))
   ends_all k b (counted a p q n) h = pending k _ (at (put_repeat b a p q k n greedy) between) (length b.below) refl refl (closed k _)
   ends_all k b (at_slash a) h = read_step k 46 _ _ (replicate (length b.below) 41) refl (closed (suc k) _)

@@ -3,13 +3,13 @@ use Rattle.std.proofs.Common.{◌≡◌, ◌⊎◌, ℕ, suc, ◌+◌, ◌-◌, 
 use Rattle.std.proofs.lemmas.Bool.{ne_eqb}
 use mathlib.Core.Logic.{inl, inr, ⊎_elim}
 use Rattle.rl_pattern.specs.Tree.{Escaped, by_name, reference}
-use Rattle.rl_pattern.specs.Codes.{with_digit, Numeral, numeral, low_digit, high_digit, no_digit, is_digit, is_some_digit, Slashed, slashed, slashed_letter, slashed_digit, is_letter, single, kinds, hexes, naming, octal, low, high, edges, no_escape, octal_code, hex_code}
+use Rattle.rl_pattern.specs.Codes.{with_digit, Numeral, numeral, low_digit, high_digit, no_digit, is_digit, is_some_digit, EscapeClass, slashed, slashed_letter, slashed_digit, is_letter, single, kinds, hexes, naming, octal, low, high, edges, no_escape, octal_code, hex_code}
 use Rattle.rl_pattern.specs.Grammar.{At, Without, no_code, one_code, Hexes, no_hex, one_hex, Octals, no_octal, one_octal, OctalAt, DigitAt, Slash, Three, Refers, Escape, escape_single, escape_kind, escape_hex, escape_name, escape_octal, escape_three, reference_one, reference_two}
 use Rattle.rl_pattern.specs.internal.Machine.{State, stops, goes, ends, InEscape, in_hex, name_brace, name_begins, name_goes, in_octal, after_low, after_high, after_two, escape_first, escape_next, escape_rest, hex_next, octal_next, low_next, high_next, two_next, step_at}
 use Rattle.rl_pattern.proofs.Steps.{reads_from, goes_to, alike_steps}
 
 -- a number of hexadecimal digits to come isn't 0
-abbrev Some_hexes : Slashed → Type 0
+abbrev Some_hexes : EscapeClass → Type 0
 Some_hexes (hexes n) = 0 < n
 Some_hexes (single c) = Unit {0}
 Some_hexes (kinds k n) = Unit {0}
@@ -20,7 +20,7 @@ Some_hexes high = Unit {0}
 Some_hexes (edges m) = Unit {0}
 Some_hexes no_escape = Unit {0}
 
-either : (b : Bool) (x y : Slashed) → Some_hexes x → Some_hexes y → Some_hexes (if b then x else y)
+either : (b : Bool) (x y : EscapeClass) → Some_hexes x → Some_hexes y → Some_hexes (if b then x else y)
 either true x y p q = p
 either false x y p q = q
 
@@ -65,10 +65,10 @@ module _ (text : Bool) (w : List ℕ) {X : Type 0} (ask : ℕ → State → Opti
     abbrev From : ℕ → State → Option X
     From = reads_from text w ask
 
-    begins_with : (i : ℕ) (s : Slashed) (x : InEscape) → Slash text w in_class i s → escape_first s ≡ goes x → From (suc i) behind ≡ From (suc (suc i)) (within x)
+    begins_with : (i : ℕ) (s : EscapeClass) (x : InEscape) → Slash text w in_class i s → escape_first s ≡ goes x → From (suc i) behind ≡ From (suc (suc i)) (within x)
     begins_with i s x (c, back, at_c, is_s) h = goes_to text w ask (suc i) c behind (within x) at_c (r.first_goes (suc i) c x (ap escape_first is_s ∙ h))
 
-    ends_with : (i : ℕ) (s : Slashed) → Slash text w in_class i s → escape_first s ≡ ends e → From (suc i) behind ≡ From (suc (suc i)) (past (suc (suc i)))
+    ends_with : (i : ℕ) (s : EscapeClass) → Slash text w in_class i s → escape_first s ≡ ends e → From (suc i) behind ≡ From (suc (suc i)) (past (suc (suc i)))
     ends_with i s (c, back, at_c, is_s) h = goes_to text w ask (suc i) c behind (past (suc (suc i))) at_c (r.first_ends (suc i) c (ap escape_first is_s ∙ h))
 
     next : (j c : ℕ) (x y : InEscape) → At text w j c → escape_next x c ≡ goes y → From j (within x) ≡ From (suc j) (within y)
@@ -159,11 +159,11 @@ module _ (text : Bool) (w : List ℕ) {X : Type 0} (ask : ℕ → State → Opti
         go high_digit z = last j c after_high at_c (ap high_next z ∙ ap ends (sym q))
         go no_digit z = absurd (digit_false c no_digit z refl is_d)
 
-    refer_one : (i : ℕ) (s : Slashed) → e ≡ reference → Slash text w in_class i s → Refers s → ¬ DigitAt text w (suc (suc i)) → From (suc i) behind ≡ From (suc (suc i)) (past (suc (suc i)))
+    refer_one : (i : ℕ) (s : EscapeClass) → e ≡ reference → Slash text w in_class i s → Refers s → ¬ DigitAt text w (suc (suc i)) → From (suc i) behind ≡ From (suc (suc i)) (past (suc (suc i)))
     refer_one i s q sl (inl (d, z)) no_d = begins_with i s (after_low d) sl (ap escape_first z) ∙ one_goes (suc (suc i)) d q no_d
     refer_one i s q sl (inr z) no_d = begins_with i s after_high sl (ap escape_first z) ∙ high_one (suc (suc i)) q no_d
 
-    refer_two : (i : ℕ) (s : Slashed) → e ≡ reference → Slash text w in_class i s → Refers s → DigitAt text w (suc (suc i)) → ¬ Three text w in_class i → From (suc i) behind ≡ From (suc (suc (suc i))) (past (suc (suc (suc i))))
+    refer_two : (i : ℕ) (s : EscapeClass) → e ≡ reference → Slash text w in_class i s → Refers s → DigitAt text w (suc (suc i)) → ¬ Three text w in_class i → From (suc i) behind ≡ From (suc (suc (suc i))) (past (suc (suc (suc i))))
     refer_two i s q sl (inl (d, z)) is_d no_three =
         begins_with i s (after_low d) sl (ap escape_first z) ∙ two_goes i d q (subst (λ t. Slash text w in_class i t) z sl) is_d no_three
     refer_two i s q sl (inr z) is_d no_three = begins_with i s after_high sl (ap escape_first z) ∙ high_two (suc (suc i)) q is_d

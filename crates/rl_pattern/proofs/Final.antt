@@ -12,9 +12,10 @@ use Rattle.rl_syntax.specs.PatTree.{PatTree}
 use Rattle.rl_pattern.specs.declared.flags.Flags.{Flags}
 use Rattle.rl_pattern.specs.declared.parsing.PatError.{PatError}
 use Rattle.rl_pattern.specs.declared.parsing.PatError.TheVariants as error
-use Rattle.rl_pattern.specs.Tree.{Span, span, Node, leaf, mark, repeat, group, nothing, seq, choice, nodes, Branch, branch_body, branch, whole_body, Whole}
+use Rattle.rl_pattern.specs.Tree.{Span, span, SyntaxNode, leaf, mark, repeat, group, nothing, seq, choice, nodes, Branch, branch_body, branch, whole_body, Whole}
 use Rattle.rl_pattern.specs.Grammar.{IsBranches, first_branch, next_branch, spelled, Spells}
-use Rattle.rl_pattern.specs.Found.{Inner, is_leading, trail_of, drops, without_leading, without_trailing, inner_items, items_of, inner_of, inner, front_faults, name_faults, node_names, node_faults, whole_faults}
+use Rattle.rl_pattern.specs.internal.Judged.{without_leading, without_trailing}
+use Rattle.rl_pattern.specs.Found.{Inner, is_leading, trail_of, drops, inner_items, items_of, inner_of, inner, front_faults, name_faults, node_names, node_faults, whole_faults}
 use Rattle.rl_pattern.specs.Shape.{is_text, shape}
 use Rattle.rl_pattern.specs.Parsed.{IsSpelled, IsParsed}
 use Rattle.rl_pattern.specs.Thinned.{kept_from}
@@ -51,40 +52,40 @@ module _ (text : Bool) (w : List ℕ) where
       go (x ∷ bs) b e = cc e
 
   -- a body of one branch is that branch
-  pub one_body : (call : Flags) (p : Whole) → Spells call text w p → (ps : List Node) → items_of p.body ≡ Some ps → p.body ≡ branch_body p.place ps
+  pub one_body : (call : Flags) (p : Whole) → Spells call text w p → (ps : List SyntaxNode) → items_of p.body ≡ Some ps → p.body ≡ branch_body p.place ps
   one_body call p (spelled {i = i} f (first_branch {ps = qs} its)) ps e = ap (branch_body (span i (length w))) (same_Some qs ps (sym (branch_items (span i (length w)) qs (items_are its)) ∙ e))
   one_body call p (spelled {i = i} f (next_branch {j = j} {bs = bs} {ps = qs} h at_j may hs)) ps e = absurd (none-some ps (sym (several_body (span i (length w)) bs (branch (span (suc j) (length w)) qs) (some_branch h)) ∙ e))
 
   -- the items within are a part of all items
-  leading_rest : (ps : List Node) → (xs : List Node) × (ps ≡ xs ++ without_leading ps)
+  leading_rest : (ps : List SyntaxNode) → (xs : List SyntaxNode) × (ps ≡ xs ++ without_leading ps)
   leading_rest [] = ([], refl)
   leading_rest (p ∷ ps) = go (is_leading p) refl (leading_rest ps)
     where
-      go : (b : Bool) → is_leading p ≡ b → (xs : List Node) × (ps ≡ xs ++ without_leading ps) → (xs : List Node) × ((p ∷ ps) ≡ xs ++ (if is_leading p then without_leading ps else p ∷ ps))
+      go : (b : Bool) → is_leading p ≡ b → (xs : List SyntaxNode) × (ps ≡ xs ++ without_leading ps) → (xs : List SyntaxNode) × ((p ∷ ps) ≡ xs ++ (if is_leading p then without_leading ps else p ∷ ps))
       go true e h = (p ∷ h.0, ap (λ l. p ∷ l) h.1 ∙ sym (ap (λ b. (p ∷ h.0) ++ (if b then without_leading ps else p ∷ ps)) e))
       go false e h = ([], sym (ap (λ b. if b then without_leading ps else p ∷ ps) e))
 
-  pub inner_part : (ps : List Node) → (xs : List Node) × (ys : List Node) × (ps ≡ xs ++ (inner_items ps ++ ys))
+  pub inner_part : (ps : List SyntaxNode) → (xs : List SyntaxNode) × (ys : List SyntaxNode) × (ps ≡ xs ++ (inner_items ps ++ ys))
   inner_part ps =
       let rs = without_leading ps in
-      let lead : (xs : List Node) × (ps ≡ xs ++ without_leading ps) = leading_rest ps in
-      let found : (xs : List Node) × (reverse rs ≡ xs ++ without_trailing (reverse rs)) = rest_of (reverse rs) in
+      let lead : (xs : List SyntaxNode) × (ps ≡ xs ++ without_leading ps) = leading_rest ps in
+      let found : (xs : List SyntaxNode) × (reverse rs ≡ xs ++ without_trailing (reverse rs)) = rest_of (reverse rs) in
       (lead.0, reverse found.0, lead.1 ∙ ap (λ z. lead.0 ++ z) (sym (reverse-reverse rs) ∙ ap reverse found.1 ∙ reverse-append found.0 (without_trailing (reverse rs))))
 
 module _ (u : Universe) where
-  all_le : (ps : List Node) (i j : ℕ) → PlacedAll u ps i j → i ≤ j
+  all_le : (ps : List SyntaxNode) (i j : ℕ) → PlacedAll u ps i j → i ≤ j
   all_le [] i j h = h
   all_le (p ∷ ps) i j (k, h, hs) = omega (arith, placed_le (shape u p) i k h, all_le ps k j hs)
 
-  all_front : (xs ys : List Node) (i j : ℕ) → PlacedAll u (xs ++ ys) i j → PlacedAll u xs i j
+  all_front : (xs ys : List SyntaxNode) (i j : ℕ) → PlacedAll u (xs ++ ys) i j → PlacedAll u xs i j
   all_front [] ys i j h = all_le ys i j h
   all_front (x ∷ xs) ys i j (k, h, hs) = (k, h, all_front xs ys k j hs)
 
-  all_back_part : (xs ys : List Node) (i j : ℕ) → PlacedAll u (xs ++ ys) i j → PlacedAll u ys i j
+  all_back_part : (xs ys : List SyntaxNode) (i j : ℕ) → PlacedAll u (xs ++ ys) i j → PlacedAll u ys i j
   all_back_part [] ys i j h = h
   all_back_part (x ∷ xs) ys i j (k, h, hs) = from_more ys k j i (placed_le (shape u x) i k h) (all_back_part xs ys k j hs)
     where
-      from_more : (ys : List Node) (k j i : ℕ) → i ≤ k → PlacedAll u ys k j → PlacedAll u ys i j
+      from_more : (ys : List SyntaxNode) (k j i : ℕ) → i ≤ k → PlacedAll u ys k j → PlacedAll u ys i j
       from_more [] k j i l h = omega (arith, l, h)
       from_more (y ∷ ys) k j i l (m, h, hs) = (m, placed_more (shape u y) k m i m l (omega arith) h, hs)
 
@@ -104,10 +105,10 @@ module _ (u : Universe) where
       (i, subst (λ o. Placed (shape u (inner_of r (whole_body r all) o).body) i n) (sym (several_body r bs (branch (span (suc j) n) ps) (some_branch text w h))) (whole_placed u r all i n (branches_placed u text w (next_branch h at_j may hs))))
 
   module _ (drop out : Span → Bool) where
-    abbrev CleanItem : Node → Type 0
+    abbrev CleanItem : SyntaxNode → Type 0
     CleanItem p = (own_out u drop out p ≡ false) × Clean u drop out p
 
-    lead_clean : (p : Node) → is_leading p ≡ true → CleanItem p
+    lead_clean : (p : SyntaxNode) → is_leading p ≡ true → CleanItem p
     lead_clean (mark r f m) h = (refl, tt)
     lead_clean (leaf r f x) h = (refl, tt)
     lead_clean (repeat r q n g p) h = absurd (true≢false (sym h))
@@ -116,7 +117,7 @@ module _ (u : Universe) where
     lead_clean (seq r ps) h = absurd (true≢false (sym h))
     lead_clean (choice r bs) h = absurd (true≢false (sym h))
 
-    trail_clean : (p : Node) → drops (trail_of p) ≡ true → CleanItem p
+    trail_clean : (p : SyntaxNode) → drops (trail_of p) ≡ true → CleanItem p
     trail_clean (mark r f m) h = (refl, tt)
     trail_clean (leaf r f x) h = (refl, tt)
     trail_clean (repeat r q n g p) h = absurd (true≢false (sym h))
@@ -125,25 +126,25 @@ module _ (u : Universe) where
     trail_clean (seq r ps) h = absurd (true≢false (sym h))
     trail_clean (choice r bs) h = absurd (true≢false (sym h))
 
-    clean_items : (ps : List Node) → AllOf CleanItem ps → AllClean u drop out (nodes ps)
+    clean_items : (ps : List SyntaxNode) → AllOf CleanItem ps → AllClean u drop out (nodes ps)
     clean_items [] h = tt
     clean_items (p ∷ ps) ((o, c), hs) = (o, c, clean_items ps hs)
 
-    body_clean : (r : Span) (ps : List Node) → AllOf CleanItem ps → Clean u drop out (branch_body r ps)
+    body_clean : (r : Span) (ps : List SyntaxNode) → AllOf CleanItem ps → Clean u drop out (branch_body r ps)
     body_clean r [] h = tt
     body_clean r (p ∷ []) h = h.0.1
     body_clean r (p ∷ q ∷ ps) h = clean_items (p ∷ q ∷ ps) h
 
-    items_each : (ps : List Node) → AllClean u drop out (nodes ps) → AllOf CleanItem ps
+    items_each : (ps : List SyntaxNode) → AllClean u drop out (nodes ps) → AllOf CleanItem ps
     items_each [] h = tt
     items_each (p ∷ ps) (o, c, hs) = ((o, c), items_each ps hs)
 
-    each_clean : (t : Span) (ps : List Node) → Good u drop out (branch_body t ps) → MayMerge out (left drop no_span (shape u (branch_body t ps))) → AllOf CleanItem ps
+    each_clean : (t : Span) (ps : List SyntaxNode) → Good u drop out (branch_body t ps) → MayMerge out (left drop no_span (shape u (branch_body t ps))) → AllOf CleanItem ps
     each_clean t [] gd h = tt
     each_clean t (p ∷ []) gd h = ((own_false u drop out p h, clean_of u drop out p gd (at_large h)), tt)
     each_clean t (p ∷ q ∷ ps) gd h = items_each (p ∷ q ∷ ps) (items_clean u drop out (nodes (p ∷ q ∷ ps)) gd h)
 
-    clean_outer : (r t : Span) (p : Node) (o : Option (List Node)) → ((ps : List Node) → o ≡ Some ps → p ≡ branch_body r ps) → Good u drop out (inner_of t p o).body → MayMerge out (left drop no_span (shape u (inner_of t p o).body)) → Clean u drop out p
+    clean_outer : (r t : Span) (p : SyntaxNode) (o : Option (List SyntaxNode)) → ((ps : List SyntaxNode) → o ≡ Some ps → p ≡ branch_body r ps) → Good u drop out (inner_of t p o).body → MayMerge out (left drop no_span (shape u (inner_of t p o).body)) → Clean u drop out p
     clean_outer r t p None f gd h = clean_of u drop out p gd (at_large h)
     clean_outer r t p (Some ps) f gd h = subst (Clean u drop out) (sym (f ps refl)) (body_clean r ps (all_back CleanItem lead_clean trail_clean ps (each_clean t (inner_items ps) gd h)))
 
@@ -185,7 +186,7 @@ module _ (flags : Flags) (u : Universe) (w : List ℕ) (found : Pattern) (whole 
   clean = clean_outer u D O whole.place whole.place whole.body (items_of whole.body) (one_body (is_text u) w flags whole sp.read.spelled) inner_good (subst (λ t. MayMerge O (left D no_span t)) sp.pattern.body merges)
 
   free : Free u D O flags w whole
-  free = ⊎_elim (λ (z : holds_guard (body_of found) ≡ true). inl (λ x. ap (λ ds. among ds x) (guarded z))) (λ (z : holds_guard (body_of found) ≡ false). inr (λ none bs e. whole_bare u D O whole.place bs (ap (λ p. holds_guard (shape u p)) (sym e) ∙ ap (λ (o : Option (List Node)). holds_guard (shape u (inner_of whole.place whole.body o).body)) (sym none) ∙ sym (ap holds_guard sp.pattern.body) ∙ z))) (cases_Bool (holds_guard (body_of found)))
+  free = ⊎_elim (λ (z : holds_guard (body_of found) ≡ true). inl (λ x. ap (λ ds. among ds x) (guarded z))) (λ (z : holds_guard (body_of found) ≡ false). inr (λ none bs e. whole_bare u D O whole.place bs (ap (λ p. holds_guard (shape u p)) (sym e) ∙ ap (λ (o : Option (List SyntaxNode)). holds_guard (shape u (inner_of whole.place whole.body o).body)) (sym none) ∙ sym (ap holds_guard sp.pattern.body) ∙ z))) (cases_Bool (holds_guard (body_of found)))
 
   same_codes : text_of (body_of found) dropped merged w ≡ kept_from (stays u D O whole.body) 0 w
   same_codes =

@@ -2,7 +2,7 @@
 use Rattle.std.proofs.Common.{◌≡◌, ℕ, Bool, true, false, cond, ◌&&◌, ◌||◌, ◌==◌, List, [], ◌∷◌, ◌++◌, Option, Some, None, refl, sym, ap, ◌∙◌, arith, nat_lt, nat_le}
 use Rattle.std.proofs.lemmas.Bool.{true≢false}
 use Rattle.std.proofs.lemmas.Bool.Decides.{nat_tests}
-use Rattle.rl_pattern.specs.Found.{Fault, rank, comes_first, first_of_two, first_fault, earlier}
+use Rattle.rl_pattern.specs.Found.{Fault, rank, comes_first, first_fault, earlier}
 
 -- the order of places and ranks
 abbrev upto : ℕ → ℕ → ℕ → ℕ → Bool
@@ -21,19 +21,19 @@ first_total : (a b : Fault) → comes_first a b ≡ false → comes_first b a �
 first_total a b h = upto_total a.place (rank a.what) b.place (rank b.what) h
 
 -- a fault, then one of two
-of_three : (a b c : Fault) → first_of_two a (first_of_two b (Some c)) ≡ earlier (first_of_two a (Some b)) (Some c)
+of_three : (a b c : Fault) → earlier (Some a) (earlier (Some b) (Some c)) ≡ earlier (earlier (Some a) (Some b)) (Some c)
 of_three a b c = go (comes_first a b) (comes_first b c) refl refl
   where
-    left_side : (v : Bool) → comes_first b c ≡ v → first_of_two a (first_of_two b (Some c)) ≡ first_of_two a (cond v (Some b) (Some c))
-    left_side v e = ap (λ u. first_of_two a (cond u (Some b) (Some c))) e
+    left_side : (v : Bool) → comes_first b c ≡ v → earlier (Some a) (earlier (Some b) (Some c)) ≡ earlier (Some a) (cond v (Some b) (Some c))
+    left_side v e = ap (λ u. earlier (Some a) (cond u (Some b) (Some c))) e
 
-    right_side : (v : Bool) → comes_first a b ≡ v → earlier (first_of_two a (Some b)) (Some c) ≡ earlier (cond v (Some a) (Some b)) (Some c)
+    right_side : (v : Bool) → comes_first a b ≡ v → earlier (earlier (Some a) (Some b)) (Some c) ≡ earlier (cond v (Some a) (Some b)) (Some c)
     right_side v e = ap (λ u. earlier (cond u (Some a) (Some b)) (Some c)) e
 
-    pick : (x y : Fault) (v : Bool) → comes_first x y ≡ v → first_of_two x (Some y) ≡ cond v (Some x) (Some y)
+    pick : (x y : Fault) (v : Bool) → comes_first x y ≡ v → earlier (Some x) (Some y) ≡ cond v (Some x) (Some y)
     pick x y v e = ap (λ u. cond u (Some x) (Some y)) e
 
-    go : (u v : Bool) → comes_first a b ≡ u → comes_first b c ≡ v → first_of_two a (first_of_two b (Some c)) ≡ earlier (first_of_two a (Some b)) (Some c)
+    go : (u v : Bool) → comes_first a b ≡ u → comes_first b c ≡ v → earlier (Some a) (earlier (Some b) (Some c)) ≡ earlier (earlier (Some a) (Some b)) (Some c)
     go true true e f = left_side true f ∙ pick a b true e ∙ sym (right_side true e ∙ pick a c true (first_trans a b c e f))
     go true false e f = left_side false f ∙ sym (right_side true e)
     go false true e f = left_side true f ∙ pick a b false e ∙ sym (right_side false e ∙ pick b c true f)
@@ -48,14 +48,14 @@ earlier_assoc None y z = refl
 earlier_assoc (Some a) None z = refl
 earlier_assoc (Some a) (Some b) None = go (comes_first a b) refl
   where
-    go : (v : Bool) → comes_first a b ≡ v → first_of_two a (Some b) ≡ earlier (first_of_two a (Some b)) None
+    go : (v : Bool) → comes_first a b ≡ v → earlier (Some a) (Some b) ≡ earlier (earlier (Some a) (Some b)) None
     go true e = ap (λ u. cond u (Some a) (Some b)) e ∙ sym (ap (λ u. earlier (cond u (Some a) (Some b)) None) e)
     go false e = ap (λ u. cond u (Some a) (Some b)) e ∙ sym (ap (λ u. earlier (cond u (Some a) (Some b)) None) e)
 earlier_assoc (Some a) (Some b) (Some c) = of_three a b c
 
 pub first_of_joined : (xs ys : List Fault) → first_fault (xs ++ ys) ≡ earlier (first_fault xs) (first_fault ys)
 first_of_joined [] ys = refl
-first_of_joined (a ∷ xs) ys = ap (first_of_two a) (first_of_joined xs ys) ∙ earlier_assoc (Some a) (first_fault xs) (first_fault ys)
+first_of_joined (a ∷ xs) ys = ap (earlier (Some a)) (first_of_joined xs ys) ∙ earlier_assoc (Some a) (first_fault xs) (first_fault ys)
 
 -- the first fault so far, and one list more
 pub best_of_more : (best : Option Fault) (xs ys : List Fault) → earlier (earlier best (first_fault xs)) (first_fault ys) ≡ earlier best (first_fault (xs ++ ys))

@@ -4,9 +4,9 @@ use Rattle.std.proofs.lemmas.Bool.{ne_eqb}
 use Rattle.std.proofs.lemmas.Bool.Decides.{nat_tests}
 use Rattle.rl_pattern.specs.declared.flags.Flags.{Flags}
 use Rattle.rl_pattern.specs.Tree.{Kind, capturing, named, scoped, lookaround, atomic, conditional, glyph, reference}
-use Rattle.rl_pattern.specs.Codes.{numeral, is_digit, begins_name, goes_in_name, Headed, headed, letter, colon, minus, letter_p, sharps, less, greater, condition, looks, on_letter, off_letter, no_flags, with_letter}
+use Rattle.rl_pattern.specs.Codes.{numeral, is_digit, begins_name, goes_in_name, GroupPrefix, headed, letter, colon, minus, letter_p, sharps, less, greater, condition, looks, on_letter, off_letter, no_flags, with_letter}
 use Rattle.rl_pattern.specs.Grammar.{At, Name, first_code, next_code, Digits, one_digit, next_digit, Letters, first_letter, next_letter, Stands, Opening, captures, captures_named, groups, groups_on, groups_both, groups_off, looks_ahead, looks_behind, cuts, asks_number, asks_name, FlagGroup, flag_group, Without, no_code, one_code}
-use Rattle.rl_pattern.specs.internal.Machine.{State, Base, at, between, remark, stops, goes, ends, InHead, paren, quest, after_p, after_less, group_name, group_name_goes, reference_name, reference_name_goes, asks, asks_digits, asks_name_goes, letters_on, letters_dash, letters_off, Begun, begins_group, begins_remark, is_reference, is_front, quest_next, behind_next, head_step, head_answer, in_head, begin, open_group, put_leaf, put_front}
+use Rattle.rl_pattern.specs.internal.Machine.{State, Base, at, between, comment, stops, goes, ends, InHead, paren, quest, after_p, after_less, group_name, group_name_goes, reference_name, reference_name_goes, asks, asks_digits, asks_name_goes, letters_on, letters_dash, letters_off, GroupStart, begins_group, begins_comment, is_reference, is_front, quest_next, behind_next, head_step, head_answer, in_head, begin, open_group, put_leaf, put_front}
 use Rattle.rl_pattern.proofs.Steps.{reads_from, goes_to, same_step, differs}
 
 name_not : (text : Bool) → (goes_in_name text 62 ≡ false) × (goes_in_name text 41 ≡ false)
@@ -48,7 +48,7 @@ module _ (text : Bool) (w : List ℕ) {X : Type 0} (ask : ℕ → State → Opti
   on i c h k at_c st = goes_to text w ask i c (In h) (In k) at_c (ap (λ r. head_answer i b a h r c) st)
 
   -- a code that ends it
-  off : (i c : ℕ) (h : InHead) (o : Begun) (s : State) → At text w i c → head_step text h c ≡ ends o → begin b a (suc i) o ≡ Some s → From i (In h) ≡ From (suc i) s
+  off : (i c : ℕ) (h : InHead) (o : GroupStart) (s : State) → At text w i c → head_step text h c ≡ ends o → begin b a (suc i) o ≡ Some s → From i (In h) ≡ From (suc i) s
   off i c h o s at_c st be = goes_to text w ask i c (In h) s at_c (ap (λ r. head_answer i b a h r c) st ∙ be)
 
   name_goes_on : {i j : ℕ} {n : List ℕ} → Name text w i j n → From i (In group_name) ≡ From j (In (group_name_goes n))
@@ -86,10 +86,10 @@ module _ (text : Bool) (w : List ℕ) {X : Type 0} (ask : ℕ → State → Opti
       off_go f hs ∙ on j c (letters_off f g) (letters_off f (with_letter g c)) at_c (ap (λ t. cond t (ends (begins_group (scoped f g))) (cond (off_letter c) (goes (letters_off f (with_letter g c))) stops)) (differs off_letter 58 c letter_not.3 h) ∙ ap (λ t. cond t (goes (letters_off f (with_letter g c))) stops) h)
 
   -- the code behind (? by its sign
-  by_head : (i c : ℕ) (g : Headed) (k : InHead) → At text w i c → headed c ≡ g → quest_next g c ≡ goes k → From i (In quest) ≡ From (suc i) (In k)
+  by_head : (i c : ℕ) (g : GroupPrefix) (k : InHead) → At text w i c → headed c ≡ g → quest_next g c ≡ goes k → From i (In quest) ≡ From (suc i) (In k)
   by_head i c g k at_c e st = on i c quest k at_c (ap (λ h. quest_next h c) e ∙ st)
 
-  by_head_ends : (i c : ℕ) (g : Headed) (o : Begun) (s : State) → At text w i c → headed c ≡ g → quest_next g c ≡ ends o → begin b a (suc i) o ≡ Some s → From i (In quest) ≡ From (suc i) s
+  by_head_ends : (i c : ℕ) (g : GroupPrefix) (o : GroupStart) (s : State) → At text w i c → headed c ≡ g → quest_next g c ≡ ends o → begin b a (suc i) o ≡ Some s → From i (In quest) ≡ From (suc i) s
   by_head_ends i c g o s at_c e st be = off i c quest o s at_c (ap (λ h. quest_next h c) e ∙ st) be
 
   asked : At text w (suc a) 63 → From (suc a) (In paren) ≡ From (suc (suc a)) (In quest)
@@ -121,13 +121,13 @@ module _ (text : Bool) (w : List ℕ) {X : Type 0} (ask : ℕ → State → Opti
       asked at_q ∙ (by_head (suc (suc a)) 80 letter_p after_p at_p heads.2 refl ∙ on (suc (suc (suc a))) 61 after_p reference_name at_is refl ∙ reference_goes_on name ∙ off j 41 reference_name_goes is_reference _ at_end refl refl)
 
   -- a comment in parentheses
-  remark_goes_on : {i j : ℕ} → Without text w 41 i j → From i (at b remark) ≡ From j (at b remark)
-  remark_goes_on no_code = refl
-  remark_goes_on (one_code {j = j} {c = c} h at_c ne) = remark_goes_on h ∙ goes_to text w ask j c _ _ at_c (ap (λ t. cond t (Some (at b between)) (Some (at b remark))) (ne_eqb c 41 ne))
+  comment_goes_on : {i j : ℕ} → Without text w 41 i j → From i (at b comment) ≡ From j (at b comment)
+  comment_goes_on no_code = refl
+  comment_goes_on (one_code {j = j} {c = c} h at_c ne) = comment_goes_on h ∙ goes_to text w ask j c _ _ at_c (ap (λ t. cond t (Some (at b between)) (Some (at b comment))) (ne_eqb c 41 ne))
 
-  pub remark_goes : {j : ℕ} → Stands text w a "(?#" → Without text w 41 (suc (suc (suc a))) j → At text w j 41 → reads_from text w ask (suc a) (at b (in_head a paren)) ≡ reads_from text w ask (suc j) (at b between)
-  remark_goes {j} (at_a, (at_q, at_c)) h at_end =
-      asked at_q ∙ (by_head_ends (suc (suc a)) 35 sharps begins_remark _ at_c heads.3 refl refl ∙ remark_goes_on h ∙ goes_to text w ask j 41 _ _ at_end refl)
+  pub comment_goes : {j : ℕ} → Stands text w a "(?#" → Without text w 41 (suc (suc (suc a))) j → At text w j 41 → reads_from text w ask (suc a) (at b (in_head a paren)) ≡ reads_from text w ask (suc j) (at b between)
+  comment_goes {j} (at_a, (at_q, at_c)) h at_end =
+      asked at_q ∙ (by_head_ends (suc (suc a)) 35 sharps begins_comment _ at_c heads.3 refl refl ∙ comment_goes_on h ∙ goes_to text w ask j 41 _ _ at_end refl)
 
   -- a flag group, where the machine takes it
   pub front_goes : {j : ℕ} {f : Flags} → FlagGroup text w a j f → (s : State) → put_front b a j f ≡ Some s → reads_from text w ask (suc a) (at b (in_head a paren)) ≡ reads_from text w ask j s

@@ -5,7 +5,7 @@ use mathlib.Core.Logic.{inl, inr, ⊎_elim}
 use Rattle.rl_ranges.specs.declared.universe.Universe.{Universe}
 use Rattle.rl_syntax.specs.PatTree as s
 use Rattle.rl_pattern.specs.declared.flags.Flags.{Flags}
-use Rattle.rl_pattern.specs.Tree.{Span, span, Kind, capturing, named, scoped, lookaround, atomic, conditional, Node, nodes, branches, Branch, branch_body, branch, whole_body, Mark, caret, text_start, dollar, text_end, boundary}
+use Rattle.rl_pattern.specs.Tree.{Span, span, Kind, capturing, named, scoped, lookaround, atomic, conditional, SyntaxNode, nodes, branches, Branch, branch_body, branch, whole_body, Assertion, caret, text_start, dollar, text_end, boundary}
 use Rattle.rl_pattern.specs.Grammar.{Atom, literal, literal_brace, dotted, escaped, refers, bracketed, grouped, Item, once, repeated, edge_code, edge_escape, Items, no_items, pass_over, one_item, IsBranches, first_branch, next_branch}
 use Rattle.rl_pattern.specs.Shape.{is_text, shape, shapes, branch_shapes, group_shape, mark_shape}
 use Rattle.rl_pattern.specs.Cut.{lies_in, in_dropped, gone, gone_items, gone_branches}
@@ -47,11 +47,11 @@ one_branch true before a b f = ap (λ z. a || f z) (sym (or_false before))
 one_branch false before a b f = ap (λ z. b || f z) (sym (or_true before))
 
 module _ (u : Universe) (drop out : Span → Bool) where
-  abbrev pub hole : Node → ℕ → Bool
+  abbrev pub hole : SyntaxNode → ℕ → Bool
   hole p t = gone drop out (shape u p) t
 
   -- of items, and of the branches of a body, where `d` says which are dropped
-  abbrev pub holes : List Node → ℕ → Bool
+  abbrev pub holes : List SyntaxNode → ℕ → Bool
   holes [] t = false
   holes (p ∷ ps) t = hole p t || holes ps t
 
@@ -72,7 +72,7 @@ module _ (u : Universe) (drop out : Span → Bool) where
   drops_in (b ∷ []) = λ r. false
   drops_in (b ∷ c ∷ bs) = drop
 
-  pub holes_snoc : (ps : List Node) (p : Node) (t : ℕ) → holes (ps ++ p ∷ []) t ≡ (holes ps t || hole p t)
+  pub holes_snoc : (ps : List SyntaxNode) (p : SyntaxNode) (t : ℕ) → holes (ps ++ p ∷ []) t ≡ (holes ps t || hole p t)
   holes_snoc [] p t = or_false (hole p t)
   holes_snoc (q ∷ ps) p t = ap (λ b. hole q t || b) (holes_snoc ps p t) ∙ sym (or_assoc (hole q t) (holes ps t) (hole p t))
 
@@ -86,11 +86,11 @@ module _ (u : Universe) (drop out : Span → Bool) where
   some_left_snoc d (c ∷ bs) b = ap (λ z. not (d c.place) || z) (some_left_snoc d bs b) ∙ sym (or_assoc (not (d c.place)) (some_left d bs) (not (d b.place)))
 
   -- the holes of a branch, and of a body
-  gone_nodes : (ps : List Node) (t : ℕ) → gone_items drop out (s.items_of (shapes u (nodes ps))) t ≡ holes ps t
+  gone_nodes : (ps : List SyntaxNode) (t : ℕ) → gone_items drop out (s.items_of (shapes u (nodes ps))) t ≡ holes ps t
   gone_nodes [] t = refl
   gone_nodes (p ∷ ps) t = ap (λ b. hole p t || b) (gone_nodes ps t)
 
-  pub body_holes : (r : Span) (ps : List Node) (t : ℕ) → hole (branch_body r ps) t ≡ holes ps t
+  pub body_holes : (r : Span) (ps : List SyntaxNode) (t : ℕ) → hole (branch_body r ps) t ≡ holes ps t
   body_holes r [] t = refl
   body_holes r (p ∷ []) t = sym (or_false (hole p t))
   body_holes r (p ∷ q ∷ ps) t = gone_nodes (p ∷ q ∷ ps) t
@@ -113,7 +113,7 @@ module _ (u : Universe) (drop out : Span → Bool) where
   group_hole r atomic q t h = absurd (true≢false (sym h))
   group_hole r conditional q t h = absurd (true≢false (sym h))
 
-  pub mark_hole : (r : Span) (f : Flags) (m : Mark) (t : ℕ) → gone drop out (mark_shape u r f m) t ≡ true → ⊥
+  pub mark_hole : (r : Span) (f : Flags) (m : Assertion) (t : ℕ) → gone drop out (mark_shape u r f m) t ≡ true → ⊥
   mark_hole r f caret t h = true≢false (sym h)
   mark_hole r f text_start t h = true≢false (sym h)
   mark_hole r f dollar t h = true≢false (sym h)
@@ -129,7 +129,7 @@ module _ (u : Universe) (drop out : Span → Bool) where
     first_within i j t h = let r = lies_from i (suc j) t h in (r.0, omega (arith, r.1))
 
     mutual
-      pub atom_within : {fl : Flags} {i j : ℕ} {p : Node} → Atom (is_text u) w fl i j p → (t : ℕ) → hole p t ≡ true → (i ≤ t) × (t < j)
+      pub atom_within : {fl : Flags} {i j : ℕ} {p : SyntaxNode} → Atom (is_text u) w fl i j p → (t : ℕ) → hole p t ≡ true → (i ≤ t) × (t < j)
       atom_within (literal a z) t h = absurd (true≢false (sym h))
       atom_within (literal_brace a z) t h = absurd (true≢false (sym h))
       atom_within (dotted a) t h = absurd (true≢false (sym h))
@@ -141,7 +141,7 @@ module _ (u : Universe) (drop out : Span → Bool) where
           let r = branches_within hs (drops_in bs) t inner in
           (omega (arith, r.0, opening_lt (is_text u) w o), omega (arith, r.1))
 
-      pub item_within : {fl : Flags} {i j : ℕ} {p : Node} → Item (is_text u) w fl i j p → (t : ℕ) → hole p t ≡ true → (i ≤ t) × (t < j)
+      pub item_within : {fl : Flags} {i j : ℕ} {p : SyntaxNode} → Item (is_text u) w fl i j p → (t : ℕ) → hole p t ≡ true → (i ≤ t) × (t < j)
       item_within (once a) t h = atom_within a t h
       item_within (repeated {j = j} {k = k} {l = l} {p = p} a bl q) t h =
           let le = blanks_le (is_text u) w bl in
@@ -151,7 +151,7 @@ module _ (u : Universe) (drop out : Span → Bool) where
       item_within {fl} (edge_code {i = i} {m = m} a z) t h = absurd (mark_hole (span i (suc i)) fl m t h)
       item_within {fl} (edge_escape {i = i} {m = m} a) t h = absurd (mark_hole (span i (suc (suc i))) fl m t h)
 
-      pub items_within : {fl : Flags} {i j : ℕ} {ps : List Node} → Items (is_text u) w fl i j ps → (t : ℕ) → holes ps t ≡ true → (i ≤ t) × (t < j)
+      pub items_within : {fl : Flags} {i j : ℕ} {ps : List SyntaxNode} → Items (is_text u) w fl i j ps → (t : ℕ) → holes ps t ≡ true → (i ≤ t) × (t < j)
       items_within no_items t h = absurd (true≢false (sym h))
       items_within (pass_over a p) t h = let r = items_within a t h in (r.0, omega (arith, r.1, passed_lt (is_text u) w p))
       items_within (one_item {ps = ps} {p = p} a b) t h =

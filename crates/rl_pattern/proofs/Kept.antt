@@ -4,7 +4,7 @@ use Rattle.std.proofs.lemmas.Bool.{eqb-true, eqb-false, cond_both}
 use Rattle.std.proofs.lemmas.Option.{same_Some}
 use mathlib.Core.Logic.{inl, inr}
 use Rattle.rl_pattern.specs.Tree.{Escaped, by_name, reference}
-use Rattle.rl_pattern.specs.Codes.{with_digit, Numeral, numeral, low_digit, high_digit, no_digit, is_digit, hex, Slashed, slashed, single, kinds, hexes, naming, octal, low, high, edges, no_escape, octal_code, hex_code}
+use Rattle.rl_pattern.specs.Codes.{with_digit, Numeral, numeral, low_digit, high_digit, no_digit, is_digit, hex, EscapeClass, slashed, single, kinds, hexes, naming, octal, low, high, edges, no_escape, octal_code, hex_code}
 use Rattle.rl_pattern.specs.Grammar.{At, Without, no_code, one_code, Hexes, no_hex, one_hex, Octals, no_octal, one_octal, OctalAt, DigitAt, Slash, Three, Escape, escape_single, escape_kind, escape_hex, escape_name, escape_octal, escape_three, reference_one, reference_two}
 use Rattle.rl_pattern.specs.internal.Machine.{Answer, stops, goes, ends, InEscape, in_hex, name_brace, name_begins, name_goes, in_octal, after_low, after_high, after_two, escape_first, escape_next, escape_rest, hex_next, octal_next, low_next, high_next, two_next}
 use Rattle.rl_pattern.proofs.Steps.{same_code}
@@ -41,7 +41,7 @@ module _ (text : Bool) (w : List ℕ) where
   not_octal : (k c : ℕ) (g : Numeral) → At text w k c → numeral c ≡ g → ((d : ℕ) → g ≡ low_digit d → ⊥) → ¬ OctalAt text w k
   not_octal k c g at_c q n (c2, d, at_c2, is) = n d (sym q ∙ ap numeral (same_code w k c c2 at_c at_c2) ∙ is)
 
-  pub first_ok : (in_class : Bool) (i : ℕ) (s : Slashed) → Slash text w in_class i s → Answers (escape_first s) (λ x. EscapeOk in_class x i (suc (suc i))) (λ e. Escape text w in_class i (suc (suc i)) e)
+  pub first_ok : (in_class : Bool) (i : ℕ) (s : EscapeClass) → Slash text w in_class i s → Answers (escape_first s) (λ x. EscapeOk in_class x i (suc (suc i))) (λ e. Escape text w in_class i (suc (suc i)) e)
   first_ok v i (single c) h = escape_single h
   first_ok v i (kinds k n) h = escape_kind h
   first_ok v i (hexes n) h = (n, 0, h, no_hex, omega arith, hexes_pos text v h.0 n h.3)

@@ -14,10 +14,9 @@ use Rattle.rl_ranges.specs.declared.universe.Universe.TheVariants.{Str, Bytes}
 use Rattle.rl_pattern.specs.declared.flags.Flags.{Flags}
 use Rattle.rl_pattern.specs.Tree as t
 use Rattle.rl_pattern.specs.Tree.{Named, Span, Escaped, Member, Leaf}
-use Rattle.rl_pattern.specs.Found.{code_member, some_member, kind_member, members_hold}
 use Rattle.rl_pattern.specs.Codes.{no_flags}
-use Rattle.rl_pattern.specs.Shape.{is_text, some_below, class_holds, closed_holds, within, leaf_codes}
-use Rattle.rl_pattern.specs.internal.LeafSets.{closing_in, kind_in, escaped_in, code_in, codes_in, class_in, classes_in, members_in}
+use Rattle.rl_pattern.specs.Shape.{is_text, some_below, closed_holds, within, leaf_codes, code_member, kind_member, members_hold}
+use Rattle.rl_pattern.specs.internal.LeafSets.{closing_in, kind_in, escaped_in, code_in, codes_in, class_in, classes_in, members_in, some_member}
 
 -- a range cut off at the universe's end
 pub between_some : (u : Universe) (first last code n upto : ℕ) → n ≡ code_count u → upto ≡ min last (n - 1) → is_between first upto code ≡ within u (is_between first last) code
@@ -42,10 +41,6 @@ pub same_within : (u : Universe) (p q : ℕ → Bool) → ((d : ℕ) → p d ≡
 same_within u p q same d = ap (λ b. nat_lt d (code_count u) && b) (same d)
 
 -- the two words for the universe
-pub universe_test : (u : Universe) (code : ℕ) → nat_le code (cond (is_text u) 1114111 255) ≡ nat_lt code (code_count u)
-universe_test Str code = grind (arith, nat_tests)
-universe_test Bytes code = grind (arith, nat_tests)
-
 -- the two words for the rule of ASCII
 pub ascii_rule : (ascii : Bool) (u : Universe) → (ascii || not (is_text u)) ≡ goes_by_ascii ascii u
 ascii_rule true Str = refl
@@ -116,7 +111,7 @@ pub kind_other : (u : Universe) (f : Flags) (k : Named) (inverse : Bool) (code :
 unfolding kind_in
 kind_other u f k false code held e h = absurd (true≢false (sym e))
 kind_other u f k true code held e h =
-    ap (λ b. b && not held) (sym (universe_test u code)) ∙ ap (λ b. nat_le code (cond (is_text u) 1114111 255) && not b) (h ∙ ap (λ a. is_named k a code) (sym (ascii_rule f.ascii u)))
+    ap (λ b. nat_lt code (code_count u) && not b) (h ∙ ap (λ a. is_named k a code) (sym (ascii_rule f.ascii u)))
 
 pub or_none : (a b : Bool) → a ≡ (a || (b && false))
 or_none true b = refl
@@ -197,7 +192,7 @@ classes_end u f x held = ap (λ b. held || b) (and_false (nat_lt x (code_count u
 
 -- the flags don't matter for the codes and ranges of a class
 member_free : (u : Universe) (f : Flags) (m : Member) (x : ℕ)
-    → code_member class_holds (closed_holds u) (is_text u) no_flags m x ≡ code_member class_holds (closed_holds u) (is_text u) f m x
+    → code_member u no_flags m x ≡ code_member u f m x
 member_free u f (t.one s (t.code d)) x = refl
 member_free u f (t.one s (t.kind k n)) x = refl
 member_free u f (t.one s t.too_large) x = refl
@@ -214,7 +209,7 @@ member_free u f (t.range s t.by_name e) x = refl
 member_free u f (t.range s t.reference e) x = refl
 
 pub codes_held : Universe → Flags → List Member → ℕ → Bool
-codes_held u f ms = some_member class_holds (closed_holds u) (is_text u) f (code_member class_holds (closed_holds u) (is_text u) f) ms
+codes_held u f ms = some_member (code_member u f) ms
 
 members_free : (u : Universe) (f : Flags) (ms : List Member) (x : ℕ) → codes_held u no_flags ms x ≡ codes_held u f ms x
 unfolding codes_held
@@ -229,7 +224,7 @@ pub members_held : (u : Universe) (f : Flags) (ms : List Member) (x : ℕ) (code
 unfolding codes_held classes_in members_in
 members_held u f ms x codes classes h k =
     ap₂ ◌||◌ (h ∙ ap (λ p. within u (closing_in u f p) x) (λ i y. members_free u f ms y i)) k
-    ∙ sym (spread (nat_lt x (code_count u)) (closing_in u f (codes_held u f ms) x) (some_member class_holds (closed_holds u) (is_text u) f (kind_member class_holds (closed_holds u) (is_text u) f) ms x))
+    ∙ sym (spread (nat_lt x (code_count u)) (closing_in u f (codes_held u f ms) x) (some_member (kind_member u f) ms x))
 
 -- what a leaf holds
 pub any_held : (u : Universe) (f : Flags) (l : Leaf) (x : ℕ) (out : Bool) → l ≡ t.any → out ≡ within u (λ d. not f.dot_all && d == 10) x → (nat_lt x (code_count u) && not out) ≡ leaf_codes u f l x
@@ -237,10 +232,9 @@ unfolding leaf_codes
 any_held u f l x out i h =
     ap (λ b. nat_lt x (code_count u) && not b) h
     ∙ shift (nat_lt x (code_count u)) f.dot_all (x == 10)
-    ∙ ap (λ b. nat_lt x (code_count u) && (b && (f.dot_all || not (x == 10)))) (sym (universe_test u x))
     ∙ sym (ap (λ v. leaf_codes u f v x) i)
   where
-    shift : (a b d : Bool) → (a && not (a && (not b && d))) ≡ (a && (a && (b || not d)))
+    shift : (a b d : Bool) → (a && not (a && (not b && d))) ≡ (a && (b || not d))
     shift true true d = refl
     shift true false d = refl
     shift false b d = refl
@@ -258,10 +252,9 @@ pub inverse_held : (u : Universe) (f : Flags) (l : Leaf) (inverse : Bool) (ms : 
 unfolding leaf_codes members_in
 inverse_held u f l inverse ms x held i j h =
     ap (λ b. nat_lt x (code_count u) && not b) h
-    ∙ shift (nat_lt x (code_count u)) (members_hold class_holds (closed_holds u) (is_text u) f ms x)
-    ∙ ap (λ b. nat_lt x (code_count u) && (b && not (members_hold class_holds (closed_holds u) (is_text u) f ms x))) (sym (universe_test u x))
+    ∙ shift (nat_lt x (code_count u)) (members_hold u f ms x)
     ∙ sym (ap (λ v. leaf_codes u f v x) i ∙ ap (λ b. leaf_codes u f (t.members b ms) x) j)
   where
-    shift : (a b : Bool) → (a && not (a && b)) ≡ (a && (a && not b))
+    shift : (a b : Bool) → (a && not (a && b)) ≡ (a && not b)
     shift true b = refl
     shift false b = refl

@@ -1,5 +1,5 @@
 -- Trees that are the same but for places and for what is taken out.
-use Rattle.std.proofs.Common.{◌≡◌, ℕ, Bool, true, false, not, ◌||◌, ◌&&◌, ◌==◌, if◌then◌else◌, List, [], ◌∷◌, ◌++◌, map, refl, sym, ap, ◌∙◌, true≢false}
+use Rattle.std.proofs.Common.{nat_lt, flat_map, ◌≡◌, ℕ, Bool, true, false, not, ◌||◌, ◌&&◌, ◌==◌, if◌then◌else◌, List, [], ◌∷◌, ◌++◌, map, refl, sym, ap, ◌∙◌, true≢false}
 use Rattle.std.proofs.lemmas.List.{map-append}
 use mathlib.Core.Logic.{inl, inr}
 use Rattle.rl_ranges.specs.declared.universe.Universe.{Universe}
@@ -7,9 +7,10 @@ use Rattle.rl_syntax.specs.Tree as y
 use Rattle.rl_syntax.specs.PatTree as s
 use Rattle.rl_syntax.specs.Lowering.{in_turn, one_of, lowered, items_lowered, branches_lowered}
 use Rattle.rl_pattern.specs.declared.flags.Flags.{Flags}
-use Rattle.rl_pattern.specs.Tree.{Span, Count, Greed, Escaped, code, too_large, by_name, kind, reference, Member, one, range, Leaf, any, glyph, members, Kind, capturing, named, scoped, lookaround, atomic, conditional, Node, nodes, branches, Branch, branch_body, branch, whole_body}
-use Rattle.rl_pattern.specs.Found.{Feature, fault_if, escaped_faults, member_faults, members_faults, leaf_faults, count_faults, kind_faults, node_faults, nodes_faults, branches_faults, Called, node_names, nodes_names, branches_names, is_leading, trail_of, code_member, kind_member, some_member, members_hold, reversed, is_most, below_least, is_possessive, overlap, closing, in_universe, is_locale, is_flag_clash, is_repeat_too_large, is_repeat_order, is_possessive_count, is_reversed_range}
-use Rattle.rl_pattern.specs.Shape.{is_text, shape, shapes, branch_shapes, leaf_codes, class_holds, closed_holds, within}
+use Rattle.rl_pattern.specs.Tree.{Span, Count, Greed, Escaped, code, too_large, by_name, kind, reference, Member, one, range, Leaf, any, glyph, members, Kind, capturing, named, scoped, lookaround, atomic, conditional, SyntaxNode, nodes, branches, Branch, branch_body, branch, whole_body}
+use Rattle.rl_pattern.specs.internal.LeafSets.{some_member}
+use Rattle.rl_pattern.specs.Found.{is_bound, Feature, fault_if, escaped_faults, member_faults, leaf_faults, count_faults, kind_faults, node_faults, nodes_faults, branches_faults, Called, node_names, nodes_names, branches_names, is_leading, trail_of, reversed, is_possessive, overlap, is_locale, is_flag_clash, is_repeat_too_large, is_repeat_order, is_possessive_count, is_reversed_range}
+use Rattle.rl_pattern.specs.Shape.{is_text, shape, shapes, branch_shapes, leaf_codes, closed_holds, within, code_member, kind_member, members_hold, closing}
 use Rattle.rl_pattern.specs.Cut.{choice_of, left, left_items, left_branches}
 use Rattle.rl_pattern.specs.internal.Left.{moved_member, moved_leaf}
 use Rattle.rl_pattern.proofs.Holes.{drops_in}
@@ -40,8 +41,8 @@ two_moved b c i j f h e = let a = nil_parts (fault_if b i f) (fault_if c i h) e 
 
 pub count_moved : (i j : ℕ) (n : Count) (r : Greed) → count_faults i n r ≡ [] → count_faults j n r ≡ []
 count_moved i j n r h =
-    let x = n.least == 4294967295 || is_most 4294967295 n.most in
-    let y = below_least n.least n.most in
+    let x = n.least == 4294967295 || is_bound (λ m. m == 4294967295) n.most in
+    let y = is_bound (λ m. nat_lt m n.least) n.most in
     let z = is_possessive r in
     let a = nil_parts (fault_if x i is_repeat_too_large) (fault_if y i is_repeat_order ++ fault_if z i is_possessive_count) h in
     nil_join (fault_if x j is_repeat_too_large) (fault_if y j is_repeat_order ++ fault_if z j is_possessive_count) (fault_moved x i j is_repeat_too_large a.0) (two_moved y z i j is_repeat_order is_possessive_count a.1)
@@ -63,16 +64,16 @@ module _ (g : ℕ → ℕ) where
       let b = nil_parts (escaped_faults i d) (fault_if (reversed e d) i is_reversed_range) a.1 in
       nil_join (escaped_faults (g i) e) (escaped_faults (g i) d ++ fault_if (reversed e d) (g i) is_reversed_range) (escaped_moved i (g i) e a.0) (nil_join (escaped_faults (g i) d) (fault_if (reversed e d) (g i) is_reversed_range) (escaped_moved i (g i) d b.0) (fault_moved (reversed e d) i (g i) is_reversed_range b.1))
 
-  members_moved : (ms : List Member) → members_faults ms ≡ [] → members_faults (map (moved_member g) ms) ≡ []
+  members_moved : (ms : List Member) → flat_map member_faults ms ≡ [] → flat_map member_faults (map (moved_member g) ms) ≡ []
   members_moved [] h = refl
-  members_moved (m ∷ ms) h = let a = nil_parts (member_faults m) (members_faults ms) h in nil_join (member_faults (moved_member g m)) (members_faults (map (moved_member g) ms)) (member_moved m a.0) (members_moved ms a.1)
+  members_moved (m ∷ ms) h = let a = nil_parts (member_faults m) (flat_map member_faults ms) h in nil_join (member_faults (moved_member g m)) (flat_map member_faults (map (moved_member g) ms)) (member_moved m a.0) (members_moved ms a.1)
 
   pub leaf_moved : (r t : Span) (x : Leaf) → t.from ≡ g r.from → leaf_faults r x ≡ [] → leaf_faults t (moved_leaf g x) ≡ []
   leaf_moved r t any e h = refl
   leaf_moved r t (glyph d) e h = escaped_moved r.from t.from d h
   leaf_moved r t (members v ms) e h = members_moved ms h
 
-  code_same : (m : Member) (c : ℕ) (u : Universe) (f : Flags) → code_member class_holds (closed_holds u) (is_text u) f (moved_member g m) c ≡ code_member class_holds (closed_holds u) (is_text u) f m c
+  code_same : (m : Member) (c : ℕ) (u : Universe) (f : Flags) → code_member u f (moved_member g m) c ≡ code_member u f m c
   code_same (one r (code d)) c u f = refl
   code_same (one r too_large) c u f = refl
   code_same (one r by_name) c u f = refl
@@ -88,7 +89,7 @@ module _ (g : ℕ → ℕ) where
   code_same (range r (kind k n) e) c u f = refl
   code_same (range r reference e) c u f = refl
 
-  kind_same : (m : Member) (c : ℕ) (u : Universe) (f : Flags) → kind_member class_holds (closed_holds u) (is_text u) f (moved_member g m) c ≡ kind_member class_holds (closed_holds u) (is_text u) f m c
+  kind_same : (m : Member) (c : ℕ) (u : Universe) (f : Flags) → kind_member u f (moved_member g m) c ≡ kind_member u f m c
   kind_same (one r (code d)) c u f = refl
   kind_same (one r too_large) c u f = refl
   kind_same (one r by_name) c u f = refl
@@ -96,81 +97,81 @@ module _ (g : ℕ → ℕ) where
   kind_same (one r reference) c u f = refl
   kind_same (range r e d) c u f = refl
 
-  some_same : (holds : Member → ℕ → Bool) (u : Universe) (f : Flags) → ((m : Member) (c : ℕ) → holds (moved_member g m) c ≡ holds m c) → (ms : List Member) (c : ℕ) → some_member class_holds (closed_holds u) (is_text u) f holds (map (moved_member g) ms) c ≡ some_member class_holds (closed_holds u) (is_text u) f holds ms c
+  some_same : (holds : Member → ℕ → Bool) (u : Universe) (f : Flags) → ((m : Member) (c : ℕ) → holds (moved_member g m) c ≡ holds m c) → (ms : List Member) (c : ℕ) → some_member holds (map (moved_member g) ms) c ≡ some_member holds ms c
   some_same holds u f h [] c = refl
-  some_same holds u f h (m ∷ ms) c = ap (λ z. z || some_member class_holds (closed_holds u) (is_text u) f holds (map (moved_member g) ms) c) (h m c) ∙ ap (λ z. holds m c || z) (some_same holds u f h ms c)
+  some_same holds u f h (m ∷ ms) c = ap (λ z. z || some_member holds (map (moved_member g) ms) c) (h m c) ∙ ap (λ z. holds m c || z) (some_same holds u f h ms c)
 
-  hold_same : (u : Universe) (f : Flags) (ms : List Member) → members_hold class_holds (closed_holds u) (is_text u) f (map (moved_member g) ms) ≡ members_hold class_holds (closed_holds u) (is_text u) f ms
+  hold_same : (u : Universe) (f : Flags) (ms : List Member) → members_hold u f (map (moved_member g) ms) ≡ members_hold u f ms
   hold_same u f ms =
-      let some_in : (Member → ℕ → Bool) → List Member → ℕ → Bool = some_member class_holds (closed_holds u) (is_text u) f in
-      let codes_in = code_member class_holds (closed_holds u) (is_text u) f in
-      let kinds_in = kind_member class_holds (closed_holds u) (is_text u) f in
+      let some_in : (Member → ℕ → Bool) → List Member → ℕ → Bool = some_member in
+      let codes_in = code_member u f in
+      let kinds_in = kind_member u f in
       let first : some_in codes_in (map (moved_member g) ms) ≡ some_in codes_in ms = λ i c. some_same codes_in u f (λ m d. code_same m d u f) ms c i in
       let second : some_in kinds_in (map (moved_member g) ms) ≡ some_in kinds_in ms = λ i c. some_same kinds_in u f (λ m d. kind_same m d u f) ms c i in
-      λ i c. closing class_holds (closed_holds u) (is_text u) f (first i) c || second i c
+      λ i c. closing u f (first i) c || second i c
 
   pub codes_same : (u : Universe) (f : Flags) (x : Leaf) → leaf_codes u f (moved_leaf g x) ≡ leaf_codes u f x
   unfolding leaf_codes
   codes_same u f any = refl
   codes_same u f (glyph e) = refl
   codes_same u f (members false ms) = λ i c. within u (hold_same u f ms i) c
-  codes_same u f (members true ms) = λ i c. within u (λ d. in_universe class_holds (closed_holds u) (is_text u) f d && not (hold_same u f ms i d)) c
+  codes_same u f (members true ms) = λ i c. within u (λ d. not (hold_same u f ms i d)) c
 
 abbrev pub name_of : Called → List ℕ
 name_of c = c.name
 
-abbrev pub names_of : Node → List (List ℕ)
+abbrev pub names_of : SyntaxNode → List (List ℕ)
 names_of p = map name_of (node_names p)
 
 module _ (u : Universe) (drop out : Span → Bool) where
-  abbrev pub tree : Node → y.Tree
+  abbrev pub tree : SyntaxNode → y.Tree
   tree p = lowered (shape u p)
 
-  abbrev pub left_tree : Node → y.Tree
+  abbrev pub left_tree : SyntaxNode → y.Tree
   left_tree p = lowered (left drop out (shape u p))
 
   -- the second is what is left of the first: its tree is the same, it has no fault, and the same groups have names
-  pub record Leaves (p q : Node) : Type 0 where
+  pub record Leaves (p q : SyntaxNode) : Type 0 where
     pub same : tree q ≡ left_tree p
     pub faultless : node_faults (is_text u) p ≡ [] → node_faults (is_text u) q ≡ []
     pub names : names_of q ≡ names_of p
     pub nested : (n : ℕ) → Has q n → Has p n
 
   -- and it is the same outer anchor, if one
-  pub record AlikeEdge (p q : Node) : Type 0 where
+  pub record AlikeEdge (p q : SyntaxNode) : Type 0 where
     pub leads : is_leading q ≡ is_leading p
     pub trails : trail_of q ≡ trail_of p
     pub stays_item : is_item q ≡ true
 
-  pub data LeavesAll : List Node → List Node → Type 0 where
+  pub data LeavesAll : List SyntaxNode → List SyntaxNode → Type 0 where
     all_none : LeavesAll [] []
-    all_more : {p q : Node} {ps qs : List Node} → Leaves p q → AlikeEdge p q → LeavesAll ps qs → LeavesAll (p ∷ ps) (q ∷ qs)
+    all_more : {p q : SyntaxNode} {ps qs : List SyntaxNode} → Leaves p q → AlikeEdge p q → LeavesAll ps qs → LeavesAll (p ∷ ps) (q ∷ qs)
 
-  pub all_snoc : {ps qs : List Node} {p q : Node} → LeavesAll ps qs → Leaves p q → AlikeEdge p q → LeavesAll (ps ++ p ∷ []) (qs ++ q ∷ [])
+  pub all_snoc : {ps qs : List SyntaxNode} {p q : SyntaxNode} → LeavesAll ps qs → Leaves p q → AlikeEdge p q → LeavesAll (ps ++ p ∷ []) (qs ++ q ∷ [])
   all_snoc all_none h e = all_more h e all_none
   all_snoc (all_more a b hs) h e = all_more a b (all_snoc hs h e)
 
-  items_same : {ps qs : List Node} → LeavesAll ps qs → items_lowered (s.items_of (shapes u (nodes qs))) ≡ items_lowered (left_items drop out (s.items_of (shapes u (nodes ps))))
+  items_same : {ps qs : List SyntaxNode} → LeavesAll ps qs → items_lowered (s.items_of (shapes u (nodes qs))) ≡ items_lowered (left_items drop out (s.items_of (shapes u (nodes ps))))
   items_same all_none = refl
   items_same (all_more {p = p} {q = q} {qs = qs} h e hs) = ap (λ t. t ∷ items_lowered (s.items_of (shapes u (nodes qs)))) h.same ∙ ap (λ ts. left_tree p ∷ ts) (items_same hs)
 
-  items_faultless : {ps qs : List Node} → LeavesAll ps qs → nodes_faults (is_text u) (nodes ps) ≡ [] → nodes_faults (is_text u) (nodes qs) ≡ []
+  items_faultless : {ps qs : List SyntaxNode} → LeavesAll ps qs → nodes_faults (is_text u) (nodes ps) ≡ [] → nodes_faults (is_text u) (nodes qs) ≡ []
   items_faultless all_none fine = refl
   items_faultless (all_more {p = p} {q = q} {ps = ps} {qs = qs} h e hs) fine =
       let a = nil_parts (node_faults (is_text u) p) (nodes_faults (is_text u) (nodes ps)) fine in
       nil_join (node_faults (is_text u) q) (nodes_faults (is_text u) (nodes qs)) (h.faultless a.0) (items_faultless hs a.1)
 
-  items_names : {ps qs : List Node} → LeavesAll ps qs → map name_of (nodes_names (nodes qs)) ≡ map name_of (nodes_names (nodes ps))
+  items_names : {ps qs : List SyntaxNode} → LeavesAll ps qs → map name_of (nodes_names (nodes qs)) ≡ map name_of (nodes_names (nodes ps))
   items_names all_none = refl
   items_names (all_more {p = p} {q = q} {ps = ps} {qs = qs} h e hs) =
       map-append name_of (node_names q) (nodes_names (nodes qs)) ∙ ap (λ z. z ++ map name_of (nodes_names (nodes qs))) h.names ∙ ap (λ z. names_of p ++ z) (items_names hs) ∙ sym (map-append name_of (node_names p) (nodes_names (nodes ps)))
 
-  items_nested : {ps qs : List Node} → LeavesAll ps qs → (n : ℕ) → HasSome (nodes qs) n → HasSome (nodes ps) n
+  items_nested : {ps qs : List SyntaxNode} → LeavesAll ps qs → (n : ℕ) → HasSome (nodes qs) n → HasSome (nodes ps) n
   items_nested all_none n x = x
   items_nested (all_more h e hs) n (inl x) = inl (h.nested n x)
   items_nested (all_more h e hs) n (inr x) = inr (items_nested hs n x)
 
-  pub body_leaves : (r t : Span) {ps qs : List Node} → LeavesAll ps qs → Leaves (branch_body r ps) (branch_body t qs)
+  pub body_leaves : (r t : Span) {ps qs : List SyntaxNode} → LeavesAll ps qs → Leaves (branch_body r ps) (branch_body t qs)
   body_leaves r t all_none = record { same = refl; faultless = λ e. refl; names = refl; nested = λ n x. x }
   body_leaves r t (all_more h e all_none) = h
   body_leaves r t (all_more h e (all_more h2 e2 hs)) =
@@ -180,10 +181,10 @@ module _ (u : Universe) (drop out : Span → Bool) where
   -- what is left of branches, where `d` says which are dropped
   pub data LeavesSome (d : Span → Bool) : List Branch → List Branch → Type 0 where
     some_none : LeavesSome d [] []
-    some_stays : {r t : Span} {ps qs : List Node} {bs cs : List Branch} → d r ≡ false → AllItems ps → LeavesAll ps qs → LeavesSome d bs cs → LeavesSome d (branch r ps ∷ bs) (branch t qs ∷ cs)
+    some_stays : {r t : Span} {ps qs : List SyntaxNode} {bs cs : List Branch} → d r ≡ false → AllItems ps → LeavesAll ps qs → LeavesSome d bs cs → LeavesSome d (branch r ps ∷ bs) (branch t qs ∷ cs)
     some_goes : {b : Branch} {bs cs : List Branch} → d b.place ≡ true → node_names b.body ≡ [] → LeavesSome d bs cs → LeavesSome d (b ∷ bs) cs
 
-  pub stays_snoc : (r t : Span) (ps qs : List Node) {d : Span → Bool} {bs cs : List Branch} → LeavesSome d bs cs → d r ≡ false → AllItems ps → LeavesAll ps qs → LeavesSome d (bs ++ branch r ps ∷ []) (cs ++ branch t qs ∷ [])
+  pub stays_snoc : (r t : Span) (ps qs : List SyntaxNode) {d : Span → Bool} {bs cs : List Branch} → LeavesSome d bs cs → d r ≡ false → AllItems ps → LeavesAll ps qs → LeavesSome d (bs ++ branch r ps ∷ []) (cs ++ branch t qs ∷ [])
   stays_snoc r t ps qs some_none e i h = some_stays e i h some_none
   stays_snoc r t ps qs (some_stays x i z hs) e i2 h = some_stays x i z (stays_snoc r t ps qs hs e i2 h)
   stays_snoc r t ps qs (some_goes x z hs) e i h = some_goes x z (stays_snoc r t ps qs hs e i h)

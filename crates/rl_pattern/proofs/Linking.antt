@@ -8,7 +8,7 @@ use Rattle.rl_syntax.specs.PatTree as s
 use Rattle.rl_syntax.specs.Tree as y
 use Rattle.rl_syntax.specs.Lowering.{lowered, times}
 use Rattle.rl_pattern.specs.declared.flags.Flags.{Flags}
-use Rattle.rl_pattern.specs.Tree.{Span, span, Count, Greed, Leaf, Kind, capturing, named, scoped, lookaround, atomic, conditional, Node, leaf, mark, repeat, group, nothing, seq, choice, Nodes, no_nodes, more_nodes, Branches, no_branches, more_branches, nodes, branches, Branch, branch_body, branch, whole_body, Mark, caret, text_start, dollar, text_end, boundary}
+use Rattle.rl_pattern.specs.Tree.{Span, span, Count, Greed, Leaf, Kind, capturing, named, scoped, lookaround, atomic, conditional, SyntaxNode, leaf, mark, repeat, group, nothing, seq, choice, Nodes, no_nodes, more_nodes, Branches, no_branches, more_branches, nodes, branches, Branch, branch_body, branch, whole_body, Assertion, caret, text_start, dollar, text_end, boundary}
 use Rattle.rl_pattern.specs.Codes.{splits}
 use Rattle.rl_pattern.specs.Found.{is_inner_anchor, is_leading, trail_of, no_trail, mark_faults, count_faults, kind_faults, node_faults, kind_names, node_names}
 use Rattle.rl_pattern.specs.Grammar.{At, Quantifier, Blanks, no_blank, one_blank, Atom, literal, literal_brace, dotted, escaped, refers, bracketed, grouped, Item, once, repeated, edge_code, edge_escape, Items, no_items, pass_over, one_item, IsBranches, first_branch, next_branch}
@@ -61,7 +61,7 @@ is_plain atomic = false
 is_plain conditional = false
 
 module _ (u : Universe) (drop out : Span → Bool) where
-  abbrev pub hole_in : Node → ℕ → Bool
+  abbrev pub hole_in : SyntaxNode → ℕ → Bool
   hole_in = hole u drop out
 
   abbrev pub some_stay : Branches → Bool
@@ -70,7 +70,7 @@ module _ (u : Universe) (drop out : Span → Bool) where
 
   abbrev mutual
     -- each choice keeps a branch, and those that it drops hold no named group
-    pub Good : Node → Type 0
+    pub Good : SyntaxNode → Type 0
     Good (leaf r f x) = Unit {0}
     Good (mark r f m) = Unit {0}
     Good (repeat r q n g p) = Good p
@@ -87,7 +87,7 @@ module _ (u : Universe) (drop out : Span → Bool) where
     GoodBranches no_branches = Unit {0}
     GoodBranches (more_branches r p bs) = (drop r ≡ true → node_names p ≡ []) × (drop r ≡ false → Good p) × GoodBranches bs
 
-  abbrev pub GoodItems : List Node → Type 0
+  abbrev pub GoodItems : List SyntaxNode → Type 0
   GoodItems [] = Unit {0}
   GoodItems (p ∷ ps) = Good p × GoodItems ps
 
@@ -95,11 +95,11 @@ module _ (u : Universe) (drop out : Span → Bool) where
   GoodSome d [] = Unit {0}
   GoodSome d (b ∷ bs) = (d b.place ≡ true → node_names b.body ≡ []) × (d b.place ≡ false → Good b.body) × GoodSome d bs
 
-  good_nodes : (ps : List Node) → AllGood (nodes ps) → GoodItems ps
+  good_nodes : (ps : List SyntaxNode) → AllGood (nodes ps) → GoodItems ps
   good_nodes [] h = tt
   good_nodes (p ∷ ps) (h, hs) = (h, good_nodes ps hs)
 
-  pub good_body : (r : Span) (ps : List Node) → Good (branch_body r ps) → GoodItems ps
+  pub good_body : (r : Span) (ps : List SyntaxNode) → Good (branch_body r ps) → GoodItems ps
   good_body r [] h = tt
   good_body r (p ∷ []) h = (h, tt)
   good_body r (p ∷ q ∷ ps) h = good_nodes (p ∷ q ∷ ps) h
@@ -117,7 +117,7 @@ module _ (u : Universe) (drop out : Span → Bool) where
   good_whole r (b ∷ []) some h = (refl, (λ e. absurd (true≢false (sym e)), λ e. h, tt))
   good_whole r (b ∷ c ∷ bs) some h = (sym (stay_list (b ∷ c ∷ bs)) ∙ h.0, good_list (b ∷ c ∷ bs) h.1)
 
-  pub good_items_snoc : (ps : List Node) (p : Node) → GoodItems (ps ++ p ∷ []) → GoodItems ps × Good p
+  pub good_items_snoc : (ps : List SyntaxNode) (p : SyntaxNode) → GoodItems (ps ++ p ∷ []) → GoodItems ps × Good p
   good_items_snoc [] p (h, hs) = (tt, h)
   good_items_snoc (q ∷ ps) p (h, hs) = let r = good_items_snoc ps p hs in ((h, r.0), r.1)
 
@@ -179,20 +179,20 @@ module _ (u : Universe) (drop out : Span → Bool) where
     right_or a b h = ap (λ z. z || b) (no_true a h)
 
     -- what is left of an atom
-    pub record AtomLinks (fl : Flags) (i j : ℕ) (p : Node) : Type 0 where
-      pub what : Node
+    pub record AtomLinks (fl : Flags) (i j : ℕ) (p : SyntaxNode) : Type 0 where
+      pub what : SyntaxNode
       pub is_left : LeftAtom (is_text u) w kept g fl i j what
       pub leaves : Leaves u drop out p what
       pub edge : AlikeEdge u drop out p what
 
-    pub record ItemLinks (fl : Flags) (i j : ℕ) (p : Node) : Type 0 where
-      pub what : Node
-      pub is_left : {h : ℕ} {qs : List Node} → LeftItems (is_text u) w kept g fl h i qs → LeftItems (is_text u) w kept g fl h j (qs ++ what ∷ [])
+    pub record ItemLinks (fl : Flags) (i j : ℕ) (p : SyntaxNode) : Type 0 where
+      pub what : SyntaxNode
+      pub is_left : {h : ℕ} {qs : List SyntaxNode} → LeftItems (is_text u) w kept g fl h i qs → LeftItems (is_text u) w kept g fl h j (qs ++ what ∷ [])
       pub leaves : Leaves u drop out p what
       pub edge : AlikeEdge u drop out p what
 
-    pub record ItemsLink (fl : Flags) (i j : ℕ) (ps : List Node) : Type 0 where
-      pub what : List Node
+    pub record ItemsLink (fl : Flags) (i j : ℕ) (ps : List SyntaxNode) : Type 0 where
+      pub what : List SyntaxNode
       pub is_left : LeftItems (is_text u) w kept g fl i j what
       pub leaves : LeavesAll u drop out ps what
 
@@ -217,40 +217,40 @@ module _ (u : Universe) (drop out : Span → Bool) where
           edge = record { leads = refl; trails = refl; stays_item = refl };
         }
 
-    blanks_left : {fl : Flags} {h i j : ℕ} {qs : List Node} → Blanks (is_text u) w fl i j → AllKept (is_text u) w kept g i j → LeftItems (is_text u) w kept g fl h i qs → LeftItems (is_text u) w kept g fl h j qs
+    blanks_left : {fl : Flags} {h i j : ℕ} {qs : List SyntaxNode} → Blanks (is_text u) w fl i j → AllKept (is_text u) w kept g i j → LeftItems (is_text u) w kept g fl h i qs → LeftItems (is_text u) w kept g fl h j qs
     blanks_left no_blank k l = l
     blanks_left (one_blank {j = m} bl p) k l =
         left_passed (blanks_left bl (λ t a b. k t a (omega (arith, b, passed_lt (is_text u) w p))) l) p (λ t a b. k t (omega (arith, a, blanks_le (is_text u) w bl)) b)
 
-    mark_tree : (r t : Span) (f : Flags) (m : Mark) → lowered (mark_shape u t f m) ≡ lowered (left drop out (mark_shape u r f m))
+    mark_tree : (r t : Span) (f : Flags) (m : Assertion) → lowered (mark_shape u t f m) ≡ lowered (left drop out (mark_shape u r f m))
     mark_tree r t f caret = refl
     mark_tree r t f text_start = refl
     mark_tree r t f dollar = refl
     mark_tree r t f text_end = refl
     mark_tree r t f (boundary n) = refl
 
-    mark_fine : (r t : Span) (f : Flags) (m : Mark) → mark_faults r f m ≡ [] → mark_faults t f m ≡ []
+    mark_fine : (r t : Span) (f : Flags) (m : Assertion) → mark_faults r f m ≡ [] → mark_faults t f m ≡ []
     mark_fine r t f caret h = refl
     mark_fine r t f text_start h = refl
     mark_fine r t f dollar h = fault_moved (not f.multiline) r.from t.from is_inner_anchor h
     mark_fine r t f text_end h = refl
     mark_fine r t f (boundary n) h = refl
 
-    mark_edge : (r t : Span) (f : Flags) (m : Mark) → AlikeEdge u drop out (mark r f m) (mark t f m)
+    mark_edge : (r t : Span) (f : Flags) (m : Assertion) → AlikeEdge u drop out (mark r f m) (mark t f m)
     mark_edge r t f caret = record { leads = refl; trails = refl; stays_item = refl }
     mark_edge r t f text_start = record { leads = refl; trails = refl; stays_item = refl }
     mark_edge r t f dollar = record { leads = refl; trails = refl; stays_item = refl }
     mark_edge r t f text_end = record { leads = refl; trails = refl; stays_item = refl }
     mark_edge r t f (boundary n) = record { leads = refl; trails = refl; stays_item = refl }
 
-    mark_no_hole : (r : Span) (f : Flags) (m : Mark) (t : ℕ) → gone drop out (mark_shape u r f m) t ≡ false
+    mark_no_hole : (r : Span) (f : Flags) (m : Assertion) (t : ℕ) → gone drop out (mark_shape u r f m) t ≡ false
     mark_no_hole r f caret t = refl
     mark_no_hole r f text_start t = refl
     mark_no_hole r f dollar t = refl
     mark_no_hole r f text_end t = refl
     mark_no_hole r f (boundary n) t = refl
 
-    mark_links : {fl : Flags} {i j : ℕ} (r : Span) (m : Mark) → Item (is_text u) w fl i j (mark r fl m) → Agrees i j (hole_in (mark r fl m)) → ItemLinks fl i j (mark r fl m)
+    mark_links : {fl : Flags} {i j : ℕ} (r : Span) (m : Assertion) → Item (is_text u) w fl i j (mark r fl m) → Agrees i j (hole_in (mark r fl m)) → ItemLinks fl i j (mark r fl m)
     mark_links {fl} r m a ag =
         record {
           what = moved g (mark r fl m);
@@ -260,10 +260,10 @@ module _ (u : Universe) (drop out : Span → Bool) where
         }
 
     -- an atom is no outer anchor
-    atom_leads : {fl : Flags} {i j : ℕ} {p : Node} → Atom (is_text u) w fl i j p → (h : AtomLinks fl i j p) → is_leading h.what ≡ false
+    atom_leads : {fl : Flags} {i j : ℕ} {p : SyntaxNode} → Atom (is_text u) w fl i j p → (h : AtomLinks fl i j p) → is_leading h.what ≡ false
     atom_leads a h = h.edge.leads ∙ no_lead a
       where
-        no_lead : {fl : Flags} {i j : ℕ} {p : Node} → Atom (is_text u) w fl i j p → is_leading p ≡ false
+        no_lead : {fl : Flags} {i j : ℕ} {p : SyntaxNode} → Atom (is_text u) w fl i j p → is_leading p ≡ false
         no_lead (literal x z) = refl
         no_lead (literal_brace x z) = refl
         no_lead (dotted x) = refl
@@ -272,10 +272,10 @@ module _ (u : Universe) (drop out : Span → Bool) where
         no_lead (bracketed h ms z) = refl
         no_lead (grouped o hs z) = refl
 
-    atom_trails : {fl : Flags} {i j : ℕ} {p : Node} → Atom (is_text u) w fl i j p → (h : AtomLinks fl i j p) → trail_of h.what ≡ no_trail
+    atom_trails : {fl : Flags} {i j : ℕ} {p : SyntaxNode} → Atom (is_text u) w fl i j p → (h : AtomLinks fl i j p) → trail_of h.what ≡ no_trail
     atom_trails a h = h.edge.trails ∙ no_tail a
       where
-        no_tail : {fl : Flags} {i j : ℕ} {p : Node} → Atom (is_text u) w fl i j p → trail_of p ≡ no_trail
+        no_tail : {fl : Flags} {i j : ℕ} {p : SyntaxNode} → Atom (is_text u) w fl i j p → trail_of p ≡ no_trail
         no_tail (literal x z) = refl
         no_tail (literal_brace x z) = refl
         no_tail (dotted x) = refl
@@ -285,7 +285,7 @@ module _ (u : Universe) (drop out : Span → Bool) where
         no_tail (grouped o hs z) = refl
 
     -- an item whose quantifier stays, or is gone
-    repeat_links : {fl : Flags} {i j k l : ℕ} {p : Node} {n : Count} {r : Greed} → Atom (is_text u) w fl i j p → Blanks (is_text u) w fl j k → Quantifier (is_text u) w k l n r → Agrees i l (hole_in (repeat (span i l) (span k l) n r p)) → AtomLinks fl i j p → ItemLinks fl i l (repeat (span i l) (span k l) n r p)
+    repeat_links : {fl : Flags} {i j k l : ℕ} {p : SyntaxNode} {n : Count} {r : Greed} → Atom (is_text u) w fl i j p → Blanks (is_text u) w fl j k → Quantifier (is_text u) w k l n r → Agrees i l (hole_in (repeat (span i l) (span k l) n r p)) → AtomLinks fl i j p → ItemLinks fl i l (repeat (span i l) (span k l) n r p)
     repeat_links {fl} {i} {j} {k} {l} {p} {n} {r} a bl q ag h = go (out (span k l)) refl
       where
         f : ℕ → Bool
@@ -338,7 +338,7 @@ module _ (u : Universe) (drop out : Span → Bool) where
     no_branch (next_branch {bs = bs} h at_j may hs) e = cons_some bs _ e
 
     -- one more branch behind others
-    next_some : {kd : Kind} {fl : Flags} {i j k : ℕ} {bs : List Branch} {ps : List Node} → Plain kd → IsBranches (is_text u) w kd fl i j bs → At (is_text u) w j 124 → Items (is_text u) w fl (suc j) k ps → (d : Span → Bool) → (d (span (suc j) k) ≡ true → node_names (branch_body (span (suc j) k) ps) ≡ [])
+    next_some : {kd : Kind} {fl : Flags} {i j k : ℕ} {bs : List Branch} {ps : List SyntaxNode} → Plain kd → IsBranches (is_text u) w kd fl i j bs → At (is_text u) w j 124 → Items (is_text u) w fl (suc j) k ps → (d : Span → Bool) → (d (span (suc j) k) ≡ true → node_names (branch_body (span (suc j) k) ps) ≡ [])
         → Agrees i k (branch_holes u drop out d (bs ++ branch (span (suc j) k) ps ∷ []) false) → (d (span (suc j) k) ≡ false → Agrees (suc j) k (holes u drop out ps) → ItemsLink fl (suc j) k ps) → SomeLink kd fl d i j bs ⊎ NoneLeft d i j bs → SomeLink kd fl d i k (bs ++ branch (span (suc j) k) ps ∷ []) ⊎ NoneLeft d i k (bs ++ branch (span (suc j) k) ps ∷ [])
     next_some {kd} {fl} {i} {j} {k} {bs} {ps} plain h at_j hs d nameless ag items before = go (d (span (suc j) k)) refl before
       where
@@ -423,7 +423,7 @@ module _ (u : Universe) (drop out : Span → Bool) where
               leaves = goes_snoc u drop out b r.leaves e (nameless e);
             })
 
-    first_some : {kd : Kind} {fl : Flags} {i j : ℕ} {ps : List Node} → Items (is_text u) w fl i j ps → (d : Span → Bool) → (d (span i j) ≡ true → node_names (branch_body (span i j) ps) ≡ []) → Agrees i j (branch_holes u drop out d (branch (span i j) ps ∷ []) false) → (d (span i j) ≡ false → Agrees i j (holes u drop out ps) → ItemsLink fl i j ps)
+    first_some : {kd : Kind} {fl : Flags} {i j : ℕ} {ps : List SyntaxNode} → Items (is_text u) w fl i j ps → (d : Span → Bool) → (d (span i j) ≡ true → node_names (branch_body (span i j) ps) ≡ []) → Agrees i j (branch_holes u drop out d (branch (span i j) ps ∷ []) false) → (d (span i j) ≡ false → Agrees i j (holes u drop out ps) → ItemsLink fl i j ps)
         → SomeLink kd fl d i j (branch (span i j) ps ∷ []) ⊎ NoneLeft d i j (branch (span i j) ps ∷ [])
     first_some {kd} {fl} {i} {j} {ps} h d nameless ag items = go (d (span i j)) refl
       where
@@ -448,7 +448,7 @@ module _ (u : Universe) (drop out : Span → Bool) where
             })
 
     -- the branches before the last have their own holes
-    pub first_agree : {kd : Kind} {fl : Flags} {i j k : ℕ} {bs : List Branch} {ps : List Node} → IsBranches (is_text u) w kd fl i j bs → Items (is_text u) w fl (suc j) k ps → (d : Span → Bool) → Agrees i k (branch_holes u drop out d (bs ++ branch (span (suc j) k) ps ∷ []) false) → Agrees i j (branch_holes u drop out d bs false)
+    pub first_agree : {kd : Kind} {fl : Flags} {i j k : ℕ} {bs : List Branch} {ps : List SyntaxNode} → IsBranches (is_text u) w kd fl i j bs → Items (is_text u) w fl (suc j) k ps → (d : Span → Bool) → Agrees i k (branch_holes u drop out d (bs ++ branch (span (suc j) k) ps ∷ []) false) → Agrees i j (branch_holes u drop out d bs false)
     first_agree {i = i} {j = j} {k = k} {bs = bs} {ps = ps} h hs d ag =
         let b = branch (span (suc j) k) ps in
         let some = some_left u drop out d bs in
@@ -470,7 +470,7 @@ module _ (u : Universe) (drop out : Span → Bool) where
         }
 
     mutual
-      pub atom_links : {fl : Flags} {i j : ℕ} {p : Node} → Atom (is_text u) w fl i j p → Good p → Agrees i j (hole_in p) → AtomLinks fl i j p
+      pub atom_links : {fl : Flags} {i j : ℕ} {p : SyntaxNode} → Atom (is_text u) w fl i j p → Good p → Agrees i j (hole_in p) → AtomLinks fl i j p
       atom_links {fl} {i} {j} {p} (literal x z) gd ag = leaf_links _ _ _ (literal x z) ag
       atom_links (literal_brace x z) gd ag = leaf_links _ _ _ (literal_brace x z) ag
       atom_links (dotted x) gd ag = leaf_links _ _ _ (dotted x) ag
@@ -496,7 +496,7 @@ module _ (u : Universe) (drop out : Span → Bool) where
             edge = record { leads = refl; trails = refl; stays_item = refl };
           }
 
-      pub item_links : {fl : Flags} {i j : ℕ} {p : Node} → Item (is_text u) w fl i j p → Good p → Agrees i j (hole_in p) → ItemLinks fl i j p
+      pub item_links : {fl : Flags} {i j : ℕ} {p : SyntaxNode} → Item (is_text u) w fl i j p → Good p → Agrees i j (hole_in p) → ItemLinks fl i j p
       item_links (once a) gd ag = let h = atom_links a gd ag in record { what = h.what; is_left = λ x. left_item x (left_once h.is_left); leaves = h.leaves; edge = h.edge }
       item_links (repeated {i = i} {j = j} {k = k} {l = l} {p = p} {n = n} {g = r} a bl q) gd ag =
           let le = blanks_le (is_text u) w bl in
@@ -507,7 +507,7 @@ module _ (u : Universe) (drop out : Span → Bool) where
       item_links {fl} (edge_code {i = i} {m = m} x z) gd ag = mark_links (span i (suc i)) m (edge_code x z) ag
       item_links {fl} (edge_escape {i = i} {m = m} x) gd ag = mark_links (span i (suc (suc i))) m (edge_escape x) ag
 
-      pub items_links : {fl : Flags} {i j : ℕ} {ps : List Node} → Items (is_text u) w fl i j ps → GoodItems ps → Agrees i j (holes u drop out ps) → ItemsLink fl i j ps
+      pub items_links : {fl : Flags} {i j : ℕ} {ps : List SyntaxNode} → Items (is_text u) w fl i j ps → GoodItems ps → Agrees i j (holes u drop out ps) → ItemsLink fl i j ps
       items_links no_items gd ag = record { what = []; is_left = left_none; leaves = all_none }
       items_links (pass_over {i = i} {j = j} {k = k} {ps = ps} h p) gd ag =
           let lt = passed_lt (is_text u) w p in

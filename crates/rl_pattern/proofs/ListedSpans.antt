@@ -8,9 +8,9 @@ use Rattle.rl_syntax.specs.PatTree.{PatTree, PatTrees, BranchTrees, nothing, cla
 use Rattle.rl_pattern.specs.declared.flags.Flags.{Flags}
 use Rattle.rl_pattern.specs.Parsed.{is_text, IsParsed}
 use Rattle.rl_pattern.specs.Cut.{left}
-use Rattle.rl_pattern.specs.Suggested.{among, no_span, holds_capture, is_allowed, branches_in, items_branches, choice_branches, merged_in, items_merged, branches_merged, merged_under, merged_inside}
+use Rattle.rl_pattern.specs.Suggested.{among, no_span, holds_capture, is_allowed, branches_in, items_branches, choice_branches, merged_in, items_merged, branches_merged, under, merged_at, inside}
 use Rattle.rl_pattern.specs.Placed.{ArePlaced}
-use Rattle.rl_pattern.proofs.Marks.{Placed, PlacedItems, PlacedBranches, placed_le, items_le, branches_le, left_placed}
+use Rattle.rl_pattern.proofs.Marks.{Placed, PlacedItems, PlacedBranches, placed_le, items_le, branches_le, left_placed, own_last}
 use Rattle.rl_pattern.proofs.Final.{inner_placed}
 use Rattle.rl_pattern.proofs.Rising.{Rising, rising_more, rising_join, rising_placed}
 
@@ -47,7 +47,7 @@ mutual
   merged_rise (class s set) i j h = tt
   merged_rise (seq s ps) i j h = merged_items_rise ps i j h
   merged_rise (choice s bs) i j h = merged_branches_rise bs i j h
-  merged_rise (repeat s q l m g p) i j (k, h, a, b, c) = rising_more (merged_under p l m) i k i j (omega arith) (omega (arith, a, b, c)) (under_rise p i k l m h)
+  merged_rise (repeat s q l m g p) i j (k, h, a, b, c) = rising_more (merged_at (under l m) p) i k i j (omega arith) (omega (arith, a, b, c)) (under_rise p i k l m h)
   merged_rise (group s c p) i j h = merged_rise p i j h
   merged_rise (anchor s k m) i j h = tt
   merged_rise (boundary s n a) i j h = tt
@@ -63,25 +63,25 @@ mutual
       let own = placed_le p s.from s.upto h in
       rising_join (merged_in p) (branches_merged bs) i s.upto j (omega (arith, c, own)) (branches_le bs s.upto j hs) (rising_more (merged_in p) s.from s.upto i s.upto c (omega arith) (merged_rise p s.from s.upto h)) (merged_branches_rise bs s.upto j hs)
 
-  under_rise : (p : PatTree) (i j : ℕ) (least : ℕ) (most : Option ℕ) → Placed p i j → Rising i j (merged_under p least most)
+  under_rise : (p : PatTree) (i j : ℕ) (least : ℕ) (most : Option ℕ) → Placed p i j → Rising i j (merged_at (under least most) p)
   under_rise (nothing s) i j x y h = tt
   under_rise (class s set) i j x y h = tt
   under_rise (seq s ps) i j x y h = merged_items_rise ps i j h
   under_rise (choice s bs) i j x y h = merged_branches_rise bs i j h
-  under_rise (repeat s q l m g p) i j x y (k, h, a, b, c) = rising_more (merged_under p l m) i k i j (omega arith) (omega (arith, a, b, c)) (under_rise p i k l m h)
+  under_rise (repeat s q l m g p) i j x y (k, h, a, b, c) = rising_more (merged_at (under l m) p) i k i j (omega arith) (omega (arith, a, b, c)) (under_rise p i k l m h)
   under_rise (group s c p) i j x y h = inside_rise p i j c x y h
   under_rise (anchor s k m) i j x y h = tt
   under_rise (boundary s n a) i j x y h = tt
   under_rise (outside s f) i j x y h = tt
 
-  inside_rise : (p : PatTree) (i j : ℕ) (captures : Bool) (least : ℕ) (most : Option ℕ) → Placed p i j → Rising i j (merged_inside p captures least most)
+  inside_rise : (p : PatTree) (i j : ℕ) (captures : Bool) (least : ℕ) (most : Option ℕ) → Placed p i j → Rising i j (merged_at (inside captures least most) p)
   inside_rise (nothing s) i j v x y h = tt
   inside_rise (class s set) i j v x y h = tt
   inside_rise (seq s ps) i j v x y h = merged_items_rise ps i j h
   inside_rise (choice s bs) i j v x y h = merged_branches_rise bs i j h
   inside_rise (repeat s q l m g p) i j v x y (k, h, a, b, c) =
       let test = not v && (not (holds_capture p) && is_allowed l m x y) in
-      rising_join (merged_under p l m) (if test then q ∷ [] else []) i k j (placed_le p i k h) (omega (arith, a, b, c)) (under_rise p i k l m h) (if_rises test q k j a b c)
+      subst (Rising i j) (sym (own_last test (merged_at (under l m) p) q)) (rising_join (merged_at (under l m) p) (if test then q ∷ [] else []) i k j (placed_le p i k h) (omega (arith, a, b, c)) (under_rise p i k l m h) (if_rises test q k j a b c))
   inside_rise (group s c p) i j v x y h = merged_rise p i j h
   inside_rise (anchor s k m) i j v x y h = tt
   inside_rise (boundary s n a) i j v x y h = tt

@@ -14,7 +14,7 @@ use Rattle.rl_pattern.specs.declared.read.ReadError.TheVariants.{Syntax, TooDeep
 use Rattle.rl_pattern.specs.internal.Views.{FitsAt, state_of, whole_of}
 use Rattle.rl_pattern.specs.Answers.{Shallow}
 use Rattle.rl_pattern.specs.internal.Answering.{Went, Ended, Answered, is_code, opens_none, at_paren, is_too_deep, Standing}
-use Rattle.rl_pattern.specs.internal.Machine.{InHead, paren, quest, after_p, after_less, group_name, group_name_goes, reference_name, reference_name_goes, asks, asks_digits, asks_name_goes, letters_on, letters_dash, letters_off, Lex, between, line, remark, in_braces, counted, at_slash, in_escape, in_head, set_open, in_class, State, behind_paren, step_at, run, finish_at, start}
+use Rattle.rl_pattern.specs.internal.Machine.{InHead, paren, quest, after_p, after_less, group_name, group_name_goes, reference_name, reference_name_goes, asks, asks_digits, asks_name_goes, letters_on, letters_dash, letters_off, Lex, between, line, comment, in_braces, counted, at_slash, in_escape, in_head, set_open, in_class, State, behind_paren, step_at, run, finish_at, start}
 use Rattle.rl_pattern.proofs.Reading.{text_length}
 use Rattle.rl_pattern.proofs.Sound.{LexOk, StateOk, read_is_spelled}
 use Rattle.rl_pattern.proofs.Viability.{run-append, run_ok, take_one, stops_at, stopped_spells_none, takes_all, run_then_finish, unread_spells_none}
@@ -48,7 +48,7 @@ paren_there : (x : Lex) → at_paren x ≡ true → (a : ℕ) × (x ≡ in_head 
 paren_there (in_head a h) e = (a, ap (in_head a) (head_from h e))
 paren_there between e = absurd (false≢true e)
 paren_there line e = absurd (false≢true e)
-paren_there remark e = absurd (false≢true e)
+paren_there comment e = absurd (false≢true e)
 paren_there (in_braces a t) e = absurd (false≢true e)
 paren_there (counted a p q n) e = absurd (false≢true e)
 paren_there (at_slash a) e = absurd (false≢true e)
@@ -71,13 +71,13 @@ not_none w p at_p h =
     first false c d yc yd h = false≢true (sym (ap (λ (v : Bool). not (v && d)) yc ∙ ap not yd) ∙ h)
 
 none_not : (w : List ℕ) (p : ℕ) → ((slice_get w (suc p) ≡ Some 63) → slice_get w (suc (suc p)) ≡ Some 35 → ⊥) → ((slice_get w (suc p) ≡ Some 63) → slice_get w (suc (suc p)) ≡ Some 80 → slice_get w (suc (suc (suc p))) ≡ Some 61 → ⊥) → not (opens_none w p) ≡ true
-none_not w p no_remark no_reference = ⊎_elim (λ (z : opens_none w p ≡ true). absurd (bad z)) (λ (z : opens_none w p ≡ false). ap not z) (cases_Bool (opens_none w p))
+none_not w p no_comment no_reference = ⊎_elim (λ (z : opens_none w p ≡ true). absurd (bad z)) (λ (z : opens_none w p ≡ false). ap not z) (cases_Bool (opens_none w p))
   where
     bad : opens_none w p ≡ true → ⊥
     bad z =
         let h = and_parts (is_code (slice_get w (suc p)) 63) _ z in
         let q = code_there (slice_get w (suc p)) 63 h.0 in
-        ⊎_elim (λ y. no_remark q (code_there (slice_get w (suc (suc p))) 35 y)) (λ y. let g = and_parts (is_code (slice_get w (suc (suc p))) 80) _ y in no_reference q (code_there (slice_get w (suc (suc p))) 80 g.0) (code_there (slice_get w (suc (suc (suc p)))) 61 g.1)) (or_cases (is_code (slice_get w (suc (suc p))) 35) _ h.1)
+        ⊎_elim (λ y. no_comment q (code_there (slice_get w (suc (suc p))) 35 y)) (λ y. let g = and_parts (is_code (slice_get w (suc (suc p))) 80) _ y in no_reference q (code_there (slice_get w (suc (suc p))) 80 g.0) (code_there (slice_get w (suc (suc (suc p)))) 61 g.1)) (or_cases (is_code (slice_get w (suc (suc p))) 35) _ h.1)
 
 -- a code of a front of the list is one of the list
 taken_at : (w : List ℕ) (n i c : ℕ) → slice_get (take n w) i ≡ Some c → slice_get w i ≡ Some c
@@ -97,7 +97,7 @@ module _ (call : Flags) (text : Bool) (w : List ℕ) where
       go : (x : Lex) → LexOk call text u k s.base x → FitsAt x k
       go between h = tt
       go line h = tt
-      go remark h = tt
+      go comment h = tt
       go (in_braces a t) h = text_length text u h.2
       go (counted a p q n) h = tt
       go (at_slash a) h = tt
@@ -126,7 +126,7 @@ module _ (call : Flags) (text : Bool) (w : List ℕ) where
       let same : b.state ≡ r = same_Some b.state r (sym b.runs ∙ e) in
       let lex : at_paren r.lex ≡ true = ap (λ z. at_paren z.lex) (sym same) ∙ ap at_paren b.lex in
       let deep : (length r.base.below == 100) ≡ true = eq-eqb (length r.base.below) 100 (ap (λ z. length z.base.below) (sym same) ∙ b.deep) in
-      let opens = none_not w i (λ q e. h.no_remark (h.opens, (q, e))) (λ q e f. h.no_reference (h.opens, (q, (e, f)))) in
+      let opens = none_not w i (λ q e. h.no_comment (h.opens, (q, e))) (λ q e f. h.no_reference (h.opens, (q, (e, f)))) in
       and_from (at_paren r.lex) _ lex (and_from (length r.base.below == 100) _ deep opens)
 
   pub stand_step : (i c : ℕ) (s r : State) → Standing call text w i s → slice_get w i ≡ Some c → step_at text i s c ≡ Some r → is_too_deep r w i ≡ false → Standing call text w (suc i) r

@@ -1,13 +1,14 @@
 -- The quantifiers that are taken out are told apart by their spans.
 use Rattle.std.proofs.Common.{◌≡◌, ℕ, ◌<◌, ◌≤◌, Bool, true, false, not, ◌||◌, ◌&&◌, ◌==◌, if◌then◌else◌, List, [], ◌∷◌, ◌++◌, Option, Some, None, refl, sym, ap, ◌∙◌, subst, arith, true≢false}
 use Rattle.std.proofs.lemmas.Bool.{eqb-true, cond_both}
+use Rattle.std.proofs.lemmas.List.{append-nil}
 use mathlib.Core.Logic.{⊎_elim}
 use Rattle.rl_syntax.specs.declared.span.Span.{Span}
 use Rattle.rl_syntax.specs.PatTree.{PatTree, PatTrees, BranchTrees, nothing, class, seq, choice, repeat, group, anchor, boundary, outside, no_items, item, no_branches, branch}
 use Rattle.rl_pattern.specs.Cut.{choice_of, left, left_items, left_branches}
 use Rattle.rl_syntax.specs.AllowedPair.{AllowedPair, any_in_any, some_in_any, option_in_any, some_in_some}
 use Rattle.rl_pattern.proofs.Merged.{MayMerge, AllMayMerge, BranchesMayMerge, MergesUnder, MergesIn}
-use Rattle.rl_pattern.specs.Suggested.{same_span, among, no_span, holds_capture, is_any, is_some, is_option, is_allowed, merged_in, items_merged, branches_merged, merged_under, merged_inside}
+use Rattle.rl_pattern.specs.Suggested.{same_span, among, no_span, holds_capture, is_allowed, merged_in, items_merged, branches_merged, under, merged_at, inside}
 use Rattle.rl_pattern.proofs.Linking.{and_first, and_second, no_true}
 use Rattle.rl_pattern.proofs.Holes.{or_cases, or_false, or_assoc}
 
@@ -123,6 +124,11 @@ among_within [] i j q h e = absurd (true≢false (sym e))
 among_within (r ∷ rs) i j q ((a, b, c), hs) e =
     ⊎_elim (λ (z : same_span r q ≡ true). let f = eqb-true r.from q.from (and_first (r.from == q.from) (r.upto == q.upto) z) in let t = eqb-true r.upto q.upto (and_second (r.from == q.from) (r.upto == q.upto) z) in (omega (arith, a, f), omega (arith, c, t))) (λ (z : among rs q ≡ true). among_within rs i j q hs z) (or_cases (same_span r q) (among rs q) e)
 
+-- a last span that is there or not
+pub own_last : (b : Bool) (rs : List Span) (q : Span) → (if b then rs ++ q ∷ [] else rs) ≡ rs ++ (if b then q ∷ [] else [])
+own_last true rs q = refl
+own_last false rs q = sym (append-nil rs)
+
 -- what is taken out of a part stands in it
 if_within : (b : Bool) (q : Span) (i j : ℕ) → i ≤ q.from → q.from < q.upto → q.upto ≤ j → Within i j (if b then q ∷ [] else [])
 if_within true q i j a b c = ((a, b, c), tt)
@@ -134,7 +140,7 @@ mutual
   in_within (class s set) i j h = tt
   in_within (seq s ps) i j h = items_within ps i j h
   in_within (choice s bs) i j h = branches_within bs i j h
-  in_within (repeat s q l m g p) i j (k, h, a, b, c) = within_more (merged_under p l m) i k i j (omega arith) (omega (arith, a, b, c)) (under_within p i k l m h)
+  in_within (repeat s q l m g p) i j (k, h, a, b, c) = within_more (merged_at (under l m) p) i k i j (omega arith) (omega (arith, a, b, c)) (under_within p i k l m h)
   in_within (group s c p) i j h = in_within p i j h
   in_within (anchor s k m) i j h = tt
   in_within (boundary s n a) i j h = tt
@@ -149,52 +155,49 @@ mutual
   branches_within (branch s p bs) i j (c, h, hs) =
       within_join (merged_in p) (branches_merged bs) i j (within_more (merged_in p) s.from s.upto i j c (branches_le bs s.upto j hs) (in_within p s.from s.upto h)) (within_more (branches_merged bs) s.upto j i j (omega (arith, c, placed_le p s.from s.upto h)) (omega arith) (branches_within bs s.upto j hs))
 
-  under_within : (p : PatTree) (i j : ℕ) (least : ℕ) (most : Option ℕ) → Placed p i j → Within i j (merged_under p least most)
+  under_within : (p : PatTree) (i j : ℕ) (least : ℕ) (most : Option ℕ) → Placed p i j → Within i j (merged_at (under least most) p)
   under_within (nothing s) i j x y h = tt
   under_within (class s set) i j x y h = tt
   under_within (seq s ps) i j x y h = items_within ps i j h
   under_within (choice s bs) i j x y h = branches_within bs i j h
-  under_within (repeat s q l m g p) i j x y (k, h, a, b, c) = within_more (merged_under p l m) i k i j (omega arith) (omega (arith, a, b, c)) (under_within p i k l m h)
+  under_within (repeat s q l m g p) i j x y (k, h, a, b, c) = within_more (merged_at (under l m) p) i k i j (omega arith) (omega (arith, a, b, c)) (under_within p i k l m h)
   under_within (group s c p) i j x y h = inside_within p i j c x y h
   under_within (anchor s k m) i j x y h = tt
   under_within (boundary s n a) i j x y h = tt
   under_within (outside s f) i j x y h = tt
 
-  inside_within : (p : PatTree) (i j : ℕ) (captures : Bool) (least : ℕ) (most : Option ℕ) → Placed p i j → Within i j (merged_inside p captures least most)
+  inside_within : (p : PatTree) (i j : ℕ) (captures : Bool) (least : ℕ) (most : Option ℕ) → Placed p i j → Within i j (merged_at (inside captures least most) p)
   inside_within (nothing s) i j v x y h = tt
   inside_within (class s set) i j v x y h = tt
   inside_within (seq s ps) i j v x y h = items_within ps i j h
   inside_within (choice s bs) i j v x y h = branches_within bs i j h
   inside_within (repeat s q l m g p) i j v x y (k, h, a, b, c) =
       let test = not v && (not (holds_capture p) && is_allowed l m x y) in
-      within_join (merged_under p l m) (if test then q ∷ [] else []) i j (within_more (merged_under p l m) i k i j (omega arith) (omega (arith, a, b, c)) (under_within p i k l m h)) (if_within test q i j (omega (arith, placed_le p i k h, a)) b c)
+      subst (Within i j) (sym (own_last test (merged_at (under l m) p) q)) (within_join (merged_at (under l m) p) (if test then q ∷ [] else []) i j (within_more (merged_at (under l m) p) i k i j (omega arith) (omega (arith, a, b, c)) (under_within p i k l m h)) (if_within test q i j (omega (arith, placed_le p i k h, a)) b c))
   inside_within (group s c p) i j v x y h = in_within p i j h
   inside_within (anchor s k m) i j v x y h = tt
   inside_within (boundary s n a) i j v x y h = tt
   inside_within (outside s f) i j v x y h = tt
 
 -- the pairs that are allowed
-pair_any : (l : ℕ) (m : Option ℕ) (least : ℕ) (most : Option ℕ) → is_any least most ≡ true → (is_any l m || (is_some l m || is_option l m)) ≡ true → AllowedPair l m least most
-pair_any l m least (Some most) a h = absurd (true≢false (sym a))
-pair_any l None least None a h =
-    let zero_least = eqb-true least 0 a in
-    subst (λ x. AllowedPair l None x None) (sym zero_least) (⊎_elim (λ (z : (l == 0) ≡ true). subst (λ x. AllowedPair x None 0 None) (sym (eqb-true l 0 z)) any_in_any) (λ (z : ((l == 1) || false) ≡ true). subst (λ x. AllowedPair x None 0 None) (sym (eqb-true l 1 (sym (or_false (l == 1)) ∙ z))) some_in_any) (or_cases (l == 0) ((l == 1) || false) h))
-pair_any l (Some m) least None a h =
-    let zero_least = eqb-true least 0 a in
-    let zero_l = eqb-true l 0 (and_first (l == 0) (m == 1) h) in
-    let one_m = eqb-true m 1 (and_second (l == 0) (m == 1) h) in
-    subst (λ x. AllowedPair l (Some m) x None) (sym zero_least) (subst (λ x. AllowedPair x (Some m) 0 None) (sym zero_l) (subst (λ x. AllowedPair 0 (Some x) 0 None) (sym one_m) option_in_any))
+under_any : (l least : ℕ) → (least == 0) ≡ true → (l == 0 || l == 1) ≡ true → AllowedPair l None least None
+under_any l least a h =
+    subst (λ x. AllowedPair l None x None) (sym (eqb-true least 0 a)) (⊎_elim (λ (z : (l == 0) ≡ true). subst (λ x. AllowedPair x None 0 None) (sym (eqb-true l 0 z)) any_in_any) (λ (z : (l == 1) ≡ true). subst (λ x. AllowedPair x None 0 None) (sym (eqb-true l 1 z)) some_in_any) (or_cases (l == 0) (l == 1) h))
 
-pair_some : (l : ℕ) (m : Option ℕ) (least : ℕ) (most : Option ℕ) → is_some least most ≡ true → is_some l m ≡ true → AllowedPair l m least most
-pair_some l m least (Some most) a h = absurd (true≢false (sym a))
-pair_some l (Some m) least None a h = absurd (true≢false (sym h))
-pair_some l None least None a h = subst (λ x. AllowedPair l None x None) (sym (eqb-true least 1 a)) (subst (λ x. AllowedPair x None 1 None) (sym (eqb-true l 1 h)) some_in_some)
+under_some : (l least : ℕ) → (least == 1) ≡ true → (l == 1) ≡ true → AllowedPair l None least None
+under_some l least a h = subst (λ x. AllowedPair l None x None) (sym (eqb-true least 1 a)) (subst (λ x. AllowedPair x None 1 None) (sym (eqb-true l 1 h)) some_in_some)
 
 allowed_pair : (l : ℕ) (m : Option ℕ) (least : ℕ) (most : Option ℕ) → is_allowed l m least most ≡ true → AllowedPair l m least most
-allowed_pair l m least most h =
-    let a = is_any least most && (is_any l m || (is_some l m || is_option l m)) in
-    let b = is_some least most && is_some l m in
-    ⊎_elim (λ (z : a ≡ true). pair_any l m least most (and_first (is_any least most) (is_any l m || (is_some l m || is_option l m)) z) (and_second (is_any least most) (is_any l m || (is_some l m || is_option l m)) z)) (λ (z : b ≡ true). pair_some l m least most (and_first (is_some least most) (is_some l m) z) (and_second (is_some least most) (is_some l m) z)) (or_cases a b h)
+allowed_pair l None least None h =
+    ⊎_elim (λ (z : (least == 0 && (l == 0 || l == 1)) ≡ true). under_any l least (and_first (least == 0) (l == 0 || l == 1) z) (and_second (least == 0) (l == 0 || l == 1) z)) (λ (z : (least == 1 && l == 1) ≡ true). under_some l least (and_first (least == 1) (l == 1) z) (and_second (least == 1) (l == 1) z)) (or_cases (least == 0 && (l == 0 || l == 1)) (least == 1 && l == 1) h)
+allowed_pair l (Some m) least None h =
+    let zero_least = eqb-true least 0 (and_first (least == 0) (l == 0 && m == 1) h) in
+    let pair = and_second (least == 0) (l == 0 && m == 1) h in
+    let zero_l = eqb-true l 0 (and_first (l == 0) (m == 1) pair) in
+    let one_m = eqb-true m 1 (and_second (l == 0) (m == 1) pair) in
+    subst (λ x. AllowedPair l (Some m) x None) (sym zero_least) (subst (λ x. AllowedPair x (Some m) 0 None) (sym zero_l) (subst (λ x. AllowedPair 0 (Some x) 0 None) (sym one_m) option_in_any))
+allowed_pair l None least (Some k) h = absurd (true≢false (sym h))
+allowed_pair l (Some m) least (Some k) h = absurd (true≢false (sym h))
 
 module _ (ms : List Span) where
   -- between these places, those that are taken out are these
@@ -230,7 +233,7 @@ module _ (ms : List Span) where
     merge_of (choice s bs) i j h o = branches_merge bs i j h o
     merge_of (repeat s q l m g p) i j (k, h, a, b, c) o =
         let le = placed_le p i k h in
-        (o q (omega (arith, le, a)) b c ∙ own_free (merged_under p l m) i k q (under_within p i k l m h) a b, under_merge p i k l m h (out_part (merged_under p l m) i j i k (omega arith) (omega (arith, a, b, c)) o))
+        (o q (omega (arith, le, a)) b c ∙ own_free (merged_at (under l m) p) i k q (under_within p i k l m h) a b, under_merge p i k l m h (out_part (merged_at (under l m) p) i j i k (omega arith) (omega (arith, a, b, c)) o))
     merge_of (group s c p) i j h o = merge_of p i j h o
     merge_of (anchor s k m) i j h o = tt
     merge_of (boundary s n a) i j h o = tt
@@ -247,28 +250,29 @@ module _ (ms : List Span) where
       branches_merge bs s.upto j hs (out_right (merged_in p) (branches_merged bs) i s.upto j (omega (arith, c, placed_le p s.from s.upto h)) (within_more (merged_in p) s.from s.upto i s.upto c (omega arith) (in_within p s.from s.upto h)) o),
     )
 
-    under_merge : (p : PatTree) (i j : ℕ) (least : ℕ) (most : Option ℕ) → Placed p i j → OutIs (merged_under p least most) i j → MergesUnder (among ms) p least most
+    under_merge : (p : PatTree) (i j : ℕ) (least : ℕ) (most : Option ℕ) → Placed p i j → OutIs (merged_at (under least most) p) i j → MergesUnder (among ms) p least most
     under_merge (nothing s) i j x y h o = tt
     under_merge (class s set) i j x y h o = tt
     under_merge (seq s ps) i j x y h o = items_merge ps i j h o
     under_merge (choice s bs) i j x y h o = branches_merge bs i j h o
     under_merge (repeat s q l m g p) i j x y (k, h, a, b, c) o =
         let le = placed_le p i k h in
-        (o q (omega (arith, le, a)) b c ∙ own_free (merged_under p l m) i k q (under_within p i k l m h) a b, under_merge p i k l m h (out_part (merged_under p l m) i j i k (omega arith) (omega (arith, a, b, c)) o))
+        (o q (omega (arith, le, a)) b c ∙ own_free (merged_at (under l m) p) i k q (under_within p i k l m h) a b, under_merge p i k l m h (out_part (merged_at (under l m) p) i j i k (omega arith) (omega (arith, a, b, c)) o))
     under_merge (group s c p) i j x y h o = inside_merge p i j c x y h o
     under_merge (anchor s k m) i j x y h o = tt
     under_merge (boundary s n a) i j x y h o = tt
     under_merge (outside s f) i j x y h o = tt
 
-    inside_merge : (p : PatTree) (i j : ℕ) (captures : Bool) (least : ℕ) (most : Option ℕ) → Placed p i j → OutIs (merged_inside p captures least most) i j → MergesIn (among ms) p least most
+    inside_merge : (p : PatTree) (i j : ℕ) (captures : Bool) (least : ℕ) (most : Option ℕ) → Placed p i j → OutIs (merged_at (inside captures least most) p) i j → MergesIn (among ms) p least most
     inside_merge (nothing s) i j v x y h o = tt
     inside_merge (class s set) i j v x y h o = tt
     inside_merge (seq s ps) i j v x y h o = items_merge ps i j h o
     inside_merge (choice s bs) i j v x y h o = branches_merge bs i j h o
-    inside_merge (repeat s q l m g p) i j v x y (k, h, a, b, c) o =
+    inside_merge (repeat s q l m g p) i j v x y (k, h, a, b, c) out =
         let test = not v && (not (holds_capture p) && is_allowed l m x y) in
-        let rs = merged_under p l m in
+        let rs = merged_at (under l m) p in
         let ss = if test then q ∷ [] else [] in
+        let o = subst (λ xs. OutIs xs i j) (own_last test rs q) out in
         let le = placed_le p i k h in (
           λ e. allowed_pair l m x y (and_second (not (holds_capture p)) (is_allowed l m x y) (and_second (not v) (not (holds_capture p) && is_allowed l m x y) (if_true test q q (sym (ap (λ z. z || among ss q) (own_free rs i k q (under_within p i k l m h) a b)) ∙ sym (among_join rs ss q) ∙ sym (o q (omega (arith, le, a)) b c) ∙ e)))),
           under_merge p i k l m h (λ r d e f. o r d e (omega (arith, f, a, b, c)) ∙ among_join rs ss r ∙ ap (λ z. among rs r || z) (if_free test q r k a e f) ∙ or_false (among rs r)),

@@ -3,10 +3,10 @@ use Rattle.std.proofs.Common.{◌≡◌, ◌⊎◌, ℕ, zero, suc, ◌+◌, Boo
 use Rattle.std.proofs.lemmas.Bool.{cond_both, eqb-true}
 use mathlib.Core.Logic.{inl, inr, ⊎_elim}
 use Rattle.rl_pattern.specs.declared.flags.Flags.{Flags}
-use Rattle.rl_pattern.specs.Tree.{Span, span, Count, Greed, greedy, lazy, possessive, any, glyph, members, Member, Escaped, reference, Kind, capturing, named, scoped, lookaround, atomic, conditional, Node, leaf, mark, repeat, group, nothing, seq, choice, Nodes, no_nodes, more_nodes, Branches, no_branches, more_branches, nodes, branches, Branch, branch_body, branch, whole_body, Whole}
-use Rattle.rl_pattern.specs.Codes.{Sign, sign, left, right, bar, brace, slash, dot, bracket, times, edge, blank, sharp, plain, Slashed, slashed, single, kinds, hexes, naming, octal, low, high, edges, no_escape, counts, count_of, splits, Headed, headed, letter, colon, minus, letter_p, sharps, looks, less, greater, condition, no_head, begins_name, goes_in_name, is_digit, on_letter, off_letter, with_letter, no_flags, joined}
+use Rattle.rl_pattern.specs.Tree.{Span, span, Count, Greed, greedy, lazy, possessive, any, glyph, members, Member, Escaped, reference, Kind, capturing, named, scoped, lookaround, atomic, conditional, SyntaxNode, leaf, mark, repeat, group, nothing, seq, choice, Nodes, no_nodes, more_nodes, Branches, no_branches, more_branches, nodes, branches, Branch, branch_body, branch, whole_body, Whole}
+use Rattle.rl_pattern.specs.Codes.{TokenClass, sign, left, right, bar, brace, slash, dot, bracket, times, edge, blank, sharp, plain, EscapeClass, slashed, single, kinds, hexes, naming, octal, low, high, edges, no_escape, counts, count_of, splits, GroupPrefix, headed, letter, colon, minus, letter_p, sharps, looks, less, greater, condition, no_head, begins_name, goes_in_name, is_digit, on_letter, off_letter, with_letter, no_flags, joined}
 use Rattle.rl_pattern.specs.internal.Signs.{HeadIs}
-use Rattle.rl_pattern.specs.internal.Machine.{Answer, stops, goes, ends, InEscape, escape_first, escape_next, escape_rest, set_first, Set, set_step, InHead, paren, quest, after_p, after_less, group_name, group_name_goes, reference_name, reference_name_goes, asks, asks_digits, asks_name_goes, letters_on, letters_dash, letters_off, Begun, begins_group, begins_remark, is_reference, is_front, head_step, quest_next, behind_next, Frame, Last, nothing_yet, an_atom, Base, Lex, between, line, remark, in_braces, counted, at_slash, in_escape, in_head, set_open, in_class, State, at, settled, put_last, put, put_item, put_leaf, put_code, put_codes, no_count, put_repeat, count_last, all_branches, next_branch, split, open_group, body_up_to, close, is_nil, is_settled, at_front, put_front, begin, pass_or_put, by_sign, go_on, end_braces, braces_step, counted_step, escape_begins, slash_step, escape_step, behind_paren, head_stops, head_answer, set_answer, step, step_at, run, observe, finish_below, finish_escape, finish_lex, finish_at, start}
+use Rattle.rl_pattern.specs.internal.Machine.{Answer, stops, goes, ends, InEscape, escape_first, escape_next, escape_rest, set_first, Set, set_step, InHead, paren, quest, after_p, after_less, group_name, group_name_goes, reference_name, reference_name_goes, asks, asks_digits, asks_name_goes, letters_on, letters_dash, letters_off, GroupStart, begins_group, begins_comment, is_reference, is_front, head_step, quest_next, behind_next, Frame, Last, nothing_yet, an_atom, Base, Lex, between, line, comment, in_braces, counted, at_slash, in_escape, in_head, set_open, in_class, State, at, settled, put_last, put, put_item, put_leaf, put_code, put_codes, no_count, put_repeat, count_last, all_branches, next_branch, split, open_group, body_up_to, close, is_nil, is_settled, at_front, put_front, begin, pass_or_put, by_sign, go_on, end_braces, braces_step, counted_step, escape_begins, slash_step, escape_step, behind_paren, head_stops, head_answer, set_answer, step, step_at, run, observe, finish_below, finish_escape, finish_lex, finish_at, start}
 use Rattle.rl_pattern.proofs.Sound.{Holds}
 use Rattle.rl_pattern.proofs.Viability.{observe_none, observe-append}
 use Rattle.rl_pattern.proofs.KeptHeads.{head_is}
@@ -23,7 +23,7 @@ HasIn P (suc n) = P n
 
 abbrev mutual
   -- a group stands in the node that is nested so deep
-  pub Has : Node → ℕ → Type 0
+  pub Has : SyntaxNode → ℕ → Type 0
   Has (leaf s f x) n = n ≡ 0
   Has (mark s f m) n = n ≡ 0
   Has (repeat s q c g p) n = Has p n
@@ -40,7 +40,7 @@ abbrev mutual
   HasBranch no_branches n = n ≡ 0
   HasBranch (more_branches s p bs) n = Has p n ⊎ HasBranch bs n
 
-abbrev pub ItemsHave : List Node → ℕ → Type 0
+abbrev pub ItemsHave : List SyntaxNode → ℕ → Type 0
 ItemsHave [] n = n ≡ 0
 ItemsHave (p ∷ ps) n = Has p n ⊎ ItemsHave ps n
 
@@ -48,7 +48,7 @@ abbrev pub BranchesHave : List Branch → ℕ → Type 0
 BranchesHave [] n = n ≡ 0
 BranchesHave (b ∷ bs) n = Has b.body n ⊎ BranchesHave bs n
 
-items_more : (ps : List Node) (p : Node) (n : ℕ) → ItemsHave ps n ⊎ Has p n → ItemsHave (ps ++ p ∷ []) n
+items_more : (ps : List SyntaxNode) (p : SyntaxNode) (n : ℕ) → ItemsHave ps n ⊎ Has p n → ItemsHave (ps ++ p ∷ []) n
 items_more [] p n (inl e) = inr e
 items_more [] p n (inr h) = inl h
 items_more (q ∷ ps) p n (inl (inl h)) = inl h
@@ -62,13 +62,13 @@ branches_more (c ∷ bs) b n (inl (inl h)) = inl h
 branches_more (c ∷ bs) b n (inl (inr h)) = inr (branches_more bs b n (inl h))
 branches_more (c ∷ bs) b n (inr h) = inr (branches_more bs b n (inr h))
 
-nodes_have : (ps : List Node) (n : ℕ) → ItemsHave ps n → HasSome (nodes ps) n
+nodes_have : (ps : List SyntaxNode) (n : ℕ) → ItemsHave ps n → HasSome (nodes ps) n
 nodes_have [] n h = h
 nodes_have (p ∷ ps) n (inl h) = inl h
 nodes_have (p ∷ ps) n (inr h) = inr (nodes_have ps n h)
 
 mutual
-  pub zero_has : (p : Node) → Has p 0
+  pub zero_has : (p : SyntaxNode) → Has p 0
   zero_has (leaf s f x) = refl
   zero_has (mark s f m) = refl
   zero_has (repeat s q c g p) = zero_has p
@@ -85,7 +85,7 @@ mutual
   zero_branch no_branches = refl
   zero_branch (more_branches s p bs) = inl (zero_has p)
 
-body_has : (r : Span) (ps : List Node) (n : ℕ) → ItemsHave ps n → Has (branch_body r ps) n
+body_has : (r : Span) (ps : List SyntaxNode) (n : ℕ) → ItemsHave ps n → Has (branch_body r ps) n
 body_has r [] n h = h
 body_has r (p ∷ []) n (inl h) = h
 body_has r (p ∷ []) n (inr e) = subst (Has p) (sym e) (zero_has p)
@@ -131,13 +131,13 @@ abbrev pub Promise : ℕ → Base → Type 0
 Promise n b = Deepens n (BaseHas b) b.below
 
 -- an item more
-put_has : (b : Base) (ps : List Node) (l : Last) (n : ℕ) → b.below ≡ b.below → ((m : ℕ) → ItemsHave (settled b.top.items b.last) m → ItemsHave (settled ps l) m) → Promise n b → Promise n (put_last b ps l)
+put_has : (b : Base) (ps : List SyntaxNode) (l : Last) (n : ℕ) → b.below ≡ b.below → ((m : ℕ) → ItemsHave (settled b.top.items b.last) m → ItemsHave (settled ps l) m) → Promise n b → Promise n (put_last b ps l)
 put_has b ps l n e f h = deepens_more n b.below (λ m x. ⊎_elim (λ y. inl y) (λ y. inr (f m y)) x) h
 
-put_promise : (b : Base) (a : ℕ) (p : Node) (n : ℕ) → Promise n b → Promise n (put b a p)
+put_promise : (b : Base) (a : ℕ) (p : SyntaxNode) (n : ℕ) → Promise n b → Promise n (put b a p)
 put_promise b a p n h = put_has b (settled b.top.items b.last) (an_atom a p) n refl (λ m x. items_more (settled b.top.items b.last) p m (inl x)) h
 
-item_promise : (b : Base) (p : Node) (n : ℕ) → Promise n b → Promise n (put_item b p)
+item_promise : (b : Base) (p : SyntaxNode) (n : ℕ) → Promise n b → Promise n (put_item b p)
 item_promise b p n h = put_has b (settled b.top.items b.last ++ p ∷ []) nothing_yet n refl (λ m x. items_more (settled b.top.items b.last) p m (inl x)) h
 
 codes_promise : (t : List ℕ) (b : Base) (i n : ℕ) → Promise n b → Promise n (put_codes b i t)
@@ -149,7 +149,7 @@ abbrev LexHas : Lex → ℕ → Type 0
 LexHas (counted a p q c) n = Has p n
 LexHas between n = n ≡ 0
 LexHas line n = n ≡ 0
-LexHas remark n = n ≡ 0
+LexHas comment n = n ≡ 0
 LexHas (in_braces a t) n = n ≡ 0
 LexHas (at_slash a) n = n ≡ 0
 LexHas (in_escape a x) n = n ≡ 0
@@ -163,7 +163,7 @@ Promises n s = Deepens n (λ m. BaseHas s.base m ⊎ LexHas s.lex m) s.base.belo
 at_base : (n : ℕ) (b : Base) (x : Lex) → Promise n b → Promises n (at b x)
 at_base n b x h = deepens_more n b.below (λ m y. inl y) h
 
-zero_items : (ps : List Node) → ItemsHave ps 0
+zero_items : (ps : List SyntaxNode) → ItemsHave ps 0
 zero_items [] = refl
 zero_items (p ∷ ps) = inl (zero_has p)
 
@@ -171,7 +171,7 @@ zero_items (p ∷ ps) = inl (zero_has p)
 plain_lex : (n : ℕ) (b : Base) (x : Lex) → ((m : ℕ) → LexHas x m → m ≡ 0) → Promises n (at b x) → Promise n b
 plain_lex n b x f h = deepens_more n b.below (λ m y. ⊎_elim (λ z. z) (λ z. inr (subst (ItemsHave (settled b.top.items b.last)) (sym (f m z)) (zero_items (settled b.top.items b.last)))) y) h
 
-repeat_promise : (b : Base) (a : ℕ) (p : Node) (q j : ℕ) (c : Count) (g : Greed) (n : ℕ) → Deepens n (λ m. BaseHas b m ⊎ Has p m) b.below → Promise n (put_repeat b a p q j c g)
+repeat_promise : (b : Base) (a : ℕ) (p : SyntaxNode) (q j : ℕ) (c : Count) (g : Greed) (n : ℕ) → Deepens n (λ m. BaseHas b m ⊎ Has p m) b.below → Promise n (put_repeat b a p q j c g)
 repeat_promise b a p q j c g n h =
     let ps = settled b.top.items b.last in
     let r = repeat (span a j) (span q j) c g p in
@@ -184,7 +184,7 @@ last_promise : (b : Base) (q : ℕ) (c : Count) (l : Last) (n : ℕ) → Deepens
 last_promise b q c nothing_yet n h = tt
 last_promise b q c (an_atom a p) n h = deepens_more n b.below (λ m y. ⊎_elim (λ z. inl (inl z)) (λ z. apart b.top.items m z) y) h
   where
-    apart : (ps : List Node) (m : ℕ) → ItemsHave (ps ++ p ∷ []) m → (BranchesHave b.top.branches m ⊎ ItemsHave ps m) ⊎ Has p m
+    apart : (ps : List SyntaxNode) (m : ℕ) → ItemsHave (ps ++ p ∷ []) m → (BranchesHave b.top.branches m ⊎ ItemsHave ps m) ⊎ Has p m
     apart [] m (inl x) = inr x
     apart [] m (inr e) = inl (inr e)
     apart (r ∷ ps) m (inl x) = inl (inr (inl x))
@@ -194,7 +194,7 @@ split_promise : (b : Base) (i n : ℕ) → Promise n b → Keeps n (split b i)
 split_promise b i n h =
     cond_both (splits b.top.kind (all_branches b i)) (Some (at (next_branch b (suc i) (all_branches b i)) between)) None (λ o. Holds o (Promises n)) (λ z. at_base n (next_branch b (suc i) (all_branches b i)) between (deepens_more n b.below (λ m y. inl (branch_in m y)) h)) (λ z. tt)
   where
-    ps : List Node
+    ps : List SyntaxNode
     ps = settled b.top.items b.last
 
     branch_in : (m : ℕ) → BaseHas b m → BranchesHave (all_branches b i) m
@@ -204,7 +204,7 @@ close_promise : (b : Base) (i n : ℕ) (fs : List Frame) → Deepens n (BaseHas 
 close_promise b i n [] h = tt
 close_promise b i n (f ∷ fs) h = deepens_more n fs (λ m y. inl (⊎_elim (λ z. ⊎_elim (λ v. inl v) (λ v. inr (items_more f.items g m (inl v))) z) (λ z. inr (items_more f.items g m (inr (inside m z)))) y)) h
   where
-    g : Node
+    g : SyntaxNode
     g = group (span b.top.opened (suc i)) b.top.kind (body_up_to b i)
 
     inside : (m : ℕ) → HasIn (BaseHas b) m → Has (group (span b.top.opened (suc i)) b.top.kind (body_up_to b i)) m
@@ -217,7 +217,7 @@ open_promise b a j k n h = deepens_more n b.below (λ m y. inl y) h
 pass_promise : (i : ℕ) (b : Base) (c : ℕ) (x : Lex) (n : ℕ) → Promise n b → Keeps n (pass_or_put b i c x)
 pass_promise i b c x n h = cond_both b.top.flags.verbose (Some (at b x)) (Some (at (put_code b i c) between)) (λ o. Holds o (Promises n)) (λ z. at_base n b x h) (λ z. at_base n (put_code b i c) between (put_promise b i _ n h))
 
-by_sign_promise : (i : ℕ) (b : Base) (c n : ℕ) (g : Sign) → Promise n b → Keeps n (by_sign i b c g)
+by_sign_promise : (i : ℕ) (b : Base) (c n : ℕ) (g : TokenClass) → Promise n b → Keeps n (by_sign i b c g)
 by_sign_promise i b c n left h = at_base n b (in_head i paren) h
 by_sign_promise i b c n right h = close_promise b i n b.below h
 by_sign_promise i b c n bar h = split_promise b i n h
@@ -243,7 +243,7 @@ braces_promise i b a t c n h =
     cond_both (c == 125) (end_braces i b a t (count_of t)) (if counts c then Some (at b (in_braces a (t ++ c ∷ []))) else go_on i (no_count b a t) c) (λ o. Holds o (Promises n)) (λ z. end_promise i b a t n (count_of t) h)
     (λ z. cond_both (counts c) (Some (at b (in_braces a (t ++ c ∷ [])))) (go_on i (no_count b a t) c) (λ o. Holds o (Promises n)) (λ y. at_base n b (in_braces a (t ++ c ∷ [])) h) (λ y. on_promise i (no_count b a t) c n (codes_promise t (put_code b a 123) (suc a) n (put_promise b a _ n h))))
 
-counted_promise : (i : ℕ) (b : Base) (a : ℕ) (p : Node) (q : ℕ) (k : Count) (c n : ℕ) → Deepens n (λ m. BaseHas b m ⊎ Has p m) b.below → Keeps n (counted_step i b a p q k c)
+counted_promise : (i : ℕ) (b : Base) (a : ℕ) (p : SyntaxNode) (q : ℕ) (k : Count) (c n : ℕ) → Deepens n (λ m. BaseHas b m ⊎ Has p m) b.below → Keeps n (counted_step i b a p q k c)
 counted_promise i b a p q k c n h =
     cond_both (c == 63) (Some (at (put_repeat b a p q (suc i) k lazy) between)) (if c == 43 then Some (at (put_repeat b a p q (suc i) k possessive) between) else go_on i (put_repeat b a p q i k greedy) c) (λ o. Holds o (Promises n)) (λ z. at_base n (put_repeat b a p q (suc i) k lazy) between (repeat_promise b a p q (suc i) k lazy n h))
     (λ z. cond_both (c == 43) (Some (at (put_repeat b a p q (suc i) k possessive) between)) (go_on i (put_repeat b a p q i k greedy) c) (λ o. Holds o (Promises n)) (λ y. at_base n (put_repeat b a p q (suc i) k possessive) between (repeat_promise b a p q (suc i) k possessive n h)) (λ y. on_promise i (put_repeat b a p q i k greedy) c n (repeat_promise b a p q i k greedy n h)))
@@ -253,7 +253,7 @@ begins_promise i b a n stops h = tt
 begins_promise i b a n (goes x) h = at_base n b (in_escape a x) h
 begins_promise i b a n (ends e) h = at_base n (put_leaf b a (suc i) (glyph e)) between (put_promise b a _ n h)
 
-slash_promise : (i : ℕ) (b : Base) (a n : ℕ) (x : Slashed) → Promise n b → Keeps n (slash_step i b a x)
+slash_promise : (i : ℕ) (b : Base) (a n : ℕ) (x : EscapeClass) → Promise n b → Keeps n (slash_step i b a x)
 slash_promise i b a n (edges m) h = at_base n (put_item b (mark (span a (suc i)) b.top.flags m)) between (item_promise b _ n h)
 slash_promise i b a n (single c) h = begins_promise i b a n (escape_first (single c)) h
 slash_promise i b a n (kinds k v) h = begins_promise i b a n (escape_first (kinds k v)) h
@@ -270,13 +270,13 @@ escape_promise i b a n stops (Some e) c h = on_promise i (put_leaf b a i (glyph 
 escape_promise i b a n (goes x) o c h = at_base n b (in_escape a x) h
 escape_promise i b a n (ends e) o c h = at_base n (put_leaf b a (suc i) (glyph e)) between (put_promise b a _ n h)
 
-begin_promise : (b : Base) (a j n : ℕ) (o : Begun) → Promise n b → Keeps n (begin b a j o)
+begin_promise : (b : Base) (a j n : ℕ) (o : GroupStart) → Promise n b → Keeps n (begin b a j o)
 begin_promise b a j n (begins_group k) h = at_base n (open_group b a j k) between (open_promise b a j k n h)
-begin_promise b a j n begins_remark h = at_base n b remark h
+begin_promise b a j n begins_comment h = at_base n b comment h
 begin_promise b a j n is_reference h = at_base n (put_leaf b a j (glyph reference)) between (put_promise b a _ n h)
 begin_promise b a j n (is_front f) h = cond_both (at_front b a) _ None (λ o. Holds o (Promises n)) (λ z. deepens_more n b.below (λ m y. inl y) h) (λ z. tt)
 
-head_promise : (i : ℕ) (b : Base) (a n : ℕ) (x : InHead) (r : Answer InHead Begun) (c : ℕ) → Promise n b → Keeps n (head_answer i b a x r c)
+head_promise : (i : ℕ) (b : Base) (a n : ℕ) (x : InHead) (r : Answer InHead GroupStart) (c : ℕ) → Promise n b → Keeps n (head_answer i b a x r c)
 head_promise i b a n x stops c h = go (behind_paren x)
   where
     go : (v : Bool) → Holds (head_stops i b a v c) (Promises n)
@@ -294,7 +294,7 @@ set_promise i b a n v (ends ms) h = at_base n (put_leaf b a (suc i) (members v m
 step_promise : (text : Bool) (i n : ℕ) (b : Base) (x : Lex) (c : ℕ) → Promises n (at b x) → Keeps n (step text i b x c)
 step_promise text i n b between c h = on_promise i b c n (plain_lex n b between (λ m y. y) h)
 step_promise text i n b line c h = let k = plain_lex n b line (λ m y. y) h in cond_both (c == 10) (Some (at b between)) (Some (at b line)) (λ o. Holds o (Promises n)) (λ z. at_base n b between k) (λ z. at_base n b line k)
-step_promise text i n b remark c h = let k = plain_lex n b remark (λ m y. y) h in cond_both (c == 41) (Some (at b between)) (Some (at b remark)) (λ o. Holds o (Promises n)) (λ z. at_base n b between k) (λ z. at_base n b remark k)
+step_promise text i n b comment c h = let k = plain_lex n b comment (λ m y. y) h in cond_both (c == 41) (Some (at b between)) (Some (at b comment)) (λ o. Holds o (Promises n)) (λ z. at_base n b between k) (λ z. at_base n b comment k)
 step_promise text i n b (in_braces a t) c h = braces_promise i b a t c n (plain_lex n b (in_braces a t) (λ m y. y) h)
 step_promise text i n b (counted a p q k) c h = counted_promise i b a p q k c n h
 step_promise text i n b (at_slash a) c h = slash_promise i b a n (slashed text false c) (plain_lex n b (at_slash a) (λ m y. y) h)
@@ -314,7 +314,7 @@ end_has k n b (f ∷ fs) h = tt
 finish_has : (k n : ℕ) (b : Base) (x : Lex) → Promises n (at b x) → Holds (finish_lex k b x) (λ q. Has q.body n)
 finish_has k n b between h = end_has k n b b.below (plain_lex n b between (λ m y. y) h)
 finish_has k n b line h = end_has k n b b.below (plain_lex n b line (λ m y. y) h)
-finish_has k n b remark h = tt
+finish_has k n b comment h = tt
 finish_has k n b (in_braces a t) h = let d = no_count b a t in end_has k n d d.below (codes_promise t (put_code b a 123) (suc a) n (put_promise b a _ n (plain_lex n b (in_braces a t) (λ m y. y) h)))
 finish_has k n b (counted a p q c) h = let d = put_repeat b a p q k c greedy in end_has k n d d.below (repeat_promise b a p q k c greedy n h)
 finish_has k n b (at_slash a) h = tt
@@ -355,18 +355,18 @@ Opens (letters_on f) = Unit {0}
 Opens (letters_dash f) = Unit {0}
 Opens (letters_off f g) = Unit {0}
 
-abbrev BegunOpens : Begun → Type 0
+abbrev BegunOpens : GroupStart → Type 0
 BegunOpens (begins_group k) = Unit {0}
-BegunOpens begins_remark = ⊥
+BegunOpens begins_comment = ⊥
 BegunOpens is_reference = ⊥
 BegunOpens (is_front f) = Unit {0}
 
-abbrev WillOpen : Answer InHead Begun → Type 0
+abbrev WillOpen : Answer InHead GroupStart → Type 0
 WillOpen stops = Unit {0}
 WillOpen (goes h) = Opens h
 WillOpen (ends o) = BegunOpens o
 
-behind_opens : (x : Headed) → WillOpen (behind_next x)
+behind_opens : (x : GroupPrefix) → WillOpen (behind_next x)
 behind_opens looks = tt
 behind_opens letter = tt
 behind_opens colon = tt
@@ -378,7 +378,7 @@ behind_opens greater = tt
 behind_opens condition = tt
 behind_opens no_head = tt
 
-pick_open : (b : Bool) (x y : Answer InHead Begun) → WillOpen x → WillOpen y → WillOpen (if b then x else y)
+pick_open : (b : Bool) (x y : Answer InHead GroupStart) → WillOpen x → WillOpen y → WillOpen (if b then x else y)
 pick_open true x y p q = p
 pick_open false x y p q = q
 
@@ -442,11 +442,11 @@ module _ (text : Bool) (b : Base) (a n : ℕ) (some : suc n ≡ length b.below) 
   heads_deep i h [] o = tt
   heads_deep i h (c ∷ r) o = go (head_step text h c) (head_opens text h c o) (λ h' o'. heads_deep (suc i) h' r o')
     where
-      go : (x : Answer InHead Begun) → WillOpen x → ((h' : InHead) → Opens h' → Deep (suc i) (Some (at b (in_head a h'))) r) → Deep (suc i) (head_answer i b a h x c) r
+      go : (x : Answer InHead GroupStart) → WillOpen x → ((h' : InHead) → Opens h' → Deep (suc i) (Some (at b (in_head a h'))) r) → Deep (suc i) (head_answer i b a h x c) r
       go stops w f = subst (λ v. Deep (suc i) (head_stops i b a v c) r) (sym (not_behind h o)) (none_deep (suc i) r)
       go (goes h') w f = f h' w
       go (ends (begins_group k)) w f = group_deep (suc i) (suc i) k r
-      go (ends begins_remark) w f = absurd w
+      go (ends begins_comment) w f = absurd w
       go (ends is_reference) w f = absurd w
       go (ends (is_front fl)) w f = subst (λ s. Deep (suc i) s r) (sym (front_none (suc i) fl)) (none_deep (suc i) r)
 
@@ -464,7 +464,7 @@ module _ (text : Bool) (b : Base) (a n : ℕ) (some : suc n ≡ length b.below) 
   quest_deep i [] no_r no_f = tt
   quest_deep i (c ∷ r) no_r no_f = go (headed c) (head_is c)
     where
-      go : (x : Headed) → HeadIs x c → Deep (suc i) (head_answer i b a quest (quest_next x c) c) r
+      go : (x : GroupPrefix) → HeadIs x c → Deep (suc i) (head_answer i b a quest (quest_next x c) c) r
       go letter e = heads_deep (suc i) (letters_on (with_letter no_flags c)) r tt
       go colon e = group_deep (suc i) (suc i) (scoped no_flags no_flags) r
       go minus e = heads_deep (suc i) (letters_dash no_flags) r tt
@@ -500,5 +500,5 @@ too_deep_has call text w p q h sp =
     let len : length u ≡ suc p = length-take-le (suc p) w (slice_get_within w p 40 h.opens) in
     let reads_all : observe text finish_at (suc p) (Some s) rest ≡ Some q = sym (ap (λ o. observe text finish_at (suc p) o rest) bh.runs) ∙ sym (let z : 0 + length u ≡ suc p = omega (arith, len) in ap (λ m. observe text finish_at m (run text 0 (Some (start call)) u) rest) z) ∙ sym (observe-append text finish_at 0 (start call) u rest) ∙ ap (observe text finish_at 0 (Some (start call))) (take-append-drop (suc p) w) ∙ spelled_is_read call text w q sp in
     let same : at s.base (in_head p paren) ≡ s = ap (at s.base) (sym bh.lex) in
-    let deep = paren_deep text s.base p 99 (sym bh.deep) (suc p) rest (λ x z. h.no_remark (h.opens, (dropped_at w (suc p) 0 63 (suc p) (omega arith) x, dropped_at w (suc p) 1 35 (suc (suc p)) (omega arith) z))) (λ x y z. h.no_reference (h.opens, (dropped_at w (suc p) 0 63 (suc p) (omega arith) x, (dropped_at w (suc p) 1 80 (suc (suc p)) (omega arith) y, dropped_at w (suc p) 2 61 (suc (suc (suc p))) (omega arith) z)))) in
+    let deep = paren_deep text s.base p 99 (sym bh.deep) (suc p) rest (λ x z. h.no_comment (h.opens, (dropped_at w (suc p) 0 63 (suc p) (omega arith) x, dropped_at w (suc p) 1 35 (suc (suc p)) (omega arith) z))) (λ x y z. h.no_reference (h.opens, (dropped_at w (suc p) 0 63 (suc p) (omega arith) x, (dropped_at w (suc p) 1 80 (suc (suc p)) (omega arith) y, dropped_at w (suc p) 2 61 (suc (suc (suc p))) (omega arith) z)))) in
     subst (λ o. Holds o (λ t. Has t.body 101)) reads_all (subst (λ t. Holds (observe text finish_at (suc p) (Some t) rest) (λ t. Has t.body 101)) same deep)

@@ -1,12 +1,13 @@
 -- What is left of a whole pattern without its outer anchors, and that nothing in it is refused.
-use Rattle.std.proofs.Common.{◌≡◌, ◌⊎◌, ℕ, Bool, true, false, not, ◌||◌, ◌&&◌, if◌then◌else◌, List, [], ◌∷◌, ◌++◌, map, reverse, Some, None, refl, sym, ap, ◌∙◌, subst, true≢false}
+use Rattle.std.proofs.Common.{bytes_eq, ◌≡◌, ◌⊎◌, ℕ, Bool, true, false, not, ◌||◌, ◌&&◌, if◌then◌else◌, List, [], ◌∷◌, ◌++◌, map, reverse, Some, None, refl, sym, ap, ◌∙◌, subst, true≢false}
 use Rattle.std.proofs.lemmas.List.{map-append, reverse-append, reverse-reverse}
 use mathlib.Core.Logic.{⊎_elim}
 use Rattle.rl_ranges.specs.declared.universe.Universe.{Universe}
 use Rattle.rl_pattern.specs.declared.flags.Flags.{Flags}
-use Rattle.rl_pattern.specs.Tree.{Span, Node, Branch, branch_body, branch, whole_body, Front, Whole}
+use Rattle.rl_pattern.specs.Tree.{Span, SyntaxNode, Branch, branch_body, branch, whole_body, Front, Whole}
 use Rattle.rl_pattern.specs.Codes.{joined}
-use Rattle.rl_pattern.specs.Found.{fault_if, Called, is_among, same_name, name_faults, node_names, node_faults, is_leading, trail_of, no_trail, run_of, drops, begins_leading, without_leading, without_trailing, trailing_run, inner_items, items_of, Inner, inner_of, inner, front_own, front_faults, whole_faults, refused, first_fault, is_locale, is_flag_clash, is_duplicate_name}
+use Rattle.rl_pattern.specs.internal.Judged.{is_among, without_leading, without_trailing}
+use Rattle.rl_pattern.specs.Found.{fault_if, Called, name_faults, node_names, node_faults, is_leading, trail_of, no_trail, run_of, drops, begins_leading, trailing_run, inner_items, items_of, Inner, inner_of, inner, front_own, front_faults, whole_faults, refused, first_fault, is_locale, is_flag_clash, is_duplicate_name}
 use Rattle.rl_pattern.specs.Shape.{is_text}
 use Rattle.rl_pattern.specs.internal.Left.{moved_front}
 use Rattle.rl_pattern.proofs.InnerBare.{AllItems, branch_items}
@@ -18,7 +19,7 @@ among_same : (n : List ℕ) (cs ds : List Called) → map name_of cs ≡ map nam
 among_same n [] [] e = refl
 among_same n [] (d ∷ ds) e = absurd (cc e)
 among_same n (c ∷ cs) [] e = absurd (cc e)
-among_same n (c ∷ cs) (d ∷ ds) e = let h : c.name ≡ d.name = cc e in let t : map name_of cs ≡ map name_of ds = cc e in ap (λ m. same_name n m || is_among n cs) h ∙ ap (λ b. same_name n d.name || b) (among_same n cs ds t)
+among_same n (c ∷ cs) (d ∷ ds) e = let h : c.name ≡ d.name = cc e in let t : map name_of cs ≡ map name_of ds = cc e in ap (λ m. bytes_eq n m || is_among n cs) h ∙ ap (λ b. bytes_eq n d.name || b) (among_same n cs ds t)
 
 names_once : (bs cs ds es : List Called) → map name_of bs ≡ map name_of ds → map name_of cs ≡ map name_of es → name_faults bs cs ≡ [] → name_faults ds es ≡ []
 names_once bs [] ds [] e f h = refl
@@ -39,52 +40,52 @@ fronts_fine g text f (x ∷ gs) h =
     nil_join (front_own text f (moved_front g x)) (front_faults text (joined f x.letters) (map (moved_front g) gs)) (two_moved x.letters.locale (x.letters.ascii && (f.unicode || x.letters.unicode) || x.letters.unicode && (f.ascii || not text)) x.place.from (g x.place.from) is_locale is_flag_clash a.0) (fronts_fine g text (joined f x.letters) gs a.1)
 
 -- items none of which is an outer anchor
-abbrev pub AllBare : List Node → Type 0
+abbrev pub AllBare : List SyntaxNode → Type 0
 AllBare [] = Unit {0}
 AllBare (p ∷ ps) = (is_leading p ≡ false) × (trail_of p ≡ no_trail) × AllBare ps
 
-bare_snoc : (ps : List Node) (p : Node) → AllBare ps → is_leading p ≡ false → trail_of p ≡ no_trail → AllBare (ps ++ p ∷ [])
+bare_snoc : (ps : List SyntaxNode) (p : SyntaxNode) → AllBare ps → is_leading p ≡ false → trail_of p ≡ no_trail → AllBare (ps ++ p ∷ [])
 bare_snoc [] p h e f = (e, f, tt)
 bare_snoc (q ∷ ps) p (x, z, hs) e f = (x, z, bare_snoc ps p hs e f)
 
-turned : (p : Node) (ps : List Node) → reverse (p ∷ ps) ≡ reverse ps ++ p ∷ []
+turned : (p : SyntaxNode) (ps : List SyntaxNode) → reverse (p ∷ ps) ≡ reverse ps ++ p ∷ []
 turned p ps = reverse-append (p ∷ []) ps
 
-bare_reverse : (ps : List Node) → AllBare ps → AllBare (reverse ps)
+bare_reverse : (ps : List SyntaxNode) → AllBare ps → AllBare (reverse ps)
 bare_reverse [] h = tt
 bare_reverse (p ∷ ps) (x, z, hs) = subst AllBare (sym (turned p ps)) (bare_snoc (reverse ps) p (bare_reverse ps hs) x z)
 
-bare_leading : (ps : List Node) → AllBare ps → without_leading ps ≡ ps
+bare_leading : (ps : List SyntaxNode) → AllBare ps → without_leading ps ≡ ps
 bare_leading [] h = refl
 bare_leading (p ∷ ps) (x, z, hs) = ap (λ b. if b then without_leading ps else p ∷ ps) x
 
-bare_trailing : (ps : List Node) → AllBare ps → (without_trailing ps ≡ ps) × (trailing_run ps ≡ no_trail)
+bare_trailing : (ps : List SyntaxNode) → AllBare ps → (without_trailing ps ≡ ps) × (trailing_run ps ≡ no_trail)
 bare_trailing [] h = (refl, refl)
 bare_trailing (p ∷ ps) (x, z, hs) = (ap (λ t. if drops t then without_trailing ps else p ∷ ps) z, ap (λ t. run_of t (trailing_run ps)) z)
 
-begins_bare : (ps : List Node) → AllBare ps → begins_leading ps ≡ false
+begins_bare : (ps : List SyntaxNode) → AllBare ps → begins_leading ps ≡ false
 begins_bare [] h = refl
 begins_bare (p ∷ ps) h = h.0
 
-bare_inner : (ps : List Node) → AllBare ps → (inner_items ps ≡ ps) × (begins_leading ps ≡ false) × (trailing_run (reverse ps) ≡ no_trail)
+bare_inner : (ps : List SyntaxNode) → AllBare ps → (inner_items ps ≡ ps) × (begins_leading ps ≡ false) × (trailing_run (reverse ps) ≡ no_trail)
 bare_inner ps h =
     let t = bare_trailing (reverse ps) (bare_reverse ps h) in
     (ap (λ qs. reverse (without_trailing (reverse qs))) (bare_leading ps h) ∙ ap reverse t.0 ∙ reverse-reverse ps, begins_bare ps h, t.1)
 
 module _ (u : Universe) (drop out : Span → Bool) where
-  all_items : {ps qs : List Node} → LeavesAll u drop out ps qs → AllItems qs
+  all_items : {ps qs : List SyntaxNode} → LeavesAll u drop out ps qs → AllItems qs
   all_items all_none = tt
   all_items (all_more h e hs) = (e.stays_item, all_items hs)
 
-  all_bare : {ps qs : List Node} → LeavesAll u drop out ps qs → AllBare ps → AllBare qs
+  all_bare : {ps qs : List SyntaxNode} → LeavesAll u drop out ps qs → AllBare ps → AllBare qs
   all_bare all_none b = tt
   all_bare (all_more h e hs) (x, z, bs) = (e.leads ∙ x, e.trails ∙ z, all_bare hs bs)
 
-  all_reverse : {ps qs : List Node} → LeavesAll u drop out ps qs → LeavesAll u drop out (reverse ps) (reverse qs)
+  all_reverse : {ps qs : List SyntaxNode} → LeavesAll u drop out ps qs → LeavesAll u drop out (reverse ps) (reverse qs)
   all_reverse all_none = all_none
   all_reverse (all_more {p = p} {q = q} {ps = ps} {qs = qs} h e hs) = subst (λ xs. LeavesAll u drop out xs (reverse (q ∷ qs))) (sym (turned p ps)) (subst (λ xs. LeavesAll u drop out (reverse ps ++ p ∷ []) xs) (sym (turned q qs)) (all_snoc u drop out (all_reverse hs) h e))
 
-  all_leading : {ps qs : List Node} → LeavesAll u drop out ps qs → LeavesAll u drop out (without_leading ps) (without_leading qs)
+  all_leading : {ps qs : List SyntaxNode} → LeavesAll u drop out ps qs → LeavesAll u drop out (without_leading ps) (without_leading qs)
   all_leading all_none = all_none
   all_leading (all_more {p = p} {q = q} {ps = ps} {qs = qs} h e hs) = go (all_leading hs) (is_leading p) refl
     where
@@ -92,7 +93,7 @@ module _ (u : Universe) (drop out : Span → Bool) where
       go rest true x = subst (λ b. LeavesAll u drop out (if b then without_leading ps else p ∷ ps) (if is_leading q then without_leading qs else q ∷ qs)) (sym x) (subst (λ b. LeavesAll u drop out (without_leading ps) (if b then without_leading qs else q ∷ qs)) (sym (e.leads ∙ x)) rest)
       go rest false x = subst (λ b. LeavesAll u drop out (if b then without_leading ps else p ∷ ps) (if is_leading q then without_leading qs else q ∷ qs)) (sym x) (subst (λ b. LeavesAll u drop out (p ∷ ps) (if b then without_leading qs else q ∷ qs)) (sym (e.leads ∙ x)) (all_more h e hs))
 
-  all_trailing : {ps qs : List Node} → LeavesAll u drop out ps qs → LeavesAll u drop out (without_trailing ps) (without_trailing qs)
+  all_trailing : {ps qs : List SyntaxNode} → LeavesAll u drop out ps qs → LeavesAll u drop out (without_trailing ps) (without_trailing qs)
   all_trailing all_none = all_none
   all_trailing (all_more {p = p} {q = q} {ps = ps} {qs = qs} h e hs) = go (all_trailing hs) (drops (trail_of p)) refl
     where
@@ -100,15 +101,15 @@ module _ (u : Universe) (drop out : Span → Bool) where
       go rest true x = subst (λ b. LeavesAll u drop out (if b then without_trailing ps else p ∷ ps) (if drops (trail_of q) then without_trailing qs else q ∷ qs)) (sym x) (subst (λ b. LeavesAll u drop out (without_trailing ps) (if b then without_trailing qs else q ∷ qs)) (sym (ap drops e.trails ∙ x)) rest)
       go rest false x = subst (λ b. LeavesAll u drop out (if b then without_trailing ps else p ∷ ps) (if drops (trail_of q) then without_trailing qs else q ∷ qs)) (sym x) (subst (λ b. LeavesAll u drop out (p ∷ ps) (if b then without_trailing qs else q ∷ qs)) (sym (ap drops e.trails ∙ x)) (all_more h e hs))
 
-  all_run : {ps qs : List Node} → LeavesAll u drop out ps qs → trailing_run qs ≡ trailing_run ps
+  all_run : {ps qs : List SyntaxNode} → LeavesAll u drop out ps qs → trailing_run qs ≡ trailing_run ps
   all_run all_none = refl
   all_run (all_more {p = p} {q = q} {ps = ps} {qs = qs} h e hs) = ap (λ t. run_of t (trailing_run qs)) e.trails ∙ ap (run_of (trail_of p)) (all_run hs)
 
-  all_begin : {ps qs : List Node} → LeavesAll u drop out ps qs → begins_leading qs ≡ begins_leading ps
+  all_begin : {ps qs : List SyntaxNode} → LeavesAll u drop out ps qs → begins_leading qs ≡ begins_leading ps
   all_begin all_none = refl
   all_begin (all_more h e hs) = e.leads
 
-  all_inner : {ps qs : List Node} → LeavesAll u drop out ps qs → LeavesAll u drop out (inner_items ps) (inner_items qs)
+  all_inner : {ps qs : List SyntaxNode} → LeavesAll u drop out ps qs → LeavesAll u drop out (inner_items ps) (inner_items qs)
   all_inner hs = all_reverse (all_trailing (all_reverse (all_leading hs)))
 
   -- the patterns without their outer anchors
@@ -118,7 +119,7 @@ module _ (u : Universe) (drop out : Span → Bool) where
     pub trail : b.trail ≡ a.trail
     pub faultless : node_faults (is_text u) a.body ≡ [] → node_faults (is_text u) b.body ≡ []
 
-  pub one_inner : (r t r2 t2 : Span) {ps qs : List Node} → AllItems ps → LeavesAll u drop out ps qs → LeavesInner (inner_of r (branch_body r2 ps) (items_of (branch_body r2 ps))) (inner_of t (branch_body t2 qs) (items_of (branch_body t2 qs)))
+  pub one_inner : (r t r2 t2 : Span) {ps qs : List SyntaxNode} → AllItems ps → LeavesAll u drop out ps qs → LeavesInner (inner_of r (branch_body r2 ps) (items_of (branch_body r2 ps))) (inner_of t (branch_body t2 qs) (items_of (branch_body t2 qs)))
   one_inner r t r2 t2 {ps} {qs} i h =
       subst (λ o. LeavesInner (inner_of r (branch_body r2 ps) o) (inner_of t (branch_body t2 qs) (items_of (branch_body t2 qs)))) (sym (branch_items r2 ps i)) (subst (λ o. LeavesInner (inner_of r (branch_body r2 ps) (Some ps)) (inner_of t (branch_body t2 qs) o)) (sym (branch_items t2 qs (all_items h))) made)
     where
@@ -128,26 +129,26 @@ module _ (u : Universe) (drop out : Span → Bool) where
   -- the body that is left where branches of the whole were dropped
   abbrev pub BareSome : List Branch → Type 0
   BareSome [] = Unit {0}
-  BareSome (b ∷ bs) = ((r : Span) (ps : List Node) → b ≡ branch r ps → AllBare ps) × BareSome bs
+  BareSome (b ∷ bs) = ((r : Span) (ps : List SyntaxNode) → b ≡ branch r ps → AllBare ps) × BareSome bs
 
   abbrev BareLeft : List Branch → Type 0
   BareLeft [] = Unit {0}
-  BareLeft (c ∷ cs) = ((t : Span) × (qs : List Node) × (c ≡ branch t qs) × AllItems qs × AllBare qs) × BareLeft cs
+  BareLeft (c ∷ cs) = ((t : Span) × (qs : List SyntaxNode) × (c ≡ branch t qs) × AllItems qs × AllBare qs) × BareLeft cs
 
   bare_left : {d : Span → Bool} {bs cs : List Branch} → LeavesSome u drop out d bs cs → BareSome bs → BareLeft cs
   bare_left some_none b = tt
   bare_left (some_stays {r = r} {t = t} {ps = ps} {qs = qs} e i h hs) (x, bs) = ((t, qs, refl, all_items h, all_bare h (x r ps refl)), bare_left hs bs)
   bare_left (some_goes e h hs) (x, bs) = bare_left hs bs
 
-  abbrev Alone : Node → Inner → Type 0
+  abbrev Alone : SyntaxNode → Inner → Type 0
   Alone p i = (tree u drop out i.body ≡ tree u drop out p) × (i.leading ≡ false) × (i.trail ≡ no_trail) × (node_faults (is_text u) p ≡ [] → node_faults (is_text u) i.body ≡ [])
 
-  body_tree : (r t : Span) (ps : List Node) → (tree u drop out (branch_body r ps) ≡ tree u drop out (branch_body t ps)) × (node_faults (is_text u) (branch_body t ps) ≡ [] → node_faults (is_text u) (branch_body r ps) ≡ [])
+  body_tree : (r t : Span) (ps : List SyntaxNode) → (tree u drop out (branch_body r ps) ≡ tree u drop out (branch_body t ps)) × (node_faults (is_text u) (branch_body t ps) ≡ [] → node_faults (is_text u) (branch_body r ps) ≡ [])
   body_tree r t [] = (refl, λ h. h)
   body_tree r t (p ∷ []) = (refl, λ h. h)
   body_tree r t (p ∷ q ∷ ps) = (refl, λ h. h)
 
-  alone_bare : (r t : Span) (qs : List Node) → AllItems qs → AllBare qs → Alone (branch_body t qs) (inner_of r (branch_body t qs) (items_of (branch_body t qs)))
+  alone_bare : (r t : Span) (qs : List SyntaxNode) → AllItems qs → AllBare qs → Alone (branch_body t qs) (inner_of r (branch_body t qs) (items_of (branch_body t qs)))
   alone_bare r t qs i b = subst (λ o. Alone (branch_body t qs) (inner_of r (branch_body t qs) o)) (sym (branch_items t qs i)) made
     where
       made : Alone (branch_body t qs) (inner_of r (branch_body t qs) (Some qs))
@@ -167,7 +168,7 @@ module _ (u : Universe) (drop out : Span → Bool) where
   alone_many r t (some_stays e i h (some_stays e2 i2 h2 hs)) none = (refl, refl, refl, λ h. h)
 
   -- where nothing is dropped, or no branch has an outer anchor at an end
-  pub several_inner : (r t : Span) (p : Node) (bs cs : List Branch) {b b2 : Branch} → items_of p ≡ None → Leaves u drop out p (whole_body t cs) → LeavesSome u drop out drop (b ∷ b2 ∷ bs) cs → ((x : Span) → drop x ≡ false) ⊎ BareSome (b ∷ b2 ∷ bs) → LeavesInner (inner_of r p (items_of p)) (inner_of t (whole_body t cs) (items_of (whole_body t cs)))
+  pub several_inner : (r t : Span) (p : SyntaxNode) (bs cs : List Branch) {b b2 : Branch} → items_of p ≡ None → Leaves u drop out p (whole_body t cs) → LeavesSome u drop out drop (b ∷ b2 ∷ bs) cs → ((x : Span) → drop x ≡ false) ⊎ BareSome (b ∷ b2 ∷ bs) → LeavesInner (inner_of r p (items_of p)) (inner_of t (whole_body t cs) (items_of (whole_body t cs)))
   several_inner r t p bs cs several h hs free =
       let a : Alone (whole_body t cs) (inner_of t (whole_body t cs) (items_of (whole_body t cs))) = ⊎_elim (λ (z : (x : Span) → drop x ≡ false). alone_many t t hs z) (λ z. alone_whole t t cs (bare_left hs z)) free in
       subst (λ o. LeavesInner (inner_of r p o) (inner_of t (whole_body t cs) (items_of (whole_body t cs)))) (sym several) (record { same = a.0 ∙ h.same; leading = a.1; trail = a.2; faultless = λ fine. a.3 (h.faultless fine) })

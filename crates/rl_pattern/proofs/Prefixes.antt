@@ -4,8 +4,8 @@ use Rattle.std.proofs.lemmas.Bool.{cases_Bool, leb-true, leb-false, le-leb, cond
 use Rattle.std.proofs.lemmas.Option.{slice_get_within, none-some, slice_get_past}
 use mathlib.Core.Logic.{inl, inr, ⊎_elim}
 use Rattle.rl_pattern.specs.declared.flags.Flags.{Flags}
-use Rattle.rl_pattern.specs.Tree.{Span, span, nodes, branches, branch_body, Kind, capturing, named, scoped, lookaround, atomic, conditional, Node, Branch, branch, whole_body, Front, Whole}
-use Rattle.rl_pattern.specs.Codes.{splits, on_letter, Headed, headed, sharps, looks, letter_p}
+use Rattle.rl_pattern.specs.Tree.{Span, span, nodes, branches, branch_body, Kind, capturing, named, scoped, lookaround, atomic, conditional, SyntaxNode, Branch, branch, whole_body, Front, Whole}
+use Rattle.rl_pattern.specs.Codes.{splits, on_letter, GroupPrefix, headed, sharps, looks, letter_p}
 use Rattle.rl_pattern.specs.Grammar.{At, Stands, Letters, first_letter, next_letter, Opening, captures, captures_named, groups, groups_on, groups_both, groups_off, looks_ahead, looks_behind, cuts, asks_number, asks_name, Atom, literal, literal_brace, dotted, escaped, refers, bracketed, grouped, Item, once, repeated, edge_code, edge_escape, Items, no_items, pass_over, one_item, IsBranches, first_branch, next_branch, Fronts, spelled, Spells}
 use Rattle.rl_pattern.specs.Viable.{Part, part_first, part_next, Open, none_open, one_open}
 use Rattle.rl_pattern.specs.Answers.{Shallow}
@@ -41,7 +41,7 @@ module _ (text : Bool) (w : List ℕ) (kept : ℕ → Bool) (g : ℕ → ℕ) wh
   snoc_length (z ∷ xs) x = ap suc (snoc_length xs x)
 
   mutual
-    pub atom_all : {fl : Flags} {i j : ℕ} {p : Node} → Atom text w fl i j p → AllKept text w kept g i j → (q : Node) × LeftAtom text w kept g fl i j q
+    pub atom_all : {fl : Flags} {i j : ℕ} {p : SyntaxNode} → Atom text w fl i j p → AllKept text w kept g i j → (q : SyntaxNode) × LeftAtom text w kept g fl i j q
     atom_all (literal a z) k = (_, left_leaf (literal a z) refl k)
     atom_all (literal_brace a z) k = (_, left_leaf (literal_brace a z) refl k)
     atom_all (dotted a) k = (_, left_leaf (dotted a) refl k)
@@ -54,7 +54,7 @@ module _ (text : Bool) (w : List ℕ) (kept : ℕ → Bool) (g : ℕ → ℕ) wh
         let r = branches_all hs (λ t a b. k t (omega (arith, a, lt)) (omega (arith, b))) in
         (_, left_group o (λ t a b. k t a (omega (arith, b, le))) r.1 z (k e (omega (arith, lt, le)) (omega arith)))
 
-    pub item_all : {fl : Flags} {i j : ℕ} {p : Node} → Item text w fl i j p → AllKept text w kept g i j → (q : Node) × LeftItem text w kept g fl i j q
+    pub item_all : {fl : Flags} {i j : ℕ} {p : SyntaxNode} → Item text w fl i j p → AllKept text w kept g i j → (q : SyntaxNode) × LeftItem text w kept g fl i j q
     item_all (once a) k = let r = atom_all a k in (r.0, left_once r.1)
     item_all (repeated a bl q) k =
         let lt = atom_lt text w a in
@@ -65,7 +65,7 @@ module _ (text : Bool) (w : List ℕ) (kept : ℕ → Bool) (g : ℕ → ℕ) wh
     item_all (edge_code a z) k = (_, left_mark (edge_code a z) refl k)
     item_all (edge_escape a) k = (_, left_mark (edge_escape a) refl k)
 
-    pub items_all : {fl : Flags} {i j : ℕ} {ps : List Node} → Items text w fl i j ps → AllKept text w kept g i j → (qs : List Node) × LeftItems text w kept g fl i j qs
+    pub items_all : {fl : Flags} {i j : ℕ} {ps : List SyntaxNode} → Items text w fl i j ps → AllKept text w kept g i j → (qs : List SyntaxNode) × LeftItems text w kept g fl i j qs
     items_all no_items k = ([], left_none)
     items_all (pass_over h p) k =
         let r = items_all h (λ t x z. k t x (omega (arith, z, passed_lt text w p))) in
@@ -88,7 +88,7 @@ letter_tests : (on_letter 35 ≡ false) × (on_letter 80 ≡ false) × (headed 3
 unfolding on_letter headed
 letter_tests = (refl, refl, refl, refl)
 
-looks_apart : (c d : ℕ) → c ≡ d → headed c ≡ looks → {x : Headed} → headed d ≡ x → x ≡ looks
+looks_apart : (c d : ℕ) → c ≡ d → headed c ≡ looks → {x : GroupPrefix} → headed d ≡ x → x ≡ looks
 looks_apart c d e h k = sym k ∙ ap headed (sym e) ∙ h
 
 -- the codes up to a place
@@ -143,7 +143,7 @@ module _ (w : List ℕ) (p : ℕ) (inside_w : p < length w) where
     kept_to : (i j : ℕ) → j ≤ suc p → AllKept text w up_to at_most i j
     kept_to i j l t a b = is_within t (omega (arith, l, b))
 
-    pub items_to : {fl : Flags} {i j : ℕ} {ps : List Node} → Items text w fl i j ps → j ≤ suc p → (qs : List Node) × Items text (take (suc p) w) fl i j qs
+    pub items_to : {fl : Flags} {i j : ℕ} {ps : List SyntaxNode} → Items text w fl i j ps → j ≤ suc p → (qs : List SyntaxNode) × Items text (take (suc p) w) fl i j qs
     items_to {fl} {i} {j} h l =
         let le = items_le text w h in
         let r = items_all text w up_to at_most h (kept_to i j l) in
@@ -168,7 +168,7 @@ module _ (w : List ℕ) (p : ℕ) (inside_w : p < length w) where
     pub fronts_to : {call fl : Flags} {i : ℕ} {gs : List Front} → Fronts text w call i fl gs → i ≤ suc p → (hs : List Front) × Fronts text (take (suc p) w) call i fl hs
     fronts_to {call} {fl} {i} {gs} f l = let hs = map (moved_front at_most) gs in (hs, subst (λ m. Fronts text (take (suc p) w) call m fl hs) (most_is i l) (fronts_moves text w (take (suc p) w) up_to at_most cut_thin f (kept_to 0 i l)))
 
--- a head that opens a group is no remark and no reference
+-- a head that opens a group is no comment and no reference
 module _ (text : Bool) (w : List ℕ) where
   letters_first : {test : ℕ → Bool} {i j : ℕ} {f : Flags} → Letters text w test i j f → (c : ℕ) → At text w i c → test c ≡ true
   letters_first {test} (first_letter {i = i} {c = d} at_d is) c at_c = ap test (same_code w i c d at_c at_d) ∙ is
@@ -190,18 +190,18 @@ module _ (text : Bool) (w : List ℕ) where
   opening_at (asks_number q d e) = q.0
   opening_at (asks_name q n e) = q.0
 
-  no_remark : {i j : ℕ} {kd : Kind} → Opening text w i j kd → ¬ Stands text w i "(?#"
-  no_remark (captures {i = i} at_i at_c ne) (a, (b, r)) = ne (same_code w (suc i) _ 63 at_c b)
-  no_remark (captures_named {i = i} q n e) (z, (y, r)) = apart_from (suc (suc i)) 80 35 q.1.1.0 r refl
-  no_remark (groups {i = i} q) (z, (y, r)) = apart_from (suc (suc i)) 58 35 q.1.1 r refl
-  no_remark (groups_on q l e) (z, (y, r)) = true≢false (sym (letters_first l 35 r) ∙ letter_tests.0)
-  no_remark (groups_both q l m n e) (z, (y, r)) = true≢false (sym (letters_first l 35 r) ∙ letter_tests.0)
-  no_remark (groups_off {i = i} q l e) (z, (y, r)) = apart_from (suc (suc i)) 45 35 q.1.1 r refl
-  no_remark (looks_ahead {i = i} {c = c} q a h) (z, (y, r)) = let e : sharps ≡ looks = looks_apart c 35 (same_code w (suc (suc i)) c 35 a r) h letter_tests.2 in cc e
-  no_remark (looks_behind {i = i} q a h) (z, (y, r)) = apart_from (suc (suc i)) 60 35 q.1.1 r refl
-  no_remark (cuts {i = i} q) (z, (y, r)) = apart_from (suc (suc i)) 62 35 q.1.1 r refl
-  no_remark (asks_number {i = i} q d e) (z, (y, r)) = apart_from (suc (suc i)) 40 35 q.1.1 r refl
-  no_remark (asks_name {i = i} q n e) (z, (y, r)) = apart_from (suc (suc i)) 40 35 q.1.1 r refl
+  no_comment : {i j : ℕ} {kd : Kind} → Opening text w i j kd → ¬ Stands text w i "(?#"
+  no_comment (captures {i = i} at_i at_c ne) (a, (b, r)) = ne (same_code w (suc i) _ 63 at_c b)
+  no_comment (captures_named {i = i} q n e) (z, (y, r)) = apart_from (suc (suc i)) 80 35 q.1.1.0 r refl
+  no_comment (groups {i = i} q) (z, (y, r)) = apart_from (suc (suc i)) 58 35 q.1.1 r refl
+  no_comment (groups_on q l e) (z, (y, r)) = true≢false (sym (letters_first l 35 r) ∙ letter_tests.0)
+  no_comment (groups_both q l m n e) (z, (y, r)) = true≢false (sym (letters_first l 35 r) ∙ letter_tests.0)
+  no_comment (groups_off {i = i} q l e) (z, (y, r)) = apart_from (suc (suc i)) 45 35 q.1.1 r refl
+  no_comment (looks_ahead {i = i} {c = c} q a h) (z, (y, r)) = let e : sharps ≡ looks = looks_apart c 35 (same_code w (suc (suc i)) c 35 a r) h letter_tests.2 in cc e
+  no_comment (looks_behind {i = i} q a h) (z, (y, r)) = apart_from (suc (suc i)) 60 35 q.1.1 r refl
+  no_comment (cuts {i = i} q) (z, (y, r)) = apart_from (suc (suc i)) 62 35 q.1.1 r refl
+  no_comment (asks_number {i = i} q d e) (z, (y, r)) = apart_from (suc (suc i)) 40 35 q.1.1 r refl
+  no_comment (asks_name {i = i} q n e) (z, (y, r)) = apart_from (suc (suc i)) 40 35 q.1.1 r refl
 
   no_reference : {i j : ℕ} {kd : Kind} → Opening text w i j kd → ¬ Stands text w i "(?P="
   no_reference (captures {i = i} at_i at_c ne) (a, (b, r)) = ne (same_code w (suc i) _ 63 at_c b)
@@ -216,12 +216,12 @@ module _ (text : Bool) (w : List ℕ) where
   no_reference (asks_number {i = i} q d e) (z, (y, (r, x))) = apart_from (suc (suc i)) 40 80 q.1.1 r refl
   no_reference (asks_name {i = i} q n e) (z, (y, (r, x))) = apart_from (suc (suc i)) 40 80 q.1.1 r refl
 
-body_parts : (r : Span) (ps : List Node) (m : ℕ) → Has (branch_body r ps) m → ItemsHave ps m
+body_parts : (r : Span) (ps : List SyntaxNode) (m : ℕ) → Has (branch_body r ps) m → ItemsHave ps m
 body_parts r [] m h = h
 body_parts r (p ∷ []) m h = inl h
 body_parts r (p ∷ q ∷ ps) m h = nodes_parts (p ∷ q ∷ ps) m h
   where
-    nodes_parts : (ps : List Node) (m : ℕ) → HasSome (nodes ps) m → ItemsHave ps m
+    nodes_parts : (ps : List SyntaxNode) (m : ℕ) → HasSome (nodes ps) m → ItemsHave ps m
     nodes_parts [] m h = h
     nodes_parts (p ∷ ps) m (inl h) = inl h
     nodes_parts (p ∷ ps) m (inr h) = inr (nodes_parts ps m h)
@@ -236,7 +236,7 @@ whole_parts r (b ∷ c ∷ bs) m h = list_parts (b ∷ c ∷ bs) m h
     list_parts (b ∷ bs) m (inl h) = inl h
     list_parts (b ∷ bs) m (inr h) = inr (list_parts bs m h)
 
-items_split : (ps : List Node) (p : Node) (m : ℕ) → ItemsHave (ps ++ p ∷ []) m → ItemsHave ps m ⊎ Has p m
+items_split : (ps : List SyntaxNode) (p : SyntaxNode) (m : ℕ) → ItemsHave (ps ++ p ∷ []) m → ItemsHave ps m ⊎ Has p m
 items_split [] p m (inl h) = inr h
 items_split [] p m (inr e) = inl e
 items_split (q ∷ ps) p m (inl h) = inl (inl h)
@@ -255,17 +255,17 @@ module _ (call : Flags) (text : Bool) (w : List ℕ) (shallow : Shallow call tex
 
   -- items from a place on make such first branches
   abbrev ItemsPart : Kind → Flags → ℕ → ℕ → Type 0
-  ItemsPart kd fl st i = (p : ℕ) → At text w p 40 → (k : ℕ) → i ≤ k → k ≤ p → (qs : List Node) → Items text (take (suc p) w) fl i k qs → Part text (take (suc p) w) kd fl st k
+  ItemsPart kd fl st i = (p : ℕ) → At text w p 40 → (k : ℕ) → i ≤ k → k ≤ p → (qs : List SyntaxNode) → Items text (take (suc p) w) fl i k qs → Part text (take (suc p) w) kd fl st k
 
   zero_deep : (d m : ℕ) → d ≤ 100 → m ≡ 0 → d + m ≤ 100
   zero_deep d m l e = omega (arith, l, e)
 
   -- a group that would open too deep
   opens_deep : {kd outer : Kind} {fl : Flags} {i j d : ℕ} → Opening text w i j kd → Open text (take (suc i) w) call outer fl i d → d ≡ 100 → ⊥
-  opens_deep {outer = outer} {fl = fl} {i = i} o h e = shallow i (record { opens = opening_at text w o; no_remark = no_remark text w o; no_reference = no_reference text w o; deep = (outer, fl, subst (λ n. Open text (take (suc i) w) call outer fl i n) e h) })
+  opens_deep {outer = outer} {fl = fl} {i = i} o h e = shallow i (record { opens = opening_at text w o; no_comment = no_comment text w o; no_reference = no_reference text w o; deep = (outer, fl, subst (λ n. Open text (take (suc i) w) call outer fl i n) e h) })
 
   mutual
-    atom_deep : {fl : Flags} {i j : ℕ} {p : Node} → Atom text w fl i j p → (kd : Kind) (d : ℕ) → d ≤ 100 → ((q : ℕ) → i ≤ q → At text w q 40 → Open text (take (suc q) w) call kd fl i d) → (m : ℕ) → Has p m → d + m ≤ 100
+    atom_deep : {fl : Flags} {i j : ℕ} {p : SyntaxNode} → Atom text w fl i j p → (kd : Kind) (d : ℕ) → d ≤ 100 → ((q : ℕ) → i ≤ q → At text w q 40 → Open text (take (suc q) w) call kd fl i d) → (m : ℕ) → Has p m → d + m ≤ 100
     atom_deep (literal a z) kd d l here m h = zero_deep d m l h
     atom_deep (literal_brace a z) kd d l here m h = zero_deep d m l h
     atom_deep (dotted a) kd d l here m h = zero_deep d m l h
@@ -279,13 +279,13 @@ module _ (call : Flags) (text : Bool) (w : List ℕ) (shallow : Shallow call tex
         let r = branches_deep hs (suc d) less (λ p at_p e x y part. one_open (here p (omega (arith, x, y, lt)) at_p) (opening_to w p (slice_get_within w p 40 at_p) text o (omega (arith, x, y)) 40 at_p) part) m (whole_parts (span j k) bs m h) in
         omega (arith, r)
 
-    item_deep : {fl : Flags} {i j : ℕ} {p : Node} → Item text w fl i j p → (kd : Kind) (d : ℕ) → d ≤ 100 → ((q : ℕ) → i ≤ q → At text w q 40 → Open text (take (suc q) w) call kd fl i d) → (m : ℕ) → Has p m → d + m ≤ 100
+    item_deep : {fl : Flags} {i j : ℕ} {p : SyntaxNode} → Item text w fl i j p → (kd : Kind) (d : ℕ) → d ≤ 100 → ((q : ℕ) → i ≤ q → At text w q 40 → Open text (take (suc q) w) call kd fl i d) → (m : ℕ) → Has p m → d + m ≤ 100
     item_deep (once a) kd d l here m h = atom_deep a kd d l here m h
     item_deep (repeated a bl q) kd d l here m h = atom_deep a kd d l here m h
     item_deep (edge_code a z) kd d l here m h = zero_deep d m l h
     item_deep (edge_escape a) kd d l here m h = zero_deep d m l h
 
-    items_deep : {fl : Flags} {i j : ℕ} {ps : List Node} → Items text w fl i j ps → (kd : Kind) (st d : ℕ) → st ≤ i → d ≤ 100 → BodyOpen kd fl st d → ItemsPart kd fl st i → (m : ℕ) → ItemsHave ps m → d + m ≤ 100
+    items_deep : {fl : Flags} {i j : ℕ} {ps : List SyntaxNode} → Items text w fl i j ps → (kd : Kind) (st d : ℕ) → st ≤ i → d ≤ 100 → BodyOpen kd fl st d → ItemsPart kd fl st i → (m : ℕ) → ItemsHave ps m → d + m ≤ 100
     items_deep no_items kd st d sl l body part m h = zero_deep d m l h
     items_deep (pass_over a p) kd st d sl l body part m h = items_deep a kd st d sl l body part m h
     items_deep (one_item {i = i} {j = j} {ps = ps} {p = p} a b) kd st d sl l body part m h =

@@ -6,14 +6,14 @@ use Rattle.std.proofs.lemmas.Option.{slice_get_within, slice_get_past, same_Some
 use Rattle.std.proofs.lemmas.List.{drop_all}
 use mathlib.Core.Logic.{inl, inr, ⊎_elim}
 use Rattle.rl_pattern.specs.declared.flags.Flags.{Flags}
-use Rattle.rl_pattern.specs.Tree.{span, Count, Greed, greedy, lazy, possessive, Escaped, glyph, Kind, Node, mark, repeat, group, Branch, branch, whole_body, Front, Whole}
-use Rattle.rl_pattern.specs.Codes.{sign, left, right, bar, brace, slash, dot, bracket, times, edge, blank, sharp, plain, numeral, is_digit, counts, count_of, edges, slashed, Slashed, single, kinds, hexes, naming, octal, low, high, no_escape, joined, splits}
-use Rattle.rl_pattern.specs.Grammar.{is_literal, outermost, At, Without, no_code, one_code, SetHead, upright, inverted, Opening, captures, captures_named, groups, groups_on, groups_both, groups_off, looks_ahead, looks_behind, cuts, asks_number, asks_name, Text, no_text, one_text, Braces, braces, Counts, by_code, by_braces, Quantifier, is_greedy, is_lazy, is_possessive, Passed, pass_blank, pass_line, pass_last_line, pass_remark, Blanks, no_blank, one_blank, Atom, literal, literal_brace, dotted, escaped, refers, bracketed, grouped, Item, once, repeated, edge_code, edge_escape, Items, no_items, pass_over, one_item, IsBranches, first_branch, next_branch, FlagGroup, flag_group, Fronts, no_fronts, one_front, spelled, Spells}
+use Rattle.rl_pattern.specs.Tree.{span, Count, Greed, greedy, lazy, possessive, Escaped, glyph, Kind, SyntaxNode, mark, repeat, group, Branch, branch, whole_body, Front, Whole}
+use Rattle.rl_pattern.specs.Codes.{sign, left, right, bar, brace, slash, dot, bracket, times, edge, blank, sharp, plain, numeral, is_digit, counts, count_of, edges, slashed, EscapeClass, single, kinds, hexes, naming, octal, low, high, no_escape, joined, splits}
+use Rattle.rl_pattern.specs.Grammar.{is_literal, outermost, At, Without, no_code, one_code, SetHead, upright, inverted, Opening, captures, captures_named, groups, groups_on, groups_both, groups_off, looks_ahead, looks_behind, cuts, asks_number, asks_name, Text, no_text, one_text, Braces, braces, Counts, by_code, by_braces, Quantifier, is_greedy, is_lazy, is_possessive, Passed, pass_blank, pass_line, pass_last_line, pass_comment, Blanks, no_blank, one_blank, Atom, literal, literal_brace, dotted, escaped, refers, bracketed, grouped, Item, once, repeated, edge_code, edge_escape, Items, no_items, pass_over, one_item, IsBranches, first_branch, next_branch, FlagGroup, flag_group, Fronts, no_fronts, one_front, spelled, Spells}
 use Rattle.rl_pattern.specs.internal.Machine.{Frame, Last, nothing_yet, an_atom, Base, between, line, in_braces, counted, at_slash, in_escape, State, at, settled, put_leaf, put_code, put_codes, no_count, put_repeat, open_group, is_nil, by_sign, go_on, end_braces, escape_begins, slash_step, escape_step, InEscape, Answer, stops, goes, ends, escape_first, escape_rest, step_at, observe, finish_at, finish_escape, start, reads}
 use Rattle.rl_pattern.proofs.Steps.{Fair, reads_from, goes_to, same_step, same_end, alike, alike_steps, sign_goes, differs}
 use Rattle.rl_pattern.proofs.Escapes.{Reader, escape_goes, backslash}
 use Rattle.rl_pattern.proofs.Sets.{class_goes}
-use Rattle.rl_pattern.proofs.Heads.{opening_goes, reference_goes, remark_goes, front_goes}
+use Rattle.rl_pattern.proofs.Heads.{opening_goes, reference_goes, comment_goes, front_goes}
 
 -- what single codes are between items
 pub signs : (sign 40 ≡ left) × (sign 41 ≡ right) × (sign 124 ≡ bar) × (sign 123 ≡ brace) × (sign 92 ≡ slash) × (sign 46 ≡ dot) × (sign 91 ≡ bracket) × (sign 35 ≡ sharp) × (sign 125 ≡ plain)
@@ -36,10 +36,10 @@ pub record Out : Type 0 where
   pub below : List Frame
   pub fronts : List Front
 
-abbrev pub frame : Flags → Kind → Out → ℕ → List Branch → List Node → Frame
+abbrev pub frame : Flags → Kind → Out → ℕ → List Branch → List SyntaxNode → Frame
 frame fl kd o f ds ps = record { flags = fl; kind = kd; opened = o.opened; start = o.start; from = f; branches = ds; items = ps }
 
-abbrev pub base : Flags → Kind → Out → ℕ → List Branch → List Node → Last → Base
+abbrev pub base : Flags → Kind → Out → ℕ → List Branch → List SyntaxNode → Last → Base
 base fl kd o f ds ps l = record { top = frame fl kd o f ds ps; last = l; below = o.below; fronts = o.fronts }
 
 pub put_more : (b : Base) (j c : ℕ) (t : List ℕ) → put_codes b j (t ++ c ∷ []) ≡ put_code (put_codes b j t) (j + length t) c
@@ -83,7 +83,7 @@ module _ (text : Bool) (w : List ℕ) {X : Type 0} (ask : ℕ → State → Opti
       brace_step b i k t (λ c at_c z. brace_same fuel b i (suc k) (t ++ c ∷ []) (omega (arith, enough)) at_i none (one_text txt at_c z)) at_i none txt
 
   -- a state between items
-  abbrev pub Bt : Flags → Kind → Out → ℕ → List Branch → List Node → Last → State
+  abbrev pub Bt : Flags → Kind → Out → ℕ → List Branch → List SyntaxNode → Last → State
   Bt fl kd o f ds ps l = at (base fl kd o f ds ps l) between
 
   line_goes : (b : Base) {i j : ℕ} → Without text w 10 i j → From i (at b line) ≡ From j (at b line)
@@ -97,8 +97,8 @@ module _ (text : Bool) (w : List ℕ) {X : Type 0} (ask : ℕ → State → Opti
       sign_goes text w ask i 35 b sharp (at b line) at_c signs.7 (ap (λ f. cond f.verbose (Some (at b line)) (Some (at (put_code b i 35) between))) e ∙ ap (λ v. cond v (Some (at b line)) (Some (at (put_code b i 35) between))) on) ∙ line_goes b h ∙ goes_to text w ask k 10 _ _ at_end refl
   passed_goes (pass_last_line {i = i} on at_c h) b e =
       sign_goes text w ask i 35 b sharp (at b line) at_c signs.7 (ap (λ f. cond f.verbose (Some (at b line)) (Some (at (put_code b i 35) between))) e ∙ ap (λ v. cond v (Some (at b line)) (Some (at (put_code b i 35) between))) on) ∙ line_goes b h ∙ same_end text w ask (length w) _ _ (slice_get_past w (length w) (omega arith)) (fair.at_line (length w) b)
-  passed_goes (pass_remark {i = i} q h at_end) b e =
-      sign_goes text w ask i 40 b left _ q.0 signs.0 refl ∙ remark_goes text w ask b i q h at_end
+  passed_goes (pass_comment {i = i} q h at_end) b e =
+      sign_goes text w ask i 40 b left _ q.0 signs.0 refl ∙ comment_goes text w ask b i q h at_end
 
   pub blanks_go : {fl : Flags} {i j : ℕ} → Blanks text w fl i j → (b : Base) → b.top.flags ≡ fl → From i (at b between) ≡ From j (at b between)
   blanks_go no_blank b e = refl
@@ -116,7 +116,7 @@ module _ (text : Bool) (w : List ℕ) {X : Type 0} (ask : ℕ → State → Opti
         rests_end = λ k x h. fair.at_escape k b i x e h;
       }
     where
-      begun : (k : ℕ) (s : Slashed) (r : Answer InEscape Escaped) → escape_first s ≡ r → (r ≡ stops → ⊥) → slash_step k b i s ≡ escape_begins k b i r
+      begun : (k : ℕ) (s : EscapeClass) (r : Answer InEscape Escaped) → escape_first s ≡ r → (r ≡ stops → ⊥) → slash_step k b i s ≡ escape_begins k b i r
       begun k (edges m) r h n = absurd (n (sym h))
       begun k (single c) r h n = ap (escape_begins k b i) h
       begun k (kinds d v) r h n = ap (escape_begins k b i) h
@@ -133,13 +133,13 @@ module _ (text : Bool) (w : List ℕ) {X : Type 0} (ask : ℕ → State → Opti
       text_goes b a h ∙ goes_to text w ask j c _ _ at_c (ap (λ v. cond v (end_braces j b a t (count_of t)) (if counts c then Some (at b (in_braces a (t ++ c ∷ []))) else go_on j (no_count b a t) c)) (differs counts 125 c brace_not is_c) ∙ ap (λ v. cond v (Some (at b (in_braces a (t ++ c ∷ [])))) (go_on j (no_count b a t) c)) is_c)
 
   -- a quantifier after the atom p from a
-  counts_go : (fl : Flags) (kd : Kind) (o : Out) (f : ℕ) (ds : List Branch) (ps : List Node) (a : ℕ) (p : Node) {i j : ℕ} {n : Count} → Counts text w i j n → From i (Bt fl kd o f ds ps (an_atom a p)) ≡ From j (at (base fl kd o f ds ps nothing_yet) (counted a p i n))
+  counts_go : (fl : Flags) (kd : Kind) (o : Out) (f : ℕ) (ds : List Branch) (ps : List SyntaxNode) (a : ℕ) (p : SyntaxNode) {i j : ℕ} {n : Count} → Counts text w i j n → From i (Bt fl kd o f ds ps (an_atom a p)) ≡ From j (at (base fl kd o f ds ps nothing_yet) (counted a p i n))
   counts_go fl kd o f ds ps a p (by_code {i = i} {c = c} {n = n} at_c is) = sign_goes text w ask i c _ (times n) _ at_c is refl
   counts_go fl kd o f ds ps a p (by_braces {i = i} {n = n} (braces {k = k} {t = t} at_i txt at_end is)) =
       let b = base fl kd o f ds ps (an_atom a p) in
       sign_goes text w ask i 123 b brace (at b (in_braces i [])) at_i signs.3 refl ∙ text_goes b i txt ∙ goes_to text w ask k 125 (at b (in_braces i t)) _ at_end (ap (end_braces k b i t) is)
 
-  quantifier_goes : (fl : Flags) (kd : Kind) (o : Out) (f : ℕ) (ds : List Branch) (ps : List Node) (a : ℕ) (p : Node) {i j : ℕ} {n : Count} {g : Greed} → Quantifier text w i j n g → From i (Bt fl kd o f ds ps (an_atom a p)) ≡ From j (Bt fl kd o f ds (ps ++ repeat (span a j) (span i j) n g p ∷ []) nothing_yet)
+  quantifier_goes : (fl : Flags) (kd : Kind) (o : Out) (f : ℕ) (ds : List Branch) (ps : List SyntaxNode) (a : ℕ) (p : SyntaxNode) {i j : ℕ} {n : Count} {g : Greed} → Quantifier text w i j n g → From i (Bt fl kd o f ds ps (an_atom a p)) ≡ From j (Bt fl kd o f ds (ps ++ repeat (span a j) (span i j) n g p ∷ []) nothing_yet)
   quantifier_goes fl kd o f ds ps a p (is_greedy {i = i} {j = j} {n = n} h no_quest no_plus) =
       let b = base fl kd o f ds ps nothing_yet in
       counts_go fl kd o f ds ps a p h ∙ alike_steps text w ask j (at b (counted a p i n)) (at (put_repeat b a p i j n greedy) between) (fair.at_counted j b a p i n) (λ c at_c.
@@ -171,7 +171,7 @@ module _ (text : Bool) (w : List ℕ) {X : Type 0} (ask : ℕ → State → Opti
   literal_goes b i c at_c (inr (inr h, off)) = sign_goes text w ask i c b sharp _ at_c h (ap (λ v. cond v (Some (at b line)) (Some (at (put_code b i c) between))) off)
 
   -- a | after these branches
-  pub bar_goes : (fl : Flags) (kd : Kind) (o : Out) (f : ℕ) (ds : List Branch) (ps : List Node) (l : Last) (j : ℕ) (bs : List Branch) → At text w j 124 → ds ++ branch (span f j) (settled ps l) ∷ [] ≡ bs → splits kd bs ≡ true → From j (Bt fl kd o f ds ps l) ≡ From (suc j) (Bt fl kd o (suc j) bs [] nothing_yet)
+  pub bar_goes : (fl : Flags) (kd : Kind) (o : Out) (f : ℕ) (ds : List Branch) (ps : List SyntaxNode) (l : Last) (j : ℕ) (bs : List Branch) → At text w j 124 → ds ++ branch (span f j) (settled ps l) ∷ [] ≡ bs → splits kd bs ≡ true → From j (Bt fl kd o f ds ps l) ≡ From (suc j) (Bt fl kd o (suc j) bs [] nothing_yet)
   bar_goes fl kd o f ds ps l j bs at_j all may =
       sign_goes text w ask j 124 (base fl kd o f ds ps l) bar (Bt fl kd o (suc j) bs [] nothing_yet) at_j signs.2 (ap (λ z. cond (splits kd z) (Some (Bt fl kd o (suc j) z [] nothing_yet)) None) all ∙ ap (λ v. cond v (Some (Bt fl kd o (suc j) bs [] nothing_yet)) None) may)
 
@@ -180,8 +180,8 @@ module _ (text : Bool) (w : List ℕ) {X : Type 0} (ask : ℕ → State → Opti
   opening_between b {i} h = sign_goes text w ask i 40 b left _ (opens_at h) signs.0 refl ∙ opening_goes text w ask b i h
 
   -- the items from a place on, as the open branch shows them
-  pub record ItemsRead (fl : Flags) (kd : Kind) (o : Out) (f : ℕ) (ds : List Branch) (i : ℕ) (s : State) (j : ℕ) (ps : List Node) : Type 0 where
-    pub its : List Node
+  pub record ItemsRead (fl : Flags) (kd : Kind) (o : Out) (f : ℕ) (ds : List Branch) (i : ℕ) (s : State) (j : ℕ) (ps : List SyntaxNode) : Type 0 where
+    pub its : List SyntaxNode
     pub end : Last
     pub all : settled its end ≡ ps
     pub reads : From i s ≡ From j (Bt fl kd o f ds its end)
@@ -189,13 +189,13 @@ module _ (text : Bool) (w : List ℕ) {X : Type 0} (ask : ℕ → State → Opti
   pub record BranchesRead (fl : Flags) (kd : Kind) (o : Out) (i j : ℕ) (bs : List Branch) : Type 0 where
     pub from : ℕ
     pub before : List Branch
-    pub its : List Node
+    pub its : List SyntaxNode
     pub end : Last
     pub all : before ++ branch (span from j) (settled its end) ∷ [] ≡ bs
     pub reads : From i (Bt fl kd o i [] [] nothing_yet) ≡ From j (Bt fl kd o from before its end)
 
   mutual
-    pub atom_goes : {fl : Flags} {i j : ℕ} {p : Node} → Atom text w fl i j p → (kd : Kind) (o : Out) (f : ℕ) (ds : List Branch) (ps : List Node) (l : Last) → From i (Bt fl kd o f ds ps l) ≡ From j (Bt fl kd o f ds (settled ps l) (an_atom i p))
+    pub atom_goes : {fl : Flags} {i j : ℕ} {p : SyntaxNode} → Atom text w fl i j p → (kd : Kind) (o : Out) (f : ℕ) (ds : List Branch) (ps : List SyntaxNode) (l : Last) → From i (Bt fl kd o f ds ps l) ≡ From j (Bt fl kd o f ds (settled ps l) (an_atom i p))
     atom_goes {fl} (literal {i = i} {c = c} at_c is) kd o f ds ps l = literal_goes (base fl kd o f ds ps l) i c at_c is
     atom_goes {fl} (literal_brace {i = i} at_c none) kd o f ds ps l =
         sign_goes text w ask i 123 (base fl kd o f ds ps l) brace _ at_c signs.3 refl ∙ brace_same (length w) (base fl kd o f ds ps l) i (suc i) [] (omega arith) at_c none no_text
@@ -217,7 +217,7 @@ module _ (text : Bool) (w : List ℕ) {X : Type 0} (ask : ℕ → State → Opti
         ∙ sign_goes text w ask k 41 _ right _ at_end signs.1 refl
         ∙ ap (λ z. From (suc k) (Bt fl kd o f ds (settled ps l) (an_atom i (group (span i (suc k)) g (whole_body (span j k) z))))) r.all
 
-    pub item_goes : {fl : Flags} {i j : ℕ} {p : Node} → Item text w fl i j p → (kd : Kind) (o : Out) (f : ℕ) (ds : List Branch) (ps : List Node) (l : Last) → ItemsRead fl kd o f ds i (Bt fl kd o f ds ps l) j (settled ps l ++ p ∷ [])
+    pub item_goes : {fl : Flags} {i j : ℕ} {p : SyntaxNode} → Item text w fl i j p → (kd : Kind) (o : Out) (f : ℕ) (ds : List Branch) (ps : List SyntaxNode) (l : Last) → ItemsRead fl kd o f ds i (Bt fl kd o f ds ps l) j (settled ps l ++ p ∷ [])
     item_goes {fl} {i} {j} {p} (once h) kd o f ds ps l = record { its = settled ps l; end = an_atom i p; all = refl; reads = atom_goes h kd o f ds ps l }
     item_goes {fl} (repeated {i = i} {j = j} {k = k} {l = m} {p = p} {n = n} {g = g} h bl qu) kd o f ds ps l =
         record {
@@ -237,7 +237,7 @@ module _ (text : Bool) (w : List ℕ) {X : Type 0} (ask : ℕ → State → Opti
           reads = sign_goes text w ask i 92 b slash _ at_i signs.4 refl ∙ goes_to text w ask (suc i) c (at b (at_slash i)) _ at_c (ap (slash_step (suc i) b i) is);
         }
 
-    pub items_go : {fl : Flags} {i j : ℕ} {ps : List Node} → Items text w fl i j ps → (kd : Kind) (o : Out) (f : ℕ) (ds : List Branch) → ItemsRead fl kd o f ds i (Bt fl kd o f ds [] nothing_yet) j ps
+    pub items_go : {fl : Flags} {i j : ℕ} {ps : List SyntaxNode} → Items text w fl i j ps → (kd : Kind) (o : Out) (f : ℕ) (ds : List Branch) → ItemsRead fl kd o f ds i (Bt fl kd o f ds [] nothing_yet) j ps
     items_go no_items kd o f ds = record { its = []; end = nothing_yet; all = refl; reads = refl }
     items_go {fl} (pass_over h p) kd o f ds =
         let r = items_go h kd o f ds in

@@ -1,7 +1,7 @@
 -- What the machine reads of single patterns, by computation.
 use Rattle.std.proofs.Common.{◌≡◌, ℕ, suc, pred, true, false, List, [], ◌∷◌, ◌++◌, Option, Some, None, refl, codes, replicate, option_map}
 use Rattle.rl_pattern.specs.declared.flags.Flags.{Flags}
-use Rattle.rl_pattern.specs.Tree.{Whole, span, Node, leaf, glyph, code, too_large, by_name, members, one, range, repeat, greedy, possessive, group, capturing, seq, nodes, choice, branches, branch, nothing, reference}
+use Rattle.rl_pattern.specs.Tree.{Whole, span, SyntaxNode, leaf, glyph, code, too_large, by_name, members, one, range, repeat, greedy, possessive, group, capturing, seq, nodes, choice, branches, branch, nothing, reference}
 use Rattle.rl_pattern.specs.Codes.{no_flags, count, sign, numeral, is_digit, hex, begins_name, goes_in_name, slashed, on_letter, off_letter, headed, with_letter, joined, scoped_flags, counts, count_of}
 use Rattle.std.proofs.lemmas.Bool.{eqb-false}
 use Rattle.std.proofs.lemmas.Option.{same_Some}
@@ -22,11 +22,11 @@ unfolding sign numeral is_digit hex begins_name goes_in_name slashed on_letter o
 dies f w = pred (taken 0 (Some (start f)) w)
 
 -- the body that is read of text without flags
-the_body : Option Whole → Option Node
+the_body : Option Whole → Option SyntaxNode
 the_body None = None
 the_body (Some p) = Some p.body
 
-read : List ℕ → Option Node
+read : List ℕ → Option SyntaxNode
 unfolding sign numeral is_digit hex begins_name goes_in_name slashed on_letter off_letter headed with_letter joined scoped_flags counts count_of the_body
 read w = the_body (reads no_flags true w)
 
@@ -49,9 +49,9 @@ count_alone : (dies no_flags (codes "{3}") ≡ 2) × (read (codes "{3}") ≡ Non
 unfolding dies read
 count_alone = (refl, refl)
 
-remark_before_front : dies no_flags (codes "(?#c)(?i)a") ≡ 8
+comment_before_front : dies no_flags (codes "(?#c)(?i)a") ≡ 8
 unfolding dies
-remark_before_front = refl
+comment_before_front = refl
 
 blank_before_front : (dies verbose (codes " (?i)a") ≡ 4) × (dies no_flags (codes "^(?i)a") ≡ 4)
 unfolding dies verbose
@@ -65,9 +65,9 @@ letters_off_missing : dies no_flags (codes "(?i-:a)") ≡ 4
 unfolding dies
 letters_off_missing = refl
 
-remark_not_closed : dies no_flags (replicate 100 40 ++ codes "(?#") ≡ 103
+comment_not_closed : dies no_flags (replicate 100 40 ++ codes "(?#") ≡ 103
 unfolding dies
-remark_not_closed = refl
+comment_not_closed = refl
 
 -- a group's head that goes on wrongly is too deep at its parenthesis, with 100 groups open
 behind_row : Behind no_flags true (replicate 101 40 ++ codes "?P!") 100 100
@@ -78,7 +78,7 @@ too_deep_row : TooDeepAt no_flags true (replicate 101 40 ++ codes "?P!") 100
 too_deep_row = seen_too_deep no_flags true (replicate 101 40 ++ codes "?P!") 100 behind_row refl (λ h. eqb-false 80 35 refl (same_Some 80 35 h.1.1)) (λ h. eqb-false 33 61 refl (same_Some 33 61 h.1.1.1))
 
 -- the leaf of one code
-lit : ℕ → ℕ → Node
+lit : ℕ → ℕ → SyntaxNode
 lit i c = leaf (span i (suc i)) no_flags (glyph (code c))
 
 literal_brace : read (codes "a{") ≡ Some (seq (span 0 2) (nodes (lit 0 97 ∷ lit 1 123 ∷ [])))
@@ -179,7 +179,7 @@ anchors_in_branches = (refl, refl)
 both_letters : Flags
 both_letters = record no_flags { verbose = true; ignore_case = true }
 
-low_lit : ℕ → ℕ → Node
+low_lit : ℕ → ℕ → SyntaxNode
 low_lit i c = leaf (span i (suc i)) both_letters (glyph (code c))
 
 fronts_with_blanks : inner_read no_flags (codes "(?x) (?i)a b #") ≡ Some (record { body = seq (span 9 14) (nodes (low_lit 9 97 ∷ low_lit 11 98 ∷ [])); leading = false; trail = no_trail })

@@ -5,9 +5,9 @@ use Rattle.std.proofs.lemmas.Option.{same_Some}
 use mathlib.Core.Logic.{inl, inr, ⊎_elim}
 use Rattle.rl_ranges.specs.declared.universe.Universe.{Universe}
 use Rattle.rl_pattern.specs.declared.flags.Flags.{Flags}
-use Rattle.rl_pattern.specs.Tree.{Span, span, Count, Greed, Kind, Node, leaf, mark, repeat, group, nothing, seq, choice, Nodes, no_nodes, more_nodes, Branches, no_branches, more_branches, nodes, branches, Branch, branch_body, branch, whole_body, Front}
-use Rattle.rl_pattern.specs.Codes.{is_in, sign, Sign, left, right, bar, brace, slash, dot, bracket, times, edge, blank, sharp, plain, is_blank, is_digit, Numeral, numeral, low_digit, high_digit, no_digit, is_some_digit}
-use Rattle.rl_pattern.specs.Grammar.{At, Opening, captures, captures_named, groups, groups_on, groups_both, groups_off, looks_ahead, looks_behind, cuts, asks_number, asks_name, Quantifier, Passed, pass_blank, pass_line, pass_last_line, pass_remark, Blanks, SetHead, upright, inverted, Atom, literal, literal_brace, dotted, escaped, refers, bracketed, grouped, Item, once, repeated, edge_code, edge_escape, Items, no_items, pass_over, one_item, IsBranches, first_branch, next_branch, flag_group, Fronts, no_fronts, one_front}
+use Rattle.rl_pattern.specs.Tree.{Span, span, Count, Greed, Kind, SyntaxNode, leaf, mark, repeat, group, nothing, seq, choice, Nodes, no_nodes, more_nodes, Branches, no_branches, more_branches, nodes, branches, Branch, branch_body, branch, whole_body, Front}
+use Rattle.rl_pattern.specs.Codes.{is_in, sign, TokenClass, left, right, bar, brace, slash, dot, bracket, times, edge, blank, sharp, plain, is_blank, is_digit, Numeral, numeral, low_digit, high_digit, no_digit, is_some_digit}
+use Rattle.rl_pattern.specs.Grammar.{At, Opening, captures, captures_named, groups, groups_on, groups_both, groups_off, looks_ahead, looks_behind, cuts, asks_number, asks_name, Quantifier, Passed, pass_blank, pass_line, pass_last_line, pass_comment, Blanks, SetHead, upright, inverted, Atom, literal, literal_brace, dotted, escaped, refers, bracketed, grouped, Item, once, repeated, edge_code, edge_escape, Items, no_items, pass_over, one_item, IsBranches, first_branch, next_branch, flag_group, Fronts, no_fronts, one_front}
 use Rattle.rl_pattern.specs.Shape.{is_text, shape}
 use Rattle.rl_pattern.specs.internal.Meeting.{is_open, goes_on, MayMeet}
 use Rattle.rl_pattern.proofs.Sifted.{Sifted}
@@ -38,18 +38,18 @@ pub closed_meets : (c d : ℕ) → is_open c ≡ false → d ≢ 63 → MayMeet 
 closed_meets c d h n = record { apart = λ e. absurd (true≢false (sym e ∙ h)); no_head = λ e. n }
 
 -- what kinds of codes are no question mark
-abbrev Unasked : ℕ → Sign → Type 0
+abbrev Unasked : ℕ → TokenClass → Type 0
 Unasked c s = c ≡ 63 → (n : Count) → s ≡ times n → ⊥
 
 sign_63 : (n : Count) × (sign 63 ≡ times n)
 unfolding sign
 sign_63 = (record { least = 0; most = Some 1 }, refl)
 
-not_asked : (c : ℕ) (x : Sign) → sign c ≡ x → ((n : Count) → x ≡ times n → ⊥) → c ≢ 63
+not_asked : (c : ℕ) (x : TokenClass) → sign c ≡ x → ((n : Count) → x ≡ times n → ⊥) → c ≢ 63
 not_asked c x e none e63 = none sign_63.0 (sym e ∙ ap sign e63 ∙ sign_63.1)
 
 -- white space is calm
-abbrev Blank_low : ℕ → Sign → Type 0
+abbrev Blank_low : ℕ → TokenClass → Type 0
 Blank_low c blank = c ≤ 32
 Blank_low c (times n) = Unit {0}
 Blank_low c left = Unit {0}
@@ -63,7 +63,7 @@ Blank_low c (edge m) = Unit {0}
 Blank_low c sharp = Unit {0}
 Blank_low c plain = Unit {0}
 
-pick_blank : (c : ℕ) (b : Bool) (x y : Sign) → (b ≡ true → Blank_low c x) → Blank_low c y → Blank_low c (if b then x else y)
+pick_blank : (c : ℕ) (b : Bool) (x y : TokenClass) → (b ≡ true → Blank_low c x) → Blank_low c y → Blank_low c (if b then x else y)
 pick_blank c true x y p q = p refl
 pick_blank c false x y p q = q
 
@@ -128,7 +128,7 @@ module _ (text : Bool) (w : List ℕ) where
   passed_calm (pass_blank {i = i} {c = d} x at_i is) c at_c = subst IsCalm (same_code w i d c at_i at_c) (blank_calm d is)
   passed_calm (pass_line {i = i} x at_i h z) c at_c = subst IsCalm (same_code w i 35 c at_i at_c) calm_codes.2
   passed_calm (pass_last_line {i = i} x at_i h) c at_c = subst IsCalm (same_code w i 35 c at_i at_c) calm_codes.2
-  passed_calm (pass_remark {i = i} q h z) c at_c = subst IsCalm (same_code w i 40 c q.0 at_c) calm_codes.3
+  passed_calm (pass_comment {i = i} q h z) c at_c = subst IsCalm (same_code w i 40 c q.0 at_c) calm_codes.3
 
   is_no_63 : (i d c : ℕ) → At text w i d → At text w i c → d ≢ 63 → c ≢ 63
   is_no_63 i d c at_d at_c n e = n (same_code w i d c at_d at_c ∙ e)
@@ -150,7 +150,7 @@ module _ (text : Bool) (w : List ℕ) where
   set_91 (upright at_i n) = at_i
   set_91 (inverted h) = h.0
 
-  atom_unasked : {fl : Flags} {i j : ℕ} {p : Node} → Atom text w fl i j p → (c : ℕ) → At text w i c → c ≢ 63
+  atom_unasked : {fl : Flags} {i j : ℕ} {p : SyntaxNode} → Atom text w fl i j p → (c : ℕ) → At text w i c → c ≢ 63
   atom_unasked (literal {i = i} {c = d} at_i (inl is)) c at_c = is_no_63 i d c at_i at_c (not_asked d plain is (λ n e. cc e))
   atom_unasked (literal {i = i} {c = d} at_i (inr (inl is, off))) c at_c = is_no_63 i d c at_i at_c (not_asked d blank is (λ n e. cc e))
   atom_unasked (literal {i = i} {c = d} at_i (inr (inr is, off))) c at_c = is_no_63 i d c at_i at_c (not_asked d sharp is (λ n e. cc e))
@@ -161,13 +161,13 @@ module _ (text : Bool) (w : List ℕ) where
   atom_unasked (bracketed {i = i} h ms z) c at_c = is_no_63 i 91 c (set_91 h) at_c (λ e. eqb-false 91 63 refl e)
   atom_unasked (grouped {i = i} o hs z) c at_c = is_no_63 i 40 c (opening_40 o) at_c (λ e. eqb-false 40 63 refl e)
 
-  item_unasked : {fl : Flags} {i j : ℕ} {p : Node} → Item text w fl i j p → (c : ℕ) → At text w i c → c ≢ 63
+  item_unasked : {fl : Flags} {i j : ℕ} {p : SyntaxNode} → Item text w fl i j p → (c : ℕ) → At text w i c → c ≢ 63
   item_unasked (once a) c at_c = atom_unasked a c at_c
   item_unasked (repeated a bl q) c at_c = atom_unasked a c at_c
   item_unasked (edge_code {i = i} {c = d} {m = m} at_i is) c at_c = is_no_63 i d c at_i at_c (not_asked d (edge m) is (λ n e. cc e))
   item_unasked (edge_escape {i = i} (d, at_i, at_d, is)) c at_c = is_no_63 i 92 c at_i at_c (λ e. eqb-false 92 63 refl e)
 
-  pub items_unasked : {fl : Flags} {i j : ℕ} {ps : List Node} → Items text w fl i j ps → i < j → (c : ℕ) → At text w i c → c ≢ 63
+  pub items_unasked : {fl : Flags} {i j : ℕ} {ps : List SyntaxNode} → Items text w fl i j ps → i < j → (c : ℕ) → At text w i c → c ≢ 63
   items_unasked no_items l c at_c = absurd (omega (arith, l))
   items_unasked (pass_over {i = i} {j = j} h p) l c at_c =
       ⊎_elim (λ (z : (i == j) ≡ true). (passed_calm p c (subst (λ m. At text w m c) (eqb-true i j z) at_c)).1) (λ (z : (i == j) ≡ false). items_unasked h (omega (arith, items_le text w h, eqb-false i j z)) c at_c) (cases_Bool (i == j))
@@ -190,7 +190,7 @@ module _ (text : Bool) (w : List ℕ) where
 
 module _ (u : Universe) (drop out : Span → Bool) where
   -- a repeat whose own quantifier is taken out
-  abbrev pub own_out : Node → Bool
+  abbrev pub own_out : SyntaxNode → Bool
   own_out (repeat r q n g p) = out q
   own_out (leaf r f x) = false
   own_out (mark r f m) = false
@@ -201,7 +201,7 @@ module _ (u : Universe) (drop out : Span → Bool) where
 
   abbrev mutual
     -- a quantifier is taken out only where its repeat is the whole content of a branch
-    pub Clean : Node → Type 0
+    pub Clean : SyntaxNode → Type 0
     Clean (leaf r f x) = Unit {0}
     Clean (mark r f m) = Unit {0}
     Clean (repeat r q n g p) = Clean p
@@ -218,11 +218,11 @@ module _ (u : Universe) (drop out : Span → Bool) where
     CleanBranches no_branches = Unit {0}
     CleanBranches (more_branches r p bs) = (drop r ≡ false → Clean p) × CleanBranches bs
 
-  abbrev pub CleanItems : List Node → Type 0
+  abbrev pub CleanItems : List SyntaxNode → Type 0
   CleanItems [] = Unit {0}
   CleanItems (p ∷ ps) = Clean p × CleanItems ps
 
-  abbrev pub NoneOut : List Node → Type 0
+  abbrev pub NoneOut : List SyntaxNode → Type 0
   NoneOut [] = Unit {0}
   NoneOut (p ∷ ps) = (own_out p ≡ false) × NoneOut ps
 
@@ -230,15 +230,15 @@ module _ (u : Universe) (drop out : Span → Bool) where
   CleanSome d [] = Unit {0}
   CleanSome d (b ∷ bs) = (d b.place ≡ false → Clean b.body) × CleanSome d bs
 
-  clean_nodes : (ps : List Node) → AllClean (nodes ps) → CleanItems ps × NoneOut ps
+  clean_nodes : (ps : List SyntaxNode) → AllClean (nodes ps) → CleanItems ps × NoneOut ps
   clean_nodes [] h = (tt, tt)
   clean_nodes (p ∷ ps) (o, h, hs) = let r = clean_nodes ps hs in ((h, r.0), (o, r.1))
 
   -- of a branch's body: its items, and whether a quantifier of one of them goes
-  pub Single : List Node → Type 0
-  Single ps = (p : Node) × (ps ≡ p ∷ [])
+  pub Single : List SyntaxNode → Type 0
+  Single ps = (p : SyntaxNode) × (ps ≡ p ∷ [])
 
-  clean_body : (r : Span) (ps : List Node) → Clean (branch_body r ps) → CleanItems ps × (NoneOut ps ⊎ Single ps)
+  clean_body : (r : Span) (ps : List SyntaxNode) → Clean (branch_body r ps) → CleanItems ps × (NoneOut ps ⊎ Single ps)
   unfolding Single
   clean_body r [] h = (tt, inl tt)
   clean_body r (p ∷ []) h = ((h, tt), inr (p, refl))
@@ -248,15 +248,15 @@ module _ (u : Universe) (drop out : Span → Bool) where
   clean_list [] h = tt
   clean_list (b ∷ bs) (h, hs) = (h, clean_list bs hs)
 
-  items_snoc : (ps : List Node) (p : Node) → CleanItems (ps ++ p ∷ []) → CleanItems ps × Clean p
+  items_snoc : (ps : List SyntaxNode) (p : SyntaxNode) → CleanItems (ps ++ p ∷ []) → CleanItems ps × Clean p
   items_snoc [] p (h, hs) = (tt, h)
   items_snoc (q ∷ ps) p (h, hs) = let r = items_snoc ps p hs in ((h, r.0), r.1)
 
-  none_snoc : (ps : List Node) (p : Node) → NoneOut (ps ++ p ∷ []) → NoneOut ps × (own_out p ≡ false)
+  none_snoc : (ps : List SyntaxNode) (p : SyntaxNode) → NoneOut (ps ++ p ∷ []) → NoneOut ps × (own_out p ≡ false)
   none_snoc [] p (h, hs) = (tt, h)
   none_snoc (q ∷ ps) p (h, hs) = let r = none_snoc ps p hs in ((h, r.0), r.1)
 
-  single_snoc : (ps : List Node) (p q : Node) → ps ++ p ∷ [] ≡ q ∷ [] → ps ≡ []
+  single_snoc : (ps : List SyntaxNode) (p q : SyntaxNode) → ps ++ p ∷ [] ≡ q ∷ [] → ps ≡ []
   single_snoc [] p q e = refl
   single_snoc (r ∷ []) p q e = absurd (cc e)
   single_snoc (r ∷ t ∷ ps) p q e = absurd (cc e)
@@ -266,7 +266,7 @@ module _ (u : Universe) (drop out : Span → Bool) where
   some_snoc d (c ∷ bs) b (h, hs) = let r = some_snoc d bs b hs in ((h, r.0), r.1)
 
   module _ (w v : List ℕ) (kept : ℕ → Bool) (g : ℕ → ℕ) (sf : Sifted w v kept g) where
-    abbrev pub hole_in : Node → ℕ → Bool
+    abbrev pub hole_in : SyntaxNode → ℕ → Bool
     hole_in = hole u drop out
 
     abbrev pub Ag : ℕ → ℕ → (ℕ → Bool) → Type 0
@@ -302,7 +302,7 @@ module _ (u : Universe) (drop out : Span → Bool) where
     calm_gone i j l f calm d at_d = calm d (subst (λ m. At (is_text u) v m d) (gone_along i j l f) at_d)
 
     -- the first code of an item is never gone
-    atom_strict : {fl : Flags} {i j : ℕ} {p : Node} → Atom (is_text u) w fl i j p → hole_in p i ≡ true → ⊥
+    atom_strict : {fl : Flags} {i j : ℕ} {p : SyntaxNode} → Atom (is_text u) w fl i j p → hole_in p i ≡ true → ⊥
     atom_strict (literal a z) h = true≢false (sym h)
     atom_strict (literal_brace a z) h = true≢false (sym h)
     atom_strict (dotted a) h = true≢false (sym h)
@@ -312,14 +312,14 @@ module _ (u : Universe) (drop out : Span → Bool) where
     atom_strict (grouped {i = i} {j = j} {k = k} {kd = kd} {bs = bs} o hs z) h =
         omega (arith, opening_lt (is_text u) w o, (branches_within u drop out w hs (drops_in u drop out bs) i (sym (whole_holes u drop out (span j k) bs i) ∙ group_hole u drop out (span i (suc k)) kd (shape u (whole_body (span j k) bs)) i h)).0)
 
-    item_strict : {fl : Flags} {i j : ℕ} {p : Node} → Item (is_text u) w fl i j p → hole_in p i ≡ true → ⊥
+    item_strict : {fl : Flags} {i j : ℕ} {p : SyntaxNode} → Item (is_text u) w fl i j p → hole_in p i ≡ true → ⊥
     item_strict (once a) h = atom_strict a h
     item_strict (repeated {i = i} {k = k} {l = l} {p = p} a bl q) h =
         ⊎_elim (λ (z : (out (span k l) && lies_in k l i) ≡ true). absurd (omega (arith, atom_lt (is_text u) w a, blanks_le (is_text u) w bl, (lies_from k l i (and_second (out (span k l)) (lies_in k l i) z)).0))) (λ (z : hole_in p i ≡ true). atom_strict a z) (or_cases (out (span k l) && lies_in k l i) (hole_in p i) h)
     item_strict {fl} (edge_code {i = i} {m = m} a z) h = mark_hole u drop out (span i (suc i)) fl m i h
     item_strict {fl} (edge_escape {i = i} {m = m} a) h = mark_hole u drop out (span i (suc (suc i))) fl m i h
 
-    items_strict : {fl : Flags} {i j : ℕ} {ps : List Node} → Items (is_text u) w fl i j ps → holes u drop out ps i ≡ true → ⊥
+    items_strict : {fl : Flags} {i j : ℕ} {ps : List SyntaxNode} → Items (is_text u) w fl i j ps → holes u drop out ps i ≡ true → ⊥
     items_strict no_items h = true≢false (sym h)
     items_strict (pass_over a p) h = items_strict a h
     items_strict (one_item {i = i} {j = j} {ps = ps} {p = p} a b) h =
@@ -341,7 +341,7 @@ module _ (u : Universe) (drop out : Span → Bool) where
     gone_is f ag t a b h = ag t a b ∙ ap not h
 
     -- a quantifier that is gone
-    quantifier_meets : {fl : Flags} {i j k l : ℕ} {p : Node} {n : Count} {r : Greed} → Atom (is_text u) w fl i j p → Blanks (is_text u) w fl j k → Quantifier (is_text u) w k l n r → Ag i l (hole_in (repeat (span i l) (span k l) n r p)) → (out (span k l) ≡ false) ⊎ Calm l → (t : ℕ) → (out (span k l) && lies_in k l (suc t)) ≡ true → Meets t
+    quantifier_meets : {fl : Flags} {i j k l : ℕ} {p : SyntaxNode} {n : Count} {r : Greed} → Atom (is_text u) w fl i j p → Blanks (is_text u) w fl j k → Quantifier (is_text u) w k l n r → Ag i l (hole_in (repeat (span i l) (span k l) n r p)) → (out (span k l) ≡ false) ⊎ Calm l → (t : ℕ) → (out (span k l) && lies_in k l (suc t)) ≡ true → Meets t
     quantifier_meets a bl q ag (inl no_out) t h c d kt at_c at_d = absurd (true≢false (sym (and_first _ _ h) ∙ no_out))
     quantifier_meets {i = i} {j = j} {k = k} {l = l} {p = p} {n = n} {r = r} a bl q ag (inr calm) t h c d kt at_c at_d =
         let o = and_first (out (span k l)) (lies_in k l (suc t)) h in
@@ -358,21 +358,21 @@ module _ (u : Universe) (drop out : Span → Bool) where
     clean_whole r (b ∷ []) h = (λ e. h, tt)
     clean_whole r (b ∷ c ∷ bs) h = clean_list (b ∷ c ∷ bs) h
 
-    body_own : (ps : List Node) (j : ℕ) → Calm j → NoneOut ps ⊎ Single ps → NoneOut ps ⊎ (Single ps × Calm j)
+    body_own : (ps : List SyntaxNode) (j : ℕ) → Calm j → NoneOut ps ⊎ Single ps → NoneOut ps ⊎ (Single ps × Calm j)
     body_own ps j calm (inl h) = inl h
     body_own ps j calm (inr h) = inr (h, calm)
 
-    front_none : (ps : List Node) (p : Node) (j : ℕ) → NoneOut (ps ++ p ∷ []) ⊎ (Single (ps ++ p ∷ []) × Calm j) → (t : ℕ) → holes u drop out ps t ≡ true → NoneOut ps
+    front_none : (ps : List SyntaxNode) (p : SyntaxNode) (j : ℕ) → NoneOut (ps ++ p ∷ []) ⊎ (Single (ps ++ p ∷ []) × Calm j) → (t : ℕ) → holes u drop out ps t ≡ true → NoneOut ps
     unfolding Single
     front_none ps p j (inl h) t z = (none_snoc ps p h).0
     front_none ps p j (inr h) t z = absurd (true≢false (sym z ∙ ap (λ x. holes u drop out x t) (single_snoc ps p h.0.0 h.0.1)))
 
-    last_own : (ps : List Node) (p : Node) (j : ℕ) → NoneOut (ps ++ p ∷ []) ⊎ (Single (ps ++ p ∷ []) × Calm j) → (own_out p ≡ false) ⊎ Calm j
+    last_own : (ps : List SyntaxNode) (p : SyntaxNode) (j : ℕ) → NoneOut (ps ++ p ∷ []) ⊎ (Single (ps ++ p ∷ []) × Calm j) → (own_out p ≡ false) ⊎ Calm j
     last_own ps p j (inl h) = inl (none_snoc ps p h).1
     last_own ps p j (inr h) = inr h.1
 
     -- one more branch behind others
-    next_meets : {kd : Kind} {fl : Flags} {i j k : ℕ} {bs : List Branch} {ps : List Node} → IsBranches (is_text u) w kd fl i j bs → At (is_text u) w j 124 → Items (is_text u) w fl (suc j) k ps → (d : Span → Bool) → Ag i k (branch_holes u drop out d (bs ++ branch (span (suc j) k) ps ∷ []) false) → some_left u drop out d (bs ++ branch (span (suc j) k) ps ∷ []) ≡ true → Enters i → Calm k → (t : ℕ) → branch_holes u drop out d (bs ++ branch (span (suc j) k) ps ∷ []) false (suc t) ≡ true
+    next_meets : {kd : Kind} {fl : Flags} {i j k : ℕ} {bs : List Branch} {ps : List SyntaxNode} → IsBranches (is_text u) w kd fl i j bs → At (is_text u) w j 124 → Items (is_text u) w fl (suc j) k ps → (d : Span → Bool) → Ag i k (branch_holes u drop out d (bs ++ branch (span (suc j) k) ps ∷ []) false) → some_left u drop out d (bs ++ branch (span (suc j) k) ps ∷ []) ≡ true → Enters i → Calm k → (t : ℕ) → branch_holes u drop out d (bs ++ branch (span (suc j) k) ps ∷ []) false (suc t) ≡ true
         → (some_left u drop out d bs ≡ true → Calm j → branch_holes u drop out d bs false (suc t) ≡ true → Meets t) → (d (span (suc j) k) ≡ false → Ag (suc j) k (holes u drop out ps) → holes u drop out ps (suc t) ≡ true → Meets t) → Meets t
     next_meets {kd} {fl} {i} {j} {k} {bs} {ps} h at_j hs d ag whole enters calm t hole_t before items = go (d (span (suc j) k)) refl (some_left u drop out d bs) refl
       where
@@ -434,7 +434,7 @@ module _ (u : Universe) (drop out : Span → Bool) where
         go true e false s = absurd (true≢false (sym whole ∙ some_left_snoc u drop out d bs b ∙ ap (λ z. z || not (d (span (suc j) k))) s ∙ ap not e))
 
     mutual
-      pub atom_meets : {fl : Flags} {i j : ℕ} {p : Node} → Atom (is_text u) w fl i j p → Good u drop out p → Clean p → Ag i j (hole_in p) → (t : ℕ) → hole_in p (suc t) ≡ true → Meets t
+      pub atom_meets : {fl : Flags} {i j : ℕ} {p : SyntaxNode} → Atom (is_text u) w fl i j p → Good u drop out p → Clean p → Ag i j (hole_in p) → (t : ℕ) → hole_in p (suc t) ≡ true → Meets t
       atom_meets (literal a z) gd cl ag t h = absurd (true≢false (sym h))
       atom_meets (literal_brace a z) gd cl ag t h = absurd (true≢false (sym h))
       atom_meets (dotted a) gd cl ag t h = absurd (true≢false (sym h))
@@ -454,7 +454,7 @@ module _ (u : Universe) (drop out : Span → Bool) where
           let clean = clean_whole r bs cl in
           branches_meet hs d good.1 clean (agree_part u drop out w kept g f j k (omega (arith, lt)) (omega arith) ag2) good.0 (opening_end (is_text u) w o gd.0) (calm_kept k 41 close_kept at_k calm_codes.0) t (sym (plain.holes_of (span i (suc k)) (shape u (whole_body r bs)) (suc t) ∙ whole_holes u drop out r bs (suc t)) ∙ h)
 
-      pub item_meets : {fl : Flags} {i j : ℕ} {p : Node} → Item (is_text u) w fl i j p → Good u drop out p → Clean p → Ag i j (hole_in p) → (own_out p ≡ false) ⊎ Calm j → (t : ℕ) → hole_in p (suc t) ≡ true → Meets t
+      pub item_meets : {fl : Flags} {i j : ℕ} {p : SyntaxNode} → Item (is_text u) w fl i j p → Good u drop out p → Clean p → Ag i j (hole_in p) → (own_out p ≡ false) ⊎ Calm j → (t : ℕ) → hole_in p (suc t) ≡ true → Meets t
       item_meets (once a) gd cl ag own t h = atom_meets a gd cl ag t h
       item_meets (repeated {i = i} {j = j} {k = k} {l = l} {p = p} {n = n} {g = r} a bl q) gd cl ag own t h =
           let le = blanks_le (is_text u) w bl in
@@ -465,7 +465,7 @@ module _ (u : Universe) (drop out : Span → Bool) where
       item_meets {fl} (edge_code {i = i} {m = m} a z) gd cl ag own t h = absurd (mark_hole u drop out (span i (suc i)) fl m (suc t) h)
       item_meets {fl} (edge_escape {i = i} {m = m} a) gd cl ag own t h = absurd (mark_hole u drop out (span i (suc (suc i))) fl m (suc t) h)
 
-      pub items_meet : {fl : Flags} {i j : ℕ} {ps : List Node} → Items (is_text u) w fl i j ps → GoodItems u drop out ps → CleanItems ps → NoneOut ps ⊎ (Single ps × Calm j) → Ag i j (holes u drop out ps) → (t : ℕ) → holes u drop out ps (suc t) ≡ true → Meets t
+      pub items_meet : {fl : Flags} {i j : ℕ} {ps : List SyntaxNode} → Items (is_text u) w fl i j ps → GoodItems u drop out ps → CleanItems ps → NoneOut ps ⊎ (Single ps × Calm j) → Ag i j (holes u drop out ps) → (t : ℕ) → holes u drop out ps (suc t) ≡ true → Meets t
       items_meet no_items gd cl own ag t h = absurd (true≢false (sym h))
       items_meet (pass_over {i = i} {j = j} {k = k} {ps = ps} a p) gd cl own ag t h =
           let lt = passed_lt (is_text u) w p in

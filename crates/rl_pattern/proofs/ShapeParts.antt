@@ -11,8 +11,8 @@ use Rattle.rl_syntax.specs.Guards.{is_word}
 use Rattle.rl_syntax.specs.PatTree as s
 use Rattle.rl_syntax.specs.IsPattern.{IsPart, AreParts, AreBranches, InOrder}
 use Rattle.rl_pattern.specs.declared.flags.Flags.{Flags}
-use Rattle.rl_pattern.specs.Tree.{Span, Count, Greed, Leaf, Mark, caret, text_start, dollar, text_end, boundary, Kind, capturing, named, scoped, lookaround, atomic, conditional, Node, leaf, mark, repeat, group, nothing, seq, choice, Nodes, no_nodes, more_nodes, Branches, no_branches, more_branches}
-use Rattle.rl_pattern.specs.Found.{Fault, Feature, fault_if, comes_first, first_of_two, first_fault, below_least, is_most, is_possessive, count_faults, kind_faults, mark_faults, node_faults, nodes_faults, branches_faults, is_repeat_too_large, is_repeat_order, is_possessive_count}
+use Rattle.rl_pattern.specs.Tree.{Span, Count, Greed, Leaf, Assertion, caret, text_start, dollar, text_end, boundary, Kind, capturing, named, scoped, lookaround, atomic, conditional, SyntaxNode, leaf, mark, repeat, group, nothing, seq, choice, Nodes, no_nodes, more_nodes, Branches, no_branches, more_branches}
+use Rattle.rl_pattern.specs.Found.{is_bound, Fault, Feature, fault_if, comes_first, earlier, first_fault, is_possessive, count_faults, kind_faults, mark_faults, node_faults, nodes_faults, branches_faults, is_repeat_too_large, is_repeat_order, is_possessive_count}
 use Rattle.rl_pattern.specs.Shape.{is_text, leaf_codes, mark_shape, group_shape, shape, shapes, branch_shapes}
 use Rattle.rl_pattern.proofs.LeafLaws.{ascii_rule}
 
@@ -25,7 +25,7 @@ none_first (a ∷ fs) e = absurd (some_first a (first_fault fs) e)
     some_chosen true a b e = cc e
     some_chosen false a b e = cc e
 
-    some_first : (a : Fault) (o : Option Fault) → first_of_two a o ≡ None → ⊥
+    some_first : (a : Fault) (o : Option Fault) → earlier (Some a) o ≡ None → ⊥
     some_first a None e = cc e
     some_first a (Some b) e = some_chosen (comes_first a b) a b e
 
@@ -49,7 +49,7 @@ word_lies : (u : Universe) (ascii : Bool) → LiesIn u (is_word (ascii || not (i
 unfolding is_word
 word_lies u ascii code h = named_inside Word ascii u code (sym (ap (λ a. is_named Word a code) (ascii_rule ascii u)) ∙ h)
 
-mark_part : (u : Universe) (place : Span) (f : Flags) (m : Mark) → mark_faults place f m ≡ [] → IsPart u (mark_shape u place f m)
+mark_part : (u : Universe) (place : Span) (f : Flags) (m : Assertion) → mark_faults place f m ≡ [] → IsPart u (mark_shape u place f m)
 mark_part u place f caret e = refl
 mark_part u place f text_start e = refl
 mark_part u place f text_end e = refl
@@ -60,14 +60,14 @@ mark_part u place f dollar e = is_true f.multiline (no_fault (not f.multiline) p
     is_true false h = sym h
 mark_part u place f (boundary negated) e = word_lies u f.ascii
 
-in_order : (least : ℕ) (most : Option ℕ) → below_least least most ≡ false → InOrder least most
+in_order : (least : ℕ) (most : Option ℕ) → is_bound (λ m. nat_lt m least) most ≡ false → InOrder least most
 in_order least None e = tt
 in_order least (Some n) e = ltb-false n least e
 
 count_part : (i : ℕ) (n : Count) (g : Greed) → count_faults i n g ≡ [] → InOrder n.least n.most
 count_part i n g e =
-    in_order n.least n.most (no_fault (below_least n.least n.most) i is_repeat_order
-    (empty_left (fault_if (below_least n.least n.most) i is_repeat_order) (fault_if (is_possessive g) i is_possessive_count) (empty_right (fault_if (n.least == 4294967295 || is_most 4294967295 n.most) i is_repeat_too_large) _ e)))
+    in_order n.least n.most (no_fault (is_bound (λ m. nat_lt m n.least) n.most) i is_repeat_order
+    (empty_left (fault_if (is_bound (λ m. nat_lt m n.least) n.most) i is_repeat_order) (fault_if (is_possessive g) i is_possessive_count) (empty_right (fault_if (n.least == 4294967295 || is_bound (λ m. m == 4294967295) n.most) i is_repeat_too_large) _ e)))
 
 group_part : (u : Universe) (place : Span) (k : Kind) (t : s.PatTree) → kind_faults (is_text u) place.from k ≡ [] → IsPart u t → IsPart u (group_shape place k t)
 group_part u place capturing t e h = h
@@ -78,7 +78,7 @@ group_part u place atomic t e h = absurd (cc e)
 group_part u place conditional t e h = absurd (cc e)
 
 mutual
-  pub part_of : (u : Universe) (p : Node) → node_faults (is_text u) p ≡ [] → IsPart u (shape u p)
+  pub part_of : (u : Universe) (p : SyntaxNode) → node_faults (is_text u) p ≡ [] → IsPart u (shape u p)
   part_of u (leaf place f x) e = leaf_lies u f x
   part_of u (mark place f m) e = mark_part u place f m e
   part_of u (repeat place q n g p) e =

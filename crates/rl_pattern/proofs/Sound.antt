@@ -4,11 +4,11 @@ use Rattle.std.proofs.lemmas.Bool.{cases_eq, cases_lt, eqb-true, eq-eqb, eqb-fal
 use Rattle.std.proofs.lemmas.Option.{none-some, slice_get_within}
 use mathlib.Core.Logic.{inl, inr, ⊎_elim}
 use Rattle.rl_pattern.specs.declared.flags.Flags.{Flags}
-use Rattle.rl_pattern.specs.Tree.{span, Count, Greed, greedy, lazy, possessive, Escaped, Member, glyph, Kind, capturing, Node, Branch, branch, Front, Whole}
-use Rattle.rl_pattern.specs.Codes.{Sign, sign, left, right, bar, brace, slash, dot, bracket, times, edge, blank, sharp, plain, is_blank, Slashed, slashed, single, kinds, hexes, naming, octal, low, high, edges, no_escape, counts, count_of, joined, inside, splits}
+use Rattle.rl_pattern.specs.Tree.{span, Count, Greed, greedy, lazy, possessive, Escaped, Member, glyph, Kind, capturing, SyntaxNode, Branch, branch, Front, Whole}
+use Rattle.rl_pattern.specs.Codes.{TokenClass, sign, left, right, bar, brace, slash, dot, bracket, times, edge, blank, sharp, plain, is_blank, EscapeClass, slashed, single, kinds, hexes, naming, octal, low, high, edges, no_escape, counts, count_of, joined, inside, splits}
 use Rattle.rl_pattern.specs.internal.Signs.{SignIs}
-use Rattle.rl_pattern.specs.Grammar.{is_literal, outermost, At, Without, no_code, one_code, Escape, SetHead, upright, inverted, Stands, Opening, captures, Text, no_text, one_text, Braces, braces, Counts, by_code, by_braces, Quantifier, is_greedy, is_lazy, is_possessive, Passed, pass_blank, pass_line, pass_last_line, pass_remark, Blanks, no_blank, one_blank, Atom, literal, literal_brace, dotted, escaped, bracketed, grouped, Item, once, repeated, edge_code, edge_escape, Items, no_items, pass_over, one_item, IsBranches, first_branch, next_branch, FlagGroup, Fronts, no_fronts, one_front, spelled, Spells}
-use Rattle.rl_pattern.specs.internal.Machine.{Frame, Last, nothing_yet, an_atom, Base, Lex, between, line, remark, in_braces, counted, at_slash, in_escape, in_head, set_open, in_class, State, at, settled, put, put_item, put_leaf, put_code, put_codes, no_count, put_repeat, count_last, all_branches, next_branch as next_branch_base, split, open_group, close, is_nil, is_settled, at_front, put_front, begin, by_sign, go_on, end_braces, braces_step, counted_step, escape_begins, slash_step, escape_step, head_stops, behind_paren, head_answer, set_answer, set_opens, set_step, Set, set_first, step, step_at, observe, finish_below, finish, finish_escape, finish_lex, finish_at, start, reads, InEscape, escape_first, escape_next, escape_rest, Answer, stops, goes, ends, InHead, paren, quest, after_p, after_less, group_name, group_name_goes, reference_name, reference_name_goes, asks, asks_digits, asks_name_goes, letters_on, letters_dash, letters_off, head_step, Begun, begins_group, begins_remark, is_reference, is_front}
+use Rattle.rl_pattern.specs.Grammar.{is_literal, outermost, At, Without, no_code, one_code, Escape, SetHead, upright, inverted, Stands, Opening, captures, Text, no_text, one_text, Braces, braces, Counts, by_code, by_braces, Quantifier, is_greedy, is_lazy, is_possessive, Passed, pass_blank, pass_line, pass_last_line, pass_comment, Blanks, no_blank, one_blank, Atom, literal, literal_brace, dotted, escaped, bracketed, grouped, Item, once, repeated, edge_code, edge_escape, Items, no_items, pass_over, one_item, IsBranches, first_branch, next_branch, FlagGroup, Fronts, no_fronts, one_front, spelled, Spells}
+use Rattle.rl_pattern.specs.internal.Machine.{Frame, Last, nothing_yet, an_atom, Base, Lex, between, line, comment, in_braces, counted, at_slash, in_escape, in_head, set_open, in_class, State, at, settled, put, put_item, put_leaf, put_code, put_codes, no_count, put_repeat, count_last, all_branches, next_branch as next_branch_base, split, open_group, close, is_nil, is_settled, at_front, put_front, begin, by_sign, go_on, end_braces, braces_step, counted_step, escape_begins, slash_step, escape_step, head_stops, behind_paren, head_answer, set_answer, set_opens, set_step, Set, set_first, step, step_at, observe, finish_below, finish, finish_escape, finish_lex, finish_at, start, reads, InEscape, escape_first, escape_next, escape_rest, Answer, stops, goes, ends, InHead, paren, quest, after_p, after_less, group_name, group_name_goes, reference_name, reference_name_goes, asks, asks_digits, asks_name_goes, letters_on, letters_dash, letters_off, head_step, GroupStart, begins_group, begins_comment, is_reference, is_front}
 use Rattle.rl_pattern.proofs.Steps.{same_code}
 use Rattle.rl_pattern.proofs.Reading.{put_more, counts_plain, brace_not, text_length}
 use Rattle.rl_pattern.proofs.Kept.{Answers, EscapeOk, first_ok, next_ok, rest_ok}
@@ -19,7 +19,7 @@ use Rattle.rl_pattern.proofs.KeptHeads.{HeadOk, BegunOk, HeadKept, head_kept}
 sign_is : (c : ℕ) → SignIs (sign c) c
 unfolding sign
 sign_is c =
-    let P : Sign → Type 0 = λ g. SignIs g c in
+    let P : TokenClass → Type 0 = λ g. SignIs g c in
     cond_both (c == 40) _ _ P (λ y. eqb-true c 40 y) (λ y. cond_both (c == 41) _ _ P (λ y. eqb-true c 41 y) (λ y. cond_both (c == 124) _ _ P (λ y. eqb-true c 124 y)
     (λ y. cond_both (c == 42) _ _ P (λ y. tt) (λ y. cond_both (c == 43) _ _ P (λ y. tt) (λ y. cond_both (c == 63) _ _ P (λ y. tt) (λ y. cond_both (c == 123) _ _ P (λ y. eqb-true c 123 y)
     (λ y. cond_both (c == 92) _ _ P (λ y. eqb-true c 92 y) (λ y. cond_both (c == 46) _ _ P (λ y. eqb-true c 46 y) (λ y. cond_both (c == 91) _ _ P (λ y. eqb-true c 91 y)
@@ -43,7 +43,7 @@ brace_plain = refl
 
 module _ (call : Flags) (text : Bool) (w : List ℕ) where
   -- the open branch, with the atom that may take a quantifier, from i up to k
-  abbrev pub LastOk : Flags → ℕ → List Node → Last → ℕ → Type 0
+  abbrev pub LastOk : Flags → ℕ → List SyntaxNode → Last → ℕ → Type 0
   LastOk fl i ps nothing_yet k = Items text w fl i k ps
   LastOk fl i ps (an_atom a p) k = (m : ℕ) × Items text w fl i a ps × Atom text w fl a m p × Blanks text w fl m k
 
@@ -67,7 +67,7 @@ module _ (call : Flags) (text : Bool) (w : List ℕ) where
   abbrev pub LexOk : ℕ → Base → Lex → Type 0
   LexOk k b between = BaseOk k b
   LexOk k b line = (i : ℕ) × BaseOk i b × (b.top.flags.verbose ≡ true) × At text w i 35 × Without text w 10 (suc i) k
-  LexOk k b remark = (i : ℕ) × BaseOk i b × Stands text w i "(?#" × Without text w 41 (suc (suc (suc i))) k
+  LexOk k b comment = (i : ℕ) × BaseOk i b × Stands text w i "(?#" × Without text w 41 (suc (suc (suc i))) k
   LexOk k b (in_braces a t) = BaseOk a b × At text w a 123 × Text text w (suc a) k t
   LexOk k b (counted a p q n) = (m : ℕ) × BaseOk a b × Atom text w b.top.flags a m p × Blanks text w b.top.flags m q × Counts text w q k n
   LexOk k b (at_slash a) = BaseOk a b × At text w a 92 × (k ≡ suc a)
@@ -83,15 +83,15 @@ module _ (call : Flags) (text : Bool) (w : List ℕ) where
   Kept k o = Holds o (λ s. StateOk k s)
 
   -- items with what is passed over behind them
-  items_blanks : {fl : Flags} {i j k : ℕ} {ps : List Node} → Items text w fl i j ps → Blanks text w fl j k → Items text w fl i k ps
+  items_blanks : {fl : Flags} {i j k : ℕ} {ps : List SyntaxNode} → Items text w fl i j ps → Blanks text w fl j k → Items text w fl i k ps
   items_blanks h no_blank = h
   items_blanks h (one_blank bl p) = pass_over (items_blanks h bl) p
 
-  settled_ok : (fl : Flags) (i : ℕ) (ps : List Node) (l : Last) (k : ℕ) → LastOk fl i ps l k → Items text w fl i k (settled ps l)
+  settled_ok : (fl : Flags) (i : ℕ) (ps : List SyntaxNode) (l : Last) (k : ℕ) → LastOk fl i ps l k → Items text w fl i k (settled ps l)
   settled_ok fl i ps nothing_yet k h = h
   settled_ok fl i ps (an_atom a p) k (m, its, atom, bl) = items_blanks (one_item its (once atom)) bl
 
-  last_passed : (fl : Flags) (i : ℕ) (ps : List Node) (l : Last) (j k : ℕ) → LastOk fl i ps l j → Passed text w fl j k → LastOk fl i ps l k
+  last_passed : (fl : Flags) (i : ℕ) (ps : List SyntaxNode) (l : Last) (j k : ℕ) → LastOk fl i ps l j → Passed text w fl j k → LastOk fl i ps l k
   last_passed fl i ps nothing_yet j k h p = pass_over h p
   last_passed fl i ps (an_atom a q) j k (m, its, atom, bl) p = (m, its, atom, one_blank bl p)
 
@@ -101,16 +101,16 @@ module _ (call : Flags) (text : Bool) (w : List ℕ) where
   passed_ok : {j k : ℕ} (b : Base) → BaseOk j b → Passed text w b.top.flags j k → BaseOk k b
   passed_ok {j} {k} b h p = record { before = h.before; last = last_passed b.top.flags b.top.from b.top.items b.last j k h.last p; below = h.below }
 
-  put_ok : {a j : ℕ} (b : Base) (p : Node) → BaseOk a b → Atom text w b.top.flags a j p → BaseOk j (put b a p)
+  put_ok : {a j : ℕ} (b : Base) (p : SyntaxNode) → BaseOk a b → Atom text w b.top.flags a j p → BaseOk j (put b a p)
   put_ok {a} {j} b p h atom = record { before = h.before; last = (j, all_items b h, atom, no_blank); below = h.below }
 
-  item_ok : {a j : ℕ} (b : Base) (p : Node) → BaseOk a b → Item text w b.top.flags a j p → BaseOk j (put_item b p)
+  item_ok : {a j : ℕ} (b : Base) (p : SyntaxNode) → BaseOk a b → Item text w b.top.flags a j p → BaseOk j (put_item b p)
   item_ok {a} {j} b p h it = record { before = h.before; last = one_item (all_items b h) it; below = h.below }
 
   open_ok : {a j : ℕ} (b : Base) (kd : Kind) → BaseOk a b → Opening text w a j kd → BaseOk j (open_group b a j kd)
   open_ok {a} {j} b kd h o = record { before = none_yet; last = no_items; below = (h.before, all_items b h, o, refl, h.below) }
 
-  with_branch : (kd : Kind) (fl : Flags) (st f j : ℕ) (ds : List Branch) (ps : List Node) → BranchesOk kd fl st f ds → Items text w fl f j ps → IsBranches text w kd fl st j (ds ++ branch (span f j) ps ∷ [])
+  with_branch : (kd : Kind) (fl : Flags) (st f j : ℕ) (ds : List Branch) (ps : List SyntaxNode) → BranchesOk kd fl st f ds → Items text w fl f j ps → IsBranches text w kd fl st j (ds ++ branch (span f j) ps ∷ [])
   with_branch kd fl st f j ds ps none_yet its = first_branch its
   with_branch kd fl st f j ds ps (some_yet h at_j may) its = next_branch h at_j may its
 
@@ -137,7 +137,7 @@ module _ (call : Flags) (text : Bool) (w : List ℕ) where
   code_ok : (k c : ℕ) (b : Base) → BaseOk k b → At text w k c → is_literal b.top.flags c → BaseOk (suc k) (put_code b k c)
   code_ok k c b h at_c is = put_ok b _ h (literal at_c is)
 
-  by_sign_ok : (k : ℕ) (b : Base) (c : ℕ) (g : Sign) → sign c ≡ g → SignIs g c → BaseOk k b → At text w k c → Kept (suc k) (by_sign k b c g)
+  by_sign_ok : (k : ℕ) (b : Base) (c : ℕ) (g : TokenClass) → sign c ≡ g → SignIs g c → BaseOk k b → At text w k c → Kept (suc k) (by_sign k b c g)
   by_sign_ok k b c left e is h at_c = (h, (subst (At text w k) is at_c, refl))
   by_sign_ok k b c right e is h at_c = close_ok k b h (subst (At text w k) is at_c) b.below h.below
   by_sign_ok k b c bar e is h at_c = split_ok k b h (subst (At text w k) is at_c)
@@ -205,10 +205,10 @@ module _ (call : Flags) (text : Bool) (w : List ℕ) where
       (λ y. (h, at_a, one_text txt at_c y))
       (λ y. go_on_ok k (no_count b a t) c (no_count_ok a k b t h at_a txt (λ d at_d. ap counts (same_code w k d c at_d at_c) ∙ y) (λ at_125. absurd (eqb-false c 125 z (same_code w k c 125 at_c at_125)))) at_c))
 
-  repeat_ok : (a m q k : ℕ) (n : Count) (g : Greed) (b : Base) (p : Node) → BaseOk a b → Atom text w b.top.flags a m p → Blanks text w b.top.flags m q → Quantifier text w q k n g → BaseOk k (put_repeat b a p q k n g)
+  repeat_ok : (a m q k : ℕ) (n : Count) (g : Greed) (b : Base) (p : SyntaxNode) → BaseOk a b → Atom text w b.top.flags a m p → Blanks text w b.top.flags m q → Quantifier text w q k n g → BaseOk k (put_repeat b a p q k n g)
   repeat_ok a m q k n g b p h atom bl qu = item_ok b _ h (repeated atom bl qu)
 
-  counted_ok : (k a m q : ℕ) (n : Count) (b : Base) (p : Node) (c : ℕ) → BaseOk a b → Atom text w b.top.flags a m p → Blanks text w b.top.flags m q → Counts text w q k n → At text w k c → Kept (suc k) (counted_step k b a p q n c)
+  counted_ok : (k a m q : ℕ) (n : Count) (b : Base) (p : SyntaxNode) (c : ℕ) → BaseOk a b → Atom text w b.top.flags a m p → Blanks text w b.top.flags m q → Counts text w q k n → At text w k c → Kept (suc k) (counted_step k b a p q n c)
   counted_ok k a m q n b p c h atom bl cs at_c =
       cond_both (c == 63) (Some (at (put_repeat b a p q (suc k) n lazy) between)) (cond (c == 43) (Some (at (put_repeat b a p q (suc k) n possessive) between)) (go_on k (put_repeat b a p q k n greedy) c)) (Kept (suc k))
       (λ z. repeat_ok a m q (suc k) n lazy b p h atom bl (is_lazy cs (subst (At text w k) (eqb-true c 63 z) at_c)))
@@ -225,11 +225,11 @@ module _ (call : Flags) (text : Bool) (w : List ℕ) where
   begins_ok k a b (goes x) h z = (h, z)
   begins_ok k a b (ends e) h z = escape_put a (suc k) b e h z
 
-  first_at : (a k c : ℕ) (s : Slashed) → slashed text false c ≡ s → At text w a 92 → k ≡ suc a → At text w k c → Answers (escape_first s) (λ x. EscapeOk text w false x a (suc k)) (λ e. Escape text w false a (suc k) e)
+  first_at : (a k c : ℕ) (s : EscapeClass) → slashed text false c ≡ s → At text w a 92 → k ≡ suc a → At text w k c → Answers (escape_first s) (λ x. EscapeOk text w false x a (suc k)) (λ e. Escape text w false a (suc k) e)
   first_at a k c s z back q at_c =
       subst (λ m. Answers (escape_first s) (λ x. EscapeOk text w false x a (suc m)) (λ e. Escape text w false a (suc m) e)) (sym q) (first_ok text w false a s (c, back, subst (λ m. At text w m c) q at_c, z))
 
-  slash_ok : (k a : ℕ) (b : Base) (c : ℕ) (s : Slashed) → slashed text false c ≡ s → BaseOk a b → At text w a 92 → k ≡ suc a → At text w k c → Kept (suc k) (slash_step k b a s)
+  slash_ok : (k a : ℕ) (b : Base) (c : ℕ) (s : EscapeClass) → slashed text false c ≡ s → BaseOk a b → At text w a 92 → k ≡ suc a → At text w k c → Kept (suc k) (slash_step k b a s)
   slash_ok k a b c (edges m) z h back q at_c =
       subst (λ j. Kept (suc j) (slash_step j b a (edges m))) (sym q) (item_ok b _ h (edge_escape (c, back, subst (λ j. At text w j c) q at_c, z)))
   slash_ok k a b c (single d) z h back q at_c = begins_ok k a b (escape_first (single d)) h (first_at a k c (single d) z back q at_c)
@@ -249,7 +249,7 @@ module _ (call : Flags) (text : Bool) (w : List ℕ) where
   escape_ok k a b x c (ends e) o q z h es at_c r = escape_put a (suc k) b e h r
 
   -- items that are none are what is passed over
-  only_blanks : {fl : Flags} {i j : ℕ} {ps : List Node} → Items text w fl i j ps → ps ≡ [] → Blanks text w fl i j
+  only_blanks : {fl : Flags} {i j : ℕ} {ps : List SyntaxNode} → Items text w fl i j ps → ps ≡ [] → Blanks text w fl i j
   only_blanks no_items e = no_blank
   only_blanks (pass_over h p) e = one_blank (only_blanks h e) p
   only_blanks (one_item {ps = []} h it) e = absurd (cc e)
@@ -269,10 +269,10 @@ module _ (call : Flags) (text : Bool) (w : List ℕ) where
   first_front [] a z e = ⊎_elim (λ (y : (a == 0) ≡ true). eqb-true a 0 y) (λ y. absurd (false≢true y)) (or_cases (a == 0) false z)
   first_front (g ∷ gs) a z e = absurd (cc e)
 
-  abbrev a_base : Flags → Kind → ℕ → ℕ → ℕ → List Branch → List Node → Last → List Frame → List Front → Base
+  abbrev a_base : Flags → Kind → ℕ → ℕ → ℕ → List Branch → List SyntaxNode → Last → List Frame → List Front → Base
   a_base fl kd op st fr ds ps l fs gs = record { top = record { flags = fl; kind = kd; opened = op; start = st; from = fr; branches = ds; items = ps }; last = l; below = fs; fronts = gs }
 
-  front_base : (a j : ℕ) (f fl : Flags) (kd : Kind) (op st fr : ℕ) (ds : List Branch) (ps : List Node) (l : Last) (fs : List Frame) (gs : List Front) → is_nil fs ≡ true → is_nil ds ≡ true → is_nil ps ≡ true → is_settled l ≡ true → (a == 0 || not (is_nil gs)) ≡ true → BaseOk a (a_base fl kd op st fr ds ps l fs gs) → FlagGroup text w a j f → BaseOk j (a_base (joined fl f) kd op j j ds ps l fs (gs ++ record { place = span a j; letters = f } ∷ []))
+  front_base : (a j : ℕ) (f fl : Flags) (kd : Kind) (op st fr : ℕ) (ds : List Branch) (ps : List SyntaxNode) (l : Last) (fs : List Frame) (gs : List Front) → is_nil fs ≡ true → is_nil ds ≡ true → is_nil ps ≡ true → is_settled l ≡ true → (a == 0 || not (is_nil gs)) ≡ true → BaseOk a (a_base fl kd op st fr ds ps l fs gs) → FlagGroup text w a j f → BaseOk j (a_base (joined fl f) kd op j j ds ps l fs (gs ++ record { place = span a j; letters = f } ∷ []))
   front_base a j f fl kd op st fr [] [] nothing_yet [] gs z1 z2 z3 z4 z5 h g =
       record {
         before = none_yet;
@@ -294,9 +294,9 @@ module _ (call : Flags) (text : Bool) (w : List ℕ) where
       front_base a j f b.top.flags b.top.kind b.top.opened b.top.start b.top.from b.top.branches b.top.items b.last b.below b.fronts z1.0 z2.0 z3.0 z4.0 z4.1 h g)
       (λ z. tt)
 
-  begin_ok : (a k : ℕ) (b : Base) (o : Begun) → BaseOk a b → BegunOk text w a o k → Kept k (begin b a k o)
+  begin_ok : (a k : ℕ) (b : Base) (o : GroupStart) → BaseOk a b → BegunOk text w a o k → Kept k (begin b a k o)
   begin_ok a k b (begins_group kd) h o = open_ok b kd h o
-  begin_ok a k b begins_remark h (q, e) = (a, h, q, subst (λ m. Without text w 41 (suc (suc (suc a))) m) (sym e) no_code)
+  begin_ok a k b begins_comment h (q, e) = (a, h, q, subst (λ m. Without text w 41 (suc (suc (suc a))) m) (sym e) no_code)
   begin_ok a k b is_reference h o = put_ok b _ h (o b.top.flags)
   begin_ok a k b (is_front f) h o = front_ok a k b f h o
 
@@ -320,7 +320,7 @@ module _ (call : Flags) (text : Bool) (w : List ℕ) where
   stops_ok k a b (letters_dash f) c q h ok at_c = tt
   stops_ok k a b (letters_off f g) c q h ok at_c = tt
 
-  head_ok : (k a : ℕ) (b : Base) (x : InHead) (c : ℕ) (r : Answer InHead Begun) → head_step text x c ≡ r → BaseOk a b → HeadOk text w a x k → At text w k c → HeadKept text w a (suc k) r → Kept (suc k) (head_answer k b a x r c)
+  head_ok : (k a : ℕ) (b : Base) (x : InHead) (c : ℕ) (r : Answer InHead GroupStart) → head_step text x c ≡ r → BaseOk a b → HeadOk text w a x k → At text w k c → HeadKept text w a (suc k) r → Kept (suc k) (head_answer k b a x r c)
   head_ok k a b x c stops q h ok at_c r = stops_ok k a b x c q h ok at_c
   head_ok k a b x c (goes y) q h ok at_c r = (h, r)
   head_ok k a b x c (ends o) q h ok at_c r = begin_ok a (suc k) b o h r
@@ -341,8 +341,8 @@ module _ (call : Flags) (text : Bool) (w : List ℕ) where
   step_ok k b between c h at_c = go_on_ok k b c h at_c
   step_ok k b line c (i, h, on, at_i, ws) at_c =
       cond_both (c == 10) (Some (at b between)) (Some (at b line)) (Kept (suc k)) (λ z. passed_ok b h (pass_line on at_i ws (subst (At text w k) (eqb-true c 10 z) at_c))) (λ z. (i, h, on, at_i, one_code ws at_c (eqb-false c 10 z)))
-  step_ok k b remark c (i, h, q, ws) at_c =
-      cond_both (c == 41) (Some (at b between)) (Some (at b remark)) (Kept (suc k)) (λ z. passed_ok b h (pass_remark q ws (subst (At text w k) (eqb-true c 41 z) at_c))) (λ z. (i, h, q, one_code ws at_c (eqb-false c 41 z)))
+  step_ok k b comment c (i, h, q, ws) at_c =
+      cond_both (c == 41) (Some (at b between)) (Some (at b comment)) (Kept (suc k)) (λ z. passed_ok b h (pass_comment q ws (subst (At text w k) (eqb-true c 41 z) at_c))) (λ z. (i, h, q, one_code ws at_c (eqb-false c 41 z)))
   step_ok k b (in_braces a t) c (h, at_a, txt) at_c = braces_ok k a b t c h at_a txt at_c
   step_ok k b (counted a p q n) c (m, h, atom, bl, cs) at_c = counted_ok k a m q n b p c h atom bl cs at_c
   step_ok k b (at_slash a) c (h, back, e) at_c = slash_ok k a b c (slashed text false c) refl h back e at_c
@@ -371,7 +371,7 @@ module _ (call : Flags) (text : Bool) (w : List ℕ) where
   pub end_ok : (b : Base) (x : Lex) → LexOk (length w) b x → Holds (finish_lex (length w) b x) (λ p. Spells call text w p)
   end_ok b between h = finish_ok b h
   end_ok b line (i, h, on, at_i, ws) = finish_ok b (passed_ok b h (pass_last_line on at_i ws))
-  end_ok b remark h = tt
+  end_ok b comment h = tt
   end_ok b (in_braces a t) (h, at_a, txt) = finish_ok (no_count b a t) (no_count_ok a (length w) b t h at_a txt (λ c at_c. absurd (no_more c at_c)) (λ at_c. absurd (no_more 125 at_c)))
   end_ok b (counted a p q n) (m, h, atom, bl, cs) = finish_ok (put_repeat b a p q (length w) n greedy) (repeat_ok a m q (length w) n greedy b p h atom bl (is_greedy cs (no_more 63) (no_more 43)))
   end_ok b (at_slash a) h = tt

@@ -2,8 +2,8 @@
 use Rattle.std.proofs.Common.{◌≡◌, ℕ, zero, suc, Bool, true, false, List, [], ◌∷◌, Option, Some, None, refl, sym, ap, ◌∙◌, ◌==◌, drop, slice_get, true≢false}
 use Rattle.std.proofs.lemmas.Bool.{ne_eqb}
 use Rattle.std.proofs.lemmas.Option.{same_Some}
-use Rattle.rl_pattern.specs.Tree.{glyph, Node, Count, greedy, Escaped}
-use Rattle.rl_pattern.specs.Codes.{sign, Sign}
+use Rattle.rl_pattern.specs.Tree.{glyph, SyntaxNode, Count, greedy, Escaped}
+use Rattle.rl_pattern.specs.Codes.{sign, TokenClass}
 use Rattle.rl_pattern.specs.Grammar.{At}
 use Rattle.rl_pattern.specs.internal.Machine.{State, Base, at, between, line, in_braces, counted, in_escape, in_class, set_open, InEscape, Set, escape_rest, no_count, put_repeat, put_leaf, step_at, observe, by_sign}
 
@@ -26,7 +26,7 @@ differs f k c no_k yes_c = ne_eqb c k (λ e. true≢false (sym yes_c ∙ ap f e 
 pub record Fair {X : Type 0} (ask : ℕ → State → Option X) : Type 0 where
   pub at_line : (k : ℕ) (b : Base) → ask k (at b line) ≡ ask k (at b between)
   pub at_braces : (k : ℕ) (b : Base) (a : ℕ) (t : List ℕ) → ask k (at b (in_braces a t)) ≡ ask k (at (no_count b a t) between)
-  pub at_counted : (k : ℕ) (b : Base) (a : ℕ) (p : Node) (q : ℕ) (n : Count) → ask k (at b (counted a p q n)) ≡ ask k (at (put_repeat b a p q k n greedy) between)
+  pub at_counted : (k : ℕ) (b : Base) (a : ℕ) (p : SyntaxNode) (q : ℕ) (n : Count) → ask k (at b (counted a p q n)) ≡ ask k (at (put_repeat b a p q k n greedy) between)
   pub at_escape : (k : ℕ) (b : Base) (a : ℕ) (x : InEscape) (e : Escaped) → escape_rest x ≡ Some e → ask k (at b (in_escape a x)) ≡ ask k (at (put_leaf b a k (glyph e)) between)
   pub at_open : (k : ℕ) (b : Base) (a : ℕ) → ask k (at b (set_open a)) ≡ None
   pub at_class : (k : ℕ) (b : Base) (a : ℕ) (inverse : Bool) (s : Set) → ask k (at b (in_class a inverse s)) ≡ None
@@ -61,7 +61,7 @@ module _ (text : Bool) (w : List ℕ) {X : Type 0} (ask : ℕ → State → Opti
   pub alike_steps : (i : ℕ) (s r : State) → ask i s ≡ ask i r → ((c : ℕ) → At text w i c → step_at text i s c ≡ step_at text i r c) → reads_from i s ≡ reads_from i r
   alike_steps i s r e f = alike i s r e (λ c h. same_step i c s r h (f c h))
 
-  pub sign_goes : (i c : ℕ) (b : Base) (g : Sign) (r : State) → At text w i c → sign c ≡ g → by_sign i b c g ≡ Some r → reads_from i (at b between) ≡ reads_from (suc i) r
+  pub sign_goes : (i c : ℕ) (b : Base) (g : TokenClass) (r : State) → At text w i c → sign c ≡ g → by_sign i b c g ≡ Some r → reads_from i (at b between) ≡ reads_from (suc i) r
   sign_goes i c b g r h e st = goes_to i c (at b between) r h (ap (by_sign i b c) e ∙ st)
 
 -- two codes at one place

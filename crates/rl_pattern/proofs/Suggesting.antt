@@ -3,7 +3,7 @@ use Rattle.std.proofs.Common.{◌≡◌, ℕ, suc, ◌<◌, ◌≤◌, Bool, tru
 use Rattle.rl_ranges.specs.declared.universe.Universe.{Universe}
 use Rattle.rl_syntax.specs.PatTree as s
 use Rattle.rl_pattern.specs.declared.flags.Flags.{Flags}
-use Rattle.rl_pattern.specs.Tree.{Span, span, Kind, capturing, named, scoped, lookaround, atomic, conditional, Node, leaf, mark, repeat, group, nothing, seq, choice, Nodes, no_nodes, more_nodes, Branches, no_branches, more_branches, nodes, branches, Branch, branch_body, branch, whole_body, Mark, caret, text_start, dollar, text_end, boundary, Whole}
+use Rattle.rl_pattern.specs.Tree.{Span, span, Kind, capturing, named, scoped, lookaround, atomic, conditional, SyntaxNode, leaf, mark, repeat, group, nothing, seq, choice, Nodes, no_nodes, more_nodes, Branches, no_branches, more_branches, nodes, branches, Branch, branch_body, branch, whole_body, Assertion, caret, text_start, dollar, text_end, boundary, Whole}
 use Rattle.rl_pattern.specs.Grammar.{Atom, literal, literal_brace, dotted, escaped, refers, bracketed, grouped, Item, once, repeated, edge_code, edge_escape, Items, no_items, pass_over, one_item, IsBranches, first_branch, next_branch, spelled, Spells}
 use Rattle.rl_pattern.specs.Shape.{shape, shapes, branch_shapes, group_shape, mark_shape}
 use Rattle.rl_pattern.specs.Cut.{choice_of, left, left_items, left_branches}
@@ -15,7 +15,7 @@ use Rattle.rl_pattern.proofs.Seams.{own_out, Clean, AllClean, CleanBranches}
 use Rattle.rl_pattern.proofs.Marks.{Placed, PlacedItems, PlacedBranches, placed_le, placed_more}
 
 module _ (u : Universe) where
-  abbrev pub PlacedAll : List Node → ℕ → ℕ → Type 0
+  abbrev pub PlacedAll : List SyntaxNode → ℕ → ℕ → Type 0
   PlacedAll [] i j = i ≤ j
   PlacedAll (p ∷ ps) i j = (k : ℕ) × Placed (shape u p) i k × PlacedAll ps k j
 
@@ -23,11 +23,11 @@ module _ (u : Universe) where
   PlacedSome [] i j = i ≤ j
   PlacedSome (b ∷ bs) i j = (i ≤ b.place.from) × Placed (shape u b.body) b.place.from b.place.upto × PlacedSome bs b.place.upto j
 
-  all_snoc : (ps : List Node) (p : Node) (i k j : ℕ) → PlacedAll ps i k → Placed (shape u p) k j → PlacedAll (ps ++ p ∷ []) i j
+  all_snoc : (ps : List SyntaxNode) (p : SyntaxNode) (i k j : ℕ) → PlacedAll ps i k → Placed (shape u p) k j → PlacedAll (ps ++ p ∷ []) i j
   all_snoc [] p i k j h x = (j, placed_more (shape u p) k j i j h (omega arith) x, omega arith)
   all_snoc (q ∷ ps) p i k j (m, h, hs) x = (m, h, all_snoc ps p m k j hs x)
 
-  all_wider : (ps : List Node) (i j b : ℕ) → j ≤ b → PlacedAll ps i j → PlacedAll ps i b
+  all_wider : (ps : List SyntaxNode) (i j b : ℕ) → j ≤ b → PlacedAll ps i j → PlacedAll ps i b
   all_wider [] i j b l h = omega (arith, l, h)
   all_wider (p ∷ ps) i j b l (k, h, hs) = (k, h, all_wider ps k j b l hs)
 
@@ -35,11 +35,11 @@ module _ (u : Universe) where
   some_snoc [] b i k j h l x m = (omega (arith, h, l), x, m)
   some_snoc (c ∷ bs) b i k j (a, h, hs) l x m = (a, h, some_snoc bs b c.place.upto k j hs l x m)
 
-  nodes_placed : (ps : List Node) (i j : ℕ) → PlacedAll ps i j → PlacedItems (s.items_of (shapes u (nodes ps))) i j
+  nodes_placed : (ps : List SyntaxNode) (i j : ℕ) → PlacedAll ps i j → PlacedItems (s.items_of (shapes u (nodes ps))) i j
   nodes_placed [] i j h = h
   nodes_placed (p ∷ ps) i j (k, h, hs) = (k, h, nodes_placed ps k j hs)
 
-  pub body_placed : (r : Span) (ps : List Node) (i j : ℕ) → PlacedAll ps i j → Placed (shape u (branch_body r ps)) i j
+  pub body_placed : (r : Span) (ps : List SyntaxNode) (i j : ℕ) → PlacedAll ps i j → Placed (shape u (branch_body r ps)) i j
   body_placed r [] i j h = h
   body_placed r (p ∷ []) i j (k, h, l) = placed_more (shape u p) i k i j (omega arith) l h
   body_placed r (p ∷ q ∷ ps) i j h = nodes_placed (p ∷ q ∷ ps) i j h
@@ -53,7 +53,7 @@ module _ (u : Universe) where
   whole_placed r (b ∷ []) i j (a, h, l) = placed_more (shape u b.body) b.place.from b.place.upto i j a l h
   whole_placed r (b ∷ c ∷ bs) i j h = list_placed (b ∷ c ∷ bs) i j h
 
-  mark_placed : (r : Span) (f : Flags) (m : Mark) (i j : ℕ) → i ≤ j → Placed (mark_shape u r f m) i j
+  mark_placed : (r : Span) (f : Flags) (m : Assertion) (i j : ℕ) → i ≤ j → Placed (mark_shape u r f m) i j
   mark_placed r f caret i j l = l
   mark_placed r f text_start i j l = l
   mark_placed r f dollar i j l = l
@@ -73,7 +73,7 @@ module _ (u : Universe) where
     leaf_le i j l = omega (arith, l)
 
     mutual
-      atom_placed : {fl : Flags} {i j : ℕ} {p : Node} → Atom text w fl i j p → Placed (shape u p) i j
+      atom_placed : {fl : Flags} {i j : ℕ} {p : SyntaxNode} → Atom text w fl i j p → Placed (shape u p) i j
       atom_placed (literal a z) = omega arith
       atom_placed (literal_brace a z) = omega arith
       atom_placed (dotted a) = omega arith
@@ -85,13 +85,13 @@ module _ (u : Universe) where
           let b = shape u (whole_body (span j k) bs) in
           group_placed (span i (suc k)) kd b i (suc k) (placed_more b j k i (suc k) (omega (arith, lt)) (omega arith) (whole_placed (span j k) bs j k (branches_placed hs)))
 
-      item_placed : {fl : Flags} {i j : ℕ} {p : Node} → Item text w fl i j p → Placed (shape u p) i j
+      item_placed : {fl : Flags} {i j : ℕ} {p : SyntaxNode} → Item text w fl i j p → Placed (shape u p) i j
       item_placed (once a) = atom_placed a
       item_placed (repeated {j = j} a bl q) = (j, atom_placed a, blanks_le text w bl, quantifier_lt text w q, omega arith)
       item_placed {fl} (edge_code {i = i} {m = m} a z) = mark_placed (span i (suc i)) fl m i (suc i) (omega arith)
       item_placed {fl} (edge_escape {i = i} {m = m} a) = mark_placed (span i (suc (suc i))) fl m i (suc (suc i)) (omega arith)
 
-      pub items_placed : {fl : Flags} {i j : ℕ} {ps : List Node} → Items text w fl i j ps → PlacedAll ps i j
+      pub items_placed : {fl : Flags} {i j : ℕ} {ps : List SyntaxNode} → Items text w fl i j ps → PlacedAll ps i j
       items_placed no_items = omega arith
       items_placed (pass_over {i = i} {j = j} {k = k} {ps = ps} h p) = let lt = passed_lt text w p in all_wider ps i j k (omega (arith, lt)) (items_placed h)
       items_placed (one_item {i = i} {j = j} {k = k} {ps = ps} {p = p} h it) = all_snoc ps p i j k (items_placed h) (item_placed it)
@@ -145,7 +145,7 @@ module _ (u : Universe) where
     choice_somewhere r bs (under x y h) = h
     choice_somewhere r bs (inside x y h) = h
 
-    pub own_false : (p : Node) → MayMerge out (rest (shape u p)) → own_out u drop out p ≡ false
+    pub own_false : (p : SyntaxNode) → MayMerge out (rest (shape u p)) → own_out u drop out p ≡ false
     own_false (repeat r q n g p) h = h.0
     own_false (leaf r f x) h = refl
     own_false (mark r f m) h = refl
@@ -163,13 +163,13 @@ module _ (u : Universe) where
         go false x f = absurd (cc (sym (ap (λ b. if b then rest_branches bs else s.branch r (rest (shape u p)) (rest_branches bs)) x) ∙ e))
 
     -- a branch more, in front of others
-    one_clean : (r t : Span) (p : Node) (bs : Branches) → drop r ≡ false → (x : s.BranchTrees) → rest_branches bs ≡ x → (Somewhere (rest (shape u p)) → Clean u drop out p) → (BranchesMayMerge out (rest_branches bs) → CleanBranches u drop out bs) → Somewhere (choice_of t (s.branch r (rest (shape u p)) x)) → CleanBranches u drop out (more_branches r p bs)
+    one_clean : (r t : Span) (p : SyntaxNode) (bs : Branches) → drop r ≡ false → (x : s.BranchTrees) → rest_branches bs ≡ x → (Somewhere (rest (shape u p)) → Clean u drop out p) → (BranchesMayMerge out (rest_branches bs) → CleanBranches u drop out bs) → Somewhere (choice_of t (s.branch r (rest (shape u p)) x)) → CleanBranches u drop out (more_branches r p bs)
     one_clean r t p bs stays s.no_branches e f g h = ((λ z. f h), none_clean bs e)
     one_clean r t p bs stays (s.branch r2 q x) e f g h =
         let all = choice_somewhere t (s.branch r (rest (shape u p)) (s.branch r2 q x)) h in
         ((λ z. f (at_large all.0)), g (subst (BranchesMayMerge out) (sym e) all.1))
 
-    chosen_clean : (r t : Span) (p : Node) (bs : Branches) → (drop r ≡ false → Somewhere (rest (shape u p)) → Clean u drop out p) → (BranchesMayMerge out (rest_branches bs) → CleanBranches u drop out bs) → (Somewhere (choice_of t (rest_branches bs)) → CleanBranches u drop out bs) → Somewhere (choice_of t (if drop r then rest_branches bs else s.branch r (rest (shape u p)) (rest_branches bs))) → CleanBranches u drop out (more_branches r p bs)
+    chosen_clean : (r t : Span) (p : SyntaxNode) (bs : Branches) → (drop r ≡ false → Somewhere (rest (shape u p)) → Clean u drop out p) → (BranchesMayMerge out (rest_branches bs) → CleanBranches u drop out bs) → (Somewhere (choice_of t (rest_branches bs)) → CleanBranches u drop out bs) → Somewhere (choice_of t (if drop r then rest_branches bs else s.branch r (rest (shape u p)) (rest_branches bs))) → CleanBranches u drop out (more_branches r p bs)
     chosen_clean r t p bs f g k h = go (drop r) refl
       where
         go : (b : Bool) → drop r ≡ b → CleanBranches u drop out (more_branches r p bs)
@@ -178,7 +178,7 @@ module _ (u : Universe) where
 
     mutual
       -- quantifiers that may go in what is left are the whole content of a branch
-      pub clean_of : (p : Node) → Good u drop out p → Somewhere (rest (shape u p)) → Clean u drop out p
+      pub clean_of : (p : SyntaxNode) → Good u drop out p → Somewhere (rest (shape u p)) → Clean u drop out p
       clean_of (leaf r f x) gd h = tt
       clean_of (mark r f m) gd h = tt
       clean_of (repeat r q n g p) gd h = clean_of p gd (repeat_somewhere r q n.least n.most _ (rest (shape u p)) h)

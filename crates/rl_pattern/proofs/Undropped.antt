@@ -5,7 +5,7 @@ use Rattle.rl_syntax.specs.declared.pattern.Pattern.{Pattern}
 use Rattle.rl_syntax.specs.Pattern.{body_of}
 use Rattle.rl_syntax.specs.PatTree as s
 use Rattle.rl_pattern.specs.declared.flags.Flags.{Flags}
-use Rattle.rl_pattern.specs.Tree.{Span, span, Kind, capturing, named, scoped, lookaround, atomic, conditional, Mark, caret, text_start, dollar, text_end, boundary, Node, nodes, branches, Branch, branch_body, branch, whole_body, Whole}
+use Rattle.rl_pattern.specs.Tree.{Span, span, Kind, capturing, named, scoped, lookaround, atomic, conditional, Assertion, caret, text_start, dollar, text_end, boundary, SyntaxNode, nodes, branches, Branch, branch_body, branch, whole_body, Whole}
 use Rattle.rl_pattern.specs.Grammar.{Atom, literal, literal_brace, dotted, escaped, refers, bracketed, grouped, Item, once, repeated, edge_code, edge_escape, Items, no_items, pass_over, one_item, IsBranches, first_branch, next_branch, spelled, Spells}
 use Rattle.rl_pattern.specs.Found.{inner_items, inner_of, inner}
 use Rattle.rl_pattern.specs.Parsed.{IsParsed}
@@ -21,7 +21,7 @@ module _ (u : Universe) where
   abbrev Goes : s.PatTree → Type 0
   Goes t = may_go (among []) t ≡ true
 
-  abbrev AllGo : List Node → Type 0
+  abbrev AllGo : List SyntaxNode → Type 0
   AllGo [] = Unit {0}
   AllGo (p ∷ ps) = Goes (shape u p) × AllGo ps
 
@@ -29,7 +29,7 @@ module _ (u : Universe) where
   SomeGo [] = Unit {0}
   SomeGo (b ∷ bs) = Goes (shape u b.body) × SomeGo bs
 
-  all_snoc : (ps : List Node) (p : Node) → AllGo ps → Goes (shape u p) → AllGo (ps ++ p ∷ [])
+  all_snoc : (ps : List SyntaxNode) (p : SyntaxNode) → AllGo ps → Goes (shape u p) → AllGo (ps ++ p ∷ [])
   all_snoc [] p h x = (x, tt)
   all_snoc (q ∷ ps) p (h, hs) x = (h, all_snoc ps p hs x)
 
@@ -37,19 +37,19 @@ module _ (u : Universe) where
   some_snoc [] b h x = (x, tt)
   some_snoc (c ∷ bs) b (h, hs) x = (h, some_snoc bs b hs x)
 
-  all_front : (xs ys : List Node) → AllGo (xs ++ ys) → AllGo xs
+  all_front : (xs ys : List SyntaxNode) → AllGo (xs ++ ys) → AllGo xs
   all_front [] ys h = tt
   all_front (x ∷ xs) ys (h, hs) = (h, all_front xs ys hs)
 
-  all_back : (xs ys : List Node) → AllGo (xs ++ ys) → AllGo ys
+  all_back : (xs ys : List SyntaxNode) → AllGo (xs ++ ys) → AllGo ys
   all_back [] ys h = h
   all_back (x ∷ xs) ys (h, hs) = all_back xs ys hs
 
-  nodes_go : (ps : List Node) → AllGo ps → items_may_go (among []) (s.items_of (shapes u (nodes ps))) ≡ true
+  nodes_go : (ps : List SyntaxNode) → AllGo ps → items_may_go (among []) (s.items_of (shapes u (nodes ps))) ≡ true
   nodes_go [] h = refl
   nodes_go (p ∷ ps) (h, hs) = both_true (may_go (among []) (shape u p)) (items_may_go (among []) (s.items_of (shapes u (nodes ps)))) h (nodes_go ps hs)
 
-  body_goes : (r : Span) (ps : List Node) → AllGo ps → Goes (shape u (branch_body r ps))
+  body_goes : (r : Span) (ps : List SyntaxNode) → AllGo ps → Goes (shape u (branch_body r ps))
   body_goes r [] h = refl
   body_goes r (p ∷ []) h = h.0
   body_goes r (p ∷ q ∷ ps) h = nodes_go (p ∷ q ∷ ps) h
@@ -63,7 +63,7 @@ module _ (u : Universe) where
   whole_goes r (b ∷ []) h = h.0
   whole_goes r (b ∷ c ∷ bs) h = list_goes (b ∷ c ∷ bs) h
 
-  mark_goes : (r : Span) (f : Flags) (m : Mark) → Goes (mark_shape u r f m)
+  mark_goes : (r : Span) (f : Flags) (m : Assertion) → Goes (mark_shape u r f m)
   mark_goes r f caret = refl
   mark_goes r f text_start = refl
   mark_goes r f dollar = refl
@@ -80,7 +80,7 @@ module _ (u : Universe) where
 
   module _ (text : Bool) (w : List ℕ) where
     mutual
-      atom_goes : {fl : Flags} {i j : ℕ} {p : Node} → Atom text w fl i j p → Goes (shape u p)
+      atom_goes : {fl : Flags} {i j : ℕ} {p : SyntaxNode} → Atom text w fl i j p → Goes (shape u p)
       atom_goes (literal a z) = refl
       atom_goes (literal_brace a z) = refl
       atom_goes (dotted a) = refl
@@ -89,13 +89,13 @@ module _ (u : Universe) where
       atom_goes (bracketed e ms z) = refl
       atom_goes (grouped {i = i} {j = j} {k = k} {kd = kd} {bs = bs} o hs z) = group_goes (span i (suc k)) kd (shape u (whole_body (span j k) bs)) (whole_goes (span j k) bs (branches_go hs))
 
-      item_goes : {fl : Flags} {i j : ℕ} {p : Node} → Item text w fl i j p → Goes (shape u p)
+      item_goes : {fl : Flags} {i j : ℕ} {p : SyntaxNode} → Item text w fl i j p → Goes (shape u p)
       item_goes (once a) = atom_goes a
       item_goes (repeated a bl q) = atom_goes a
       item_goes {fl} (edge_code {i = i} {m = m} a z) = mark_goes (span i (suc i)) fl m
       item_goes {fl} (edge_escape {i = i} {m = m} a) = mark_goes (span i (suc (suc i))) fl m
 
-      items_go : {fl : Flags} {i j : ℕ} {ps : List Node} → Items text w fl i j ps → AllGo ps
+      items_go : {fl : Flags} {i j : ℕ} {ps : List SyntaxNode} → Items text w fl i j ps → AllGo ps
       items_go no_items = tt
       items_go (pass_over h p) = items_go h
       items_go (one_item {ps = ps} {p = p} h it) = all_snoc ps p (items_go h) (item_goes it)

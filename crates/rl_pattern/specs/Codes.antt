@@ -5,14 +5,14 @@ use Rattle.std.specs.Prelude.{[], ℕ, ◌+◌, ◌-◌, ◌*◌, Bool, true, fa
 use Rattle.std.specs.List.{list_any}
 pub use Prim.Native.Char.{code as code_of}
 use Rattle.rl_pattern.specs.declared.flags.Flags.{Flags}
-pub use Rattle.rl_pattern.specs.declared.lex.Sign.{Sign}
-pub use Rattle.rl_pattern.specs.declared.lex.Sign.TheVariants.{Left as left, Right as right, Bar as bar, Brace as brace, Slash as slash, Dot as dot, Bracket as bracket, Times as times, Edge as edge, Blank as blank, Sharp as sharp, Plain as plain}
+pub use Rattle.rl_pattern.specs.declared.lex.TokenClass.{TokenClass}
+pub use Rattle.rl_pattern.specs.declared.lex.TokenClass.TheVariants.{Left as left, Right as right, Bar as bar, Brace as brace, Slash as slash, Dot as dot, Bracket as bracket, Times as times, Edge as edge, Blank as blank, Sharp as sharp, Plain as plain}
 pub use Rattle.rl_pattern.specs.declared.lex.Numeral.{Numeral}
 pub use Rattle.rl_pattern.specs.declared.lex.Numeral.TheVariants.{LowDigit as low_digit, HighDigit as high_digit, NoDigit as no_digit}
-pub use Rattle.rl_pattern.specs.declared.lex.Slashed.{Slashed}
-pub use Rattle.rl_pattern.specs.declared.lex.Slashed.TheVariants.{Single as single, Kinds as kinds, Hexes as hexes, Naming as naming, Octal as octal, Low as low, High as high, Edges as edges, NoEscape as no_escape}
-pub use Rattle.rl_pattern.specs.declared.lex.Headed.{Headed}
-pub use Rattle.rl_pattern.specs.declared.lex.Headed.TheVariants.{Letter as letter, Colon as colon, Minus as minus, LetterP as letter_p, Sharps as sharps, Less as less, Greater as greater, Condition as condition, Looks as looks, NoHead as no_head}
+pub use Rattle.rl_pattern.specs.declared.lex.EscapeClass.{EscapeClass}
+pub use Rattle.rl_pattern.specs.declared.lex.EscapeClass.TheVariants.{Single as single, Kinds as kinds, Hexes as hexes, Naming as naming, Octal as octal, Low as low, High as high, Edges as edges, NoEscape as no_escape}
+pub use Rattle.rl_pattern.specs.declared.lex.GroupPrefix.{GroupPrefix}
+pub use Rattle.rl_pattern.specs.declared.lex.GroupPrefix.TheVariants.{Letter as letter, Colon as colon, Minus as minus, LetterP as letter_p, Sharps as sharps, Less as less, Greater as greater, Condition as condition, Looks as looks, NoHead as no_head}
 use Rattle.rl_pattern.specs.Tree.{Count, digits, spaces, words, caret, text_start, dollar, text_end, boundary, Escaped, code, too_large, by_name, kind, reference, Kind, capturing, named, scoped, lookaround, atomic, conditional, Branch}
 
 -- c is the code of this character
@@ -34,7 +34,7 @@ is_blank c = is " " c || is_from "\t" "\r" c
 abbrev pub count : ℕ → Option ℕ → Count
 count m n = record { least = m; most = n }
 
-unfoldable pub sign : ℕ → Sign
+unfoldable pub sign : ℕ → TokenClass
 sign c =
     if is "(" c then left
     else (if is ")" c then right
@@ -59,9 +59,8 @@ numeral c =
     else no_digit)
 
 abbrev pub is_some_digit : Numeral → Bool
-is_some_digit (low_digit d) = true
-is_some_digit high_digit = true
 is_some_digit no_digit = false
+is_some_digit _ = true
 
 unfoldable pub is_digit : ℕ → Bool
 is_digit c = is_some_digit (numeral c)
@@ -86,7 +85,7 @@ unfoldable pub goes_in_name : Bool → ℕ → Bool
 goes_in_name text c = begins_name text c || is_digit c
 
 -- a letter behind a backslash, in text or not, in a class or not. BEL is 7, backspace 8, vertical tab 11, form feed 12
-abbrev pub slashed_letter : Bool → Bool → ℕ → Slashed
+abbrev pub slashed_letter : Bool → Bool → ℕ → EscapeClass
 slashed_letter text in_class c =
     if is "a" c then single 7
     else (if is "f" c then single 12
@@ -111,32 +110,25 @@ slashed_letter text in_class c =
     else no_escape)))))))))))))))))))
 
 -- a digit behind a backslash
-abbrev pub slashed_digit : Bool → Numeral → ℕ → Slashed
+abbrev pub slashed_digit : Bool → Numeral → ℕ → EscapeClass
 slashed_digit in_class (low_digit d) c = if in_class || d == 0 then octal d else low d
 slashed_digit in_class high_digit c = if in_class then no_escape else high
 slashed_digit in_class no_digit c = single c
 
-unfoldable pub slashed : Bool → Bool → ℕ → Slashed
+unfoldable pub slashed : Bool → Bool → ℕ → EscapeClass
 slashed text in_class c =
     if is_letter c then slashed_letter text in_class c else slashed_digit in_class (numeral c) c
 
--- what a number is as a code
-abbrev pub code_up_to : ℕ → ℕ → Escaped
-code_up_to greatest n = if nat_le n greatest then code n else too_large
-
--- an octal number, at most 255, and one in hexadecimal digits, at most 0x10FFFF
+-- what an octal number is as a code, and one in hexadecimal digits
 abbrev pub octal_code : ℕ → Escaped
-octal_code n = code_up_to 255 n
+octal_code n = if nat_le n 255 then code n else too_large
 
 abbrev pub hex_code : ℕ → Escaped
-hex_code n = code_up_to 0x10FFFF n
+hex_code n = if nat_le n 0x10FFFF then code n else too_large
 
 abbrev pub is_kind : Escaped → Bool
 is_kind (kind k n) = true
-is_kind (code c) = false
-is_kind too_large = false
-is_kind by_name = false
-is_kind reference = false
+is_kind _ = false
 
 -- the letters of flags
 unfoldable pub on_letter : ℕ → Bool
@@ -147,7 +139,7 @@ unfoldable pub off_letter : ℕ → Bool
 off_letter c = is_in "imsx" c
 
 -- what a code is behind (?
-unfoldable pub headed : ℕ → Headed
+unfoldable pub headed : ℕ → GroupPrefix
 headed c =
     if on_letter c then letter
     else (if is ":" c then colon
@@ -206,22 +198,12 @@ scoped_flags on off f =
 -- the flags inside a group
 abbrev pub inside : Kind → Flags → Flags
 inside (scoped on off) f = scoped_flags on off f
-inside capturing f = f
-inside (named n) f = f
-inside lookaround f = f
-inside atomic f = f
-inside conditional f = f
+inside _ f = f
 
 -- a conditional has at most two branches: whether a | may follow these
 abbrev pub splits : Kind → List Branch → Bool
 splits conditional (b ∷ c ∷ bs) = false
-splits conditional (b ∷ []) = true
-splits conditional [] = true
-splits capturing bs = true
-splits (named n) bs = true
-splits (scoped on off) bs = true
-splits lookaround bs = true
-splits atomic bs = true
+splits _ _ = true
 
 -- a number in a base, and one digit more. 4294967295 stands for all numbers from there on
 abbrev pub with_digit : ℕ → ℕ → ℕ → ℕ

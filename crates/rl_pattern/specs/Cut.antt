@@ -21,15 +21,11 @@ choice_of s (branch r p (branch t q bs)) = choice s (branch r p (branch t q bs))
 module _ (drop out : Span → Bool) where
   abbrev mutual
     pub left : PatTree → PatTree
-    left (nothing s) = nothing s
-    left (class s set) = class s set
     left (seq s ps) = seq s (left_items ps)
     left (choice s bs) = choice_of s (left_branches bs)
     left (repeat s q least most greedy p) = if out q then left p else repeat s q least most greedy (left p)
     left (group s captures p) = group s captures (left p)
-    left (anchor s kind multiline) = anchor s kind multiline
-    left (boundary s negated ascii) = boundary s negated ascii
-    left (outside s what) = outside s what
+    left p = p
 
     pub left_items : PatTrees → PatTrees
     left_items no_items = no_items
@@ -42,15 +38,11 @@ module _ (drop out : Span → Bool) where
   -- whether the code at a place is gone
   abbrev mutual
     pub gone : PatTree → ℕ → Bool
-    gone (nothing s) t = false
-    gone (class s set) t = false
     gone (seq s ps) t = gone_items ps t
     gone (choice s bs) t = gone_branches bs false t
     gone (repeat s q least most greedy p) t = (out q && lies_in q.from q.upto t) || gone p t
     gone (group s captures p) t = gone p t
-    gone (anchor s kind multiline) t = false
-    gone (boundary s negated ascii) t = false
-    gone (outside s what) t = false
+    gone _ t = false
 
     pub gone_items : PatTrees → ℕ → Bool
     gone_items no_items t = false

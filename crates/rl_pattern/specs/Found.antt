@@ -1,12 +1,14 @@
 -- What is refused in a tree that was spelled, and what is left of it where nothing is.
-use Rattle.std.specs.Prelude.{ℕ, Bool, true, false, not, ◌&&◌, ◌||◌, if◌then◌else◌, nat_lt, nat_le, ◌==◌, List, [], ◌∷◌, ◌++◌, reverse, Option, Some, None}
+use Rattle.std.specs.Prelude.{ℕ, Bool, true, false, not, ◌&&◌, ◌||◌, if◌then◌else◌, nat_lt, nat_le, ◌==◌, List, [], ◌∷◌, ◌++◌, reverse, flat_map, Option, Some, None}
+use Rattle.std.specs.List.{list_any}
+use Rattle.std.specs.Str.{bytes_eq}
 use Rattle.rl_pattern.specs.declared.flags.Flags.{Flags}
 pub use Rattle.rl_syntax.specs.declared.feature.Feature.{Feature}
 pub use Rattle.rl_syntax.specs.declared.feature.Feature.TheVariants.{Locale as is_locale, FlagClash as is_flag_clash, DuplicateName as is_duplicate_name, CodeTooLarge as is_code_too_large, ReversedRange as is_reversed_range, RepeatTooLarge as is_repeat_too_large, RepeatOrder as is_repeat_order, Possessive as is_possessive_count, Backreference as is_backreference, Lookaround as is_lookaround, Conditional as is_conditional, Atomic as is_atomic, NamedEscape as is_named_escape, InnerAnchor as is_inner_anchor}
 pub use Rattle.rl_syntax.specs.declared.anchors.Trail.{Trail}
 pub use Rattle.rl_syntax.specs.declared.anchors.Trail.TheVariants.{None as no_trail, Dollar as dollar_trail, End as end_trail}
 pub use Rattle.rl_pattern.specs.declared.faults.Fault.{Fault}
-use Rattle.rl_pattern.specs.Tree.{Span, Named, Count, Greed, greedy, lazy, possessive, Escaped, code, too_large, by_name, kind, reference, Member, one, range, Leaf, any, glyph, members, Mark, caret, text_start, dollar, text_end, boundary, Kind, capturing, named, scoped, lookaround, atomic, conditional, Node, leaf, mark, repeat, group, nothing, seq, choice, Nodes, no_nodes, more_nodes, Branches, no_branches, more_branches, branch_body, Front, Whole}
+use Rattle.rl_pattern.specs.Tree.{Span, Named, Count, Greed, greedy, lazy, possessive, Escaped, code, too_large, by_name, kind, reference, Member, one, range, Leaf, any, glyph, members, Assertion, caret, text_start, dollar, text_end, boundary, Kind, capturing, named, scoped, lookaround, atomic, conditional, SyntaxNode, leaf, mark, repeat, group, nothing, seq, choice, Nodes, no_nodes, more_nodes, Branches, no_branches, more_branches, branch_body, Front, Whole}
 use Rattle.rl_pattern.specs.Codes.{joined}
 
 -- the features in the order that decides at one place
@@ -37,78 +39,56 @@ fault_if false i f = []
 abbrev pub comes_first : Fault → Fault → Bool
 comes_first a b = nat_lt a.place b.place || (a.place == b.place && nat_le (rank a.what) (rank b.what))
 
-abbrev pub first_of_two : Fault → Option Fault → Option Fault
-first_of_two a None = Some a
-first_of_two a (Some b) = if comes_first a b then Some a else Some b
-
 abbrev pub earlier : Option Fault → Option Fault → Option Fault
 earlier None b = b
-earlier (Some a) b = first_of_two a b
+earlier a None = a
+earlier (Some a) (Some b) = if comes_first a b then Some a else Some b
 
 -- the fault that is answered
 abbrev pub first_fault : List Fault → Option Fault
 first_fault [] = None
-first_fault (a ∷ faults) = first_of_two a (first_fault faults)
+first_fault (a ∷ faults) = earlier (Some a) (first_fault faults)
 
 -- the faults of a code or escape at this place
 abbrev pub escaped_faults : ℕ → Escaped → List Fault
-escaped_faults i (code c) = []
 escaped_faults i too_large = fault i is_code_too_large ∷ []
 escaped_faults i by_name = fault i is_named_escape ∷ []
-escaped_faults i (kind k n) = []
 escaped_faults i reference = fault i is_backreference ∷ []
+escaped_faults i _ = []
 
 -- whether a range has its greater code first
 abbrev pub reversed : Escaped → Escaped → Bool
 reversed (code c) (code d) = nat_lt d c
-reversed (code c) too_large = false
-reversed (code c) by_name = false
-reversed (code c) (kind k n) = false
-reversed (code c) reference = false
-reversed too_large d = false
-reversed by_name d = false
-reversed (kind k n) d = false
-reversed reference d = false
+reversed _ _ = false
 
 -- a fault in a class has the place of its member
 abbrev pub member_faults : Member → List Fault
 member_faults (one s e) = escaped_faults s.from e
 member_faults (range s e d) = escaped_faults s.from e ++ (escaped_faults s.from d ++ fault_if (reversed e d) s.from is_reversed_range)
 
-abbrev pub members_faults : List Member → List Fault
-members_faults [] = []
-members_faults (m ∷ ms) = member_faults m ++ members_faults ms
-
 abbrev pub leaf_faults : Span → Leaf → List Fault
 leaf_faults s any = []
 leaf_faults s (glyph e) = escaped_faults s.from e
-leaf_faults s (members inverse ms) = members_faults ms
+leaf_faults s (members inverse ms) = flat_map member_faults ms
 
 -- a $ without MULTILINE that is no outer anchor
-abbrev pub mark_faults : Span → Flags → Mark → List Fault
+abbrev pub mark_faults : Span → Flags → Assertion → List Fault
 mark_faults s f dollar = fault_if (not f.multiline) s.from is_inner_anchor
-mark_faults s f caret = []
-mark_faults s f text_start = []
-mark_faults s f text_end = []
-mark_faults s f (boundary negated) = []
+mark_faults s f _ = []
 
-abbrev pub is_most : ℕ → Option ℕ → Bool
-is_most m None = false
-is_most m (Some n) = n == m
-
-abbrev pub below_least : ℕ → Option ℕ → Bool
-below_least m None = false
-below_least m (Some n) = nat_lt n m
+-- whether there is a bound, and it passes a test
+abbrev pub is_bound : (ℕ → Bool) → Option ℕ → Bool
+is_bound test None = false
+is_bound test (Some n) = test n
 
 abbrev pub is_possessive : Greed → Bool
-is_possessive greedy = false
-is_possessive lazy = false
 is_possessive possessive = true
+is_possessive _ = false
 
 -- the faults of a quantifier at this place
 abbrev pub count_faults : ℕ → Count → Greed → List Fault
 count_faults i n g =
-    fault_if (n.least == 4294967295 || is_most 4294967295 n.most) i is_repeat_too_large ++ (fault_if (below_least n.least n.most) i is_repeat_order ++ fault_if (is_possessive g) i is_possessive_count)
+    fault_if (n.least == 4294967295 || is_bound (λ m. m == 4294967295) n.most) i is_repeat_too_large ++ (fault_if (is_bound (λ m. nat_lt m n.least) n.most) i is_repeat_order ++ fault_if (is_possessive g) i is_possessive_count)
 
 -- the letters of both sides of a -
 abbrev pub overlap : Flags → Flags → Bool
@@ -116,16 +96,15 @@ overlap f g = (f.ignore_case && g.ignore_case) || ((f.multiline && g.multiline) 
 
 -- the faults of a group's head at this place, apart from its name
 abbrev pub kind_faults : Bool → ℕ → Kind → List Fault
-kind_faults text i capturing = []
-kind_faults text i (named n) = []
 kind_faults text i (scoped on off) = fault_if on.locale i is_locale ++ fault_if (on.unicode && (on.ascii || not text) || overlap on off) i is_flag_clash
 kind_faults text i lookaround = fault i is_lookaround ∷ []
 kind_faults text i atomic = fault i is_atomic ∷ []
 kind_faults text i conditional = fault i is_conditional ∷ []
+kind_faults text i _ = []
 
 -- the faults of a node, apart from names that stand twice
 abbrev mutual
-  pub node_faults : Bool → Node → List Fault
+  pub node_faults : Bool → SyntaxNode → List Fault
   node_faults text (leaf s f x) = leaf_faults s x
   node_faults text (mark s f m) = mark_faults s f m
   node_faults text (repeat s q n g p) = count_faults q.from n g ++ node_faults text p
@@ -149,15 +128,11 @@ pub record Called : Type 0 where
 
 abbrev pub kind_names : ℕ → Kind → List Called
 kind_names i (named n) = record { place = i; name = n } ∷ []
-kind_names i capturing = []
-kind_names i (scoped on off) = []
-kind_names i lookaround = []
-kind_names i atomic = []
-kind_names i conditional = []
+kind_names i _ = []
 
 -- the names of groups in the order of their parentheses
 abbrev mutual
-  pub node_names : Node → List Called
+  pub node_names : SyntaxNode → List Called
   node_names (leaf s f x) = []
   node_names (mark s f m) = []
   node_names (repeat s q n g p) = node_names p
@@ -174,20 +149,10 @@ abbrev mutual
   branches_names no_branches = []
   branches_names (more_branches s p bs) = node_names p ++ branches_names bs
 
-abbrev pub same_name : List ℕ → List ℕ → Bool
-same_name [] [] = true
-same_name [] (d ∷ ds) = false
-same_name (c ∷ cs) [] = false
-same_name (c ∷ cs) (d ∷ ds) = c == d && same_name cs ds
-
-abbrev pub is_among : List ℕ → List Called → Bool
-is_among n [] = false
-is_among n (c ∷ cs) = same_name n c.name || is_among n cs
-
 -- each name that stood before, after those of the first list
 abbrev pub name_faults : List Called → List Called → List Fault
 name_faults before [] = []
-name_faults before (c ∷ cs) = fault_if (is_among c.name before) c.place is_duplicate_name ++ name_faults (before ++ c ∷ []) cs
+name_faults before (c ∷ cs) = fault_if (list_any (λ d. bytes_eq c.name d.name) before) c.place is_duplicate_name ++ name_faults (before ++ c ∷ []) cs
 
 -- the faults of one front flag group under the flags before it
 abbrev pub front_own : Bool → Flags → Front → List Fault
@@ -199,93 +164,61 @@ front_faults text f [] = []
 front_faults text f (g ∷ gs) = front_own text f g ++ front_faults text (joined f g.letters) gs
 
 -- the outer anchors
-abbrev pub is_leading : Node → Bool
+abbrev pub is_leading : SyntaxNode → Bool
 is_leading (mark s f text_start) = true
 is_leading (mark s f caret) = not f.multiline
-is_leading (mark s f dollar) = false
-is_leading (mark s f text_end) = false
-is_leading (mark s f (boundary n)) = false
-is_leading (leaf s f x) = false
-is_leading (repeat s q n g p) = false
-is_leading (group s k p) = false
-is_leading (nothing s) = false
-is_leading (seq s ps) = false
-is_leading (choice s bs) = false
+is_leading _ = false
 
-abbrev pub trail_of : Node → Trail
+abbrev pub trail_of : SyntaxNode → Trail
 trail_of (mark s f text_end) = end_trail
 trail_of (mark s f dollar) = if f.multiline then no_trail else dollar_trail
-trail_of (mark s f text_start) = no_trail
-trail_of (mark s f caret) = no_trail
-trail_of (mark s f (boundary n)) = no_trail
-trail_of (leaf s f x) = no_trail
-trail_of (repeat s q n g p) = no_trail
-trail_of (group s k p) = no_trail
-trail_of (nothing s) = no_trail
-trail_of (seq s ps) = no_trail
-trail_of (choice s bs) = no_trail
+trail_of _ = no_trail
 
--- \Z where one of two has it
-abbrev pub both_trails : Trail → Trail → Trail
-both_trails end_trail t = end_trail
-both_trails no_trail t = t
-both_trails dollar_trail end_trail = end_trail
-both_trails dollar_trail no_trail = dollar_trail
-both_trails dollar_trail dollar_trail = dollar_trail
+-- a list without the longest run at its front of what passes a test
+abbrev pub without_run : {X : Type 0} → (X → Bool) → List X → List X
+without_run test [] = []
+without_run test (x ∷ xs) = if test x then without_run test xs else x ∷ xs
 
--- items without the longest run of leading anchors
-abbrev pub without_leading : List Node → List Node
-without_leading [] = []
-without_leading (p ∷ ps) = if is_leading p then without_leading ps else p ∷ ps
-
-abbrev pub begins_leading : List Node → Bool
+abbrev pub begins_leading : List SyntaxNode → Bool
 begins_leading [] = false
 begins_leading (p ∷ ps) = is_leading p
 
+-- the anchor of a run that begins with this one: \Z where one of them is it
 abbrev pub run_of : Trail → Trail → Trail
-run_of no_trail t = no_trail
-run_of dollar_trail t = both_trails dollar_trail t
-run_of end_trail t = end_trail
+run_of dollar_trail end_trail = end_trail
+run_of t _ = t
 
 -- the longest run of trailing anchors of items that are given from the end
-abbrev pub trailing_run : List Node → Trail
+abbrev pub trailing_run : List SyntaxNode → Trail
 trailing_run [] = no_trail
 trailing_run (p ∷ ps) = run_of (trail_of p) (trailing_run ps)
 
 abbrev pub drops : Trail → Bool
 drops no_trail = false
-drops dollar_trail = true
-drops end_trail = true
+drops _ = true
 
--- the items without that run, from the end
-abbrev pub without_trailing : List Node → List Node
-without_trailing [] = []
-without_trailing (p ∷ ps) = if drops (trail_of p) then without_trailing ps else p ∷ ps
+-- items without the longest runs of leading and of trailing anchors
+abbrev pub inner_items : List SyntaxNode → List SyntaxNode
+inner_items ps = reverse (without_run (λ p. drops (trail_of p)) (reverse (without_run is_leading ps)))
 
-abbrev pub inner_items : List Node → List Node
-inner_items ps = reverse (without_trailing (reverse (without_leading ps)))
-
-abbrev pub listed : Nodes → List Node
+abbrev pub listed : Nodes → List SyntaxNode
 listed no_nodes = []
 listed (more_nodes p ps) = p ∷ listed ps
 
 -- the items of a body of one branch, and nothing for one of several
-abbrev pub items_of : Node → Option (List Node)
+abbrev pub items_of : SyntaxNode → Option (List SyntaxNode)
 items_of (nothing s) = Some []
 items_of (seq s ps) = Some (listed ps)
 items_of (choice s bs) = None
-items_of (leaf s f x) = Some (leaf s f x ∷ [])
-items_of (mark s f m) = Some (mark s f m ∷ [])
-items_of (repeat s q n g p) = Some (repeat s q n g p ∷ [])
-items_of (group s k p) = Some (group s k p ∷ [])
+items_of p = Some (p ∷ [])
 
 -- a pattern without its outer anchors
 pub record Inner : Type 0 where
-  pub body : Node
+  pub body : SyntaxNode
   pub leading : Bool
   pub trail : Trail
 
-abbrev pub inner_of : Span → Node → Option (List Node) → Inner
+abbrev pub inner_of : Span → SyntaxNode → Option (List SyntaxNode) → Inner
 inner_of s p None = record { body = p; leading = false; trail = no_trail }
 inner_of s p (Some ps) = record { body = branch_body s (inner_items ps); leading = begins_leading ps; trail = trailing_run (reverse ps) }
 
@@ -305,66 +238,3 @@ refused call text p = first_fault (whole_faults call text p)
 abbrev pub refused_flags : Flags → Bool → Option Feature
 refused_flags f text =
     if f.locale then Some is_locale else (if f.unicode && (f.ascii || not text) then Some is_flag_clash else None)
-
--- which codes a leaf holds. The named classes, narrow or not, and the closing of a set under case are given
-module _ (named_class : Bool → Named → ℕ → Bool) (closed : Bool → (ℕ → Bool) → ℕ → Bool) (text : Bool) (fl : Flags) where
-  -- whether ASCII decides
-  abbrev pub narrow : Bool
-  narrow = fl.ascii || not text
-
-  abbrev pub in_universe : ℕ → Bool
-  in_universe c = nat_le c (if text then 1114111 else 255)
-
-  abbrev pub closing : (ℕ → Bool) → ℕ → Bool
-  closing set c = if fl.ignore_case then closed narrow set c else set c
-
-  -- a named class, or its complement
-  abbrev pub kind_holds : Named → Bool → ℕ → Bool
-  kind_holds k false c = named_class narrow k c
-  kind_holds k true c = in_universe c && not (named_class narrow k c)
-
-  abbrev pub escaped_holds : Escaped → ℕ → Bool
-  escaped_holds (code d) c = closing (λ x. x == d) c
-  escaped_holds (kind k n) c = kind_holds k n c
-  escaped_holds too_large c = false
-  escaped_holds by_name c = false
-  escaped_holds reference c = false
-
-  -- single codes and ranges of a class
-  abbrev pub code_member : Member → ℕ → Bool
-  code_member (one s (code d)) c = c == d
-  code_member (one s (kind k n)) c = false
-  code_member (one s too_large) c = false
-  code_member (one s by_name) c = false
-  code_member (one s reference) c = false
-  code_member (range s (code d) (code e)) c = nat_le d c && nat_le c e
-  code_member (range s (code d) (kind k n)) c = false
-  code_member (range s (code d) too_large) c = false
-  code_member (range s (code d) by_name) c = false
-  code_member (range s (code d) reference) c = false
-  code_member (range s (kind k n) e) c = false
-  code_member (range s too_large e) c = false
-  code_member (range s by_name e) c = false
-  code_member (range s reference e) c = false
-
-  abbrev pub kind_member : Member → ℕ → Bool
-  kind_member (one s (kind k n)) c = kind_holds k n c
-  kind_member (one s (code d)) c = false
-  kind_member (one s too_large) c = false
-  kind_member (one s by_name) c = false
-  kind_member (one s reference) c = false
-  kind_member (range s d e) c = false
-
-  abbrev pub some_member : (Member → ℕ → Bool) → List Member → ℕ → Bool
-  some_member holds [] c = false
-  some_member holds (m ∷ ms) c = holds m c || some_member holds ms c
-
-  -- a class is closed first and complemented then. Named classes are not closed
-  abbrev pub members_hold : List Member → ℕ → Bool
-  members_hold ms c = closing (some_member code_member ms) c || some_member kind_member ms c
-
-  abbrev pub leaf_holds : Leaf → ℕ → Bool
-  leaf_holds any c = in_universe c && (fl.dot_all || not (c == 10))
-  leaf_holds (glyph e) c = escaped_holds e c
-  leaf_holds (members false ms) c = members_hold ms c
-  leaf_holds (members true ms) c = in_universe c && not (members_hold ms c)

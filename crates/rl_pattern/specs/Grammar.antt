@@ -32,8 +32,8 @@
 use Prim.Native.String.{String}
 use Rattle.std.specs.Prelude.{◌≡◌, ◌≢◌, ◌⊎◌, ℕ, suc, ◌<◌, Bool, true, false, List, [], ◌∷◌, ◌++◌, length, Some, slice_get, codes}
 use Rattle.rl_pattern.specs.declared.flags.Flags.{Flags}
-use Rattle.rl_pattern.specs.Tree.{span, Named, Count, Greed, greedy, lazy, possessive, Escaped, code, by_name, kind, reference, Member, one, range, any, glyph, members, Kind, capturing, named, scoped, lookaround, atomic, conditional, Mark, Node, leaf, mark, repeat, group, Branch, branch, whole_body, Front, Whole}
-use Rattle.rl_pattern.specs.Codes.{code_of, sign, blank, sharp, plain, times, edge, numeral, low_digit, is_digit, hex, begins_name, goes_in_name, slashed, single, kinds, hexes, naming, octal, low, high, edges, Slashed, octal_code, hex_code, is_kind, headed, looks, on_letter, off_letter, no_flags, with_letter, joined, inside, splits, with_digit, counts, count_of}
+use Rattle.rl_pattern.specs.Tree.{span, Named, Count, Greed, greedy, lazy, possessive, Escaped, code, by_name, kind, reference, Member, one, range, any, glyph, members, Kind, capturing, named, scoped, lookaround, atomic, conditional, Assertion, SyntaxNode, leaf, mark, repeat, group, Branch, branch, whole_body, Front, Whole}
+use Rattle.rl_pattern.specs.Codes.{code_of, sign, blank, sharp, plain, times, edge, numeral, low_digit, is_digit, hex, begins_name, goes_in_name, slashed, single, kinds, hexes, naming, octal, low, high, edges, EscapeClass, octal_code, hex_code, is_kind, headed, looks, on_letter, off_letter, no_flags, with_letter, joined, inside, splits, with_digit, counts, count_of}
 
 -- what is a literal between items, by its sign
 abbrev pub is_literal : Flags → ℕ → Type 0
@@ -44,7 +44,7 @@ abbrev pub outermost : Kind
 outermost = scoped no_flags no_flags
 
 -- behind a backslash, a digit from 1 to 9 begins a reference
-abbrev pub Refers : Slashed → Type 0
+abbrev pub Refers : EscapeClass → Type 0
 Refers s = ((d : ℕ) × (s ≡ low d)) ⊎ (s ≡ high)
 
 -- the place behind texts that stand from i on
@@ -107,7 +107,7 @@ module _ (text : Bool) (w : List ℕ) where
     next_code : {i j c : ℕ} {n : List ℕ} → Name i j n → At j c → goes_in_name text c ≡ true → Name i (suc j) (n ++ c ∷ [])
 
   -- a backslash at i, and what the code after it is
-  abbrev pub Slash : Bool → ℕ → Slashed → Type 0
+  abbrev pub Slash : Bool → ℕ → EscapeClass → Type 0
   Slash in_class i s = (c : ℕ) × Stands i "\\" × At (suc i) c × (slashed text in_class c ≡ s)
 
   -- a backslash at i and three octal digits, the first from 1 to 7
@@ -129,9 +129,9 @@ module _ (text : Bool) (w : List ℕ) where
     -- "\" (1 to 7) octal{2}
     escape_three : {i j d v : ℕ} → Slash in_class i (low d) → Octals d (suc (suc i)) j 2 v → Escape in_class i j (octal_code v)
     -- "\" (1 to 9), behind which no digit stands
-    reference_one : {i : ℕ} {s : Slashed} → Slash in_class i s → Refers s → ¬ DigitAt (suc (suc i)) → Escape in_class i (suc (suc i)) reference
+    reference_one : {i : ℕ} {s : EscapeClass} → Slash in_class i s → Refers s → ¬ DigitAt (suc (suc i)) → Escape in_class i (suc (suc i)) reference
     -- "\" (1 to 9) digit, unless these begin three octal digits
-    reference_two : {i : ℕ} {s : Slashed} → Slash in_class i s → Refers s → DigitAt (suc (suc i)) → ¬ Three in_class i → Escape in_class i (suc (suc (suc i))) reference
+    reference_two : {i : ℕ} {s : EscapeClass} → Slash in_class i s → Refers s → DigitAt (suc (suc i)) → ¬ Three in_class i → Escape in_class i (suc (suc (suc i))) reference
 
   -- side, of a member of a class
   pub data Side : ℕ → ℕ → Escaped → Type 0 where
@@ -231,7 +231,7 @@ module _ (text : Bool) (w : List ℕ) where
     -- "#" (any code but LF)* and the end of the codes, under VERBOSE
     pass_last_line : {i : ℕ} → fl.verbose ≡ true → Stands i "#" → Without (code_of "\n") (suc i) (length w) → Passed fl i (length w)
     -- "(?#" (any code but ")")* ")"
-    pass_remark : {i k : ℕ} → Stands i "(?#" → Without (code_of ")") (behind i "(?#") k → Stands k ")" → Passed fl i (suc k)
+    pass_comment : {i k : ℕ} → Stands i "(?#" → Without (code_of ")") (behind i "(?#") k → Stands k ")" → Passed fl i (suc k)
 
   -- passed*
   pub data Blanks (fl : Flags) : ℕ → ℕ → Type 0 where
@@ -240,7 +240,7 @@ module _ (text : Bool) (w : List ℕ) where
 
   mutual
     -- atom
-    pub data Atom : Flags → ℕ → ℕ → Node → Type 0 where
+    pub data Atom : Flags → ℕ → ℕ → SyntaxNode → Type 0 where
       -- literal
       literal : {fl : Flags} {i c : ℕ} → At i c → is_literal fl c → Atom fl i (suc i) (leaf (span i (suc i)) fl (glyph (code c)))
       -- "{" that begins no braces
@@ -257,30 +257,30 @@ module _ (text : Bool) (w : List ℕ) where
       grouped : {fl : Flags} {i j k : ℕ} {kd : Kind} {bs : List Branch} → Opening i j kd → IsBranches kd (inside kd fl) j k bs → Stands k ")" → Atom fl i (suc k) (group (span i (suc k)) kd (whole_body (span j k) bs))
 
     -- item
-    pub data Item : Flags → ℕ → ℕ → Node → Type 0 where
+    pub data Item : Flags → ℕ → ℕ → SyntaxNode → Type 0 where
       -- atom
-      once : {fl : Flags} {i j : ℕ} {p : Node} → Atom fl i j p → Item fl i j p
+      once : {fl : Flags} {i j : ℕ} {p : SyntaxNode} → Atom fl i j p → Item fl i j p
       -- atom passed* quantifier
-      repeated : {fl : Flags} {i j k l : ℕ} {p : Node} {n : Count} {g : Greed} → Atom fl i j p → Blanks fl j k → Quantifier k l n g → Item fl i l (repeat (span i l) (span k l) n g p)
+      repeated : {fl : Flags} {i j k l : ℕ} {p : SyntaxNode} {n : Count} {g : Greed} → Atom fl i j p → Blanks fl j k → Quantifier k l n g → Item fl i l (repeat (span i l) (span k l) n g p)
       -- "^" | "$"
-      edge_code : {fl : Flags} {i c : ℕ} {m : Mark} → At i c → sign c ≡ edge m → Item fl i (suc i) (mark (span i (suc i)) fl m)
+      edge_code : {fl : Flags} {i c : ℕ} {m : Assertion} → At i c → sign c ≡ edge m → Item fl i (suc i) (mark (span i (suc i)) fl m)
       -- "\A" | "\Z" | "\b" | "\B"
-      edge_escape : {fl : Flags} {i : ℕ} {m : Mark} → Slash false i (edges m) → Item fl i (suc (suc i)) (mark (span i (suc (suc i))) fl m)
+      edge_escape : {fl : Flags} {i : ℕ} {m : Assertion} → Slash false i (edges m) → Item fl i (suc (suc i)) (mark (span i (suc (suc i))) fl m)
 
     -- branch: (item | passed)*
-    pub data Items : Flags → ℕ → ℕ → List Node → Type 0 where
+    pub data Items : Flags → ℕ → ℕ → List SyntaxNode → Type 0 where
       no_items : {fl : Flags} {i : ℕ} → Items fl i i []
       -- (item | passed)* passed
-      pass_over : {fl : Flags} {i j k : ℕ} {ps : List Node} → Items fl i j ps → Passed fl j k → Items fl i k ps
+      pass_over : {fl : Flags} {i j k : ℕ} {ps : List SyntaxNode} → Items fl i j ps → Passed fl j k → Items fl i k ps
       -- (item | passed)* item
-      one_item : {fl : Flags} {i j k : ℕ} {ps : List Node} {p : Node} → Items fl i j ps → Item fl j k p → Items fl i k (ps ++ p ∷ [])
+      one_item : {fl : Flags} {i j k : ℕ} {ps : List SyntaxNode} {p : SyntaxNode} → Items fl i j ps → Item fl j k p → Items fl i k (ps ++ p ∷ [])
 
     -- branches, of a group of this kind
     pub data IsBranches : Kind → Flags → ℕ → ℕ → List Branch → Type 0 where
       -- branch
-      first_branch : {kd : Kind} {fl : Flags} {i j : ℕ} {ps : List Node} → Items fl i j ps → IsBranches kd fl i j (branch (span i j) ps ∷ [])
+      first_branch : {kd : Kind} {fl : Flags} {i j : ℕ} {ps : List SyntaxNode} → Items fl i j ps → IsBranches kd fl i j (branch (span i j) ps ∷ [])
       -- branch ("|" branch)* "|" branch
-      next_branch : {kd : Kind} {fl : Flags} {i j k : ℕ} {bs : List Branch} {ps : List Node} → IsBranches kd fl i j bs → Stands j "|" → splits kd bs ≡ true → Items fl (suc j) k ps → IsBranches kd fl i k (bs ++ branch (span (suc j) k) ps ∷ [])
+      next_branch : {kd : Kind} {fl : Flags} {i j k : ℕ} {bs : List Branch} {ps : List SyntaxNode} → IsBranches kd fl i j bs → Stands j "|" → splits kd bs ≡ true → Items fl (suc j) k ps → IsBranches kd fl i k (bs ++ branch (span (suc j) k) ps ∷ [])
 
   pub data FlagGroup : ℕ → ℕ → Flags → Type 0 where
     -- flag_group: "(?" flag+ ")", which opens no body

@@ -5,6 +5,7 @@ use Rattle.rl_syntax.specs.declared.feature.Feature.{Feature}
 use Rattle.rl_syntax.specs.declared.pattern.Pattern.{Pattern}
 use Rattle.rl_syntax.specs.Pattern.{body_of, is_anchored, trail_of, universe_of}
 use Rattle.rl_pattern.specs.declared.flags.Flags.{Flags}
+use Rattle.rl_pattern.specs.declared.limits.TheConstants.{MOST_CODES}
 use Rattle.rl_pattern.specs.declared.parsing.PatError.{PatError}
 use Rattle.rl_pattern.specs.declared.parsing.PatError.TheVariants as error
 use Rattle.rl_pattern.specs.Tree as t
@@ -17,7 +18,7 @@ use Rattle.rl_pattern.specs.Shape.{shape}
 
 -- no more codes than are read, and flags that a call may have
 pub record IsAsked (flags : Flags) (u : Universe) (w : List ℕ) : Type 0 where
-  pub short : length w ≤ 10000
+  pub short : length w ≤ MOST_CODES
   pub allowed : refused_flags flags (is_text u) ≡ None
 
 -- the pattern of a spelled tree that its outer anchors are taken off
@@ -51,7 +52,7 @@ pub record IsMisspelled (flags : Flags) (u : Universe) (w : List ℕ) (n : ℕ) 
   pub none : (whole : t.Whole) → Spells flags (is_text u) w whole → ⊥
   pub shallow : Shallow flags (is_text u) w
 
--- the first group that opens while 100 are open stands at `p`, and the codes up to it begin a spelled pattern
+-- the first group that opens while MOST_OPEN_GROUPS are open stands at `p`, and the codes up to it begin a spelled pattern
 pub record IsTooDeep (flags : Flags) (u : Universe) (w : List ℕ) (p : ℕ) : Type 0 where
   pub asked : IsAsked flags u w
   pub deep : TooDeepAt flags (is_text u) w p
@@ -60,13 +61,13 @@ pub record IsTooDeep (flags : Flags) (u : Universe) (w : List ℕ) (p : ℕ) : T
 
 -- the flags of the call are refused
 pub record IsRefused (flags : Flags) (u : Universe) (w : List ℕ) (p : ℕ) (what : Feature) : Type 0 where
-  pub short : length w ≤ 10000
+  pub short : length w ≤ MOST_CODES
   pub place : p ≡ 0
   pub refused : refused_flags flags (is_text u) ≡ Some what
 
 abbrev pub IsParsed : Flags → Universe → List ℕ → Result Pattern PatError → Type 0
 IsParsed flags u w (Ok found) = (whole : t.Whole) × IsSpelled flags u w found whole
-IsParsed flags u w (Err error.TooLong) = 10000 < length w
+IsParsed flags u w (Err error.TooLong) = MOST_CODES < length w
 IsParsed flags u w (Err (error.Outside p what)) = IsRefused flags u w p what ⊎ ((whole : t.Whole) × IsOutside flags u w p what whole)
 IsParsed flags u w (Err (error.TooDeep p)) = IsTooDeep flags u w p
 IsParsed flags u w (Err (error.Syntax n)) = IsMisspelled flags u w n
@@ -77,6 +78,4 @@ abbrev pub IsOutcome : Flags → Universe → t.Whole → Result Pattern PatErro
 IsOutcome flags u whole (Ok found) = (refused flags (is_text u) whole ≡ None) × IsPatternOf u (inner whole) found
 IsOutcome flags u whole (Err (error.Outside p what)) = refused flags (is_text u) whole ≡ Some (fault p what)
 IsOutcome flags u whole (Err error.OutOfMemory) = Unit {0}
-IsOutcome flags u whole (Err error.TooLong) = ⊥
-IsOutcome flags u whole (Err (error.TooDeep p)) = ⊥
-IsOutcome flags u whole (Err (error.Syntax n)) = ⊥
+IsOutcome flags u whole _ = ⊥

@@ -1,5 +1,6 @@
 -- What a spelled tree in which nothing is refused is as a pattern over a universe. A group that is refused is left as `outside`.
-use Rattle.std.specs.Prelude.{ℕ, zero, suc, Bool, true, false, not, nat_lt, ◌&&◌, ◌||◌, List, [], ◌∷◌}
+use Rattle.std.specs.Prelude.{ℕ, zero, suc, Bool, true, false, not, if◌then◌else◌, nat_lt, nat_le, ◌==◌, ◌&&◌, ◌||◌, List, [], ◌∷◌}
+use Rattle.std.specs.List.{list_any}
 use Rattle.rl_ranges.specs.Text.{code_count}
 use Rattle.rl_ranges.specs.Named.{is_named}
 use Rattle.rl_ranges.specs.Case.{is_case_kin}
@@ -8,8 +9,8 @@ use Rattle.rl_ranges.specs.declared.universe.Universe.TheVariants.{Str, Bytes}
 use Rattle.rl_syntax.specs.declared.anchors.AnchorKind.TheVariants as anchor
 use Rattle.rl_syntax.specs.PatTree as s
 use Rattle.rl_pattern.specs.declared.flags.Flags.{Flags}
-use Rattle.rl_pattern.specs.Tree.{Span, Named, Greed, greedy, lazy, possessive, Leaf, Mark, caret, text_start, dollar, text_end, boundary, Kind, capturing, named, scoped, lookaround, atomic, conditional, Node, leaf, mark, repeat, group, nothing, seq, choice, Nodes, no_nodes, more_nodes, Branches, no_branches, more_branches}
-use Rattle.rl_pattern.specs.Found.{leaf_holds, is_lookaround, is_atomic, is_conditional}
+use Rattle.rl_pattern.specs.Tree.{Span, Named, Greed, greedy, lazy, possessive, Escaped, code, kind, Member, one, range, Leaf, any, glyph, members, Assertion, caret, text_start, dollar, text_end, boundary, Kind, capturing, named, scoped, lookaround, atomic, conditional, SyntaxNode, leaf, mark, repeat, group, nothing, seq, choice, Nodes, no_nodes, more_nodes, Branches, no_branches, more_branches}
+use Rattle.rl_pattern.specs.Found.{is_lookaround, is_atomic, is_conditional}
 
 -- whether the universe is text
 abbrev pub is_text : Universe → Bool
@@ -21,24 +22,60 @@ unfoldable pub some_below : ℕ → (ℕ → Bool) → Bool
 some_below zero test = false
 some_below (suc n) test = test n || some_below n test
 
--- the code is in the named class; the flag says that the class is the ASCII one
-abbrev pub class_holds : Bool → Named → ℕ → Bool
-class_holds ascii kind code = is_named kind ascii code
-
 -- some code of the universe that is in the set is of one kind with the code
 abbrev pub closed_holds : Universe → Bool → (ℕ → Bool) → ℕ → Bool
-closed_holds u ascii set code = some_below (code_count u) (λ d. set d && is_case_kin ascii d code)
+closed_holds u ascii set c = some_below (code_count u) (λ d. set d && is_case_kin ascii d c)
 
 -- the codes of the universe that are in the set
 abbrev pub within : Universe → (ℕ → Bool) → ℕ → Bool
-within u set code = nat_lt code (code_count u) && set code
+within u set c = nat_lt c (code_count u) && set c
+
+-- which codes a leaf holds, over a universe and under flags
+module _ (u : Universe) (fl : Flags) where
+  -- whether ASCII decides
+  abbrev pub narrow : Bool
+  narrow = fl.ascii || not (is_text u)
+
+  -- a set, which is closed under case where that is ignored
+  abbrev pub closing : (ℕ → Bool) → ℕ → Bool
+  closing set c = if fl.ignore_case then closed_holds u narrow set c else set c
+
+  -- a named class, or its complement
+  abbrev pub kind_holds : Named → Bool → ℕ → Bool
+  kind_holds k false c = is_named k narrow c
+  kind_holds k true c = within u (λ d. not (is_named k narrow d)) c
+
+  abbrev pub escaped_holds : Escaped → ℕ → Bool
+  escaped_holds (code d) c = closing (λ x. x == d) c
+  escaped_holds (kind k n) c = kind_holds k n c
+  escaped_holds _ c = false
+
+  -- single codes and ranges of a class
+  abbrev pub code_member : Member → ℕ → Bool
+  code_member (one s (code d)) c = c == d
+  code_member (range s (code d) (code e)) c = nat_le d c && nat_le c e
+  code_member _ c = false
+
+  abbrev pub kind_member : Member → ℕ → Bool
+  kind_member (one s (kind k n)) c = kind_holds k n c
+  kind_member _ c = false
+
+  -- a class is closed first and complemented then. Named classes are not closed
+  abbrev pub members_hold : List Member → ℕ → Bool
+  members_hold ms c = closing (λ d. list_any (λ m. code_member m d) ms) c || list_any (λ m. kind_member m c) ms
+
+  abbrev pub leaf_holds : Leaf → ℕ → Bool
+  leaf_holds any c = fl.dot_all || not (c == 10)
+  leaf_holds (glyph e) c = escaped_holds e c
+  leaf_holds (members false ms) c = members_hold ms c
+  leaf_holds (members true ms) c = not (members_hold ms c)
 
 -- the codes that a leaf holds
 unfoldable pub leaf_codes : Universe → Flags → Leaf → ℕ → Bool
-leaf_codes u f x = within u (leaf_holds class_holds (closed_holds u) (is_text u) f x)
+leaf_codes u f x = within u (leaf_holds u f x)
 
 -- an anchor with MULTILINE as it is in force, and a boundary, whose words are the ASCII ones under ASCII and in bytes
-abbrev pub mark_shape : Universe → Span → Flags → Mark → s.PatTree
+abbrev pub mark_shape : Universe → Span → Flags → Assertion → s.PatTree
 mark_shape u place f caret = s.anchor place anchor.Caret f.multiline
 mark_shape u place f text_start = s.anchor place anchor.TextStart f.multiline
 mark_shape u place f dollar = s.anchor place anchor.Dollar f.multiline
@@ -47,19 +84,17 @@ mark_shape u place f (boundary negated) = s.boundary place negated (f.ascii || n
 
 abbrev pub is_greedy : Greed → Bool
 is_greedy greedy = true
-is_greedy lazy = false
-is_greedy possessive = false
+is_greedy _ = false
 
 abbrev pub group_shape : Span → Kind → s.PatTree → s.PatTree
-group_shape place capturing p = s.group place true p
-group_shape place (named name) p = s.group place true p
 group_shape place (scoped on off) p = s.group place false p
 group_shape place lookaround p = s.outside place is_lookaround
 group_shape place atomic p = s.outside place is_atomic
 group_shape place conditional p = s.outside place is_conditional
+group_shape place _ p = s.group place true p
 
 abbrev mutual
-  pub shape : Universe → Node → s.PatTree
+  pub shape : Universe → SyntaxNode → s.PatTree
   shape u (leaf place f x) = s.class place (leaf_codes u f x)
   shape u (mark place f m) = mark_shape u place f m
   shape u (repeat place q n g p) = s.repeat place q n.least n.most (is_greedy g) (shape u p)

@@ -62,15 +62,11 @@ abbrev mutual
 -- the spans of the branches, by rising place
 abbrev mutual
   pub branches_in : PatTree → List Span
-  branches_in (nothing s) = []
-  branches_in (class s set) = []
   branches_in (seq s ps) = items_branches ps
   branches_in (choice s bs) = choice_branches bs
   branches_in (repeat s q least most greedy p) = branches_in p
   branches_in (group s captures p) = branches_in p
-  branches_in (anchor s kind multiline) = []
-  branches_in (boundary s negated ascii) = []
-  branches_in (outside s what) = []
+  branches_in _ = []
 
   pub items_branches : PatTrees → List Span
   items_branches no_items = []
@@ -125,68 +121,49 @@ module _ (Answers : Tree → Tree → Verdict → Type 0) (body : PatTree) where
     kept_one : {bs dropped passed : List Span} {b : Span} → Tried bs dropped passed → may_go (among (b ∷ dropped)) body ≡ true → Answers (without dropped body) (without (b ∷ dropped) body) apart → Tried (b ∷ bs) dropped passed
     passed_one : {bs dropped passed : List Span} {b : Span} → Tried bs dropped passed → may_go (among (b ∷ dropped)) body ≡ true → Answers (without dropped body) (without (b ∷ dropped) body) passed_by → Tried (b ∷ bs) dropped (b ∷ passed)
 
--- the pairs of an inner quantifier and an outer one of which the inner one may go
-abbrev pub is_any : ℕ → Option ℕ → Bool
-is_any least None = least == 0
-is_any least (Some most) = false
-
-abbrev pub is_some : ℕ → Option ℕ → Bool
-is_some least None = least == 1
-is_some least (Some most) = false
-
-abbrev pub is_option : ℕ → Option ℕ → Bool
-is_option least None = false
-is_option least (Some most) = least == 0 && most == 1
-
+-- the pairs of an inner quantifier and an outer one of which the inner one may go: *, + or ? in *, and + in +
 abbrev pub is_allowed : ℕ → Option ℕ → ℕ → Option ℕ → Bool
-is_allowed l m least most = (is_any least most && (is_any l m || (is_some l m || is_option l m))) || (is_some least most && is_some l m)
+is_allowed l None least None = (least == 0 && (l == 0 || l == 1)) || (least == 1 && l == 1)
+is_allowed l (Some m) least None = least == 0 && (l == 0 && m == 1)
+is_allowed _ _ _ _ = false
 
--- the quantifiers that are taken out, by rising place: each is that of a repeat that is the whole content of a group, which
--- doesn't capture and is the body of another repeat
+-- where a part stands: it is the body of a repeat with these numbers, or the whole content of a group that is such a body, the
+-- flag says whether one that captures, or neither
+pub data Around : Type 0 where
+  elsewhere : Around
+  under : ℕ → Option ℕ → Around
+  inside : Bool → ℕ → Option ℕ → Around
+
+-- the content of a group that stands there
+abbrev pub content : Around → Bool → Around
+content (under least most) captures = inside captures least most
+content _ captures = elsewhere
+
+-- the quantifier of a repeat goes that is the whole content of a group, which doesn't capture and is the body of another repeat,
+-- where the repeated part holds no group that captures and the two quantifiers are such a pair
+abbrev pub goes_out : Around → ℕ → Option ℕ → PatTree → Bool
+goes_out (inside captures least most) l m p = not captures && (not (holds_capture p) && is_allowed l m least most)
+goes_out _ l m p = false
+
+-- the quantifiers that are taken out of a part that stands there, by rising place
 abbrev mutual
-  pub merged_in : PatTree → List Span
-  merged_in (nothing s) = []
-  merged_in (class s set) = []
-  merged_in (seq s ps) = items_merged ps
-  merged_in (choice s bs) = branches_merged bs
-  merged_in (repeat s q least most greedy p) = merged_under p least most
-  merged_in (group s captures p) = merged_in p
-  merged_in (anchor s kind multiline) = []
-  merged_in (boundary s negated ascii) = []
-  merged_in (outside s what) = []
+  pub merged_at : Around → PatTree → List Span
+  merged_at around (seq s ps) = items_merged ps
+  merged_at around (choice s bs) = branches_merged bs
+  merged_at around (repeat s q l m greedy p) = if goes_out around l m p then merged_at (under l m) p ++ q ∷ [] else merged_at (under l m) p
+  merged_at around (group s captures p) = merged_at (content around captures) p
+  merged_at around _ = []
 
   pub items_merged : PatTrees → List Span
   items_merged no_items = []
-  items_merged (item p ps) = merged_in p ++ items_merged ps
+  items_merged (item p ps) = merged_at elsewhere p ++ items_merged ps
 
   pub branches_merged : BranchTrees → List Span
   branches_merged no_branches = []
-  branches_merged (branch s p bs) = merged_in p ++ branches_merged bs
+  branches_merged (branch s p bs) = merged_at elsewhere p ++ branches_merged bs
 
-  -- of the body of a repeat with these numbers
-  pub merged_under : PatTree → ℕ → Option ℕ → List Span
-  merged_under (group s captures p) least most = merged_inside p captures least most
-  merged_under (repeat s q l m greedy p) least most = merged_under p l m
-  merged_under (nothing s) least most = []
-  merged_under (class s set) least most = []
-  merged_under (seq s ps) least most = items_merged ps
-  merged_under (choice s bs) least most = branches_merged bs
-  merged_under (anchor s kind multiline) least most = []
-  merged_under (boundary s negated ascii) least most = []
-  merged_under (outside s what) least most = []
-
-  -- of the content of a group that is the body of a repeat with these numbers
-  pub merged_inside : PatTree → Bool → ℕ → Option ℕ → List Span
-  merged_inside (repeat s q l m greedy p) captures least most =
-      merged_under p l m ++ (if not captures && (not (holds_capture p) && is_allowed l m least most) then q ∷ [] else [])
-  merged_inside (nothing s) captures least most = []
-  merged_inside (class s set) captures least most = []
-  merged_inside (seq s ps) captures least most = items_merged ps
-  merged_inside (choice s bs) captures least most = branches_merged bs
-  merged_inside (group s c p) captures least most = merged_in p
-  merged_inside (anchor s kind multiline) captures least most = []
-  merged_inside (boundary s negated ascii) captures least most = []
-  merged_inside (outside s what) captures least most = []
+abbrev pub merged_in : PatTree → List Span
+merged_in p = merged_at elsewhere p
 
 -- the codes that are left
 abbrev pub text_of : PatTree → List Span → List Span → List ℕ → List ℕ
@@ -194,8 +171,7 @@ text_of body dropped merged codes = kept_from (λ t. not (gone (among dropped) (
 
 abbrev pub text_if : PatTree → List Span → List Span → List ℕ → Option (List ℕ)
 text_if body [] [] codes = None
-text_if body [] (m ∷ ms) codes = Some (text_of body [] (m ∷ ms) codes)
-text_if body (d ∷ ds) ms codes = Some (text_of body (d ∷ ds) ms codes)
+text_if body dropped merged codes = Some (text_of body dropped merged codes)
 
 -- a right suggestion: its branches that were dropped, its quantifiers that were taken out, the branches whose test passed its
 -- limit, and the simpler codes

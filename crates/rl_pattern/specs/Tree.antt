@@ -14,8 +14,8 @@ pub use Rattle.rl_pattern.specs.declared.tree.Member.{Member}
 pub use Rattle.rl_pattern.specs.declared.tree.Member.TheVariants.{One as one, Range as range}
 pub use Rattle.rl_pattern.specs.declared.tree.Leaf.{Leaf}
 pub use Rattle.rl_pattern.specs.declared.tree.Leaf.TheVariants.{Any as any, Glyph as glyph, Members as members}
-pub use Rattle.rl_pattern.specs.declared.tree.Mark.{Mark}
-pub use Rattle.rl_pattern.specs.declared.tree.Mark.TheVariants.{Caret as caret, TextStart as text_start, Dollar as dollar, TextEnd as text_end, Boundary as boundary}
+pub use Rattle.rl_pattern.specs.declared.tree.Assertion.{Assertion}
+pub use Rattle.rl_pattern.specs.declared.tree.Assertion.TheVariants.{Caret as caret, TextStart as text_start, Dollar as dollar, TextEnd as text_end, Boundary as boundary}
 pub use Rattle.rl_pattern.specs.declared.tree.Kind.{Kind}
 pub use Rattle.rl_pattern.specs.declared.tree.Kind.TheVariants.{Capturing as capturing, Named as named, Scoped as scoped, Lookaround as lookaround, Atomic as atomic, Conditional as conditional}
 pub use Rattle.rl_pattern.specs.declared.tree.Front.{Front}
@@ -24,30 +24,30 @@ abbrev pub span : ℕ → ℕ → Span
 span i j = record { from = i; upto = j }
 
 mutual
-  pub data Node : Type 0 where
-    leaf : Span → Flags → Leaf → Node
-    mark : Span → Flags → Mark → Node
+  pub data SyntaxNode : Type 0 where
+    leaf : Span → Flags → Leaf → SyntaxNode
+    mark : Span → Flags → Assertion → SyntaxNode
     -- the second span is the quantifier's
-    repeat : Span → Span → Count → Greed → Node → Node
-    group : Span → Kind → Node → Node
-    nothing : Span → Node
-    seq : Span → Nodes → Node
-    choice : Span → Branches → Node
+    repeat : Span → Span → Count → Greed → SyntaxNode → SyntaxNode
+    group : Span → Kind → SyntaxNode → SyntaxNode
+    nothing : Span → SyntaxNode
+    seq : Span → Nodes → SyntaxNode
+    choice : Span → Branches → SyntaxNode
 
   pub data Nodes : Type 0 where
     no_nodes : Nodes
-    more_nodes : Node → Nodes → Nodes
+    more_nodes : SyntaxNode → Nodes → Nodes
 
   pub data Branches : Type 0 where
     no_branches : Branches
-    more_branches : Span → Node → Branches → Branches
+    more_branches : Span → SyntaxNode → Branches → Branches
 
 -- a branch with the span of its codes, what is passed over included
 pub record Branch : Type 0 where
   pub place : Span
-  pub body : Node
+  pub body : SyntaxNode
 
-abbrev pub nodes : List Node → Nodes
+abbrev pub nodes : List SyntaxNode → Nodes
 nodes [] = no_nodes
 nodes (p ∷ ps) = more_nodes p (nodes ps)
 
@@ -56,16 +56,16 @@ branches [] = no_branches
 branches (b ∷ bs) = more_branches b.place b.body (branches bs)
 
 -- a branch of one item is that item
-abbrev pub branch_body : Span → List Node → Node
+abbrev pub branch_body : Span → List SyntaxNode → SyntaxNode
 branch_body s [] = nothing s
 branch_body s (p ∷ []) = p
 branch_body s (p ∷ q ∷ ps) = seq s (nodes (p ∷ q ∷ ps))
 
-abbrev pub branch : Span → List Node → Branch
+abbrev pub branch : Span → List SyntaxNode → Branch
 branch s ps = record { place = s; body = branch_body s ps }
 
 -- a body of one branch is that branch
-abbrev pub whole_body : Span → List Branch → Node
+abbrev pub whole_body : Span → List Branch → SyntaxNode
 whole_body s [] = nothing s
 whole_body s (b ∷ []) = b.body
 whole_body s (b ∷ c ∷ bs) = choice s (branches (b ∷ c ∷ bs))
@@ -74,4 +74,4 @@ whole_body s (b ∷ c ∷ bs) = choice s (branches (b ∷ c ∷ bs))
 pub record Whole : Type 0 where
   pub fronts : List Front
   pub place : Span
-  pub body : Node
+  pub body : SyntaxNode

@@ -4,18 +4,15 @@ use Rattle.rl_ranges.specs.Text.{IsText}
 use Rattle.rl_ranges.specs.declared.universe.Universe.{Universe}
 use Rattle.rl_ranges.specs.declared.universe.Universe.TheVariants.{Str, Bytes}
 use Rattle.rl_pattern.specs.declared.flags.Flags.{Flags}
-use Rattle.rl_pattern.specs.Tree.{Kind, Node, Branch, Front, Whole}
+use Rattle.rl_pattern.specs.declared.limits.TheConstants.{MOST_OPEN_GROUPS}
+use Rattle.rl_pattern.specs.Tree.{Kind, SyntaxNode, Branch, Front, Whole}
 use Rattle.rl_pattern.specs.Codes.{inside, splits}
 use Rattle.rl_pattern.specs.Grammar.{Stands, Opening, Items, IsBranches, Fronts, outermost, Spells}
-
--- the universe of text, or that of bytes
-abbrev pub universe_if : Bool → Universe
-universe_if text = if text then Str else Bytes
 
 -- some codes more, of the universe, make a spelled pattern of these
 pub record Begins (call : Flags) (text : Bool) (u : List ℕ) : Type 0 where
   pub rest : List ℕ
-  pub codes : IsText (universe_if text) rest
+  pub codes : IsText (if text then Str else Bytes) rest
   pub whole : Whole
   pub spelled : Spells call text (u ++ rest) whole
 
@@ -28,17 +25,17 @@ pub record Viable (call : Flags) (text : Bool) (w : List ℕ) (n : ℕ) : Type 0
 module _ (text : Bool) (w : List ℕ) where
   -- the first branches of a body from i on, the last of them open at j
   pub data Part (kd : Kind) (fl : Flags) : ℕ → ℕ → Type 0 where
-    part_first : {i j : ℕ} {ps : List Node} → Items text w fl i j ps → Part kd fl i j
-    part_next : {i j k : ℕ} {bs : List Branch} {ps : List Node} → IsBranches text w kd fl i j bs → Stands text w j "|" → splits kd bs ≡ true → Items text w fl (suc j) k ps → Part kd fl i k
+    part_first : {i j : ℕ} {ps : List SyntaxNode} → Items text w fl i j ps → Part kd fl i j
+    part_next : {i j k : ℕ} {bs : List Branch} {ps : List SyntaxNode} → IsBranches text w kd fl i j bs → Stands text w j "|" → splits kd bs ≡ true → Items text w fl (suc j) k ps → Part kd fl i k
 
   -- at k, between items, so many groups are open, the innermost of this kind and with these flags inside
   pub data Open (call : Flags) : Kind → Flags → ℕ → ℕ → Type 0 where
     none_open : {i k : ℕ} {fl : Flags} {gs : List Front} → Fronts text w call i fl gs → Part outermost fl i k → Open call outermost fl k 0
     one_open : {j k l d : ℕ} {kd outer : Kind} {fl : Flags} → Open call outer fl k d → Opening text w k j kd → Part kd (inside kd fl) j l → Open call kd (inside kd fl) l (suc d)
 
--- the code at p opens a group while 100 are open, by the codes up to p; a (?# and a (?P= open none
+-- the code at p opens a group while MOST_OPEN_GROUPS are open, by the codes up to p; a (?# and a (?P= open none
 pub record TooDeepAt (call : Flags) (text : Bool) (w : List ℕ) (p : ℕ) : Type 0 where
   pub opens : Stands text w p "("
-  pub no_remark : ¬ Stands text w p "(?#"
+  pub no_comment : ¬ Stands text w p "(?#"
   pub no_reference : ¬ Stands text w p "(?P="
-  pub deep : (kd : Kind) × (fl : Flags) × Open text (take (suc p) w) call kd fl p 100
+  pub deep : (kd : Kind) × (fl : Flags) × Open text (take (suc p) w) call kd fl p MOST_OPEN_GROUPS

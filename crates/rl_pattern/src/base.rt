@@ -8,13 +8,13 @@ ghost use Rattle.rl_pattern.specs.internal.Machine as m;
 
 use crate::flags::{Flags, joined, scoped_flags};
 use crate::state::{Base, Frame, Last, Lex, State};
-use crate::tree::{Branch, Count, Escaped, Front, Greed, Kind, Leaf, Node};
+use crate::tree::{Branch, Count, Escaped, Front, Greed, Kind, Leaf, SyntaxNode};
 use rl_lists::{Items, OutOfMemory};
 use rl_syntax::Span;
 use std::alloc::Global;
 
 /// A branch of these items: one item is the branch.
-pub(crate) fn branch(place: Span, items: Items<Node>) -> Branch
+pub(crate) fn branch(place: Span, items: Items<SyntaxNode>) -> Branch
     ensures { branch_of result ≡ t.branch place (map node_of items) }
 {
     if items.len() == 1 {
@@ -23,24 +23,24 @@ pub(crate) fn branch(place: Span, items: Items<Node>) -> Branch
             Some(body) => Branch { place, body },
             None => Branch {
                 place,
-                body: Node::Nothing(place),
+                body: SyntaxNode::Nothing(place),
             },
         }
     } else if items.is_empty() {
         Branch {
             place,
-            body: Node::Nothing(place),
+            body: SyntaxNode::Nothing(place),
         }
     } else {
         Branch {
             place,
-            body: Node::Seq(place, items),
+            body: SyntaxNode::Seq(place, items),
         }
     }
 }
 
 /// A body of these branches: one branch is the body.
-pub(crate) fn whole_body(place: Span, branches: Items<Branch>) -> Node
+pub(crate) fn whole_body(place: Span, branches: Items<Branch>) -> SyntaxNode
     ensures { node_of result ≡ t.whole_body place (map branch_of branches) }
 {
     if branches.len() == 1 {
@@ -50,17 +50,17 @@ pub(crate) fn whole_body(place: Span, branches: Items<Branch>) -> Node
                 let Branch { place: _, body } = only;
                 body
             }
-            None => Node::Nothing(place),
+            None => SyntaxNode::Nothing(place),
         }
     } else if branches.is_empty() {
-        Node::Nothing(place)
+        SyntaxNode::Nothing(place)
     } else {
-        Node::Choice(place, branches)
+        SyntaxNode::Choice(place, branches)
     }
 }
 
 /// The items with the last atom.
-fn settled(mut items: Items<Node>, last: Last) -> Result<Items<Node>, OutOfMemory>
+fn settled(mut items: Items<SyntaxNode>, last: Last) -> Result<Items<SyntaxNode>, OutOfMemory>
     ensures { IfOk result (λ all. map node_of all ≡ m.settled (map node_of items) (last_of last)) }
 {
     match last {
@@ -110,14 +110,14 @@ fn with_last(base: Base, last: Last) -> Result<Base, OutOfMemory>
 }
 
 /// An atom from a place up to here.
-pub(crate) fn put(base: Base, from: u32, atom: Node) -> Result<Base, OutOfMemory>
+pub(crate) fn put(base: Base, from: u32, atom: SyntaxNode) -> Result<Base, OutOfMemory>
     ensures { IfOk result (λ found. base_of found ≡ m.put (base_of base) from (node_of atom)) }
 {
     with_last(base, Last::AnAtom(from, atom))
 }
 
 /// An item that takes no quantifier.
-pub(crate) fn put_item(base: Base, item: Node) -> Result<Base, OutOfMemory>
+pub(crate) fn put_item(base: Base, item: SyntaxNode) -> Result<Base, OutOfMemory>
     ensures { IfOk result (λ found. base_of found ≡ m.put_item (base_of base) (node_of item)) }
 {
     let mut base = with_last(base, Last::NothingYet)?;
@@ -130,7 +130,11 @@ pub(crate) fn put_leaf(base: Base, from: u32, upto: u32, leaf: Leaf) -> Result<B
     ensures { IfOk result (λ found. base_of found ≡ m.put_leaf (base_of base) from upto leaf) }
 {
     let flags = base.top.flags;
-    put(base, from, Node::Leaf(Span { from, upto }, flags, leaf))
+    put(
+        base,
+        from,
+        SyntaxNode::Leaf(Span { from, upto }, flags, leaf),
+    )
 }
 
 /// A literal.
@@ -160,7 +164,7 @@ pub(crate) fn put_repeat(
     alloc: Global,
     base: Base,
     from: u32,
-    atom: Node,
+    atom: SyntaxNode,
     mark: Span,
     count: Count,
     greed: Greed,
@@ -172,7 +176,7 @@ pub(crate) fn put_repeat(
         upto: mark.upto,
     };
     let body = Box::new(alloc, atom)?;
-    put_item(base, Node::Repeat(span, mark, count, greed, body))
+    put_item(base, SyntaxNode::Repeat(span, mark, count, greed, body))
 }
 
 /// A quantifier from `from` for the last atom.
@@ -215,7 +219,7 @@ pub(crate) fn all_branches(
     mut branches: Items<Branch>,
     from: u32,
     upto: u32,
-    items: Items<Node>,
+    items: Items<SyntaxNode>,
     last: Last,
 ) -> Result<Items<Branch>, OutOfMemory>
     ensures { IfOk result (λ all. map branch_of all ≡ map branch_of branches ++ t.branch (t.span from upto) (m.settled (map node_of items) (last_of last)) ∷ []) }
@@ -355,7 +359,7 @@ pub(crate) fn close(alloc: Global, base: Base, i: u32) -> Result<Option<State>, 
     Ok(Some(State {
         base: Base {
             top: outer,
-            last: Last::AnAtom(opened, Node::Group(span, kind, body)),
+            last: Last::AnAtom(opened, SyntaxNode::Group(span, kind, body)),
             below,
             fronts,
         },

@@ -3,40 +3,40 @@
 ghost use Rattle.std.specs.Prelude.{◌≡◌, ℕ};
 ghost use Rattle.rl_pattern.specs.Codes.{sign, numeral, is_digit, hex, begins_name, goes_in_name, slashed, slashed_letter, slashed_digit, is_letter, is_blank, headed, on_letter, off_letter, counts};
 
-use crate::lex::{Headed, Numeral, Sign, Slashed};
-use crate::tree::{Count, Mark};
+use crate::lex::{EscapeClass, GroupPrefix, Numeral, TokenClass};
+use crate::tree::{Assertion, Count};
 use rl_ranges::Named;
 
 /// What a code is between items.
 #[tactic(auto, unfolding(crate::specs::Codes::sign))]
-pub(crate) fn sign(code: u32) -> Sign
+pub(crate) fn sign(code: u32) -> TokenClass
     ensures { result ≡ sign code }
 {
     match char::from_u32(code) {
-        Some('(') => Sign::Left,
-        Some(')') => Sign::Right,
-        Some('|') => Sign::Bar,
-        Some('*') => Sign::Times(Count {
+        Some('(') => TokenClass::Left,
+        Some(')') => TokenClass::Right,
+        Some('|') => TokenClass::Bar,
+        Some('*') => TokenClass::Times(Count {
             least: 0,
             most: None,
         }),
-        Some('+') => Sign::Times(Count {
+        Some('+') => TokenClass::Times(Count {
             least: 1,
             most: None,
         }),
-        Some('?') => Sign::Times(Count {
+        Some('?') => TokenClass::Times(Count {
             least: 0,
             most: Some(1),
         }),
-        Some('{') => Sign::Brace,
-        Some('\\') => Sign::Slash,
-        Some('.') => Sign::Dot,
-        Some('[') => Sign::Bracket,
-        Some('^') => Sign::Edge(Mark::Caret),
-        Some('$') => Sign::Edge(Mark::Dollar),
-        Some('#') => Sign::Sharp,
-        Some('\t'..='\r' | ' ') => Sign::Blank,
-        _ => Sign::Plain,
+        Some('{') => TokenClass::Brace,
+        Some('\\') => TokenClass::Slash,
+        Some('.') => TokenClass::Dot,
+        Some('[') => TokenClass::Bracket,
+        Some('^') => TokenClass::Edge(Assertion::Caret),
+        Some('$') => TokenClass::Edge(Assertion::Dollar),
+        Some('#') => TokenClass::Sharp,
+        Some('\t'..='\r' | ' ') => TokenClass::Blank,
+        _ => TokenClass::Plain,
     }
 }
 
@@ -100,38 +100,38 @@ pub(crate) fn goes_in_name(text: bool, code: u32) -> bool
 }
 
 /// What a letter is behind a backslash, in text or not, in a class or not.
-fn slashed_letter(text: bool, in_class: bool, code: u32) -> Slashed
+fn slashed_letter(text: bool, in_class: bool, code: u32) -> EscapeClass
     ensures { result ≡ slashed_letter text in_class code }
 {
     match char::from_u32(code) {
-        Some('a') => Slashed::Single(7),
-        Some('f') => Slashed::Single(12),
-        Some('n') => Slashed::Single('\n' as u32),
-        Some('r') => Slashed::Single('\r' as u32),
-        Some('t') => Slashed::Single('\t' as u32),
-        Some('v') => Slashed::Single(11),
-        Some('d') => Slashed::Kinds(Named::Digit, false),
-        Some('D') => Slashed::Kinds(Named::Digit, true),
-        Some('s') => Slashed::Kinds(Named::Space, false),
-        Some('S') => Slashed::Kinds(Named::Space, true),
-        Some('w') => Slashed::Kinds(Named::Word, false),
-        Some('W') => Slashed::Kinds(Named::Word, true),
-        Some('x') => Slashed::Hexes(2),
-        Some('u') if text => Slashed::Hexes(4),
-        Some('U') if text => Slashed::Hexes(8),
-        Some('N') if text => Slashed::Naming,
-        Some('b') if in_class => Slashed::Single(8),
-        Some('b') => Slashed::Edges(Mark::Boundary(false)),
-        Some('B') if !in_class => Slashed::Edges(Mark::Boundary(true)),
-        Some('A') if !in_class => Slashed::Edges(Mark::TextStart),
-        Some('Z') if !in_class => Slashed::Edges(Mark::TextEnd),
-        _ => Slashed::NoEscape,
+        Some('a') => EscapeClass::Single(7),
+        Some('f') => EscapeClass::Single(12),
+        Some('n') => EscapeClass::Single('\n' as u32),
+        Some('r') => EscapeClass::Single('\r' as u32),
+        Some('t') => EscapeClass::Single('\t' as u32),
+        Some('v') => EscapeClass::Single(11),
+        Some('d') => EscapeClass::Kinds(Named::Digit, false),
+        Some('D') => EscapeClass::Kinds(Named::Digit, true),
+        Some('s') => EscapeClass::Kinds(Named::Space, false),
+        Some('S') => EscapeClass::Kinds(Named::Space, true),
+        Some('w') => EscapeClass::Kinds(Named::Word, false),
+        Some('W') => EscapeClass::Kinds(Named::Word, true),
+        Some('x') => EscapeClass::Hexes(2),
+        Some('u') if text => EscapeClass::Hexes(4),
+        Some('U') if text => EscapeClass::Hexes(8),
+        Some('N') if text => EscapeClass::Naming,
+        Some('b') if in_class => EscapeClass::Single(8),
+        Some('b') => EscapeClass::Edges(Assertion::Boundary(false)),
+        Some('B') if !in_class => EscapeClass::Edges(Assertion::Boundary(true)),
+        Some('A') if !in_class => EscapeClass::Edges(Assertion::TextStart),
+        Some('Z') if !in_class => EscapeClass::Edges(Assertion::TextEnd),
+        _ => EscapeClass::NoEscape,
     }
 }
 
 /// What a code is behind a backslash, in text or not, in a class or not.
 #[tactic(auto, unfolding(crate::specs::Codes::slashed))]
-pub(crate) fn slashed(text: bool, in_class: bool, code: u32) -> Slashed
+pub(crate) fn slashed(text: bool, in_class: bool, code: u32) -> EscapeClass
     ensures { result ≡ slashed text in_class code }
 {
     if is_letter(code) {
@@ -140,19 +140,19 @@ pub(crate) fn slashed(text: bool, in_class: bool, code: u32) -> Slashed
     match numeral(code) {
         Numeral::LowDigit(digit) => {
             if in_class || digit == 0 {
-                Slashed::Octal(digit)
+                EscapeClass::Octal(digit)
             } else {
-                Slashed::Low(digit)
+                EscapeClass::Low(digit)
             }
         }
         Numeral::HighDigit => {
             if in_class {
-                Slashed::NoEscape
+                EscapeClass::NoEscape
             } else {
-                Slashed::High
+                EscapeClass::High
             }
         }
-        Numeral::NoDigit => Slashed::Single(code),
+        Numeral::NoDigit => EscapeClass::Single(code),
     }
 }
 
@@ -177,22 +177,22 @@ pub(crate) fn off_letter(code: u32) -> bool
 
 /// What a code is behind `(?`.
 #[tactic(auto, unfolding(crate::specs::Codes::headed))]
-pub(crate) fn headed(code: u32) -> Headed
+pub(crate) fn headed(code: u32) -> GroupPrefix
     ensures { result ≡ headed code }
 {
     if on_letter(code) {
-        return Headed::Letter;
+        return GroupPrefix::Letter;
     }
     match char::from_u32(code) {
-        Some(':') => Headed::Colon,
-        Some('-') => Headed::Minus,
-        Some('P') => Headed::LetterP,
-        Some('#') => Headed::Sharps,
-        Some('=' | '!') => Headed::Looks,
-        Some('<') => Headed::Less,
-        Some('>') => Headed::Greater,
-        Some('(') => Headed::Condition,
-        _ => Headed::NoHead,
+        Some(':') => GroupPrefix::Colon,
+        Some('-') => GroupPrefix::Minus,
+        Some('P') => GroupPrefix::LetterP,
+        Some('#') => GroupPrefix::Sharps,
+        Some('=' | '!') => GroupPrefix::Looks,
+        Some('<') => GroupPrefix::Less,
+        Some('>') => GroupPrefix::Greater,
+        Some('(') => GroupPrefix::Condition,
+        _ => GroupPrefix::NoHead,
     }
 }
 

@@ -71,7 +71,7 @@ pub(crate) fn finish(alloc: Global, state: State, k: u32) -> Result<Option<Whole
             None => Ok(None),
             Some(escaped) => { finish_base(put_leaf(base, from, k, Leaf::Glyph(escaped))?, k) }
         },
-        Lex::Remark
+        Lex::Comment
         | Lex::AtSlash(_)
         | Lex::InHead(_, _)
         | Lex::SetOpen(_)

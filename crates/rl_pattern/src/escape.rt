@@ -1,11 +1,12 @@
 //! The reader within an escape.
 
 ghost use Rattle.std.specs.Prelude.{◌≡◌, ℕ};
-ghost use Rattle.rl_pattern.specs.Codes.{with_digit, code_up_to, octal_code, hex_code, is_kind};
+ghost use Rattle.rl_pattern.specs.internal.Signs.{code_up_to};
+ghost use Rattle.rl_pattern.specs.Codes.{with_digit, octal_code, hex_code, is_kind};
 ghost use Rattle.rl_pattern.specs.internal.Machine.{escape_first, escape_next, escape_rest, hex_next, octal_next, low_next, high_next, two_next};
 
 use crate::codes::{hex, numeral};
-use crate::lex::{Answer, InEscape, Numeral, Slashed};
+use crate::lex::{Answer, EscapeClass, InEscape, Numeral};
 use crate::tree::Escaped;
 
 /// A number in a base, and one digit more.
@@ -51,18 +52,18 @@ pub(crate) fn is_kind(escaped: Escaped) -> bool
 }
 
 /// The code behind the backslash.
-pub(crate) fn escape_first(slashed: Slashed) -> Answer<InEscape, Escaped>
+pub(crate) fn escape_first(slashed: EscapeClass) -> Answer<InEscape, Escaped>
     ensures { result ≡ escape_first slashed }
 {
     match slashed {
-        Slashed::Single(code) => Answer::Ends(Escaped::Code(code)),
-        Slashed::Kinds(named, negated) => Answer::Ends(Escaped::Kind(named, negated)),
-        Slashed::Hexes(count) => Answer::Goes(InEscape::InHex(count, 0)),
-        Slashed::Naming => Answer::Goes(InEscape::NameBrace),
-        Slashed::Octal(digit) => Answer::Goes(InEscape::InOctal(2, digit)),
-        Slashed::Low(digit) => Answer::Goes(InEscape::AfterLow(digit)),
-        Slashed::High => Answer::Goes(InEscape::AfterHigh),
-        Slashed::Edges(_) | Slashed::NoEscape => Answer::Stops,
+        EscapeClass::Single(code) => Answer::Ends(Escaped::Code(code)),
+        EscapeClass::Kinds(named, negated) => Answer::Ends(Escaped::Kind(named, negated)),
+        EscapeClass::Hexes(count) => Answer::Goes(InEscape::InHex(count, 0)),
+        EscapeClass::Naming => Answer::Goes(InEscape::NameBrace),
+        EscapeClass::Octal(digit) => Answer::Goes(InEscape::InOctal(2, digit)),
+        EscapeClass::Low(digit) => Answer::Goes(InEscape::AfterLow(digit)),
+        EscapeClass::High => Answer::Goes(InEscape::AfterHigh),
+        EscapeClass::Edges(_) | EscapeClass::NoEscape => Answer::Stops,
     }
 }
 

@@ -1,12 +1,14 @@
 //! What is refused in a tree: the first fault by its place, and of two at one place by the order of features.
 
-ghost use Rattle.std.specs.Prelude.{◌≡◌, ℕ, Bool, List, map, ◌||◌, ◌&&◌};
+ghost use Rattle.std.specs.Prelude.{◌≡◌, ℕ, Bool, List, map, ◌||◌, ◌&&◌, flat_map};
 ghost use Rattle.rl_pattern.specs.internal.Views.{node_of, branch_of};
 ghost use Rattle.rl_pattern.specs.Tree as t;
 ghost use Rattle.rl_pattern.specs.Found as f;
 
 use crate::flags::{Flags, joined};
-use crate::tree::{Branch, Count, Escaped, Front, Greed, Kind, Leaf, Mark, Member, Node};
+use crate::tree::{
+    Assertion, Branch, Count, Escaped, Front, Greed, Kind, Leaf, Member, SyntaxNode,
+};
 use rl_syntax::{Feature, Span};
 
 /// A feature at a place that is refused.
@@ -125,7 +127,7 @@ fn member_fault(member: Member) -> Option<Fault>
 
 /// The first fault of the members of a class.
 fn members_fault(members: &[Member]) -> Option<Fault>
-    ensures { result ≡ f.first_fault (f.members_faults members.now) }
+    ensures { result ≡ f.first_fault (flat_map f.member_faults members.now) }
 {
     let mut best = None;
     for member in members {
@@ -146,12 +148,13 @@ fn leaf_fault(span: Span, leaf: &Leaf) -> Option<Fault>
 }
 
 /// The fault of an anchor or a boundary.
-fn mark_fault(span: Span, flags: Flags, mark: Mark) -> Option<Fault>
+fn mark_fault(span: Span, flags: Flags, mark: Assertion) -> Option<Fault>
     ensures { result ≡ f.first_fault (f.mark_faults span flags mark) }
 {
     match mark {
-        Mark::Dollar => fault_if(!flags.multiline, span.from, Feature::InnerAnchor),
-        Mark::Caret | Mark::TextStart | Mark::TextEnd | Mark::Boundary(_) => None,
+        Assertion::Dollar => fault_if(!flags.multiline, span.from, Feature::InnerAnchor),
+        Assertion::Caret | Assertion::TextStart | Assertion::TextEnd | Assertion::Boundary(_) =>
+            None,
     }
 }
 
@@ -222,29 +225,29 @@ fn kind_fault(text: bool, place: u32, kind: &Kind) -> Option<Fault>
 /// The first fault of a node, in text or not, apart from names that stand twice.
 #[cycle(node_fault)]
 #[tactic(auto, using(crate::proofs::FirstFault::first_of_joined))]
-pub(crate) fn node_fault(text: bool, node: &Node) -> Option<Fault>
+pub(crate) fn node_fault(text: bool, node: &SyntaxNode) -> Option<Fault>
     ensures { result ≡ f.first_fault (f.node_faults text (node_of node.now)) }
 {
     match node {
-        Node::Leaf(span, _, leaf) => leaf_fault(*span, leaf),
-        Node::Mark(span, flags, mark) => mark_fault(*span, *flags, *mark),
-        Node::Repeat(_, mark, count, greed, body) => {
+        SyntaxNode::Leaf(span, _, leaf) => leaf_fault(*span, leaf),
+        SyntaxNode::Assertion(span, flags, mark) => mark_fault(*span, *flags, *mark),
+        SyntaxNode::Repeat(_, mark, count, greed, body) => {
             let own = count_fault(mark.from, *count, *greed);
             earlier(own, node_fault(text, body))
         }
-        Node::Group(span, kind, body) => {
+        SyntaxNode::Group(span, kind, body) => {
             let own = kind_fault(text, span.from, kind);
             earlier(own, node_fault(text, body))
         }
-        Node::Nothing(_) => None,
-        Node::Seq(_, items) => nodes_fault(text, items.as_slice()),
-        Node::Choice(_, branches) => branches_fault(text, branches.as_slice()),
+        SyntaxNode::Nothing(_) => None,
+        SyntaxNode::Seq(_, items) => nodes_fault(text, items.as_slice()),
+        SyntaxNode::Choice(_, branches) => branches_fault(text, branches.as_slice()),
     }
 }
 
 /// The first fault of nodes one after another.
 #[cycle(node_fault)]
-fn nodes_fault(text: bool, nodes: &[Node]) -> Option<Fault>
+fn nodes_fault(text: bool, nodes: &[SyntaxNode]) -> Option<Fault>
     ensures { result ≡ f.first_fault (f.nodes_faults text (t.nodes (map node_of nodes.now))) }
 {
     let mut best = None;

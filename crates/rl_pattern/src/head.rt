@@ -6,12 +6,12 @@ ghost use Rattle.rl_pattern.specs.internal.Machine.{head_step, quest_next, behin
 
 use crate::codes::{begins_name, goes_in_name, headed, is_digit, off_letter, on_letter};
 use crate::flags::{Flags, no_flags, with_letter};
-use crate::lex::{Answer, Begun, Headed, InHead};
+use crate::lex::{Answer, GroupPrefix, GroupStart, InHead};
 use crate::tree::Kind;
 use rl_lists::{Items, OutOfMemory};
 use std::alloc::Global;
 
-type HeadAnswer = Answer<InHead, Begun>;
+type HeadAnswer = Answer<InHead, GroupStart>;
 
 /// Whether nothing of the head was read but its parenthesis.
 pub(crate) fn behind_paren(head: &InHead) -> bool
@@ -36,38 +36,41 @@ pub(crate) fn behind_paren(head: &InHead) -> bool
 }
 
 /// The code behind `(?`.
-fn quest_next(next: Headed, code: u32) -> HeadAnswer
+fn quest_next(next: GroupPrefix, code: u32) -> HeadAnswer
     ensures { result ≡ quest_next next code }
 {
     match next {
-        Headed::Letter => Answer::Goes(InHead::LettersOn(with_letter(no_flags(), code))),
-        Headed::Colon => Answer::Ends(Begun::BeginsGroup(Kind::Scoped(no_flags(), no_flags()))),
-        Headed::Minus => Answer::Goes(InHead::LettersDash(no_flags())),
-        Headed::LetterP => Answer::Goes(InHead::AfterP),
-        Headed::Sharps => Answer::Ends(Begun::BeginsRemark),
-        Headed::Looks => Answer::Ends(Begun::BeginsGroup(Kind::Lookaround)),
-        Headed::Less => Answer::Goes(InHead::AfterLess),
-        Headed::Greater => Answer::Ends(Begun::BeginsGroup(Kind::Atomic)),
-        Headed::Condition => Answer::Goes(InHead::Asks),
-        Headed::NoHead => Answer::Stops,
+        GroupPrefix::Letter => Answer::Goes(InHead::LettersOn(with_letter(no_flags(), code))),
+        GroupPrefix::Colon => Answer::Ends(GroupStart::BeginsGroup(Kind::Scoped(
+            no_flags(),
+            no_flags(),
+        ))),
+        GroupPrefix::Minus => Answer::Goes(InHead::LettersDash(no_flags())),
+        GroupPrefix::LetterP => Answer::Goes(InHead::AfterP),
+        GroupPrefix::Sharps => Answer::Ends(GroupStart::BeginsComment),
+        GroupPrefix::Looks => Answer::Ends(GroupStart::BeginsGroup(Kind::Lookaround)),
+        GroupPrefix::Less => Answer::Goes(InHead::AfterLess),
+        GroupPrefix::Greater => Answer::Ends(GroupStart::BeginsGroup(Kind::Atomic)),
+        GroupPrefix::Condition => Answer::Goes(InHead::Asks),
+        GroupPrefix::NoHead => Answer::Stops,
     }
 }
 
 /// The code behind `(?<`.
-fn behind_next(next: Headed) -> HeadAnswer
+fn behind_next(next: GroupPrefix) -> HeadAnswer
     ensures { result ≡ behind_next next }
 {
     match next {
-        Headed::Looks => Answer::Ends(Begun::BeginsGroup(Kind::Lookaround)),
-        Headed::Letter
-        | Headed::Colon
-        | Headed::Minus
-        | Headed::LetterP
-        | Headed::Sharps
-        | Headed::Less
-        | Headed::Greater
-        | Headed::Condition
-        | Headed::NoHead => Answer::Stops,
+        GroupPrefix::Looks => Answer::Ends(GroupStart::BeginsGroup(Kind::Lookaround)),
+        GroupPrefix::Letter
+        | GroupPrefix::Colon
+        | GroupPrefix::Minus
+        | GroupPrefix::LetterP
+        | GroupPrefix::Sharps
+        | GroupPrefix::Less
+        | GroupPrefix::Greater
+        | GroupPrefix::Condition
+        | GroupPrefix::NoHead => Answer::Stops,
     }
 }
 
@@ -76,10 +79,10 @@ fn letters_next(letters: Flags, code: u32) -> HeadAnswer
     ensures { (text : Bool) → result ≡ head_step text (InHead.LettersOn letters) code }
 {
     if code == ':' as u32 {
-        return Answer::Ends(Begun::BeginsGroup(Kind::Scoped(letters, no_flags())));
+        return Answer::Ends(GroupStart::BeginsGroup(Kind::Scoped(letters, no_flags())));
     }
     if code == ')' as u32 {
-        return Answer::Ends(Begun::IsFront(letters));
+        return Answer::Ends(GroupStart::IsFront(letters));
     }
     if code == '-' as u32 {
         return Answer::Goes(InHead::LettersDash(letters));
@@ -107,7 +110,7 @@ fn group_name_next(text: bool, mut name: Items<u32>, code: u32) -> Result<HeadAn
     ensures { IfOk result (λ answer. answer ≡ head_step text (InHead.GroupNameGoes name) code) }
 {
     if code == '>' as u32 {
-        return Ok(Answer::Ends(Begun::BeginsGroup(Kind::Named(name))));
+        return Ok(Answer::Ends(GroupStart::BeginsGroup(Kind::Named(name))));
     }
     if goes_in_name(text, code) {
         name.push(code)?;
@@ -119,10 +122,10 @@ fn group_name_next(text: bool, mut name: Items<u32>, code: u32) -> Result<HeadAn
 
 /// A code within what a conditional asks for.
 fn asks_next(code: u32, goes: bool, head: InHead) -> HeadAnswer
-    ensures { result ≡ (if is ")" code then Answer.Ends (Begun.BeginsGroup Kind.Conditional) else (if goes then Answer.Goes head else Answer.Stops)) }
+    ensures { result ≡ (if is ")" code then Answer.Ends (GroupStart.BeginsGroup Kind.Conditional) else (if goes then Answer.Goes head else Answer.Stops)) }
 {
     if code == ')' as u32 {
-        Answer::Ends(Begun::BeginsGroup(Kind::Conditional))
+        Answer::Ends(GroupStart::BeginsGroup(Kind::Conditional))
     } else {
         goes_if(goes, head)
     }
@@ -161,7 +164,7 @@ pub(crate) fn head_step(
         InHead::ReferenceName => Ok(goes_if(begins_name(text, code), InHead::ReferenceNameGoes)),
         InHead::ReferenceNameGoes => {
             if code == ')' as u32 {
-                Ok(Answer::Ends(Begun::IsReference))
+                Ok(Answer::Ends(GroupStart::IsReference))
             } else {
                 Ok(goes_if(goes_in_name(text, code), InHead::ReferenceNameGoes))
             }
@@ -182,7 +185,7 @@ pub(crate) fn head_step(
         )),
         InHead::LettersOff(letters, off) => {
             if code == ':' as u32 {
-                Ok(Answer::Ends(Begun::BeginsGroup(Kind::Scoped(letters, off))))
+                Ok(Answer::Ends(GroupStart::BeginsGroup(Kind::Scoped(letters, off))))
             } else {
                 Ok(goes_if(
                     off_letter(code),

@@ -2,12 +2,12 @@
 
 ghost use Rattle.std.specs.Prelude.{◌≡◌, List, [], ◌∷◌, map, reverse, Some, IfOk};
 ghost use Rattle.rl_pattern.specs.internal.Views.{node_of, branch_of, whole_of};
-ghost use Rattle.rl_pattern.specs.internal.Judged.{left_of, trail_at};
+ghost use Rattle.rl_pattern.specs.internal.Judged.{left_of, trail_at, without_leading, without_trailing, both_trails as anchor_of_both};
 ghost use Rattle.rl_pattern.specs.Tree as t;
 ghost use Rattle.rl_pattern.specs.Found as f;
 
 use crate::base::branch;
-use crate::tree::{Branch, Mark, Node, Whole};
+use crate::tree::{Assertion, Branch, SyntaxNode, Whole};
 use rl_lists::{Items, OutOfMemory};
 use rl_syntax::{Span, Trail};
 use std::alloc::Global;
@@ -16,7 +16,7 @@ use std::alloc::Global;
 #[derive(Drop)]
 pub(crate) struct Inner {
     /// What is left of the body. The spans are those that were spelled.
-    pub(crate) body: Node,
+    pub(crate) body: SyntaxNode,
     /// Whether there was an anchor at the beginning.
     pub(crate) leading: bool,
     /// The anchors at the end.
@@ -24,52 +24,52 @@ pub(crate) struct Inner {
 }
 
 /// Whether a node is an anchor that may stand at the beginning.
-fn is_leading(node: &Node) -> bool
+fn is_leading(node: &SyntaxNode) -> bool
     ensures { result ≡ f.is_leading (node_of node.now) }
 {
     match node {
-        Node::Mark(_, flags, mark) => match mark {
-            Mark::TextStart => true,
-            Mark::Caret => !flags.multiline,
-            Mark::Dollar | Mark::TextEnd | Mark::Boundary(_) => false,
+        SyntaxNode::Assertion(_, flags, mark) => match mark {
+            Assertion::TextStart => true,
+            Assertion::Caret => !flags.multiline,
+            Assertion::Dollar | Assertion::TextEnd | Assertion::Boundary(_) => false,
         },
-        Node::Leaf(_, _, _)
-        | Node::Repeat(_, _, _, _, _)
-        | Node::Group(_, _, _)
-        | Node::Nothing(_)
-        | Node::Seq(_, _)
-        | Node::Choice(_, _) => false,
+        SyntaxNode::Leaf(_, _, _)
+        | SyntaxNode::Repeat(_, _, _, _, _)
+        | SyntaxNode::Group(_, _, _)
+        | SyntaxNode::Nothing(_)
+        | SyntaxNode::Seq(_, _)
+        | SyntaxNode::Choice(_, _) => false,
     }
 }
 
 /// The anchor at the end that a node may be.
-fn trail_of(node: &Node) -> Trail
+fn trail_of(node: &SyntaxNode) -> Trail
     ensures { result ≡ f.trail_of (node_of node.now) }
 {
     match node {
-        Node::Mark(_, flags, mark) => match mark {
-            Mark::TextEnd => Trail::End,
-            Mark::Dollar => {
+        SyntaxNode::Assertion(_, flags, mark) => match mark {
+            Assertion::TextEnd => Trail::End,
+            Assertion::Dollar => {
                 if flags.multiline {
                     Trail::None
                 } else {
                     Trail::Dollar
                 }
             }
-            Mark::TextStart | Mark::Caret | Mark::Boundary(_) => Trail::None,
+            Assertion::TextStart | Assertion::Caret | Assertion::Boundary(_) => Trail::None,
         },
-        Node::Leaf(_, _, _)
-        | Node::Repeat(_, _, _, _, _)
-        | Node::Group(_, _, _)
-        | Node::Nothing(_)
-        | Node::Seq(_, _)
-        | Node::Choice(_, _) => Trail::None,
+        SyntaxNode::Leaf(_, _, _)
+        | SyntaxNode::Repeat(_, _, _, _, _)
+        | SyntaxNode::Group(_, _, _)
+        | SyntaxNode::Nothing(_)
+        | SyntaxNode::Seq(_, _)
+        | SyntaxNode::Choice(_, _) => Trail::None,
     }
 }
 
 /// The anchor of two: `\Z` where one of them is it.
 fn both_trails(first: Trail, second: Trail) -> Trail
-    ensures { result ≡ f.both_trails first second }
+    ensures { result ≡ anchor_of_both first second }
 {
     match first {
         Trail::End => Trail::End,
@@ -82,7 +82,7 @@ fn both_trails(first: Trail, second: Trail) -> Trail
 }
 
 /// Whether the first item is an anchor that may stand at the beginning.
-fn begins_leading(items: &[Node]) -> bool
+fn begins_leading(items: &[SyntaxNode]) -> bool
     ensures { result ≡ f.begins_leading (map node_of items.now) }
 {
     match items.first() {
@@ -92,7 +92,7 @@ fn begins_leading(items: &[Node]) -> bool
 }
 
 /// Whether the last item is an anchor that may stand at the beginning.
-fn ends_leading(items: &[Node]) -> bool
+fn ends_leading(items: &[SyntaxNode]) -> bool
     ensures { result ≡ f.begins_leading (reverse (map node_of items.now)) }
 {
     match items.last() {
@@ -102,7 +102,7 @@ fn ends_leading(items: &[Node]) -> bool
 }
 
 /// The anchor at the end that the last item may be.
-fn last_trail(items: &[Node]) -> Trail
+fn last_trail(items: &[SyntaxNode]) -> Trail
     ensures { result ≡ trail_at (reverse (map node_of items.now)) }
 {
     match items.last() {
@@ -112,8 +112,8 @@ fn last_trail(items: &[Node]) -> Trail
 }
 
 /// Takes the longest run of anchors off the end of the items, which stand from the end.
-fn take_from_back(items: &mut Vec<Node>)
-    ensures { reverse (map node_of items.new.items) ≡ f.without_leading (reverse (map node_of items.old.items)) }
+fn take_from_back(items: &mut Vec<SyntaxNode>)
+    ensures { reverse (map node_of items.new.items) ≡ without_leading (reverse (map node_of items.old.items)) }
 {
     while ends_leading(items.as_slice()) {
         items.pop();
@@ -121,8 +121,8 @@ fn take_from_back(items: &mut Vec<Node>)
 }
 
 /// Takes the longest run of leading anchors off the items.
-fn take_leading(items: &mut Vec<Node>)
-    ensures { map node_of items.new.items ≡ f.without_leading (map node_of items.old.items) }
+fn take_leading(items: &mut Vec<SyntaxNode>)
+    ensures { map node_of items.new.items ≡ without_leading (map node_of items.old.items) }
 {
     items.reverse();
     take_from_back(items);
@@ -130,8 +130,8 @@ fn take_leading(items: &mut Vec<Node>)
 }
 
 /// Takes the longest run of trailing anchors off the items, and answers which it was.
-fn take_trailing(items: &mut Vec<Node>) -> Trail
-    ensures rest { reverse (map node_of items.new.items) ≡ f.without_trailing (reverse (map node_of items.old.items)) }
+fn take_trailing(items: &mut Vec<SyntaxNode>) -> Trail
+    ensures rest { reverse (map node_of items.new.items) ≡ without_trailing (reverse (map node_of items.old.items)) }
     ensures run { result ≡ f.trailing_run (reverse (map node_of items.old.items)) }
 {
     let mut run = Trail::None;
@@ -145,7 +145,7 @@ fn take_trailing(items: &mut Vec<Node>) -> Trail
 }
 
 /// A branch of these items without its outer anchors.
-fn inner_branch(place: Span, mut items: Vec<Node>) -> Inner
+fn inner_branch(place: Span, mut items: Vec<SyntaxNode>) -> Inner
     ensures { left_of result ≡ f.inner_of place (t.nothing place) (Some (map node_of items.items)) }
 {
     let leading = begins_leading(items.as_slice());
@@ -172,24 +172,40 @@ pub(crate) fn without_anchors(alloc: Global, whole: Whole) -> Result<Inner, OutO
         body,
     } = whole;
     match body {
-        Node::Choice(span, branches) => Ok(Inner {
-            body: Node::Choice(span, branches),
+        SyntaxNode::Choice(span, branches) => Ok(Inner {
+            body: SyntaxNode::Choice(span, branches),
             leading: false,
             trailing: Trail::None,
         }),
-        Node::Nothing(_) => Ok(inner_branch(place, Vec::new(alloc))),
-        Node::Seq(_, items) => Ok(inner_branch(place, items.into_vec())),
-        Node::Leaf(span, flags, leaf) => one_inner(alloc, place, Node::Leaf(span, flags, leaf)),
-        Node::Mark(span, flags, mark) => one_inner(alloc, place, Node::Mark(span, flags, mark)),
-        Node::Repeat(span, mark, count, greed, body) => {
-            one_inner(alloc, place, Node::Repeat(span, mark, count, greed, body))
+        SyntaxNode::Nothing(_) => Ok(inner_branch(place, Vec::new(alloc))),
+        SyntaxNode::Seq(_, items) => Ok(inner_branch(place, items.into_vec())),
+        SyntaxNode::Leaf(span, flags, leaf) => one_inner(
+            alloc,
+            place,
+            SyntaxNode::Leaf(span, flags, leaf),
+        ),
+        SyntaxNode::Assertion(span, flags, mark) => one_inner(
+            alloc,
+            place,
+            SyntaxNode::Assertion(span, flags, mark),
+        ),
+        SyntaxNode::Repeat(span, mark, count, greed, body) => {
+            one_inner(
+                alloc,
+                place,
+                SyntaxNode::Repeat(span, mark, count, greed, body),
+            )
         }
-        Node::Group(span, kind, body) => one_inner(alloc, place, Node::Group(span, kind, body)),
+        SyntaxNode::Group(span, kind, body) => one_inner(
+            alloc,
+            place,
+            SyntaxNode::Group(span, kind, body),
+        ),
     }
 }
 
 /// A branch of one item without its outer anchors.
-fn one_inner(alloc: Global, place: Span, item: Node) -> Result<Inner, OutOfMemory>
+fn one_inner(alloc: Global, place: Span, item: SyntaxNode) -> Result<Inner, OutOfMemory>
     ensures { IfOk result (λ i. left_of i ≡ f.inner_of place (node_of item) (Some (node_of item ∷ []))) }
 {
     let mut items = Vec::new(alloc);

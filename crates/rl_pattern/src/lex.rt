@@ -1,13 +1,13 @@
 //! What the reader of patterns is in the middle of.
 
 use crate::flags::Flags;
-use crate::tree::{Count, Escaped, Kind, Mark, Member};
+use crate::tree::{Assertion, Count, Escaped, Kind, Member};
 use rl_lists::Items;
 use rl_ranges::Named;
 
 /// What a code is between items.
 #[derive(Clone, Copy)]
-pub(crate) enum Sign {
+pub(crate) enum TokenClass {
     /// `(`.
     Left,
     /// `)`.
@@ -25,7 +25,7 @@ pub(crate) enum Sign {
     /// `*`, `+` and `?`.
     Times(Count),
     /// `^` and `$`.
-    Edge(Mark),
+    Edge(Assertion),
     /// White space.
     Blank,
     /// `#`.
@@ -47,7 +47,7 @@ pub(crate) enum Numeral {
 
 /// What a code is behind a backslash.
 #[derive(Clone, Copy)]
-pub(crate) enum Slashed {
+pub(crate) enum EscapeClass {
     /// The escape is this code.
     Single(u32),
     /// A named class, or its complement.
@@ -63,14 +63,14 @@ pub(crate) enum Slashed {
     /// 8 or 9 begins a reference.
     High,
     /// An anchor or a boundary.
-    Edges(Mark),
+    Edges(Assertion),
     /// No escape.
     NoEscape,
 }
 
 /// What a code is behind `(?`.
 #[derive(Clone, Copy)]
-pub(crate) enum Headed {
+pub(crate) enum GroupPrefix {
     /// A flag letter.
     Letter,
     /// `:`.
@@ -190,11 +190,11 @@ pub(crate) enum InHead {
 
 /// What a head turns out to begin.
 #[derive(Drop)]
-pub(crate) enum Begun {
+pub(crate) enum GroupStart {
     /// A group.
     BeginsGroup(Kind),
     /// A comment.
-    BeginsRemark,
+    BeginsComment,
     /// A reference to a name.
     IsReference,
     /// A flag group.

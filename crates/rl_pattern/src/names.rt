@@ -7,7 +7,7 @@ ghost use Rattle.rl_pattern.specs.Tree as t;
 ghost use Rattle.rl_pattern.specs.Found as f;
 
 use crate::faults::{Fault, earlier, fault_if};
-use crate::tree::{Branch, Kind, Node};
+use crate::tree::{Branch, Kind, SyntaxNode};
 use rl_lists::{Codes, Items, OutOfMemory};
 use rl_syntax::Feature;
 use std::alloc::Global;
@@ -49,20 +49,22 @@ fn with_name(
 #[cycle(node_names)]
 fn node_names(
     alloc: Global,
-    node: &Node,
+    node: &SyntaxNode,
     found: Items<Called>,
 ) -> Result<Items<Called>, OutOfMemory>
     ensures { IfOk result (λ all. map called_of all ≡ map called_of found ++ f.node_names (node_of node.now)) }
 {
     match node {
-        Node::Leaf(_, _, _) | Node::Mark(_, _, _) | Node::Nothing(_) => Ok(found),
-        Node::Repeat(_, _, _, _, body) => node_names(alloc, body, found),
-        Node::Group(span, kind, body) => {
+        SyntaxNode::Leaf(_, _, _) | SyntaxNode::Assertion(_, _, _) | SyntaxNode::Nothing(_) => Ok(
+            found,
+        ),
+        SyntaxNode::Repeat(_, _, _, _, body) => node_names(alloc, body, found),
+        SyntaxNode::Group(span, kind, body) => {
             let found = with_name(alloc, span.from, kind, found)?;
             node_names(alloc, body, found)
         }
-        Node::Seq(_, items) => nodes_names(alloc, items.as_slice(), found),
-        Node::Choice(_, branches) => branches_names(alloc, branches.as_slice(), found),
+        SyntaxNode::Seq(_, items) => nodes_names(alloc, items.as_slice(), found),
+        SyntaxNode::Choice(_, branches) => branches_names(alloc, branches.as_slice(), found),
     }
 }
 
@@ -70,7 +72,7 @@ fn node_names(
 #[cycle(node_names)]
 fn nodes_names(
     alloc: Global,
-    nodes: &[Node],
+    nodes: &[SyntaxNode],
     found: Items<Called>,
 ) -> Result<Items<Called>, OutOfMemory>
     ensures { IfOk result (λ all. map called_of all ≡ map called_of found ++ f.nodes_names (t.nodes (map node_of nodes.now))) }
@@ -118,7 +120,7 @@ fn names_fault(alloc: Global, names: &[Called]) -> Result<Option<Fault>, OutOfMe
 ///
 /// # Errors
 /// [`OutOfMemory`] where there was no memory for the names.
-pub(crate) fn name_fault(alloc: Global, body: &Node) -> Result<Option<Fault>, OutOfMemory>
+pub(crate) fn name_fault(alloc: Global, body: &SyntaxNode) -> Result<Option<Fault>, OutOfMemory>
     ensures { IfOk result (λ o. o ≡ f.first_fault (f.name_faults [] (f.node_names (node_of body.now)))) }
 {
     let names = node_names(alloc, body, Items::new(alloc))?;

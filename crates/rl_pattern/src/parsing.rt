@@ -12,6 +12,7 @@ ghost use Rattle.rl_pattern.specs.internal.Views.{whole_of};
 use crate::faults::refused_flags;
 use crate::flags::Flags;
 use crate::inner::Inner;
+use crate::limits::MOST_CODES;
 use crate::read::{ReadError, read};
 use crate::refused::{Judged, judge};
 use crate::shape::{is_text, node_pat};
@@ -26,7 +27,7 @@ use std::alloc::Global;
 pub enum PatError {
     /// No pattern is spelled; the place is the length of the longest prefix that begins one.
     Syntax(u32),
-    /// A group opens at the place while 100 are open.
+    /// A group opens at the place while [`MOST_OPEN_GROUPS`](crate::MOST_OPEN_GROUPS) are open.
     TooDeep(u32),
     /// There are more than 10,000 codes.
     TooLong,
@@ -90,7 +91,7 @@ pub fn parse(
     requires { IsText universe codes.now }
     ensures { IsParsed flags universe codes.now result }
 {
-    if codes.len() > 10_000 {
+    if codes.len() > MOST_CODES {
         return Err(PatError::TooLong);
     }
     let text = is_text(universe);

@@ -1,6 +1,7 @@
 //! The reader of whole patterns.
 
 ghost use Rattle.std.specs.Prelude.{◌≡◌, ℕ, ◌<◌, ◌≤◌, ◌^◌, ◌-◌, ◌+◌, suc, length, slice_get, IfOk, option_map};
+ghost use Rattle.rl_pattern.specs.declared.limits.TheConstants.{MOST_CODES};
 ghost use Rattle.rl_pattern.specs.internal.Views.{lex_of, state_of, FitsAt};
 ghost use Rattle.rl_pattern.specs.internal.Machine.{step_at, finish_at};
 ghost use Rattle.rl_pattern.specs.internal.Answering.{Answered, Went, Ended, is_code, opens_none, at_paren, is_too_deep};
@@ -8,6 +9,7 @@ ghost use Rattle.rl_pattern.specs.internal.Answering.{Answered, Went, Ended, is_
 use crate::ends::{finish, start};
 use crate::flags::Flags;
 use crate::head::behind_paren;
+use crate::limits::MOST_OPEN_GROUPS;
 use crate::state::{Lex, State};
 use crate::step::step;
 use crate::tree::Whole;
@@ -19,7 +21,7 @@ use std::alloc::Global;
 pub(crate) enum ReadError {
     /// No pattern is spelled. The number is the length of the longest prefix that begins one.
     Syntax(u32),
-    /// The code at this place opens a group while 100 are open.
+    /// The code at this place opens a group while [`MOST_OPEN_GROUPS`] are open.
     TooDeep(u32),
     /// Out of memory.
     OutOfMemory,
@@ -63,7 +65,7 @@ fn at_paren(lex: &Lex) -> bool
         Lex::InHead(_, head) => behind_paren(head),
         Lex::Between
         | Lex::Line
-        | Lex::Remark
+        | Lex::Comment
         | Lex::InBraces(_, _)
         | Lex::Counted(_, _, _, _)
         | Lex::AtSlash(_)
@@ -73,11 +75,13 @@ fn at_paren(lex: &Lex) -> bool
     }
 }
 
-/// Whether a group opens at `place` while 100 are open, by the state behind its parenthesis.
+/// Whether a group opens at `place` while [`MOST_OPEN_GROUPS`] are open, by the state behind its parenthesis.
 fn is_too_deep(state: &State, codes: &[u32], place: u32) -> bool
     ensures { result ≡ is_too_deep (state_of state.now) codes.now place }
 {
-    at_paren(&state.lex) && state.base.below.len() == 100 && !opens_none(codes, place as usize)
+    at_paren(&state.lex)
+        && state.base.below.len() == MOST_OPEN_GROUPS
+        && !opens_none(codes, place as usize)
 }
 
 /// The state with the code at `place`.
@@ -120,7 +124,7 @@ fn at_end(alloc: Global, state: State, place: u32) -> Result<Whole, ReadError>
 /// The tree that the codes spell under the flags, in text or in bytes.
 ///
 /// # Errors
-/// [`ReadError::TooDeep`] with the first place at which a group opens while 100 are open, [`ReadError::Syntax`] with the
+/// [`ReadError::TooDeep`] with the first place at which a group opens while [`MOST_OPEN_GROUPS`] are open, [`ReadError::Syntax`] with the
 /// length of the longest prefix that begins a spelled pattern where none is spelled, and [`ReadError::OutOfMemory`].
 pub(crate) fn read(
     alloc: Global,
@@ -128,7 +132,7 @@ pub(crate) fn read(
     flags: Flags,
     text: bool,
 ) -> Result<Whole, ReadError>
-    requires { length codes.now ≤ 10000 }
+    requires { length codes.now ≤ MOST_CODES }
     ensures { Answered flags text codes.now result }
 {
     let mut state = start(alloc, flags);

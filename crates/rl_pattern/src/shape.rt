@@ -10,7 +10,7 @@ ghost use Rattle.rl_pattern.specs.Shape as p;
 
 use crate::flags::Flags;
 use crate::leaf_set::leaf_set;
-use crate::tree::{Branch as SpelledBranch, Count, Greed, Kind, Leaf, Mark, Node};
+use crate::tree::{Assertion, Branch as SpelledBranch, Count, Greed, Kind, Leaf, SyntaxNode};
 use rl_lists::{Items, OutOfMemory};
 use rl_ranges::{CodeSet, Universe};
 use rl_syntax::{AnchorKind, Branch, Branches, Feature, Pat, Pats, Span};
@@ -41,32 +41,32 @@ fn leaf_pat(
 }
 
 /// The anchor or boundary of a mark.
-fn mark_pat(universe: Universe, span: Span, flags: Flags, mark: Mark) -> Pat
+fn mark_pat(universe: Universe, span: Span, flags: Flags, mark: Assertion) -> Pat
     ensures { pat_of result ≡ p.mark_shape universe span flags mark }
 {
     let multiline = flags.multiline;
     match mark {
-        Mark::Caret => Pat::Anchor {
+        Assertion::Caret => Pat::Anchor {
             span,
             kind: AnchorKind::Caret,
             multiline,
         },
-        Mark::TextStart => Pat::Anchor {
+        Assertion::TextStart => Pat::Anchor {
             span,
             kind: AnchorKind::TextStart,
             multiline,
         },
-        Mark::Dollar => Pat::Anchor {
+        Assertion::Dollar => Pat::Anchor {
             span,
             kind: AnchorKind::Dollar,
             multiline,
         },
-        Mark::TextEnd => Pat::Anchor {
+        Assertion::TextEnd => Pat::Anchor {
             span,
             kind: AnchorKind::TextEnd,
             multiline,
         },
-        Mark::Boundary(negated) => Pat::Boundary {
+        Assertion::Boundary(negated) => Pat::Boundary {
             span,
             negated,
             ascii: flags.ascii || !is_text(universe),
@@ -150,26 +150,30 @@ fn branch_at(span: Span, body: Pat) -> Branch
 /// # Errors
 /// [`OutOfMemory`] where there was no memory for the pattern.
 #[cycle(shape)]
-pub(crate) fn node_pat(alloc: Global, universe: Universe, node: &Node) -> Result<Pat, OutOfMemory>
+pub(crate) fn node_pat(
+    alloc: Global,
+    universe: Universe,
+    node: &SyntaxNode,
+) -> Result<Pat, OutOfMemory>
     ensures { IfOk result (λ found. pat_of found ≡ p.shape universe (node_of node.now)) }
 {
     match node {
-        Node::Leaf(span, flags, leaf) => leaf_pat(alloc, universe, *span, *flags, leaf),
-        Node::Mark(span, flags, mark) => Ok(mark_pat(universe, *span, *flags, *mark)),
-        Node::Repeat(span, mark, count, greed, body) => {
+        SyntaxNode::Leaf(span, flags, leaf) => leaf_pat(alloc, universe, *span, *flags, leaf),
+        SyntaxNode::Assertion(span, flags, mark) => Ok(mark_pat(universe, *span, *flags, *mark)),
+        SyntaxNode::Repeat(span, mark, count, greed, body) => {
             let body = node_pat(alloc, universe, body)?;
             repeat_pat(alloc, *span, *mark, *count, *greed, body)
         }
-        Node::Group(span, kind, body) => {
+        SyntaxNode::Group(span, kind, body) => {
             let body = node_pat(alloc, universe, body)?;
             group_pat(alloc, *span, kind, body)
         }
-        Node::Nothing(span) => Ok(Pat::Nothing { span: *span }),
-        Node::Seq(span, items) => {
+        SyntaxNode::Nothing(span) => Ok(Pat::Nothing { span: *span }),
+        SyntaxNode::Seq(span, items) => {
             let items = item_pats(alloc, universe, items.as_slice())?;
             Ok(Pat::Seq { span: *span, items })
         }
-        Node::Choice(span, branches) => {
+        SyntaxNode::Choice(span, branches) => {
             let branches = branch_pats(alloc, universe, branches.as_slice())?;
             Ok(Pat::Choice {
                 span: *span,
@@ -181,7 +185,7 @@ pub(crate) fn node_pat(alloc: Global, universe: Universe, node: &Node) -> Result
 
 /// What nodes one after another are as patterns.
 #[cycle(shape)]
-fn item_pats(alloc: Global, universe: Universe, nodes: &[Node]) -> Result<Pats, OutOfMemory>
+fn item_pats(alloc: Global, universe: Universe, nodes: &[SyntaxNode]) -> Result<Pats, OutOfMemory>
     ensures { IfOk result (λ ps. map pat_of ps ≡ p.shapes universe (t.nodes (map node_of nodes.now))) }
 {
     let mut items: Pats = Items::new(alloc);

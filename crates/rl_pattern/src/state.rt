@@ -2,7 +2,7 @@
 
 use crate::flags::Flags;
 use crate::lex::{InEscape, InHead, Set};
-use crate::tree::{Branch, Count, Front, Kind, Node};
+use crate::tree::{Branch, Count, Front, Kind, SyntaxNode};
 use rl_lists::Items;
 
 /// An open body.
@@ -21,7 +21,7 @@ pub(crate) struct Frame {
     /// The branches before that.
     pub(crate) branches: Items<Branch>,
     /// The items of the open branch.
-    pub(crate) items: Items<Node>,
+    pub(crate) items: Items<SyntaxNode>,
 }
 
 /// An atom that may still take a quantifier.
@@ -30,7 +30,7 @@ pub(crate) enum Last {
     /// There is none.
     NothingYet,
     /// An atom from a place.
-    AnAtom(u32, Node),
+    AnAtom(u32, SyntaxNode),
 }
 
 /// What was read, apart from what the reader is in the middle of.
@@ -54,11 +54,11 @@ pub(crate) enum Lex {
     /// A comment up to the end of its line.
     Line,
     /// A comment in parentheses.
-    Remark,
+    Comment,
     /// A brace and the text after it.
     InBraces(u32, Items<u32>),
     /// An atom from a place, and a quantifier from another.
-    Counted(u32, Node, u32, Count),
+    Counted(u32, SyntaxNode, u32, Count),
     /// A backslash.
     AtSlash(u32),
     /// An escape.

@@ -14,10 +14,10 @@ use crate::codes::{counts, sign, slashed};
 use crate::count::count_of;
 use crate::escape::{escape_first, escape_next, escape_rest};
 use crate::head::{behind_paren, head_step};
-use crate::lex::{Answer, Begun, InEscape, InHead, InSet, Set, Sign, Slashed};
+use crate::lex::{Answer, EscapeClass, GroupStart, InEscape, InHead, InSet, Set, TokenClass};
 use crate::set::set_step;
 use crate::state::{Base, Lex, State};
-use crate::tree::{Count, Escaped, Greed, Kind, Leaf, Mark, Member, Node};
+use crate::tree::{Assertion, Count, Escaped, Greed, Kind, Leaf, Member, SyntaxNode};
 use rl_lists::{Items, OutOfMemory};
 use rl_syntax::Span;
 use std::alloc::Global;
@@ -51,11 +51,11 @@ fn pass_or_put(base: Base, i: u32, code: u32, lex: Lex) -> Result<Option<State>,
 }
 
 /// A mark from `from` up to `upto`.
-fn put_mark(base: Base, from: u32, upto: u32, mark: Mark) -> Result<Option<State>, OutOfMemory>
+fn put_mark(base: Base, from: u32, upto: u32, mark: Assertion) -> Result<Option<State>, OutOfMemory>
     ensures { IfOk result (λ found. option_map state_of found ≡ Some (m.at (m.put_item (base_of base) (t.mark (t.span from upto) (base_of base).top.flags mark)) m.between)) }
 {
     let flags = base.top.flags;
-    let item = Node::Mark(Span { from, upto }, flags, mark);
+    let item = SyntaxNode::Assertion(Span { from, upto }, flags, mark);
     Ok(between(put_item(base, item)?))
 }
 
@@ -66,18 +66,18 @@ fn go_on(alloc: Global, i: u32, base: Base, code: u32) -> Result<Option<State>, 
     ensures { IfOk result (λ found. option_map state_of found ≡ m.go_on i (base_of base) code) }
 {
     match sign(code) {
-        Sign::Left => Ok(Some(at(base, Lex::InHead(i, InHead::Paren)))),
-        Sign::Right => close(alloc, base, i),
-        Sign::Bar => split(alloc, base, i),
-        Sign::Brace => Ok(Some(at(base, Lex::InBraces(i, Items::new(alloc))))),
-        Sign::Slash => Ok(Some(at(base, Lex::AtSlash(i)))),
-        Sign::Dot => Ok(between(put_leaf(base, i, i + 1, Leaf::Any)?)),
-        Sign::Bracket => Ok(Some(at(base, Lex::SetOpen(i)))),
-        Sign::Times(count) => Ok(count_last(base, i, count)),
-        Sign::Edge(mark) => put_mark(base, i, i + 1, mark),
-        Sign::Blank => pass_or_put(base, i, code, Lex::Between),
-        Sign::Sharp => pass_or_put(base, i, code, Lex::Line),
-        Sign::Plain => Ok(between(put_code(base, i, code)?)),
+        TokenClass::Left => Ok(Some(at(base, Lex::InHead(i, InHead::Paren)))),
+        TokenClass::Right => close(alloc, base, i),
+        TokenClass::Bar => split(alloc, base, i),
+        TokenClass::Brace => Ok(Some(at(base, Lex::InBraces(i, Items::new(alloc))))),
+        TokenClass::Slash => Ok(Some(at(base, Lex::AtSlash(i)))),
+        TokenClass::Dot => Ok(between(put_leaf(base, i, i + 1, Leaf::Any)?)),
+        TokenClass::Bracket => Ok(Some(at(base, Lex::SetOpen(i)))),
+        TokenClass::Times(count) => Ok(count_last(base, i, count)),
+        TokenClass::Edge(mark) => put_mark(base, i, i + 1, mark),
+        TokenClass::Blank => pass_or_put(base, i, code, Lex::Between),
+        TokenClass::Sharp => pass_or_put(base, i, code, Lex::Line),
+        TokenClass::Plain => Ok(between(put_code(base, i, code)?)),
     }
 }
 
@@ -133,7 +133,7 @@ fn counted_step(
     i: u32,
     base: Base,
     from: u32,
-    atom: Node,
+    atom: SyntaxNode,
     mark: u32,
     count: Count,
     code: u32,
@@ -179,24 +179,49 @@ fn escape_begins(
 }
 
 /// The code at `i` behind a backslash at `from`.
-fn slash_step(i: u32, base: Base, from: u32, slashed: Slashed) -> Result<Option<State>, OutOfMemory>
+fn slash_step(
+    i: u32,
+    base: Base,
+    from: u32,
+    slashed: EscapeClass,
+) -> Result<Option<State>, OutOfMemory>
     requires { i < 2 ^ 32 - 1 }
     ensures { IfOk result (λ found. option_map state_of found ≡ m.slash_step i (base_of base) from slashed) }
 {
     match slashed {
-        Slashed::Edges(mark) => put_mark(base, from, i + 1, mark),
-        Slashed::NoEscape => Ok(None),
-        Slashed::Single(code) => {
-            escape_begins(i, base, from, escape_first(Slashed::Single(code)))
+        EscapeClass::Edges(mark) => put_mark(base, from, i + 1, mark),
+        EscapeClass::NoEscape => Ok(None),
+        EscapeClass::Single(code) => {
+            escape_begins(i, base, from, escape_first(EscapeClass::Single(code)))
         }
-        Slashed::Kinds(named, negated) => {
-            escape_begins(i, base, from, escape_first(Slashed::Kinds(named, negated)))
+        EscapeClass::Kinds(named, negated) => {
+            escape_begins(
+                i,
+                base,
+                from,
+                escape_first(EscapeClass::Kinds(named, negated)),
+            )
         }
-        Slashed::Hexes(count) => escape_begins(i, base, from, escape_first(Slashed::Hexes(count))),
-        Slashed::Naming => escape_begins(i, base, from, escape_first(Slashed::Naming)),
-        Slashed::Octal(digit) => escape_begins(i, base, from, escape_first(Slashed::Octal(digit))),
-        Slashed::Low(digit) => escape_begins(i, base, from, escape_first(Slashed::Low(digit))),
-        Slashed::High => escape_begins(i, base, from, escape_first(Slashed::High)),
+        EscapeClass::Hexes(count) => escape_begins(
+            i,
+            base,
+            from,
+            escape_first(EscapeClass::Hexes(count)),
+        ),
+        EscapeClass::Naming => escape_begins(i, base, from, escape_first(EscapeClass::Naming)),
+        EscapeClass::Octal(digit) => escape_begins(
+            i,
+            base,
+            from,
+            escape_first(EscapeClass::Octal(digit)),
+        ),
+        EscapeClass::Low(digit) => escape_begins(
+            i,
+            base,
+            from,
+            escape_first(EscapeClass::Low(digit)),
+        ),
+        EscapeClass::High => escape_begins(i, base, from, escape_first(EscapeClass::High)),
     }
 }
 
@@ -232,18 +257,18 @@ fn begin(
     base: Base,
     from: u32,
     upto: u32,
-    begun: Begun,
+    begun: GroupStart,
 ) -> Result<Option<State>, OutOfMemory>
     ensures { IfOk result (λ found. option_map state_of found ≡ m.begin (base_of base) from upto begun) }
 {
     match begun {
-        Begun::BeginsGroup(kind) => Ok(between(open_group(alloc, base, from, upto, kind)?)),
-        Begun::BeginsRemark => Ok(Some(at(base, Lex::Remark))),
-        Begun::IsReference => {
+        GroupStart::BeginsGroup(kind) => Ok(between(open_group(alloc, base, from, upto, kind)?)),
+        GroupStart::BeginsComment => Ok(Some(at(base, Lex::Comment))),
+        GroupStart::IsReference => {
             let leaf = Leaf::Glyph(Escaped::Reference);
             Ok(between(put_leaf(base, from, upto, leaf)?))
         }
-        Begun::IsFront(letters) => put_front(base, from, upto, letters),
+        GroupStart::IsFront(letters) => put_front(base, from, upto, letters),
     }
 }
 
@@ -353,11 +378,11 @@ pub(crate) fn step(
                 Ok(Some(at(base, Lex::Line)))
             }
         }
-        Lex::Remark => {
+        Lex::Comment => {
             if code == ')' as u32 {
                 Ok(between(base))
             } else {
-                Ok(Some(at(base, Lex::Remark)))
+                Ok(Some(at(base, Lex::Comment)))
             }
         }
         Lex::InBraces(from, text) => braces_step(alloc, i, base, from, text, code),

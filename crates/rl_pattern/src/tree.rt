@@ -63,7 +63,7 @@ pub(crate) enum Leaf {
 
 /// An anchor or a boundary.
 #[derive(Clone, Copy)]
-pub(crate) enum Mark {
+pub(crate) enum Assertion {
     /// `^`.
     Caret,
     /// `\A`.
@@ -96,19 +96,19 @@ pub(crate) enum Kind {
 /// A part of a pattern, with its span and the flags in force.
 #[cycle(node)]
 #[derive(Drop)]
-pub(crate) enum Node {
+pub(crate) enum SyntaxNode {
     /// One code.
     Leaf(Span, Flags, Leaf),
     /// An anchor or a boundary.
-    Mark(Span, Flags, Mark),
+    Assertion(Span, Flags, Assertion),
     /// Copies of a body. The second span is the quantifier's.
-    Repeat(Span, Span, Count, Greed, Box<Node>),
+    Repeat(Span, Span, Count, Greed, Box<SyntaxNode>),
     /// A group.
-    Group(Span, Kind, Box<Node>),
+    Group(Span, Kind, Box<SyntaxNode>),
     /// A branch without items.
     Nothing(Span),
     /// Items one after another.
-    Seq(Span, Items<Node>),
+    Seq(Span, Items<SyntaxNode>),
     /// One of several branches.
     Choice(Span, Items<Branch>),
 }
@@ -120,7 +120,7 @@ pub(crate) struct Branch {
     /// The codes between the branch's delimiters.
     pub(crate) place: Span,
     /// What the branch is.
-    pub(crate) body: Node,
+    pub(crate) body: SyntaxNode,
 }
 
 /// A front flag group with its letters.
@@ -140,5 +140,5 @@ pub(crate) struct Whole {
     /// The codes of the body.
     pub(crate) place: Span,
     /// The body.
-    pub(crate) body: Node,
+    pub(crate) body: SyntaxNode,
 }

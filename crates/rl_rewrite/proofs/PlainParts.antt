@@ -12,7 +12,7 @@ use Rattle.rl_syntax.specs.declared.pat.Branch.{Branch}
 use Rattle.rl_syntax.specs.declared.pat.Pat.TheVariants as V
 use Rattle.rl_pattern.specs.declared.flags.Flags.{Flags}
 use Rattle.rl_pattern.specs.Cut.{left, left_items}
-use Rattle.rl_pattern.specs.Suggested.{among, no_span, holds_capture, some_capture, branches_in, items_branches, choice_branches, is_allowed, merged_in, items_merged, merged_under, merged_inside, Tried, none_tried}
+use Rattle.rl_pattern.specs.Suggested.{among, no_span, holds_capture, some_capture, branches_in, items_branches, choice_branches, is_allowed, merged_in, items_merged, under, merged_at, inside, Tried, none_tried}
 use Rattle.rl_pattern.proofs.Linking.{or_none}
 use Rattle.rl_rewrite.specs.Plain.{IsPlain, empty_suggestion}
 use Rattle.rl_rewrite.specs.RightSuggestion.{IsRightSuggestion}
@@ -121,7 +121,7 @@ mutual
       ap (λ xs. xs ++ items_merged (left_items (among []) no_span ps)) (merged_left p (none_first (branches_in p) (items_branches ps) h))
       ∙ ap (λ xs. merged_in p ++ xs) (items_left ps (none_last (branches_in p) (items_branches ps) h))
 
-  under_left : (p : PatTree) (least : ℕ) (most : Option ℕ) → branches_in p ≡ [] → merged_under (left (among []) no_span p) least most ≡ merged_under p least most
+  under_left : (p : PatTree) (least : ℕ) (most : Option ℕ) → branches_in p ≡ [] → merged_at (under least most) (left (among []) no_span p) ≡ merged_at (under least most) p
   under_left (nothing s) least most h = refl
   under_left (class s set) least most h = refl
   under_left (seq s ps) least most h = items_left ps h
@@ -133,15 +133,15 @@ mutual
   under_left (boundary s n a) least most h = refl
   under_left (outside s f) least most h = refl
 
-  inside_left : (p : PatTree) (c : Bool) (least : ℕ) (most : Option ℕ) → branches_in p ≡ [] → merged_inside (left (among []) no_span p) c least most ≡ merged_inside p c least most
+  inside_left : (p : PatTree) (c : Bool) (least : ℕ) (most : Option ℕ) → branches_in p ≡ [] → merged_at (inside c least most) (left (among []) no_span p) ≡ merged_at (inside c least most) p
   inside_left (nothing s) c least most h = refl
   inside_left (class s set) c least most h = refl
   inside_left (seq s ps) c least most h = items_left ps h
   inside_left (choice s no_branches) c least most h = refl
   inside_left (choice s (branch r p bs)) c least most h = absurd (some_none r (branches_in p ++ choice_branches bs) h)
   inside_left (repeat s q l m g p) c least most h =
-      ap (λ xs. xs ++ (if not c && (not (holds_capture (left (among []) no_span p)) && is_allowed l m least most) then q ∷ [] else [])) (under_left p l m h)
-      ∙ ap (λ b. merged_under p l m ++ (if not c && (not b && is_allowed l m least most) then q ∷ [] else [])) (captures_left p h)
+      ap (λ xs. if not c && (not (holds_capture (left (among []) no_span p)) && is_allowed l m least most) then xs ++ q ∷ [] else xs) (under_left p l m h)
+      ∙ ap (λ b. if not c && (not b && is_allowed l m least most) then merged_at (under l m) p ++ q ∷ [] else merged_at (under l m) p) (captures_left p h)
   inside_left (group s d p) c least most h = merged_left p h
   inside_left (anchor s k m) c least most h = refl
   inside_left (boundary s n a) c least most h = refl

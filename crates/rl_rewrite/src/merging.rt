@@ -3,8 +3,8 @@
 ghost use Rattle.std.specs.Prelude.{◌≡◌, ◌++◌, map, IfOk};
 ghost use Rattle.rl_syntax.specs.PatTree.{pat_of, items_of, branches_of};
 ghost use Rattle.rl_syntax.specs.Counting.{branch_tree};
-ghost use Rattle.rl_pattern.specs.Suggested.{is_any as any_times, is_some as some_times, is_option as one_at_most, is_allowed as allowed_pair, items_merged, branches_merged};
-ghost use Rattle.rl_rewrite.specs.internal.Merges.{merged_at, goes_at, inside_of};
+ghost use Rattle.rl_pattern.specs.Suggested.{is_allowed as allowed_pair, goes_out, content, merged_at, items_merged, branches_merged};
+ghost use Rattle.rl_rewrite.specs.internal.Merges.{around_of};
 
 use crate::parts::holds_capture;
 use rl_lists::OutOfMemory;
@@ -31,41 +31,21 @@ pub(crate) enum Place {
     Inside(bool, Times),
 }
 
-/// Whether it is `*`.
-fn is_any(times: Times) -> bool
-    ensures { result ≡ any_times times.least times.most }
-{
-    times.least == 0 && times.most.is_none()
-}
-
-/// Whether it is `+`.
-fn is_some(times: Times) -> bool
-    ensures { result ≡ some_times times.least times.most }
-{
-    times.least == 1 && times.most.is_none()
-}
-
-/// Whether it is `?`.
-fn is_option(times: Times) -> bool
-    ensures { result ≡ one_at_most times.least times.most }
-{
-    match times.most {
-        Some(most) => times.least == 0 && most == 1,
-        None => false,
-    }
-}
-
-/// Whether an inner repeat may go under an outer one.
+/// Whether an inner repeat may go under an outer one: `*`, `+` or `?` under `*`, and `+` under `+`.
 fn is_allowed(inner: Times, outer: Times) -> bool
     ensures { result ≡ allowed_pair inner.least inner.most outer.least outer.most }
 {
-    let under_any = is_any(inner) || is_some(inner) || is_option(inner);
-    is_any(outer) && under_any || is_some(outer) && is_some(inner)
+    match (inner.most, outer.most) {
+        (None, None) => outer.least == 0 && (inner.least == 0 || inner.least == 1)
+            || outer.least == 1 && inner.least == 1,
+        (Some(most), None) => outer.least == 0 && inner.least == 0 && most == 1,
+        (None, Some(_)) | (Some(_), Some(_)) => false,
+    }
 }
 
 /// Whether the quantifier of a repeat at a place is taken out.
 fn goes(place: Place, inner: Times, body: &Pat) -> bool
-    ensures { result ≡ goes_at place inner (pat_of body.now) }
+    ensures { result ≡ goes_out (around_of place) inner.least inner.most (pat_of body.now) }
 {
     match place {
         Place::Inside(captures, outer) => !captures
@@ -77,7 +57,7 @@ fn goes(place: Place, inner: Times, body: &Pat) -> bool
 
 /// The place of the content of a group.
 fn inside(place: Place, captures: bool) -> Place
-    ensures { result ≡ inside_of place captures }
+    ensures { around_of result ≡ content (around_of place) captures }
 {
     match place {
         Place::Under(outer) => Place::Inside(captures, outer),
@@ -93,7 +73,7 @@ pub(crate) fn with_merged(
     place: Place,
     found: Spans,
 ) -> Result<Spans, OutOfMemory>
-    ensures { IfOk result (λ all. all ≡ found ++ merged_at place (pat_of part.now)) }
+    ensures { IfOk result (λ all. all ≡ found ++ merged_at (around_of place) (pat_of part.now)) }
 {
     match part {
         Pat::Nothing { .. }

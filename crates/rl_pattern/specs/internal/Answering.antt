@@ -1,6 +1,7 @@
 -- For private clauses: what the reader has answered of the codes up to a place.
 use Rattle.std.specs.Prelude.{◌≡◌, ℕ, suc, ◌<◌, Bool, true, false, not, ◌&&◌, ◌||◌, ◌==◌, List, length, Option, Some, None, Result, Ok, Err, slice_get, take}
 use Rattle.rl_pattern.specs.declared.flags.Flags.{Flags}
+use Rattle.rl_pattern.specs.declared.limits.TheConstants.{MOST_OPEN_GROUPS}
 use Rattle.rl_pattern.specs.declared.tree.Whole.{Whole}
 use Rattle.rl_pattern.specs.declared.read.ReadError.{ReadError}
 use Rattle.rl_pattern.specs.declared.read.ReadError.TheVariants.{Syntax, TooDeep, OutOfMemory}
@@ -10,7 +11,7 @@ use Rattle.rl_pattern.specs.Codes.{code_of}
 use Rattle.rl_pattern.specs.Grammar.{Spells}
 use Rattle.rl_pattern.specs.Viable.{Begins, Viable, TooDeepAt}
 use Rattle.rl_pattern.specs.internal.Views.{state_of, whole_of}
-use Rattle.rl_pattern.specs.internal.Machine.{State, Lex, between, line, remark, in_braces, counted, at_slash, in_escape, in_head, set_open, in_class, behind_paren, run, start}
+use Rattle.rl_pattern.specs.internal.Machine.{State, Lex, between, line, comment, in_braces, counted, at_slash, in_escape, in_head, set_open, in_class, behind_paren, run, start}
 use Rattle.rl_pattern.specs.Answers.{Shallow}
 
 -- a group that opens too deep comes first, the first of several, then that no pattern is spelled, with the length of the
@@ -35,7 +36,7 @@ abbrev pub at_paren : Lex → Bool
 at_paren (in_head a h) = behind_paren h
 at_paren between = false
 at_paren line = false
-at_paren remark = false
+at_paren comment = false
 at_paren (in_braces a t) = false
 at_paren (counted a p q n) = false
 at_paren (at_slash a) = false
@@ -45,7 +46,7 @@ at_paren (in_class a v s) = false
 
 -- a group opens too deep at p, by the state behind its parenthesis
 abbrev pub is_too_deep : State → List ℕ → ℕ → Bool
-is_too_deep s w p = at_paren s.lex && ((length s.base.below == 100) && not (opens_none w p))
+is_too_deep s w p = at_paren s.lex && ((length s.base.below == MOST_OPEN_GROUPS) && not (opens_none w p))
 
 -- the machine took the first i codes, and no group opens too deep among them
 pub record Standing (call : Flags) (text : Bool) (w : List ℕ) (i : ℕ) (s : State) : Type 0 where

@@ -11,14 +11,14 @@ pub use Rattle.rl_pattern.specs.declared.lex.InSet.TheVariants.{SetFirst as set_
 pub use Rattle.rl_pattern.specs.declared.lex.Set.{Set}
 pub use Rattle.rl_pattern.specs.declared.lex.InHead.{InHead}
 pub use Rattle.rl_pattern.specs.declared.lex.InHead.TheVariants.{Paren as paren, Quest as quest, AfterP as after_p, AfterLess as after_less, GroupName as group_name, GroupNameGoes as group_name_goes, ReferenceName as reference_name, ReferenceNameGoes as reference_name_goes, Asks as asks, AsksDigits as asks_digits, AsksNameGoes as asks_name_goes, LettersOn as letters_on, LettersDash as letters_dash, LettersOff as letters_off}
-pub use Rattle.rl_pattern.specs.declared.lex.Begun.{Begun}
-pub use Rattle.rl_pattern.specs.declared.lex.Begun.TheVariants.{BeginsGroup as begins_group, BeginsRemark as begins_remark, IsReference as is_reference, IsFront as is_front}
-use Rattle.rl_pattern.specs.Tree.{span, Count, Greed, greedy, lazy, possessive, Escaped, code, by_name, kind, reference, Member, one, range, Leaf, any, glyph, members, Kind, capturing, named, scoped, lookaround, atomic, conditional, Node, leaf, mark, repeat, group, Branch, branch, whole_body, Front, Whole}
-use Rattle.rl_pattern.specs.Codes.{code_of, is, Sign, sign, left, right, bar, brace, slash, dot, bracket, times, edge, blank, sharp, plain, Numeral, numeral, low_digit, high_digit, no_digit, is_digit, hex, begins_name, goes_in_name, Slashed, slashed, single, kinds, hexes, naming, octal, low, high, edges, no_escape, octal_code, hex_code, is_kind, Headed, headed, letter, colon, minus, letter_p, sharps, less, greater, condition, looks, no_head, on_letter, off_letter, no_flags, with_letter, joined, inside, splits, with_digit, counts, count_of}
+pub use Rattle.rl_pattern.specs.declared.lex.GroupStart.{GroupStart}
+pub use Rattle.rl_pattern.specs.declared.lex.GroupStart.TheVariants.{BeginsGroup as begins_group, BeginsComment as begins_comment, IsReference as is_reference, IsFront as is_front}
+use Rattle.rl_pattern.specs.Tree.{span, Count, Greed, greedy, lazy, possessive, Escaped, code, by_name, kind, reference, Member, one, range, Leaf, any, glyph, members, Kind, capturing, named, scoped, lookaround, atomic, conditional, SyntaxNode, leaf, mark, repeat, group, Branch, branch, whole_body, Front, Whole}
+use Rattle.rl_pattern.specs.Codes.{code_of, is, TokenClass, sign, left, right, bar, brace, slash, dot, bracket, times, edge, blank, sharp, plain, Numeral, numeral, low_digit, high_digit, no_digit, is_digit, hex, begins_name, goes_in_name, EscapeClass, slashed, single, kinds, hexes, naming, octal, low, high, edges, no_escape, octal_code, hex_code, is_kind, GroupPrefix, headed, letter, colon, minus, letter_p, sharps, less, greater, condition, looks, no_head, on_letter, off_letter, no_flags, with_letter, joined, inside, splits, with_digit, counts, count_of}
 use Rattle.rl_pattern.specs.Grammar.{outermost}
 
 -- the code behind the backslash
-abbrev pub escape_first : Slashed → Answer InEscape Escaped
+abbrev pub escape_first : EscapeClass → Answer InEscape Escaped
 escape_first (single c) = ends (code c)
 escape_first (kinds k n) = ends (kind k n)
 escape_first (hexes n) = goes (in_hex n 0)
@@ -137,19 +137,19 @@ set_step text i ms (set_dash a b e) c = dash_next i ms a b e c
 set_step text i ms (dash_slash a e) c = escape_in_dash i ms a e (escape_first (slashed text true c))
 set_step text i ms (dash_escape a e x) c = escape_dash_next i ms a e (escape_next x c) (escape_rest x) c
 
-abbrev pub quest_next : Headed → ℕ → Answer InHead Begun
+abbrev pub quest_next : GroupPrefix → ℕ → Answer InHead GroupStart
 quest_next letter c = goes (letters_on (with_letter no_flags c))
 quest_next colon c = ends (begins_group (scoped no_flags no_flags))
 quest_next minus c = goes (letters_dash no_flags)
 quest_next letter_p c = goes after_p
-quest_next sharps c = ends begins_remark
+quest_next sharps c = ends begins_comment
 quest_next looks c = ends (begins_group lookaround)
 quest_next less c = goes after_less
 quest_next greater c = ends (begins_group atomic)
 quest_next condition c = goes asks
 quest_next no_head c = stops
 
-abbrev pub behind_next : Headed → Answer InHead Begun
+abbrev pub behind_next : GroupPrefix → Answer InHead GroupStart
 behind_next looks = ends (begins_group lookaround)
 behind_next letter = stops
 behind_next colon = stops
@@ -161,7 +161,7 @@ behind_next greater = stops
 behind_next condition = stops
 behind_next no_head = stops
 
-abbrev pub head_step : Bool → InHead → ℕ → Answer InHead Begun
+abbrev pub head_step : Bool → InHead → ℕ → Answer InHead GroupStart
 head_step text paren c = if is "?" c then goes quest else stops
 head_step text quest c = quest_next (headed c) c
 head_step text after_p c = if is "<" c then goes group_name else (if is "=" c then goes reference_name else stops)
@@ -192,12 +192,12 @@ pub record Frame : Type 0 where
   pub start : ℕ
   pub from : ℕ
   pub branches : List Branch
-  pub items : List Node
+  pub items : List SyntaxNode
 
 -- an atom that may still take a quantifier, from its place
 pub data Last : Type 0 where
   nothing_yet : Last
-  an_atom : ℕ → Node → Last
+  an_atom : ℕ → SyntaxNode → Last
 
 -- what was read, apart from what the machine is in the middle of
 pub record Base : Type 0 where
@@ -208,10 +208,10 @@ pub record Base : Type 0 where
 
 -- what the machine is in the middle of. The first place is that of the first code
 pub data Lex : Type 0 where
-  between line remark : Lex
+  between line comment : Lex
   in_braces : ℕ → List ℕ → Lex
   -- an atom from a place, and a quantifier from another
-  counted : ℕ → Node → ℕ → Count → Lex
+  counted : ℕ → SyntaxNode → ℕ → Count → Lex
   at_slash : ℕ → Lex
   in_escape : ℕ → InEscape → Lex
   in_head : ℕ → InHead → Lex
@@ -226,19 +226,19 @@ abbrev pub at : Base → Lex → State
 at b x = record { base = b; lex = x }
 
 -- the items with the last atom
-abbrev pub settled : List Node → Last → List Node
+abbrev pub settled : List SyntaxNode → Last → List SyntaxNode
 settled ps nothing_yet = ps
 settled ps (an_atom a p) = ps ++ p ∷ []
 
-abbrev pub put_last : Base → List Node → Last → Base
+abbrev pub put_last : Base → List SyntaxNode → Last → Base
 put_last b ps l = record b { top = record b.top { items = ps }; last = l }
 
 -- an atom from a up to here
-abbrev pub put : Base → ℕ → Node → Base
+abbrev pub put : Base → ℕ → SyntaxNode → Base
 put b a p = put_last b (settled b.top.items b.last) (an_atom a p)
 
 -- an item that takes no quantifier
-abbrev pub put_item : Base → Node → Base
+abbrev pub put_item : Base → SyntaxNode → Base
 put_item b p = put_last b (settled b.top.items b.last ++ p ∷ []) nothing_yet
 
 abbrev pub put_leaf : Base → ℕ → ℕ → Leaf → Base
@@ -257,7 +257,7 @@ abbrev pub no_count : Base → ℕ → List ℕ → Base
 no_count b a t = put_codes (put_code b a (code_of "{")) (suc a) t
 
 -- the atom p from a with the quantifier from q up to j
-abbrev pub put_repeat : Base → ℕ → Node → ℕ → ℕ → Count → Greed → Base
+abbrev pub put_repeat : Base → ℕ → SyntaxNode → ℕ → ℕ → Count → Greed → Base
 put_repeat b a p q j n g = put_item b (repeat (span a j) (span q j) n g p)
 
 -- a quantifier from q for the last atom
@@ -286,7 +286,7 @@ open_group b a j k =
     }
 
 -- the body of the open group, up to i
-abbrev pub body_up_to : Base → ℕ → Node
+abbrev pub body_up_to : Base → ℕ → SyntaxNode
 body_up_to b i = whole_body (span b.top.start i) (all_branches b i)
 
 -- the ) at i
@@ -317,9 +317,9 @@ put_front b a j f =
     else None
 
 -- a head from a up to j
-abbrev pub begin : Base → ℕ → ℕ → Begun → Option State
+abbrev pub begin : Base → ℕ → ℕ → GroupStart → Option State
 begin b a j (begins_group k) = Some (at (open_group b a j k) between)
-begin b a j begins_remark = Some (at b remark)
+begin b a j begins_comment = Some (at b comment)
 begin b a j is_reference = Some (at (put_leaf b a j (glyph reference)) between)
 begin b a j (is_front f) = put_front b a j f
 
@@ -328,7 +328,7 @@ abbrev pub pass_or_put : Base → ℕ → ℕ → Lex → Option State
 pass_or_put b i c x = if b.top.flags.verbose then Some (at b x) else Some (at (put_code b i c) between)
 
 -- the code at i, between items
-abbrev pub by_sign : ℕ → Base → ℕ → Sign → Option State
+abbrev pub by_sign : ℕ → Base → ℕ → TokenClass → Option State
 by_sign i b c left = Some (at b (in_head i paren))
 by_sign i b c right = close b i b.below
 by_sign i b c bar = split b i
@@ -356,7 +356,7 @@ braces_step i b a t c =
     else (if counts c then Some (at b (in_braces a (t ++ c ∷ []))) else go_on i (no_count b a t) c)
 
 -- the code after the quantifier from q for the atom from a
-abbrev pub counted_step : ℕ → Base → ℕ → Node → ℕ → Count → ℕ → Option State
+abbrev pub counted_step : ℕ → Base → ℕ → SyntaxNode → ℕ → Count → ℕ → Option State
 counted_step i b a p q n c =
     if is "?" c then Some (at (put_repeat b a p q (suc i) n lazy) between)
     else (if is "+" c then Some (at (put_repeat b a p q (suc i) n possessive) between)
@@ -368,7 +368,7 @@ escape_begins i b a (goes x) = Some (at b (in_escape a x))
 escape_begins i b a (ends e) = Some (at (put_leaf b a (suc i) (glyph e)) between)
 
 -- the code behind a backslash at a
-abbrev pub slash_step : ℕ → Base → ℕ → Slashed → Option State
+abbrev pub slash_step : ℕ → Base → ℕ → EscapeClass → Option State
 slash_step i b a (edges m) = Some (at (put_item b (mark (span a (suc i)) b.top.flags m)) between)
 slash_step i b a (single c) = escape_begins i b a (escape_first (single c))
 slash_step i b a (kinds k n) = escape_begins i b a (escape_first (kinds k n))
@@ -407,7 +407,7 @@ abbrev pub head_stops : ℕ → Base → ℕ → Bool → ℕ → Option State
 head_stops i b a true c = go_on i (open_group b a i capturing) c
 head_stops i b a false c = None
 
-abbrev pub head_answer : ℕ → Base → ℕ → InHead → Answer InHead Begun → ℕ → Option State
+abbrev pub head_answer : ℕ → Base → ℕ → InHead → Answer InHead GroupStart → ℕ → Option State
 head_answer i b a h stops c = head_stops i b a (behind_paren h) c
 head_answer i b a h (goes h') c = Some (at b (in_head a h'))
 head_answer i b a h (ends o) c = begin b a (suc i) o
@@ -427,7 +427,7 @@ set_opens text i b a c =
 abbrev pub step : Bool → ℕ → Base → Lex → ℕ → Option State
 step text i b between c = go_on i b c
 step text i b line c = if is "\n" c then Some (at b between) else Some (at b line)
-step text i b remark c = if is ")" c then Some (at b between) else Some (at b remark)
+step text i b comment c = if is ")" c then Some (at b between) else Some (at b comment)
 step text i b (in_braces a t) c = braces_step i b a t c
 step text i b (counted a p q n) c = counted_step i b a p q n c
 step text i b (at_slash a) c = slash_step i b a (slashed text false c)
@@ -470,7 +470,7 @@ finish_escape k b a (Some e) = finish k (put_leaf b a k (glyph e))
 abbrev pub finish_lex : ℕ → Base → Lex → Option Whole
 finish_lex k b between = finish k b
 finish_lex k b line = finish k b
-finish_lex k b remark = None
+finish_lex k b comment = None
 finish_lex k b (in_braces a t) = finish k (no_count b a t)
 finish_lex k b (counted a p q n) = finish k (put_repeat b a p q k n greedy)
 finish_lex k b (at_slash a) = None

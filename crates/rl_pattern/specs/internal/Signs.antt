@@ -1,13 +1,14 @@
 -- For private clauses: the signs and heads that codes begin with.
-use Rattle.std.specs.Prelude.{◌≡◌, ℕ, true}
-use Rattle.rl_pattern.specs.declared.lex.Sign.{Sign}
-use Rattle.rl_pattern.specs.declared.lex.Sign.TheVariants.{Left as left, Right as right, Bar as bar, Brace as brace, Slash as slash, Dot as dot, Bracket as bracket, Times as times, Edge as edge, Blank as blank, Sharp as sharp, Plain as plain}
-use Rattle.rl_pattern.specs.declared.lex.Headed.{Headed}
-use Rattle.rl_pattern.specs.declared.lex.Headed.TheVariants.{Letter as letter, Colon as colon, Minus as minus, LetterP as letter_p, Sharps as sharps, Less as less, Greater as greater, Condition as condition, Looks as looks, NoHead as no_head}
+use Rattle.std.specs.Prelude.{◌≡◌, ℕ, true, nat_le, if◌then◌else◌}
+use Rattle.rl_pattern.specs.declared.lex.TokenClass.{TokenClass}
+use Rattle.rl_pattern.specs.declared.lex.TokenClass.TheVariants.{Left as left, Right as right, Bar as bar, Brace as brace, Slash as slash, Dot as dot, Bracket as bracket, Times as times, Edge as edge, Blank as blank, Sharp as sharp, Plain as plain}
+use Rattle.rl_pattern.specs.declared.lex.GroupPrefix.{GroupPrefix}
+use Rattle.rl_pattern.specs.declared.lex.GroupPrefix.TheVariants.{Letter as letter, Colon as colon, Minus as minus, LetterP as letter_p, Sharps as sharps, Less as less, Greater as greater, Condition as condition, Looks as looks, NoHead as no_head}
+use Rattle.rl_pattern.specs.Tree.{Escaped, code, too_large}
 use Rattle.rl_pattern.specs.Codes.{code_of, on_letter}
 
 -- the single code that a sign names
-abbrev pub SignIs : Sign → ℕ → Type 0
+abbrev pub SignIs : TokenClass → ℕ → Type 0
 SignIs left c = c ≡ code_of "("
 SignIs right c = c ≡ code_of ")"
 SignIs bar c = c ≡ code_of "|"
@@ -22,7 +23,7 @@ SignIs blank c = Unit {0}
 SignIs plain c = Unit {0}
 
 -- the single code that a sign behind (? names
-abbrev pub HeadIs : Headed → ℕ → Type 0
+abbrev pub HeadIs : GroupPrefix → ℕ → Type 0
 HeadIs letter c = on_letter c ≡ true
 HeadIs colon c = c ≡ code_of ":"
 HeadIs minus c = c ≡ code_of "-"
@@ -33,3 +34,7 @@ HeadIs greater c = c ≡ code_of ">"
 HeadIs condition c = c ≡ code_of "("
 HeadIs looks c = Unit {0}
 HeadIs no_head c = Unit {0}
+
+-- what a number is as a code that is at most the greatest
+abbrev pub code_up_to : ℕ → ℕ → Escaped
+code_up_to greatest n = if nat_le n greatest then code n else too_large

@@ -1,8 +1,8 @@
 -- What the program's values are to the grammar and the machine.
 use Rattle.std.specs.Prelude.{◌≡◌, ℕ, suc, ◌+◌, List, map, reverse, length, Option, Some, None, if◌then◌else◌, ◌-◌}
-use Rattle.rl_pattern.specs.declared.tree.Node.{Node}
-use Rattle.rl_pattern.specs.declared.tree.Node.TheOpen as Open
-use Rattle.rl_pattern.specs.declared.tree.Node.TheFolds.{fold-Node, fold-Branch}
+use Rattle.rl_pattern.specs.declared.tree.SyntaxNode.{SyntaxNode}
+use Rattle.rl_pattern.specs.declared.tree.SyntaxNode.TheOpen as Open
+use Rattle.rl_pattern.specs.declared.tree.SyntaxNode.TheFolds.{fold-SyntaxNode, fold-Branch}
 use Rattle.rl_pattern.specs.declared.tree.Branch.{Branch}
 use Rattle.rl_pattern.specs.declared.tree.Whole.{Whole}
 use Rattle.rl_pattern.specs.declared.state.Frame.{Frame}
@@ -10,7 +10,7 @@ use Rattle.rl_pattern.specs.declared.state.Last.{Last}
 use Rattle.rl_pattern.specs.declared.state.Last.TheVariants.{NothingYet, AnAtom}
 use Rattle.rl_pattern.specs.declared.state.Base.{Base}
 use Rattle.rl_pattern.specs.declared.state.Lex.{Lex}
-use Rattle.rl_pattern.specs.declared.state.Lex.TheVariants.{Between, Line, Remark, InBraces, Counted, AtSlash, InEscape, InHead, SetOpen, InClass}
+use Rattle.rl_pattern.specs.declared.state.Lex.TheVariants.{Between, Line, Comment, InBraces, Counted, AtSlash, InEscape, InHead, SetOpen, InClass}
 use Rattle.rl_pattern.specs.declared.state.State.{State}
 use Rattle.rl_pattern.specs.declared.lex.CountPart.{CountPart}
 use Rattle.rl_pattern.specs.declared.lex.CountPart.TheVariants.{Least, Upper, Most}
@@ -19,23 +19,23 @@ use Rattle.rl_pattern.specs.Tree as t
 use Rattle.rl_pattern.specs.internal.Machine as m
 
 -- one layer of a node, and a branch
-abbrev pub node_layer : Open.Node-F t.Node t.Branch → t.Node
-node_layer (Open.Node-F.Leaf s f x) = t.leaf s f x
-node_layer (Open.Node-F.Mark s f k) = t.mark s f k
-node_layer (Open.Node-F.Repeat s q n g body) = t.repeat s q n g body.value
-node_layer (Open.Node-F.Group s k body) = t.group s k body.value
-node_layer (Open.Node-F.Nothing s) = t.nothing s
-node_layer (Open.Node-F.Seq s ps) = t.seq s (t.nodes ps)
-node_layer (Open.Node-F.Choice s bs) = t.choice s (t.branches bs)
+abbrev pub node_layer : Open.SyntaxNode-F t.SyntaxNode t.Branch → t.SyntaxNode
+node_layer (Open.SyntaxNode-F.Leaf s f x) = t.leaf s f x
+node_layer (Open.SyntaxNode-F.Assertion s f k) = t.mark s f k
+node_layer (Open.SyntaxNode-F.Repeat s q n g body) = t.repeat s q n g body.value
+node_layer (Open.SyntaxNode-F.Group s k body) = t.group s k body.value
+node_layer (Open.SyntaxNode-F.Nothing s) = t.nothing s
+node_layer (Open.SyntaxNode-F.Seq s ps) = t.seq s (t.nodes ps)
+node_layer (Open.SyntaxNode-F.Choice s bs) = t.choice s (t.branches bs)
 
-abbrev pub branch_layer : Open.Branch-F t.Node t.Branch → t.Branch
+abbrev pub branch_layer : Open.Branch-F t.SyntaxNode t.Branch → t.Branch
 branch_layer b = record { place = b.place; body = b.body }
 
-abbrev pub node_of : Node → t.Node
-node_of = fold-Node t.Node t.Branch node_layer branch_layer
+abbrev pub node_of : SyntaxNode → t.SyntaxNode
+node_of = fold-SyntaxNode t.SyntaxNode t.Branch node_layer branch_layer
 
 abbrev pub branch_of : Branch → t.Branch
-branch_of = fold-Branch t.Node t.Branch node_layer branch_layer
+branch_of = fold-Branch t.SyntaxNode t.Branch node_layer branch_layer
 
 abbrev pub whole_of : Whole → t.Whole
 whole_of p = record { fronts = p.fronts; place = p.place; body = node_of p.body }
@@ -54,7 +54,7 @@ base_of b = record { top = frame_of b.top; last = last_of b.last; below = map fr
 abbrev pub lex_of : Lex → m.Lex
 lex_of Between = m.between
 lex_of Line = m.line
-lex_of Remark = m.remark
+lex_of Comment = m.comment
 lex_of (InBraces a t) = m.in_braces a t
 lex_of (Counted a p q n) = m.counted a (node_of p) q n
 lex_of (AtSlash a) = m.at_slash a
@@ -71,7 +71,7 @@ abbrev pub FitsAt : m.Lex → ℕ → Type 0
 FitsAt (m.in_braces a t) i = i ≡ suc a + length t
 FitsAt m.between i = Unit {0}
 FitsAt m.line i = Unit {0}
-FitsAt m.remark i = Unit {0}
+FitsAt m.comment i = Unit {0}
 FitsAt (m.counted a p q n) i = Unit {0}
 FitsAt (m.at_slash a) i = Unit {0}
 FitsAt (m.in_escape a x) i = Unit {0}

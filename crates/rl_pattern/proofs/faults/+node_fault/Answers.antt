@@ -5,7 +5,7 @@ use Rattle.rl_pattern.specs.internal.Views.{node_of, branch_of}
 use Rattle.rl_pattern.specs.Found.{Fault, earlier, first_fault, node_faults, nodes_faults, branches_faults, count_faults, kind_faults}
 use Rattle.rl_pattern.proofs.FirstFault.{first_of_joined, best_of_more}
 use Rattle.rl_pattern.proofs.Layers.{node_of-repeat, node_of-group, branch_of-fields}
-use Rattle.rl_pattern.specs.declared.tree.Node.{Node}
+use Rattle.rl_pattern.specs.declared.tree.SyntaxNode.{SyntaxNode}
 use Rattle.rl_pattern.specs.declared.tree.Branch.{Branch}
 use Rattle.std.proofs.lemmas.List.{at_drop_more}
 use Rattle.std.specs.Prelude.{slice_index_or}
@@ -26,7 +26,7 @@ node_fault-returns-in-Group t c =
     ∙ ap (λ n. first_fault (node_faults c.args.text n)) (sym (node_of-group c.in-Group.span c.in-Group.kind c.in-Group.body))
     ∙ ap (λ n. first_fault (node_faults c.args.text (node_of n))) (sym c.in-Group.is)
 
-nodes_more : (text : Bool) (ps : List Node) (i : ℕ) (d : Node) (best next here total : Option Fault) → i < length ps → next ≡ earlier best here → here ≡ first_fault (node_faults text (node_of (slice_index_or ps i d))) → earlier best (first_fault (nodes_faults text (t.nodes (map node_of (drop i ps))))) ≡ total → earlier next (first_fault (nodes_faults text (t.nodes (map node_of (drop (i + 1) ps))))) ≡ total
+nodes_more : (text : Bool) (ps : List SyntaxNode) (i : ℕ) (d : SyntaxNode) (best next here total : Option Fault) → i < length ps → next ≡ earlier best here → here ≡ first_fault (node_faults text (node_of (slice_index_or ps i d))) → earlier best (first_fault (nodes_faults text (t.nodes (map node_of (drop i ps))))) ≡ total → earlier next (first_fault (nodes_faults text (t.nodes (map node_of (drop (i + 1) ps))))) ≡ total
 nodes_more text ps i d best next here total l e f g =
     ap (λ b. earlier b (first_fault (nodes_faults text (t.nodes (map node_of (drop (i + 1) ps)))))) (e ∙ ap (earlier best) f)
     ∙ best_of_more best (node_faults text (node_of (slice_index_or ps i d))) (nodes_faults text (t.nodes (map node_of (drop (i + 1) ps))))

@@ -1,7 +1,7 @@
 -- What is left without the run is what was without it.
 use Rattle.std.proofs.Common.{◌≡◌, map, reverse, length}
 use Rattle.rl_pattern.specs.internal.Views.{node_of}
-use Rattle.rl_pattern.specs.Found.{without_leading}
+use Rattle.rl_pattern.specs.internal.Judged.{without_leading}
 use Rattle.rl_pattern.proofs.inner.take_from_back.Given as goal
 
 abbrev pub invariant-loop-items : goal.invariant-loop-items

@@ -1,8 +1,8 @@
 -- The run so far, and the one that is left.
 use Rattle.std.proofs.Common.{◌≡◌, map, reverse, length}
 use Rattle.rl_pattern.specs.internal.Views.{node_of}
-use Rattle.rl_pattern.specs.internal.Judged.{trail_at}
-use Rattle.rl_pattern.specs.Found.{both_trails, trailing_run, without_trailing}
+use Rattle.rl_pattern.specs.internal.Judged.{trail_at, both_trails, without_trailing}
+use Rattle.rl_pattern.specs.Found.{trailing_run}
 use Rattle.rl_pattern.proofs.inner.take_trailing.Given as goal
 
 abbrev pub invariant-loop-last : goal.invariant-loop-last

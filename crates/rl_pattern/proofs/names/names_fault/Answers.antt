@@ -1,5 +1,5 @@
 -- One name more.
-use Rattle.std.proofs.Common.{◌≡◌, ℕ, ◌+◌, ◌<◌, Bool, true, false, not, cond, ◌&&◌, ◌||◌, List, [], ◌∷◌, ◌++◌, length, take, drop, map, Option, refl, sym, ap, ◌∙◌, arith, nat_eq, ◌==◌}
+use Rattle.std.proofs.Common.{◌≡◌, ℕ, ◌+◌, ◌<◌, Bool, true, false, not, cond, ◌&&◌, ◌||◌, List, [], ◌∷◌, ◌++◌, length, take, drop, map, Option, refl, sym, ap, ◌∙◌, arith, nat_eq}
 use Rattle.std.proofs.lemmas.Bool.Decides.{nat_tests}
 use Rattle.std.proofs.lemmas.List.{at_drop_more, take_more, map-append}
 use Rattle.std.proofs.lemmas.Map.Text.{is_eq-slice_cmp}
@@ -8,8 +8,8 @@ use Rattle.std.specs.Ordering.{nat_cmp, is_eq}
 use Rattle.std.specs.Cmp.Lexicographic.{slice_cmp}
 use Rattle.std.specs.Str.{bytes_eq}
 use Rattle.rl_pattern.specs.declared.names.Called.{Called}
-use Rattle.rl_pattern.specs.internal.Judged.{called_of}
-use Rattle.rl_pattern.specs.Found.{Fault, Called as Name, is_duplicate_name, earlier, first_fault, fault_if, same_name, is_among, name_faults}
+use Rattle.rl_pattern.specs.internal.Judged.{called_of, is_among}
+use Rattle.rl_pattern.specs.Found.{Fault, Called as Name, is_duplicate_name, earlier, first_fault, fault_if, name_faults}
 use Rattle.rl_pattern.proofs.FirstFault.{best_of_more}
 use Rattle.rl_pattern.proofs.names.names_fault.Goals as goal
 
@@ -41,27 +41,27 @@ or_false : (a : Bool) → a || false ≡ a
 or_false true = refl
 or_false false = refl
 
-among_more : (n : List ℕ) (cs : List Name) (c : Name) → is_among n (cs ++ c ∷ []) ≡ is_among n cs || same_name n c.name
-among_more n [] c = or_false (same_name n c.name)
-among_more n (d ∷ cs) c = ap (λ b. same_name n d.name || b) (among_more n cs c) ∙ or_assoc (same_name n d.name) (is_among n cs) (same_name n c.name)
+among_more : (n : List ℕ) (cs : List Name) (c : Name) → is_among n (cs ++ c ∷ []) ≡ is_among n cs || bytes_eq n c.name
+among_more n [] c = or_false (bytes_eq n c.name)
+among_more n (d ∷ cs) c = ap (λ b. bytes_eq n d.name || b) (among_more n cs c) ∙ or_assoc (bytes_eq n d.name) (is_among n cs) (bytes_eq n c.name)
 
-code_turned : (c d : ℕ) → nat_eq c d ≡ (d == c)
+code_turned : (c d : ℕ) → nat_eq c d ≡ nat_eq d c
 code_turned c d = grind (arith, nat_tests)
 
-name_turned : (cs ds : List ℕ) → bytes_eq cs ds ≡ same_name ds cs
+name_turned : (cs ds : List ℕ) → bytes_eq cs ds ≡ bytes_eq ds cs
 name_turned [] [] = refl
 name_turned [] (d ∷ ds) = refl
 name_turned (c ∷ cs) [] = refl
-name_turned (c ∷ cs) (d ∷ ds) = ap (λ b. b && bytes_eq cs ds) (code_turned c d) ∙ ap (λ b. (d == c) && b) (name_turned cs ds)
+name_turned (c ∷ cs) (d ∷ ds) = ap (λ b. b && bytes_eq cs ds) (code_turned c d) ∙ ap (λ b. nat_eq d c && b) (name_turned cs ds)
 
 stood_more : (ns : List Called) (i : ℕ) (d : Called) (key name : List ℕ) (old new : Bool) → i < length ns → key ≡ (slice_index_or ns i d).name → old ≡ is_among name (map called_of (take i ns)) → new ≡ cond (is_eq (slice_cmp nat_cmp key name)) true old → new ≡ is_among name (map called_of (take (i + 1) ns))
 stood_more ns i d key name old new l k o e =
     let x = slice_index_or ns i d in
     let before = map called_of (take i ns) in
     e
-    ∙ ap (λ b. cond b true old) (is_eq-slice_cmp key name ∙ name_turned key name ∙ ap (same_name name) k)
-    ∙ ap (cond (same_name name x.name) true) o
-    ∙ either (same_name name x.name) (is_among name before)
+    ∙ ap (λ b. cond b true old) (is_eq-slice_cmp key name ∙ name_turned key name ∙ ap (bytes_eq name) k)
+    ∙ ap (cond (bytes_eq name x.name) true) o
+    ∙ either (bytes_eq name x.name) (is_among name before)
     ∙ sym (ap (is_among name) (names_more ns i d l) ∙ among_more name before (called_of x))
 
 not_not : (a b : Bool) → a ≡ not b → not a ≡ b

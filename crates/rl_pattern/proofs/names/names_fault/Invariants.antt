@@ -3,8 +3,8 @@ use Rattle.std.proofs.Common.{◌≡◌, ℕ, List, [], take, drop, map, Bor}
 use Rattle.std.specs.Ordering.{nat_cmp}
 use Rattle.std.specs.Cmp.Lexicographic.{slice_cmp}
 use Rattle.std.specs.BTreeSet as tree
-use Rattle.rl_pattern.specs.internal.Judged.{called_of}
-use Rattle.rl_pattern.specs.Found.{earlier, first_fault, name_faults, is_among}
+use Rattle.rl_pattern.specs.internal.Judged.{called_of, is_among}
+use Rattle.rl_pattern.specs.Found.{earlier, first_fault, name_faults}
 use Rattle.rl_pattern.proofs.names.names_fault.Given as goal
 
 abbrev pub invariant-loop-called : goal.invariant-loop-called
