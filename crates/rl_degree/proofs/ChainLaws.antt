@@ -1,20 +1,22 @@
 -- A longest chain put together link by link, and cycles.
-use Rattle.std.proofs.Common.{◌≡◌, ℕ, ◌<◌, ◌≤◌, ◌⊎◌, inl, inr, true, false, List, [], ◌∷◌, ◌++◌, length, get_or, sym, ◌∙◌, ap, subst, arith, append_assoc}
+use Rattle.std.proofs.Common.{◌≡◌, ℕ, ◌<◌, ◌≤◌, ◌⊎◌, inl, inr, true, false, List, [], ◌∷◌, ◌++◌, length, get_or, sym, ◌∙◌, ap, subst, arith, append_assoc, replicate, refl}
 use Rattle.std.proofs.lemmas.Bool.{cases_lt}
-use Rattle.std.proofs.lemmas.List.{map-append}
+use Rattle.std.proofs.lemmas.List.{map-append, get_or-replicate, length-replicate}
 use Rattle.rl_graph.specs.Paths.{paths, Reaches}
 use Rattle.rl_graph.specs.Graph.{Graph, edges_of, IsWhole}
 use Rattle.rl_graph.specs.Parts.{PartTable, IsParts, number_of, cycle_of}
-use Rattle.rl_graph.specs.Twins.{IsSplit, Link, ChainFrom}
+use Rattle.rl_graph.specs.Twins.{HasNoTwin, IsSplit, Link, ChainFrom, IsRank}
 use Rattle.rl_graph.proofs.Sums.{total-there}
-use Rattle.rl_graph.proofs.PathLaws.{Reaches-self}
+use Rattle.rl_graph.proofs.PathLaws.{nil-same, along_moves, Reaches-self}
 use Rattle.rl_graph.proofs.GraphLaws.{bounded-whole}
 use Rattle.rl_degree.specs.internal.Ranks.{best_at, IsFirst, IsGood, AreBests}
+use Rattle.rl_degree.specs.Leavers.{HasNoSplit}
 use Rattle.rl_degree.specs.Chains.{link_of, links_of, IsChain, AreRanks, HasNoCycle}
 use Rattle.rl_degree.specs.declared.chains.Split.{Split}
 use Rattle.rl_degree.specs.declared.ranks.Best.{Best}
 use Rattle.rl_kernel.proofs.InnerLaws.{move-state}
 use Rattle.rl_degree.proofs.RankLaws.{best-bound}
+use Rattle.rl_degree.proofs.SearchLaws.{split-below}
 
 -- the first link of a chain that has one
 pub first-there : (next : ℕ → ℕ → List ℕ) (n : ℕ) (p : PartTable) (bests : List Best) (q : ℕ) (b : Best) → AreBests next n p n bests → IsParts next n p → q < n → b ≡ best_at bests (number_of p q) → 0 < b.rank → IsFirst next n p bests q b
@@ -60,3 +62,32 @@ no-cycle g p parts none q l w = by (cases_lt 0 (paths (edges_of g) q q (l ∷ w)
         let m = total-there (λ m. paths (edges_of g) m q w) (edges_of g q l) (omega arith) in
         let hq = move-state g q l m.0 m.1 in
         absurd (not-both (sym ((parts.on_cycle q hq).1 (l, w, omega arith)) ∙ none q hq))
+
+-- where all states on cycles lie in one component, no state has a split
+pub one-component : (g : Graph) (p : PartTable) → IsWhole g → IsParts (edges_of g) g.states p → HasNoTwin (edges_of g)
+    → ((r q : ℕ) → r < g.states → q < g.states → cycle_of p r ≡ true → cycle_of p q ≡ true → number_of p r ≡ number_of p q) → HasNoSplit (edges_of g) g.states
+one-component g p whole parts none one r q y hr split = by y split
+  where
+    by : (y : List ℕ) → IsSplit (edges_of g) r q y → ⊥
+    by [] s = s.apart (nil-same (edges_of g) r q s.over)
+    by (l ∷ y) s =
+        let hq = along_moves (λ m. m < g.states) (edges_of g) (λ a b m i j. whole.targets a b m j) r q (l ∷ y) hr s.over in
+        let less = split-below (edges_of g) g.states p parts none r q (l ∷ y) hr hq s in
+        absurd (omega (arith, less, one r q hr hq ((parts.on_cycle r hr).1 (l, y, s.before)) ((parts.on_cycle q hq).1 (l, y, s.behind))))
+
+-- a chain of a graph that has no split
+pub no_split-short : (g : Graph) → IsWhole g → HasNoSplit (edges_of g) g.states → (q : ℕ) (ms : List Link) → q < g.states → ChainFrom (edges_of g) q ms → length ms ≤ 0
+no_split-short g whole none q [] hq c = omega arith
+no_split-short g whole none q (m ∷ ms) hq c =
+    let hm = along_moves (λ x. x < g.states) (edges_of g) (λ a b x i j. whole.targets a b x j) q m.from c.0.0 hq c.0.1 in
+    absurd (none m.from m.to m.word hm c.1)
+
+-- and its ranks
+pub no_split-ranks : (g : Graph) (n : ℕ) (ranks : List ℕ) → IsWhole g → HasNoSplit (edges_of g) g.states → n ≡ g.states → ranks ≡ replicate n 0 → AreRanks (edges_of g) g.states ranks
+no_split-ranks g n ranks whole none same e =
+    record {
+      size = ap length e ∙ (length-replicate n 0 ∙ same);
+      right = λ q hq.
+          let at : get_or ranks q 0 ≡ 0 = ap (λ (l : List ℕ). get_or l q 0) e ∙ get_or-replicate n q 0 0 (omega (arith, hq, same)) in
+          subst (IsRank (edges_of g) q) (sym at) (record { chain = []; goes = tt; long = refl; longest = λ ms c. no_split-short g whole none q ms hq c });
+    }

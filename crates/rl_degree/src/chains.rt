@@ -1,13 +1,15 @@
 //! Chains of splits of the greatest length.
 
-ghost use Rattle.std.specs.Prelude.{◌≡◌, ℕ, ◌<◌, ◌≤◌, List, length, slice_index, All, IfOk, IfSome, IfNone, IsTrue};
+ghost use Rattle.std.specs.Prelude.{◌≡◌, ℕ, ◌<◌, ◌≤◌, List, length, replicate, slice_index, All, IfOk, IfSome, IfNone, IsTrue};
 ghost use Rattle.rl_graph.specs.Graph.{edges_of};
 ghost use Rattle.rl_graph.specs.Parts.{IsParts, cycle_of, number_of};
 ghost use Rattle.rl_graph.specs.Twins.{HasNoTwin, Link, ChainFrom};
 ghost use Rattle.rl_degree.specs.internal.Pairs.{IsTable};
 ghost use Rattle.rl_degree.specs.internal.Ranks.{AreBests, best_at};
+ghost use Rattle.rl_degree.specs.Leavers.{HasNoSplit};
 ghost use Rattle.rl_degree.specs.Chains.{links_of, IsSplitIn, IsChain, AreRanks, IsLoop, HasNoCycle};
 
+use crate::kernel::has_two;
 use crate::pairs::{PairTable, table_of};
 use crate::ranks::{Best, all_bests, ranks_of};
 use crate::searches::split_word;
@@ -142,19 +144,40 @@ fn some_loop(
     Ok(None)
 }
 
-/// A longest chain of splits of a graph without a twin, all ranks and a cycle, found over the graph's strongly connected
-/// components.
-///
-/// The components must be those of the graph, as [`Multigraph::components`] makes them: so a caller that needs them for more than
-/// one search makes them once. The search is that of [`degree`].
-///
-/// # Errors
-/// [`OutOfMemory`] where there was no memory for the search or the answer.
-pub fn degree_over(
+/// The rank 0 for each state.
+fn no_ranks(alloc: Global, count: u32) -> Result<Ranks, OutOfMemory>
+    ensures { IfOk result (λ r. r ≡ replicate count 0) }
+{
+    let ranks = vec![in alloc; 0; count as usize]?;
+    Ok(Items::from_vec(ranks))
+}
+
+/// The chain of no split, the ranks and a cycle of a graph that has no split.
+fn without_split(
     alloc: Global,
     g: &Multigraph,
-    components: Components,
+    components: &Components,
 ) -> Result<Chain, OutOfMemory>
+    requires parts { IsParts (edges_of g.now) g.now.states components.now }
+    requires no_split { HasNoSplit (edges_of g.now) g.now.states }
+    ensures links { IfOk result (λ c. IsChain (edges_of g.now) c.links) }
+    ensures states { IfOk result (λ c. All (IsSplitIn g.now.states) c.links) }
+    ensures longest { IfOk result (λ c. (s : ℕ) (ms : List Link) → s < g.now.states → ChainFrom (edges_of g.now) s ms → length ms ≤ length c.links) }
+    ensures ranks { IfOk result (λ c. AreRanks (edges_of g.now) g.now.states c.ranks) }
+    ensures cycle { IfOk result (λ c. IfSome c.cycle (IsLoop (edges_of g.now) g.now.states)) }
+    ensures no_cycle { IfOk result (λ c. IfNone c.cycle (HasNoCycle (edges_of g.now))) }
+{
+    let ranks = no_ranks(alloc, g.states())?;
+    let cycle = some_loop(alloc, g, components)?;
+    Ok(Chain {
+        links: Items::new(alloc),
+        ranks,
+        cycle,
+    })
+}
+
+/// A longest chain of splits of a graph that may have one, all ranks and a cycle.
+fn with_splits(alloc: Global, g: &Multigraph, components: Components) -> Result<Chain, OutOfMemory>
     requires parts { IsParts (edges_of g.now) g.now.states components }
     requires no_twin { HasNoTwin (edges_of g.now) }
     ensures links { IfOk result (λ c. IsChain (edges_of g.now) c.links) }
@@ -179,6 +202,36 @@ pub fn degree_over(
         ranks,
         cycle,
     })
+}
+
+/// A longest chain of splits of a graph without a twin, all ranks and a cycle, found over the graph's strongly connected
+/// components.
+///
+/// The components must be those of the graph, as [`Multigraph::components`] makes them: so a caller that needs them for more than
+/// one search makes them once. The search is that of [`degree`]. Where no two components have states on cycles there is no split,
+/// and nothing is searched for one.
+///
+/// # Errors
+/// [`OutOfMemory`] where there was no memory for the search or the answer.
+pub fn degree_over(
+    alloc: Global,
+    g: &Multigraph,
+    components: Components,
+) -> Result<Chain, OutOfMemory>
+    requires parts { IsParts (edges_of g.now) g.now.states components }
+    requires no_twin { HasNoTwin (edges_of g.now) }
+    ensures links { IfOk result (λ c. IsChain (edges_of g.now) c.links) }
+    ensures states { IfOk result (λ c. All (IsSplitIn g.now.states) c.links) }
+    ensures longest { IfOk result (λ c. (s : ℕ) (ms : List Link) → s < g.now.states → ChainFrom (edges_of g.now) s ms → length ms ≤ length c.links) }
+    ensures ranks { IfOk result (λ c. AreRanks (edges_of g.now) g.now.states c.ranks) }
+    ensures cycle { IfOk result (λ c. IfSome c.cycle (IsLoop (edges_of g.now) g.now.states)) }
+    ensures no_cycle { IfOk result (λ c. IfNone c.cycle (HasNoCycle (edges_of g.now))) }
+{
+    if has_two(&components, g.states()) {
+        with_splits(alloc, g, components)
+    } else {
+        without_split(alloc, g, &components)
+    }
 }
 
 /// A longest chain of splits of a graph without a twin, all ranks and a cycle.

@@ -3,7 +3,7 @@
 ghost use Rattle.std.specs.Prelude.{◌≡◌, ℕ, ◌<◌, true, false, length, IfOk};
 ghost use Rattle.rl_graph.specs.Parts.{number_of, cycle_of};
 ghost use Rattle.rl_kernel.specs.Seats.{seats_of};
-ghost use Rattle.rl_degree.specs.internal.Kernel.{IsOneComponent, IsKernel, IsKernelUpTo};
+ghost use Rattle.rl_degree.specs.internal.Kernel.{IsOneComponent, IsKernel};
 
 use rl_graph::Components;
 use rl_kernel::Kernel;
@@ -24,7 +24,7 @@ fn is_alone(components: &Components, count: u32, number: u32) -> bool
 }
 
 /// Whether states of two components may lie on cycles.
-fn has_two(components: &Components, count: u32) -> bool
+pub(crate) fn has_two(components: &Components, count: u32) -> bool
     requires size { length components.now.numbers ≡ count }
     ensures { result ≡ false → (r q : ℕ) → r < count → q < count → cycle_of components.now r ≡ true → cycle_of components.now q ≡ true → number_of components.now r ≡ number_of components.now q }
 {
@@ -36,21 +36,7 @@ fn has_two(components: &Components, count: u32) -> bool
     false
 }
 
-/// The states on cycles.
-fn all_on_cycles(alloc: Global, components: &Components, count: u32) -> Result<Kernel, OutOfMemory>
-    requires size { length components.now.numbers ≡ count }
-    ensures { IfOk result (λ k. IsKernelUpTo components.now count count (seats_of k)) }
-{
-    let mut kernel = Kernel::new(alloc, count)?;
-    for state in 0..count {
-        if components.on_cycle(state) {
-            kernel.put(state, components.of(state))?;
-        }
-    }
-    Ok(kernel)
-}
-
-/// The states that a split may join: those on cycles, where two components have some, and else none.
+/// The states that a split may join: those on cycles.
 ///
 /// # Errors
 /// [`OutOfMemory`] where there was no memory for them.
@@ -62,9 +48,11 @@ pub(crate) fn kernel_of(
     requires size { length components.now.numbers ≡ count }
     ensures { IfOk result (λ k. IsKernel components.now count (seats_of k)) }
 {
-    if has_two(components, count) {
-        all_on_cycles(alloc, components, count)
-    } else {
-        Kernel::new(alloc, count)
+    let mut kernel = Kernel::new(alloc, count)?;
+    for state in 0..count {
+        if components.on_cycle(state) {
+            kernel.put(state, components.of(state))?;
+        }
     }
+    Ok(kernel)
 }

@@ -1,11 +1,12 @@
 -- From the answers of the search for a fork to twins.
-use Rattle.std.proofs.Common.{◌≡◌, ap, ℕ, ◌+◌, ◌*◌, ◌<◌, ◌≤◌, ◌⊎◌, inl, inr, List, get_or, ◌∙◌, subst, arith}
+use Rattle.std.proofs.Common.{◌≡◌, ap, false, true≢false, sym, ℕ, ◌+◌, ◌*◌, ◌<◌, ◌≤◌, ◌⊎◌, inl, inr, List, get_or, ◌∙◌, subst, arith}
 use Rattle.std.proofs.lemmas.Bool.{cases_lt}
 use Rattle.std.proofs.lemmas.Nat.{mul-add-lt}
 use Rattle.std.specs.List.{All}
 use Rattle.rl_graph.specs.Graph.{Graph, edges_of, IsWhole}
-use Rattle.rl_graph.specs.Parts.{PartTable, IsParts, number_of}
+use Rattle.rl_graph.specs.Parts.{PartTable, IsParts, number_of, cycle_of}
 use Rattle.rl_graph.proofs.Sums.{at-short, at-get_or, Has-get_or}
+use Rattle.rl_graph.proofs.PathLaws.{OnCycle-move}
 use Rattle.rl_graph.proofs.GraphLaws.{bounded-whole}
 use Rattle.rl_expo.specs.declared.forks.Fork.{Fork}
 use Rattle.rl_expo.specs.internal.Search.{AreMoves, targets_of, Stays, NoTwoStay, NoneStay}
@@ -27,6 +28,15 @@ none_stay-no_fork g p c w parts none =
     (λ r l i j x y hr hl at lt ex ey a b. none r l hr hl at i j lt (at-short (edges_of g r l) j y ey)
     (ap (number_of p) (at-get_or (edges_of g r l) i x 0 ex) ∙ a)
     (ap (number_of p) (at-get_or (edges_of g r l) j y 0 ey) ∙ b))
+
+-- a state that lies on no cycle has no move that stays in its component
+pub off_cycle-none_stay : (g : Graph) (p : PartTable) (r : ℕ) → IsWhole g → IsParts (edges_of g) g.states p → r < g.states → cycle_of p r ≡ false → (l : ℕ) → NoneStay g p r l
+off_cycle-none_stay g p r w parts hr off l i j ij jk a b =
+    let row = edges_of g r l in
+    let m = get_or row i 0 in
+    let has = Has-get_or row i 0 (omega arith) in
+    let back = ((parts.same m r (w.targets r l m has) hr).0 a).0 in
+    true≢false (sym ((parts.on_cycle r hr).1 (OnCycle-move (edges_of g) r l m has back)) ∙ off)
 
 -- one more move looked at, which stays or does not
 

@@ -2,7 +2,8 @@
 //! of a state on one letter that both stay in the state's component.
 
 ghost use Rattle.std.specs.Prelude.{◌≡◌, ℕ, ◌<◌, length, false, IfOk};
-ghost use Rattle.rl_graph.specs.Parts.{number_of};
+ghost use Rattle.rl_graph.specs.Graph.{edges_of};
+ghost use Rattle.rl_graph.specs.Parts.{IsParts};
 ghost use Rattle.rl_expo.specs.internal.Search.{NoneStay};
 ghost use Rattle.rl_expo.specs.internal.Blocks.{AreForking, AreForkingUpTo};
 
@@ -31,12 +32,16 @@ fn stays_twice(g: &Multigraph, components: &Components, state: u32, letter: u32)
     false
 }
 
-/// Whether a state has such moves on any letter.
+/// Whether a state has such moves on any letter. A state that lies on no cycle has none, and its moves aren't looked at.
 fn stays_twice_from(g: &Multigraph, components: &Components, state: u32) -> bool
+    requires parts { IsParts (edges_of g.now) g.now.states components.now }
     requires state_in { state < g.now.states }
-    requires size { length components.now.numbers ≡ g.now.states }
     ensures { result ≡ false → (l : ℕ) → l < g.now.letters → NoneStay g.now components.now state l }
 {
+    let _states = g.states();
+    if !components.on_cycle(state) {
+        return false;
+    }
     for letter in 0..g.letters() {
         if stays_twice(g, components, state, letter) {
             return true;
@@ -54,8 +59,7 @@ pub fn forking(
     g: &Multigraph,
     components: &Components,
 ) -> Result<Vec<bool>, OutOfMemory>
-    requires size { length components.now.numbers ≡ g.now.states }
-    requires below { (q : ℕ) → q < g.now.states → number_of components.now q < g.now.states }
+    requires parts { IsParts (edges_of g.now) g.now.states components.now }
     ensures { IfOk result (λ v. AreForking g.now components.now v.items) }
 {
     let mut marks = vec![in alloc; false; g.states() as usize]?;

@@ -3,8 +3,8 @@ use Rattle.rl_kernel.specs.Seats.{seats_of, with_seat}
 use Rattle.rl_degree.specs.internal.Kernel.{IsKernelUpTo}
 use Rattle.rl_graph.specs.Parts.{cycle_of}
 use Rattle.rl_kernel.proofs.SeatLaws.{holds-more, holds-passed}
-use Rattle.rl_degree.proofs.kernel.all_on_cycles.Goals as goal
-use Rattle.rl_degree.proofs.kernel.all_on_cycles.Goals.{then-on_cycle+in_ok-put, else-on_cycle}
+use Rattle.rl_degree.proofs.kernel.kernel_of.Goals as goal
+use Rattle.rl_degree.proofs.kernel.kernel_of.Goals.{then-on_cycle+in_ok-put, else-on_cycle}
 
 pub loop-state-preserved : goal.loop-state-preserved
 loop-state-preserved c =
