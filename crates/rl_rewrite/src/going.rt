@@ -86,7 +86,10 @@ fn items_may_go(items: &[Pat], dropped: &[Span]) -> bool
 {
     let mut all = true;
     for item in items {
-        all = may_go(item, dropped) && all;
+        match item {
+            Pat::Class { .. } => {}
+            _ => all = may_go(item, dropped) && all,
+        }
     }
     all
 }

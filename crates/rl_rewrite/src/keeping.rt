@@ -1,6 +1,6 @@
 //! Which places of a part are kept where one more branch is dropped.
 
-ghost use Rattle.std.specs.Prelude.{◌≡◌, ◌∷◌, [], ◌++◌, List, true, map, IfOk, IfSome};
+ghost use Rattle.std.specs.Prelude.{◌≡◌, ◌∷◌, [], ◌++◌, List, true, map, IfOk, OnOk, IfSome};
 ghost use Rattle.rl_syntax.specs.PatTree.{pat_of, items_of, branches_of};
 ghost use Rattle.rl_syntax.specs.Counting.{branch_tree};
 ghost use Rattle.rl_syntax.specs.Lowering.{lowered};
@@ -107,7 +107,10 @@ fn items_may_lose_empty(items: &[Pat], dropped: &[Span], gone: Span) -> bool
 {
     let mut some = false;
     for item in items {
-        some = may_lose_empty(item, dropped, gone) || some;
+        match item {
+            Pat::Class { .. } => {}
+            _ => some = may_lose_empty(item, dropped, gone) || some,
+        }
     }
     some
 }
@@ -149,92 +152,87 @@ fn copies(min: u32, max: Option<u32>) -> u64
     }
 }
 
-/// These flags, and others so many times.
-fn with_copies(flags: &[bool], times: u64, found: Flags) -> Result<Flags, OutOfMemory>
-    ensures { IfOk result (λ all. all ≡ found ++ repeated times flags.now) }
+/// Appends flags so many times.
+fn put_copies(flags: &[bool], times: u64, found: &mut Vec<bool>) -> Result<(), OutOfMemory>
+    ensures { OnOk result (found.new.items ≡ found.old.items ++ repeated times flags.now) }
 {
-    let mut all = found.into_vec();
     for _ in 0..times {
-        all.extend_from_slice(flags)?;
+        found.extend_from_slice(flags)?;
     }
-    Ok(Flags::from_vec(all))
+    Ok(())
 }
 
-/// These flags, and those of the places of what is left of a part, which is kept or goes itself, where the branches of one more
-/// span go.
+/// Appends the flags of the places of what is left of a part, which is kept or goes itself, where the branches of one more span go.
 #[cycle(keeping)]
-fn with_flags(
+fn put_flags(
     alloc: Global,
     part: &Pat,
     dropped: &[Span],
     gone: Span,
     keep: bool,
-    found: Flags,
-) -> Result<Flags, OutOfMemory>
-    ensures { IfOk result (λ all. all ≡ found ++ flags_in (lies_among dropped.now) gone keep (pat_of part.now)) }
+    found: &mut Vec<bool>,
+) -> Result<(), OutOfMemory>
+    ensures { OnOk result (found.new.items ≡ found.old.items ++ flags_in (lies_among dropped.now) gone keep (pat_of part.now)) }
 {
     match part {
-        Pat::Nothing { .. } | Pat::Anchor { .. } | Pat::Boundary { .. } | Pat::Outside { .. } => Ok(
-            found,
-        ),
-        Pat::Class { .. } => {
-            let mut all = found;
-            all.push(keep)?;
-            Ok(all)
-        }
+        Pat::Nothing { .. } | Pat::Anchor { .. } | Pat::Boundary { .. } | Pat::Outside { .. } => {}
+        Pat::Class { .. } => found.push(keep)?,
         Pat::Seq { items, .. } => {
-            with_items_flags(alloc, items.as_slice(), dropped, gone, keep, found)
+            put_items_flags(alloc, items.as_slice(), dropped, gone, keep, found)?;
         }
         Pat::Choice { branches, .. } => {
-            with_branches_flags(alloc, branches.as_slice(), dropped, gone, keep, found)
+            put_branches_flags(alloc, branches.as_slice(), dropped, gone, keep, found)?;
         }
         Pat::Repeat { min, max, body, .. } => {
-            let flags = with_flags(alloc, body, dropped, gone, keep, Flags::new(alloc))?;
-            with_copies(flags.as_slice(), copies(*min, *max), found)
+            let mut flags = Vec::new(alloc);
+            put_flags(alloc, body, dropped, gone, keep, &mut flags)?;
+            put_copies(flags.as_slice(), copies(*min, *max), found)?;
         }
-        Pat::Group { body, .. } => with_flags(alloc, body, dropped, gone, keep, found),
+        Pat::Group { body, .. } => put_flags(alloc, body, dropped, gone, keep, found)?,
     }
+    Ok(())
 }
 
-/// These flags, and those of items.
+/// Appends the flags of items.
 #[cycle(keeping)]
-fn with_items_flags(
+fn put_items_flags(
     alloc: Global,
     items: &[Pat],
     dropped: &[Span],
     gone: Span,
     keep: bool,
-    found: Flags,
-) -> Result<Flags, OutOfMemory>
-    ensures { IfOk result (λ all. all ≡ found ++ items_flags (lies_among dropped.now) gone keep (items_of (map pat_of items.now))) }
+    found: &mut Vec<bool>,
+) -> Result<(), OutOfMemory>
+    ensures { OnOk result (found.new.items ≡ found.old.items ++ items_flags (lies_among dropped.now) gone keep (items_of (map pat_of items.now))) }
 {
-    let mut all = found;
     for item in items {
-        all = with_flags(alloc, item, dropped, gone, keep, all)?;
+        match item {
+            Pat::Class { .. } => found.push(keep)?,
+            _ => put_flags(alloc, item, dropped, gone, keep, found)?,
+        }
     }
-    Ok(all)
+    Ok(())
 }
 
-/// These flags, and those of the branches that are left.
+/// Appends the flags of the branches that are left.
 #[cycle(keeping)]
-fn with_branches_flags(
+fn put_branches_flags(
     alloc: Global,
     branches: &[Branch],
     dropped: &[Span],
     gone: Span,
     keep: bool,
-    found: Flags,
-) -> Result<Flags, OutOfMemory>
-    ensures { IfOk result (λ all. all ≡ found ++ branches_flags (lies_among dropped.now) gone keep (branches_of (map branch_tree branches.now))) }
+    found: &mut Vec<bool>,
+) -> Result<(), OutOfMemory>
+    ensures { OnOk result (found.new.items ≡ found.old.items ++ branches_flags (lies_among dropped.now) gone keep (branches_of (map branch_tree branches.now))) }
 {
-    let mut all = found;
     for branch in branches {
         if !among(dropped, branch.span) {
             let stays = keep && !is_same(gone, branch.span);
-            all = with_flags(alloc, &branch.body, dropped, gone, stays, all)?;
+            put_flags(alloc, &branch.body, dropped, gone, stays, found)?;
         }
     }
-    Ok(all)
+    Ok(())
 }
 
 /// For each place of what is left of a part without some branches, whether it is kept where one more branch is dropped; nothing
@@ -252,6 +250,7 @@ pub(crate) fn kept_places(
     if may_lose_empty(part, dropped, branch) {
         return Ok(None);
     }
-    let keep = with_flags(alloc, part, dropped, branch, true, Flags::new(alloc))?;
-    Ok(Some(keep))
+    let mut keep = Vec::new(alloc);
+    put_flags(alloc, part, dropped, branch, true, &mut keep)?;
+    Ok(Some(Flags::from_vec(keep)))
 }

@@ -1,6 +1,6 @@
 //! The branches of a body tried one after another.
 
-ghost use Rattle.std.specs.Prelude.{◌≡◌, ◌≤◌, [], ◌∷◌, List, length, false, true, IfOk, IfSome};
+ghost use Rattle.std.specs.Prelude.{◌≡◌, ◌≤◌, [], ◌∷◌, List, length, false, true, IfOk, OnOk, IfSome};
 ghost use Rattle.rl_syntax.specs.declared.span.Span.{Span as AnySpan};
 ghost use Rattle.rl_syntax.specs.Pattern.{body_of, universe_of};
 ghost use Rattle.rl_syntax.specs.Lowering.{lowered};
@@ -34,8 +34,8 @@ pub(crate) struct Tries {
     pub(crate) dropped: Spans,
     /// The branches whose test passed its limit.
     pub(crate) passed: Spans,
-    /// The tree of the body without the branches that were dropped, with which the next ones are compared.
-    pub(crate) base: Baseline,
+    /// The tree of the body without the branches that were dropped, with which others are compared, unless none was needed yet.
+    pub(crate) base: Option<Baseline>,
 }
 
 /// The automaton of the tree of a body without some of its branches, if others are to be tried on it.
@@ -147,6 +147,27 @@ fn baseline_without(alloc: Global, p: &Pattern, dropped: &[Span]) -> Result<Base
     Ok(base)
 }
 
+/// The same, unless it was made before.
+fn base_of(
+    alloc: Global,
+    p: &Pattern,
+    dropped: &[Span],
+    base: Option<Baseline>,
+) -> Result<Baseline, OutOfMemory>
+    requires guardless { guard_in (body_of p.now) ≡ false }
+    requires within { IsWithin (universe_of p.now) (lowered (body_of p.now)) }
+    requires may { goes (among dropped.now) (body_of p.now) ≡ true }
+    requires tree { IfSome base (λ b. tree_of b.tree ≡ without dropped.now (body_of p.now)) }
+    requires universe { IfSome base (λ b. b.universe ≡ universe_of p.now) }
+    ensures tree { IfOk result (λ b. tree_of b.tree ≡ without dropped.now (body_of p.now)) }
+    ensures universe { IfOk result (λ b. b.universe ≡ universe_of p.now) }
+{
+    match base {
+        Some(base) => Ok(base),
+        None => baseline_without(alloc, p, dropped),
+    }
+}
+
 /// What a trial of one more branch tells: on the automaton of what is left, if there is one, or else of both trees.
 fn trial_of(
     alloc: Global,
@@ -160,8 +181,8 @@ fn trial_of(
     requires within { IsWithin (universe_of p.now) (lowered (body_of p.now)) }
     requires before { goes (among tries.old.dropped) (body_of p.now) ≡ true }
     requires may { goes (among (branch ∷ tries.old.dropped)) (body_of p.now) ≡ true }
-    requires tree { tree_of tries.old.base.tree ≡ without tries.old.dropped (body_of p.now) }
-    requires universe { tries.old.base.universe ≡ universe_of p.now }
+    requires tree { IfSome tries.old.base (λ b. tree_of b.tree ≡ without tries.old.dropped (body_of p.now)) }
+    requires universe { IfSome tries.old.base (λ b. b.universe ≡ universe_of p.now) }
     requires base { IfSome trimmer.old (IsBase (universe_of p.now) (without tries.old.dropped (body_of p.now))) }
     requires some { 1 ≤ limit }
     requires low { limit ≤ MOST_SET_PAIRS }
@@ -169,21 +190,18 @@ fn trial_of(
     ensures told { IfOk result (IsTold (universe_of p.now) (without tries.old.dropped (body_of p.now)) (without (branch ∷ tries.old.dropped) (body_of p.now))) }
     ensures dropped { tries.new.dropped ≡ tries.old.dropped }
     ensures passed { tries.new.passed ≡ tries.old.passed }
-    ensures same { tries.new.base ≡ tries.old.base }
+    ensures tree { OnOk result (IfSome tries.new.base (λ b. tree_of b.tree ≡ without tries.old.dropped (body_of p.now))) }
+    ensures universe { OnOk result (IfSome tries.new.base (λ b. b.universe ≡ universe_of p.now)) }
     ensures unchanged { trimmer.new ≡ trimmer.old }
 {
     let judged = judge_branch(alloc, p, branch, tries.dropped.as_slice(), trimmer, limit)?;
     if let Some(found) = judged {
         return Ok(found);
     }
-    let trial = compare_branch(
-        alloc,
-        p,
-        branch,
-        tries.dropped.as_slice(),
-        &mut tries.base,
-        limit,
-    )?;
+    let kept = tries.base.take();
+    let mut base = base_of(alloc, p, tries.dropped.as_slice(), kept)?;
+    let trial = compare_branch(alloc, p, branch, tries.dropped.as_slice(), &mut base, limit)?;
+    tries.base = Some(base);
     Ok(trial)
 }
 
@@ -199,15 +217,15 @@ fn try_branch(
     requires guardless { guard_in (body_of p.now) ≡ false }
     requires within { IsWithin (universe_of p.now) (lowered (body_of p.now)) }
     requires before { goes (among tries.dropped) (body_of p.now) ≡ true }
-    requires tree { tree_of tries.base.tree ≡ without tries.dropped (body_of p.now) }
-    requires universe { tries.base.universe ≡ universe_of p.now }
+    requires tree { IfSome tries.base (λ b. tree_of b.tree ≡ without tries.dropped (body_of p.now)) }
+    requires universe { IfSome tries.base (λ b. b.universe ≡ universe_of p.now) }
     requires base { IfSome trimmer.old (IsBase (universe_of p.now) (without tries.dropped (body_of p.now))) }
     requires some { 1 ≤ limit }
     requires low { limit ≤ MOST_SET_PAIRS }
     ensures tried { IfOk result (λ all. (bs : List AnySpan) → AreTried (universe_of p.now) limit (body_of p.now) bs tries.dropped tries.passed
         → AreTried (universe_of p.now) limit (body_of p.now) (branch ∷ bs) all.dropped all.passed) }
-    ensures tree { IfOk result (λ all. tree_of all.base.tree ≡ without all.dropped (body_of p.now)) }
-    ensures universe { IfOk result (λ all. all.base.universe ≡ universe_of p.now) }
+    ensures tree { IfOk result (λ all. IfSome all.base (λ b. tree_of b.tree ≡ without all.dropped (body_of p.now))) }
+    ensures universe { IfOk result (λ all. IfSome all.base (λ b. b.universe ≡ universe_of p.now)) }
     ensures may { IfOk result (λ all. goes (among all.dropped) (body_of p.now) ≡ true) }
     ensures same { IfOk result (λ all. length all.dropped ≡ length tries.dropped → all.dropped ≡ tries.dropped) }
     ensures unchanged { trimmer.new ≡ trimmer.old }
@@ -217,14 +235,11 @@ fn try_branch(
         return Ok(tries);
     }
     match trial_of(alloc, p, branch, &mut tries, trimmer, limit)? {
-        Trial::Equal => {
-            let base = baseline_without(alloc, p, more.as_slice())?;
-            Ok(Tries {
-                dropped: more,
-                passed: tries.passed,
-                base,
-            })
-        }
+        Trial::Equal => Ok(Tries {
+            dropped: more,
+            passed: tries.passed,
+            base: None,
+        }),
         Trial::Apart => Ok(tries),
         Trial::Passed => {
             let passed = with_first(alloc, branch, tries.passed.as_slice())?;
@@ -249,15 +264,15 @@ fn try_next(
     requires guardless { guard_in (body_of p.now) ≡ false }
     requires within { IsWithin (universe_of p.now) (lowered (body_of p.now)) }
     requires before { goes (among tries.dropped) (body_of p.now) ≡ true }
-    requires tree { tree_of tries.base.tree ≡ without tries.dropped (body_of p.now) }
-    requires universe { tries.base.universe ≡ universe_of p.now }
+    requires tree { IfSome tries.base (λ b. tree_of b.tree ≡ without tries.dropped (body_of p.now)) }
+    requires universe { IfSome tries.base (λ b. b.universe ≡ universe_of p.now) }
     requires base { IfSome trimmer.old (IsBase (universe_of p.now) (without tries.dropped (body_of p.now))) }
     requires some { 1 ≤ limit }
     requires low { limit ≤ MOST_SET_PAIRS }
     ensures tried { IfOk result (λ all. (bs : List AnySpan) → AreTried (universe_of p.now) limit (body_of p.now) bs tries.dropped tries.passed
         → AreTried (universe_of p.now) limit (body_of p.now) (branch ∷ bs) all.dropped all.passed) }
-    ensures tree { IfOk result (λ all. tree_of all.base.tree ≡ without all.dropped (body_of p.now)) }
-    ensures universe { IfOk result (λ all. all.base.universe ≡ universe_of p.now) }
+    ensures tree { IfOk result (λ all. IfSome all.base (λ b. tree_of b.tree ≡ without all.dropped (body_of p.now))) }
+    ensures universe { IfOk result (λ all. IfSome all.base (λ b. b.universe ≡ universe_of p.now)) }
     ensures base { IfOk result (λ all. IfSome trimmer.new (IsBase (universe_of p.now) (without all.dropped (body_of p.now)))) }
 {
     let before = tries.dropped.len();
@@ -290,7 +305,7 @@ fn try_branches(
     let mut tries = Tries {
         dropped: Spans::new(alloc),
         passed: Spans::new(alloc),
-        base,
+        base: Some(base),
     };
     for branch in branches.as_slice().iter().rev() {
         tries = try_next(alloc, p, *branch, tries, &mut trimmer, limit)?;
@@ -319,7 +334,7 @@ pub(crate) fn tries_of(
         return Ok(Tries {
             dropped: Spans::new(alloc),
             passed: Spans::new(alloc),
-            base,
+            base: Some(base),
         });
     }
     try_branches(alloc, p, base, limit)

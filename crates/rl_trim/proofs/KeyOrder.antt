@@ -16,7 +16,7 @@ use Rattle.rl_trim.specs.declared.judgement.Judgement.TheVariants.{Apart}
 use Rattle.rl_trim.specs.Judged.{IsFound}
 use Rattle.rl_trim.specs.internal.Trims.{trim_on, trim_nexts}
 use Rattle.rl_trim.specs.internal.Quick.{IsGrown, IsInside, no_key, key_at, pair_of, pair_at}
-use Rattle.rl_trim.specs.internal.Orders.{key_is, with_key, pairs_in, AreKeys}
+use Rattle.rl_trim.specs.internal.Orders.{key_is, with_key, pairs_in, AreKeys, AreArrived}
 use Rattle.rl_trim.proofs.SetLaws.{grown-refl, grown-grown}
 use Rattle.rl_trim.proofs.PairLaws.{inside-grown, pair-grown}
 use Rattle.rl_equiv.specs.SetPairs.{differs}
@@ -207,7 +207,8 @@ pub walked-judged : (a b : Automaton) (v w : Walk) → b ≡ a → IsGrown b v w
 walked-judged a b v w e g c = closed-longer a v w 0 (subst (λ (x : Automaton). IsGrown x v w) e g) c
 
 -- the first pairs, up to a place, were looked at
-pub record IsJudging (a : Automaton) (keep : List Bool) (v w : Walk) (keys : List Key) (limit place : ℕ) : Type 0 where
+pub record IsJudging (a : Automaton) (keep : List Bool) (v w : Walk) (keys : List Key) (row : List Bool) (limit place : ℕ) : Type 0 where
   pub grown : IsGrown a v w
   pub are : AreKeys a w keys
+  pub arrived : AreArrived keep w keys row
   pub looking : IsLooking (trim_pairs a keep) limit place (pairs_in w keys)

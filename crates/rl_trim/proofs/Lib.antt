@@ -9,6 +9,7 @@ pub mod ClosingLaws
 pub mod HolderLaws
 pub mod PairLaws
 pub mod KeyOrder
+pub mod ArrivedLaws
 pub mod CoverLaws
 pub mod ApartLaws
 pub mod QuickLaws

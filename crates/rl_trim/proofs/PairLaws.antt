@@ -127,7 +127,7 @@ pub pair-onward : (a : Automaton) (v w : Walk) (keys more : List Key) → IsOnwa
     → (i : ℕ) → i < length keys → pair_at w more i ≡ pair_at v keys i
 pair-onward a v w keys more o each i lt = ap (pair_of w) (o.same i lt) ∙ pair-grown a v w (key_at keys i) o.grown (each i lt)
 
-has-onward : (a : Automaton) (v w : Walk) (keys more : List Key) (p : SetPair) → IsOnward a v w keys more → ((i : ℕ) → i < length keys → IsInside v (key_at keys i))
+pub has-onward : (a : Automaton) (v w : Walk) (keys more : List Key) (p : SetPair) → IsOnward a v w keys more → ((i : ℕ) → i < length keys → IsInside v (key_at keys i))
     → HasPair v keys p → HasPair w more p
 has-onward a v w keys more p o each h = record {
   place = h.place;
@@ -136,7 +136,7 @@ has-onward a v w keys more p o each h = record {
 }
 
 -- the pair of a key that was put
-has-put : (w : Walk) (keys more : List Key) (key : Key) (p : SetPair) → IsPut keys more key → pair_of w key ≡ p → HasPair w more p
+pub has-put : (w : Walk) (keys more : List Key) (key : Key) (p : SetPair) → IsPut keys more key → pair_of w key ≡ p → HasPair w more p
 has-put w keys more key p put e = record { place = put.place; inside = put.inside; is = ap (pair_of w) put.is ∙ e }
 
 keys-put : (a : Automaton) (v w : Walk) (keys more : List Key) (key : Key) → IsGrown a v w → IsPut keys more key → IsInside w key → ((i : ℕ) → i < length keys → IsInside v (key_at keys i))
@@ -149,7 +149,7 @@ keys-put a v w keys more key g put is each i lt = by (cases_lt i (length keys))
 
 -- ---- sets with themselves
 
-root-grown : (a : Automaton) (keep : List Bool) (v w : Walk) (k : ℕ) → IsGrown a v w → k < length v.sets → root keep w k ≡ root keep v k
+pub root-grown : (a : Automaton) (keep : List Bool) (v w : Walk) (k : ℕ) → IsGrown a v w → k < length v.sets → root keep w k ≡ root keep v k
 root-grown a keep v w k g lt = ap (λ (s : List ℕ). let p : SetPair = record { first = s; second = trimmed keep s } in p) (g.same k lt)
 
 there-onward : (a : Automaton) (keep : List Bool) (v w : Walk) (count : ℕ) (keys more : List Key) (p : SetPair) → count ≤ length v.sets → IsOnward a v w keys more

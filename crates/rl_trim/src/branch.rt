@@ -83,7 +83,7 @@ fn touches(walk: &SetWalk, states: &[u32], set: u32) -> bool
 }
 
 /// The number of the image of a set on a letter.
-fn step(walk: &mut SetWalk, a: &Prio, set: u32, letter: u32) -> Result<u32, SetsError>
+pub(crate) fn step(walk: &mut SetWalk, a: &Prio, set: u32, letter: u32) -> Result<u32, SetsError>
     requires made { IsMadeFor walk.old a.now }
     requires set_in { set < length walk.old.sets }
     requires letter_in { letter ≤ letters_count a.now }

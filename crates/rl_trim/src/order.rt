@@ -1,18 +1,21 @@
 //! The pairs of a trial in the order of the set pairs of both trees, which tells what a plain trial would.
 
-ghost use Rattle.std.specs.Prelude.{◌≡◌, ◌<◌, ◌∷◌, [], true, false, length, IfOk, OnOk};
+ghost use Rattle.std.specs.Prelude.{◌≡◌, ◌<◌, ◌⊎◌, ◌∷◌, [], ℕ, true, false, length, replicate, slice_index_or, IfOk, OnOk};
 ghost use Rattle.rl_prio.specs.Automaton.{letters_count};
 ghost use Rattle.rl_equiv.specs.SetPairs.{first_pair};
 ghost use Rattle.rl_equiv.specs.Numbering.{with_one, with_more};
 ghost use Rattle.rl_trim.specs.Judged.{IsFound};
 ghost use Rattle.rl_trim.specs.internal.Trims.{trim_on, trim_nexts, trim_differs, trim_pairs};
-ghost use Rattle.rl_trim.specs.internal.Quick.{IsGrown, no_key, pair_at};
-ghost use Rattle.rl_trim.specs.internal.Orders.{with_key, pairs_in, AreKeys};
+ghost use Rattle.rl_trim.specs.internal.Quick.{IsGrown, IsInside, no_key, pair_of, pair_at};
+ghost use Rattle.rl_trim.specs.declared.store.TheConstants.{MOST_SETS};
+ghost use Rattle.rl_trim.specs.internal.Orders.{with_key, pairs_in, AreKeys, AreArrived};
 
-use crate::branch::Branch;
+use crate::branch::{Branch, step};
 use crate::judgement::Judgement;
 use crate::key::Key;
+use crate::store::MOST_SETS;
 use indexmap::IndexSet;
+use rl_lanes::BitRow;
 use rl_lists::OutOfMemory;
 use rl_sets::{SetWalk, SetsError};
 use std::alloc::Global;
@@ -22,26 +25,81 @@ use std::alloc::Global;
 pub(crate) struct Order {
     /// The pairs.
     pub keys: IndexSet<Key>,
+    /// The sets that were found with themselves without the branch, as the next ones of one set with itself.
+    pub arrived: BitRow,
 }
 
 impl Order {
     /// The first pair.
     pub(crate) fn new(alloc: Global) -> Result<Order, OutOfMemory>
-        ensures { IfOk result (λ o. o.keys.keys ≡ no_key ∷ []) }
+        ensures keys { IfOk result (λ o. o.keys.keys ≡ no_key ∷ []) }
+        ensures arrived { IfOk result (λ o. o.arrived ≡ replicate MOST_SETS false) }
     {
         let mut keys = IndexSet::new(alloc);
         keys.insert(Key {
             first: 0,
             second: 0,
         })?;
-        Ok(Order { keys })
+        let arrived = BitRow::zeros(alloc, MOST_SETS as usize)?;
+        Ok(Order { keys, arrived })
+    }
+
+    /// Whether a set was found with itself without the branch.
+    fn has_arrived(&self, set: u32) -> bool
+        ensures { result ≡ true → slice_index_or self.now.arrived set false ≡ true }
+    {
+        if set as usize >= self.arrived.len() {
+            return false;
+        }
+        self.arrived.get(set as usize)
+    }
+
+    /// Notes that a set was found with itself without the branch.
+    fn note(&mut self, set: u32)
+        ensures arrived { (k : ℕ) → slice_index_or self.new.arrived k false ≡ true → (slice_index_or self.old.arrived k false ≡ true) ⊎ (k ≡ set) }
+        ensures keys { self.new.keys ≡ self.old.keys }
+    {
+        if set as usize >= self.arrived.len() {
+            return;
+        }
+        self.arrived.set(set as usize, true);
     }
 
     /// Appends a pair unless it is there.
     fn put(&mut self, key: Key) -> Result<(), OutOfMemory>
-        ensures { OnOk result (self.new.keys.keys ≡ with_key self.old.keys.keys key) }
+        ensures keys { OnOk result (self.new.keys.keys ≡ with_key self.old.keys.keys key) }
+        ensures arrived { self.new.arrived ≡ self.old.arrived }
     {
         self.keys.insert(key)?;
+        Ok(())
+    }
+
+    /// Appends the next pair of one set with itself, on a letter, unless it is there. A set that is noted is passed over at once.
+    fn visit_whole(
+        &mut self,
+        branch: &Branch,
+        walk: &mut SetWalk,
+        key: Key,
+        letter: u32,
+    ) -> Result<(), SetsError>
+        requires keys { AreKeys branch.now.automaton.now walk.old self.old.keys.keys }
+        requires arrived { AreArrived branch.now.keep.now walk.old self.old.keys.keys self.old.arrived }
+        requires inside { IsInside walk.old key }
+        requires whole { key.second ≡ key.first }
+        requires letter_in { letter < letters_count branch.now.automaton.now }
+        ensures grown { OnOk result (IsGrown branch.now.automaton.now walk.old walk.new) }
+        ensures keys { OnOk result (AreKeys branch.now.automaton.now walk.new self.new.keys.keys) }
+        ensures arrived { OnOk result (AreArrived branch.now.keep.now walk.new self.new.keys.keys self.new.arrived) }
+        ensures pairs { OnOk result (pairs_in walk.new self.new.keys.keys
+            ≡ with_one (pairs_in walk.old self.old.keys.keys) (trim_on branch.now.automaton.now branch.now.keep.now (pair_of walk.old key) letter)) }
+    {
+        let first = step(walk, branch.automaton, key.first, letter)?;
+        if self.has_arrived(first) {
+            return Ok(());
+        }
+        let second = branch.trim(walk, first)?;
+        self.put(Key { first, second })?;
+        self.note(first);
         Ok(())
     }
 
@@ -54,14 +112,20 @@ impl Order {
         letter: u32,
     ) -> Result<(), SetsError>
         requires keys { AreKeys branch.now.automaton.now walk.old self.old.keys.keys }
+        requires arrived { AreArrived branch.now.keep.now walk.old self.old.keys.keys self.old.arrived }
         requires place_in { place < length self.old.keys.keys }
         requires letter_in { letter < letters_count branch.now.automaton.now }
         ensures grown { OnOk result (IsGrown branch.now.automaton.now walk.old walk.new) }
         ensures keys { OnOk result (AreKeys branch.now.automaton.now walk.new self.new.keys.keys) }
+        ensures arrived { OnOk result (AreArrived branch.now.keep.now walk.new self.new.keys.keys self.new.arrived) }
         ensures pairs { OnOk result (pairs_in walk.new self.new.keys.keys
             ≡ with_one (pairs_in walk.old self.old.keys.keys) (trim_on branch.now.automaton.now branch.now.keep.now (pair_at walk.old self.old.keys.keys place) letter)) }
     {
         let key = self.keys[place];
+        if key.second == key.first {
+            self.visit_whole(branch, walk, key, letter)?;
+            return Ok(());
+        }
         let next = branch.next(walk, key, letter)?;
         self.put(next)?;
         Ok(())
@@ -70,9 +134,11 @@ impl Order {
     /// Appends the next pairs of the one at a place, the letters in order.
     fn expand(&mut self, branch: &Branch, walk: &mut SetWalk, place: usize) -> Result<(), SetsError>
         requires keys { AreKeys branch.now.automaton.now walk.old self.old.keys.keys }
+        requires arrived { AreArrived branch.now.keep.now walk.old self.old.keys.keys self.old.arrived }
         requires place_in { place < length self.old.keys.keys }
         ensures grown { OnOk result (IsGrown branch.now.automaton.now walk.old walk.new) }
         ensures keys { OnOk result (AreKeys branch.now.automaton.now walk.new self.new.keys.keys) }
+        ensures arrived { OnOk result (AreArrived branch.now.keep.now walk.new self.new.keys.keys self.new.arrived) }
         ensures pairs { OnOk result (pairs_in walk.new self.new.keys.keys
             ≡ with_more (pairs_in walk.old self.old.keys.keys) (trim_nexts branch.now.automaton.now branch.now.keep.now (pair_at walk.old self.old.keys.keys place))) }
     {
@@ -85,9 +151,11 @@ impl Order {
     /// Whether the pair at a place shows a difference.
     fn differs(&self, branch: &Branch, walk: &mut SetWalk, place: usize) -> Result<bool, SetsError>
         requires keys { AreKeys branch.now.automaton.now walk.old self.now.keys.keys }
+        requires arrived { AreArrived branch.now.keep.now walk.old self.now.keys.keys self.now.arrived }
         requires place_in { place < length self.now.keys.keys }
         ensures grown { OnOk result (IsGrown branch.now.automaton.now walk.old walk.new) }
         ensures keys { OnOk result (AreKeys branch.now.automaton.now walk.new self.now.keys.keys) }
+        ensures arrived { OnOk result (AreArrived branch.now.keep.now walk.new self.now.keys.keys self.now.arrived) }
         ensures pairs { OnOk result (pairs_in walk.new self.now.keys.keys ≡ pairs_in walk.old self.now.keys.keys) }
         ensures differs { IfOk result (λ told. told ≡ trim_differs branch.now.automaton.now (pair_at walk.old self.now.keys.keys place)) }
     {
@@ -105,6 +173,7 @@ impl Order {
         limit: usize,
     ) -> Result<Judgement, SetsError>
         requires keys { AreKeys branch.now.automaton.now walk.old self.old.keys.keys }
+        requires arrived { AreArrived branch.now.keep.now walk.old self.old.keys.keys self.old.arrived }
         requires one { pairs_in walk.old self.old.keys.keys ≡ first_pair ∷ [] }
         ensures found { IfOk result (IsFound (trim_pairs branch.now.automaton.now branch.now.keep.now) limit) }
         ensures grown { OnOk result (IsGrown branch.now.automaton.now walk.old walk.new) }

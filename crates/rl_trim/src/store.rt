@@ -14,10 +14,13 @@ use rl_sets::{SetWalk, SetsError};
 use std::alloc::Global;
 
 /// The most sets that a walk may have.
-const MOST_SETS: u32 = 60_000;
+pub(crate) const MOST_SETS: u32 = 60_000;
 
 /// The most sets that are reached from the start. Where there are more, quick trials don't pay.
-const MOST_REACHED: u32 = 10_000;
+pub(crate) const MOST_REACHED: u32 = 10_000;
+
+/// The most pairs that trials in order look at before the sets that are reached from the start are searched for once more.
+const MOST_LOOKED: usize = 200_000;
 
 /// The sets that are reached from the start, which are the first ones of a walk.
 #[derive(Drop)]
@@ -37,6 +40,8 @@ pub(crate) struct Store {
     pub walk: SetWalk,
     /// Those that are reached from the start, unless there are too many.
     pub reached: Option<Reached>,
+    /// How many pairs trials in order may still look at before these are searched for once more.
+    pub patience: usize,
 }
 
 /// A walk that has the start alone.
@@ -95,15 +100,41 @@ impl Store {
         Ok(Store {
             walk,
             reached: None,
+            patience: MOST_LOOKED,
         })
     }
 
-    /// The sets that are reached from the start, or the first of them where there are too many.
+    /// The sets that are reached from the start where they are no more than the states, or else the first of them: then trials in
+    /// order are mostly the quicker ones.
+    ///
+    /// # Errors
+    /// Those of [`Store::closed`].
+    pub(crate) fn first(alloc: Global, a: &Prio) -> Result<Store, SetsError>
+        ensures { IfOk result (IsStore a.now) }
+    {
+        Store::closed(alloc, a, a.states(), MOST_LOOKED)
+    }
+
+    /// These sets, or where trials in order have looked at many pairs, those that are reached from the start.
+    ///
+    /// # Errors
+    /// Those of [`Store::closed`].
+    pub(crate) fn refreshed(self, alloc: Global, a: &Prio) -> Result<Store, SetsError>
+        requires { IsStore a.now self }
+        ensures { IfOk result (IsStore a.now) }
+    {
+        if self.patience > 0 || self.walk.len() > MOST_REACHED {
+            return Ok(self);
+        }
+        Store::closed(alloc, a, MOST_REACHED, usize::MAX)
+    }
+
+    /// The sets that are reached from the start, or the first of them where there are as many as said.
     ///
     /// # Errors
     /// [`SetsError::Sets`] where there are more than a walk may have, and [`SetsError::OutOfMemory`] where there was no memory
     /// for them.
-    pub(crate) fn closed(alloc: Global, a: &Prio) -> Result<Store, SetsError>
+    fn closed(alloc: Global, a: &Prio, most: u32, patience: usize) -> Result<Store, SetsError>
         ensures { IfOk result (IsStore a.now) }
     {
         let mut walk = begin(alloc, a)?;
@@ -113,7 +144,7 @@ impl Store {
                 letter: 0
             },
         ]?;
-        for set in 0..MOST_REACHED {
+        for set in 0..most {
             if set == walk.len() {
                 let holders = holders_of(alloc, a, &walk, set)?;
                 return Ok(Store {
@@ -123,6 +154,7 @@ impl Store {
                         holders,
                         ways,
                     }),
+                    patience,
                 });
             }
             expand(&mut walk, &mut ways, a, set)?;
@@ -130,6 +162,7 @@ impl Store {
         Ok(Store {
             walk,
             reached: None,
+            patience,
         })
     }
 }

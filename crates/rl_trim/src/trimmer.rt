@@ -48,7 +48,7 @@ impl Model for Trimmer {
 fn close(alloc: Global, a: &Prio) -> Result<Option<Store>, OutOfMemory>
     ensures { IfOk result (IsStoreIf a.now) }
 {
-    match Store::closed(alloc, a) {
+    match Store::first(alloc, a) {
         Ok(store) => Ok(Some(store)),
         Err(SetsError::Sets) => Ok(None),
         Err(SetsError::OutOfMemory) => Err(OutOfMemory),
@@ -60,6 +60,7 @@ fn trial_in_order(
     alloc: Global,
     branch: &Branch,
     walk: &mut SetWalk,
+    patience: &mut usize,
     limit: u32,
 ) -> Result<Judgement, SetsError>
     requires { IsClosedTo branch.now.automaton.now walk.old 0 (length walk.old.sets) }
@@ -68,6 +69,7 @@ fn trial_in_order(
 {
     let mut order = Order::new(alloc)?;
     let found = order.judge(branch, walk, limit as usize)?;
+    *patience = patience.saturating_sub(order.keys.len());
     Ok(found)
 }
 
@@ -83,21 +85,21 @@ fn trial_of(
     ensures store { OnOk result (IsStore branch.now.automaton.now store.new) }
 {
     let Some(reached) = &store.reached else {
-        let found = trial_in_order(alloc, branch, &mut store.walk, limit)?;
+        let found = trial_in_order(alloc, branch, &mut store.walk, &mut store.patience, limit)?;
         return Ok(found);
     };
     let told = quick_trial(alloc, branch, &mut store.walk, reached, limit)?;
     if let Some(found) = told {
         return Ok(found);
     }
-    let found = trial_in_order(alloc, branch, &mut store.walk, limit)?;
+    let found = trial_in_order(alloc, branch, &mut store.walk, &mut store.patience, limit)?;
     Ok(found)
 }
 
 /// What a trial tells of an automaton without the states of the places that aren't kept, and the sets with those that it has made.
 fn judge_on(
     alloc: Global,
-    mut store: Store,
+    store: Store,
     a: &Prio,
     keep: &[bool],
     limit: u32,
@@ -107,6 +109,7 @@ fn judge_on(
     ensures store { IfOk result (λ r. IsStore a.now r.1) }
 {
     let branch = Branch::new(alloc, a, keep)?;
+    let mut store = store.refreshed(alloc, a)?;
     let found = trial_of(alloc, &branch, &mut store, limit)?;
     Ok((found, store))
 }

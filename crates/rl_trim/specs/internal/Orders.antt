@@ -1,11 +1,11 @@
 -- For the functions that judge a trial: its pairs in the order in which they are found, by the numbers of their sets.
-use Rattle.std.specs.Prelude.{ℕ, ◌<◌, Bool, ◌&&◌, ◌==◌, List, [], ◌∷◌, ◌++◌, length, map, if◌then◌else◌}
+use Rattle.std.specs.Prelude.{◌≡◌, ℕ, ◌<◌, Bool, true, false, ◌&&◌, ◌==◌, slice_index_or, List, [], ◌∷◌, ◌++◌, length, map, if◌then◌else◌}
 use Rattle.std.specs.List.{list_any}
 use Rattle.rl_prio.specs.Automaton.{Automaton}
 use Rattle.rl_sets.specs.Walk.{Walk, IsMadeFor}
 use Rattle.rl_equiv.specs.declared.pair.SetPair.{SetPair}
 use Rattle.rl_trim.specs.declared.key.Key.{Key}
-use Rattle.rl_trim.specs.internal.Quick.{key_at, pair_of, IsInside}
+use Rattle.rl_trim.specs.internal.Quick.{key_at, pair_of, IsInside, HasPair, root}
 
 -- whether two keys are one
 abbrev pub key_is : Key → Key → Bool
@@ -23,3 +23,8 @@ pairs_in w keys = map (pair_of w) keys
 pub record AreKeys (a : Automaton) (w : Walk) (keys : List Key) : Type 0 where
   pub made : IsMadeFor w a
   pub inside : (i : ℕ) → i < length keys → IsInside w (key_at keys i)
+
+-- a row holds true for sets alone of which each is found with itself without the states that aren't kept
+pub record AreArrived (keep : List Bool) (w : Walk) (keys : List Key) (row : List Bool) : Type 0 where
+  pub inside : (k : ℕ) → slice_index_or row k false ≡ true → k < length w.sets
+  pub found : (k : ℕ) → slice_index_or row k false ≡ true → HasPair w keys (root keep w k)

@@ -7,5 +7,5 @@ use Rattle.rl_rewrite.proofs.keeping.kept_places.Goals as goal
 
 pub returns : goal.returns
 returns c =
-    let e = c.in_ok-keep.ensures ∙ ap (λ l. l ++ flags_in (among c.args.dropped.now) c.args.branch true (pat_of c.args.part.now)) c.new.ensures in
+    let e = c.from_vec.ensures ∙ c.in_ok-put_flags.ensures ∙ ap (λ l. l ++ flags_in (among c.args.dropped.now) c.args.branch true (pat_of c.args.part.now)) c.new-keep.ensures.items in
     rw e (kept_flags c.args.dropped.now c.args.branch (pat_of c.args.part.now) c.requires.may (sym c.may_lose_empty.ensures ∙ c.if-may_lose_empty.false))

@@ -14,8 +14,8 @@ returns-then-not-may_go-clause-tried c =
     let h : may_go (among c.in_ok-more.more) (body_of c.args.p.now) ≡ false = grind (arith, common_steps) in
     λ bs t. alone (universe_of c.args.p.now) c.args.limit (body_of c.args.p.now) c.args.branch c.args.tries.dropped c.in_ok-more.more e h c.args.tries.passed bs t
 
-pub returns-in_ok-base-in-Equal-clause-tried : goal.returns-in_ok-base-in-Equal-clause-tried
-returns-in_ok-base-in-Equal-clause-tried c =
+pub returns-in-Equal-clause-tried : goal.returns-in-Equal-clause-tried
+returns-in-Equal-clause-tried c =
     let e : c.in_ok-more.more ≡ c.args.branch ∷ c.args.tries.dropped = c.in_ok-more.ensures ∙ ap (λ d. c.args.branch ∷ d) c.as_slice.ensures in
     let u = universe_of c.args.p.now in
     let body = body_of c.args.p.now in

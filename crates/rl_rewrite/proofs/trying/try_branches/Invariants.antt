@@ -9,4 +9,4 @@ use Rattle.rl_rewrite.specs.internal.Trials.{AreTried}
 use Rattle.rl_rewrite.proofs.trying.try_branches.Given as goal
 
 abbrev pub invariant-loop-branch : goal.invariant-loop-branch
-invariant-loop-branch l = (bs : List Span) × (l.branch-iterator.iter.rest.now ++ bs ≡ branches_in (body_of l.p)) × AreTried (universe_of l.p) l.limit (body_of l.p) bs l.tries.dropped l.tries.passed × (tree_of l.tries.base.tree ≡ without l.tries.dropped (body_of l.p)) × (l.tries.base.universe ≡ universe_of l.p) × IfSome l.trimmer (IsBase (universe_of l.p) (without l.tries.dropped (body_of l.p)))
+invariant-loop-branch l = (bs : List Span) × (l.branch-iterator.iter.rest.now ++ bs ≡ branches_in (body_of l.p)) × AreTried (universe_of l.p) l.limit (body_of l.p) bs l.tries.dropped l.tries.passed × IfSome l.tries.base (λ b. tree_of b.tree ≡ without l.tries.dropped (body_of l.p)) × IfSome l.tries.base (λ b. b.universe ≡ universe_of l.p) × IfSome l.trimmer (IsBase (universe_of l.p) (without l.tries.dropped (body_of l.p)))

@@ -15,6 +15,7 @@ loop-place-init c =
     record {
       grown = grown-refl a c.args.walk.now c.requires.keys.made;
       are = c.requires.keys;
+      arrived = c.requires.arrived;
       looking = looking-start (trim_pairs a c.args.branch.now.keep.now) c.args.limit (pairs_in c.args.walk.now c.args.self.now.keys.keys) c.requires.one;
     }
 
@@ -42,17 +43,17 @@ loop-place-preserved c =
           let looking =
           told-few a keep c.loop-place.walk c.differs.new.walk keys c.args.limit c.loop-place.place c.in_ok-differs.field-0 inv.looking lt c.in_ok-differs.ensures.differs w.expand.new.walk w.expand.new.self.keys.keys c.if-branch.false
           (omega (arith, c.len-in-loop-place.ensures.len, w.if-len-limit.true)) c.in_ok-differs.ensures.pairs w.in_ok-expand.ensures.pairs in
-          subst (λ (x : Walk). IsJudging a keep c.args.walk.now x c.if-len-limit.self.keys.keys c.args.limit (c.loop-place.place + 1)) (sym w.walk-is)
-          (subst (λ (o : Order). IsJudging a keep c.args.walk.now w.expand.new.walk o.keys.keys c.args.limit (c.loop-place.place + 1)) (sym w.self-is)
-          (record { grown = grown; are = w.in_ok-expand.ensures.keys; looking = looking }))
+          subst (λ (x : Walk). IsJudging a keep c.args.walk.now x c.if-len-limit.self.keys.keys c.if-len-limit.self.arrived c.args.limit (c.loop-place.place + 1)) (sym w.walk-is)
+          (subst (λ (o : Order). IsJudging a keep c.args.walk.now w.expand.new.walk o.keys.keys o.arrived c.args.limit (c.loop-place.place + 1)) (sym w.self-is)
+          (record { grown = grown; are = w.in_ok-expand.ensures.keys; arrived = w.in_ok-expand.ensures.arrived; looking = looking }))
       | else-len-limit w ↦
           let grown = grown-grown a c.args.walk.now c.loop-place.walk c.differs.new.walk inv.grown c.in_ok-differs.ensures.grown in
           let looking =
           told-many a keep c.loop-place.walk c.differs.new.walk keys c.args.limit c.loop-place.place c.in_ok-differs.field-0 inv.looking lt c.in_ok-differs.ensures.differs c.if-branch.false
           (omega (arith, c.len-in-loop-place.ensures.len, w.if-len-limit.false)) c.in_ok-differs.ensures.pairs in
-          subst (λ (x : Walk). IsJudging a keep c.args.walk.now x c.if-len-limit.self.keys.keys c.args.limit (c.loop-place.place + 1)) (sym w.walk-is)
-          (subst (λ (o : Order). IsJudging a keep c.args.walk.now c.differs.new.walk o.keys.keys c.args.limit (c.loop-place.place + 1)) (sym w.self-is)
-          (record { grown = grown; are = c.in_ok-differs.ensures.keys; looking = looking }))
+          subst (λ (x : Walk). IsJudging a keep c.args.walk.now x c.if-len-limit.self.keys.keys c.if-len-limit.self.arrived c.args.limit (c.loop-place.place + 1)) (sym w.walk-is)
+          (subst (λ (o : Order). IsJudging a keep c.args.walk.now c.differs.new.walk o.keys.keys o.arrived c.args.limit (c.loop-place.place + 1)) (sym w.self-is)
+          (record { grown = grown; are = c.in_ok-differs.ensures.keys; arrived = c.in_ok-differs.ensures.arrived; looking = looking }))
     ]
 
 pub returns-then-len-limit-2-clause-found : goal.returns-then-len-limit-2-clause-found

@@ -1,7 +1,7 @@
 -- The flags were added as often as the loop went round.
 use Rattle.std.proofs.Common.{◌≡◌, ◌++◌}
 use Rattle.rl_rewrite.specs.internal.Keeping.{repeated}
-use Rattle.rl_rewrite.proofs.keeping.with_copies.Given as goal
+use Rattle.rl_rewrite.proofs.keeping.put_copies.Given as goal
 
 abbrev pub invariant-loop : goal.invariant-loop
-invariant-loop l = l.all.items ≡ l.fn.found ++ repeated l.counter l.flags
+invariant-loop l = l.found.items ≡ l.fn.found.items ++ repeated l.counter l.flags

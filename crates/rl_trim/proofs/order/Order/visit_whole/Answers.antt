@@ -1,0 +1,55 @@
+use Rattle.std.proofs.Common.{◌≡◌, ◌∙◌, List, sym, ap, subst}
+use Rattle.rl_trim.specs.declared.key.Key.{Key}
+use Rattle.rl_trim.specs.internal.Orders.{pairs_in, AreArrived}
+use Rattle.rl_trim.proofs.PairLaws.{next-same}
+use Rattle.rl_trim.proofs.KeyOrder.{keys-grown, pairs-put}
+use Rattle.rl_trim.proofs.ArrivedLaws.{arrived-grown, arrived-put, arrived-noted, whole-there, whole-put}
+use Rattle.rl_trim.proofs.order.Order.visit_whole.Goals as goal
+
+pub returns-then-has_arrived-clause-keys : goal.returns-then-has_arrived-clause-keys
+returns-then-has_arrived-clause-keys c = keys-grown c.args.branch.now.automaton.now c.args.walk.now c.step.new.walk c.args.self.now.keys.keys c.in_ok-first.ensures.grown c.requires.keys
+
+pub returns-then-has_arrived-clause-arrived : goal.returns-then-has_arrived-clause-arrived
+returns-then-has_arrived-clause-arrived c =
+    arrived-grown c.args.branch.now.automaton.now c.args.branch.now.keep.now c.args.walk.now c.step.new.walk c.args.self.now.keys.keys c.args.self.now.arrived c.in_ok-first.ensures.grown c.requires.keys c.requires.arrived
+
+pub returns-then-has_arrived-clause-pairs : goal.returns-then-has_arrived-clause-pairs
+returns-then-has_arrived-clause-pairs c =
+    let a = c.args.branch.now.automaton.now in
+    let keep = c.args.branch.now.keep.now in
+    let keys = c.args.self.now.keys.keys in
+    let r = arrived-grown a keep c.args.walk.now c.step.new.walk keys c.args.self.now.arrived c.in_ok-first.ensures.grown c.requires.keys c.requires.arrived in
+    whole-there a keep c.args.walk.now c.step.new.walk c.args.key c.args.letter c.in_ok-first.first c.requires.whole c.in_ok-first.ensures keys c.requires.keys (r.found c.in_ok-first.first (c.has_arrived.ensures c.if-has_arrived.true))
+
+pub returns-clause-arrived : goal.returns-clause-arrived
+returns-clause-arrived c =
+    let a = c.args.branch.now.automaton.now in
+    let keep = c.args.branch.now.keep.now in
+    let v = c.args.walk.now in
+    let x = c.trim.new.walk in
+    let keys = c.args.self.now.keys.keys in
+    let more = c.put.new.self.keys.keys in
+    let first = c.in_ok-first.first in
+    let second = c.in_ok-second.second in
+    let key : Key = record { first = first; second = second } in
+    let is = next-same a keep v c.step.new.walk x c.args.key c.args.letter first second c.requires.inside c.requires.whole c.in_ok-first.ensures c.in_ok-second.ensures in
+    let put = arrived-put a keep v x keys more key c.args.self.now.arrived is.grown c.in_ok-put.ensures.keys c.requires.keys c.requires.arrived in
+    let here = whole-put a keep v c.step.new.walk c.args.key c.args.letter first c.requires.whole c.in_ok-first.ensures x keys more second is c.in_ok-second.ensures.grown c.in_ok-put.ensures.keys in
+    let row : AreArrived keep x more c.put.new.self.arrived = subst (AreArrived keep x more) (sym c.in_ok-put.ensures.arrived) put in
+    let all = arrived-noted keep x more c.put.new.self.arrived c.note.new.self.arrived first c.note.ensures.arrived is.inside.first_in here row in
+    let same : c.note.new.self.keys.keys ≡ more = ap (λ o. o.keys) c.note.ensures.keys in
+    subst (λ (l : List Key). AreArrived keep x l c.note.new.self.arrived) (sym same) all
+
+pub returns-clause-pairs : goal.returns-clause-pairs
+returns-clause-pairs c =
+    let a = c.args.branch.now.automaton.now in
+    let keep = c.args.branch.now.keep.now in
+    let v = c.args.walk.now in
+    let x = c.trim.new.walk in
+    let keys = c.args.self.now.keys.keys in
+    let first = c.in_ok-first.first in
+    let second = c.in_ok-second.second in
+    let key : Key = record { first = first; second = second } in
+    let is = next-same a keep v c.step.new.walk x c.args.key c.args.letter first second c.requires.inside c.requires.whole c.in_ok-first.ensures c.in_ok-second.ensures in
+    ap (λ o. pairs_in x o.keys) c.note.ensures.keys
+    ∙ pairs-put a v x keys c.put.new.self.keys.keys key _ is.grown is.inside is.is c.in_ok-put.ensures.keys c.requires.keys
