@@ -21,11 +21,15 @@ choice_of s (branch r p (branch t q bs)) = choice s (branch r p (branch t q bs))
 module _ (drop out : Span → Bool) where
   abbrev mutual
     pub left : PatTree → PatTree
+    left (nothing s) = nothing s
+    left (class s set) = class s set
     left (seq s ps) = seq s (left_items ps)
     left (choice s bs) = choice_of s (left_branches bs)
     left (repeat s q least most greedy p) = if out q then left p else repeat s q least most greedy (left p)
     left (group s captures p) = group s captures (left p)
-    left p = p
+    left (anchor s kind multiline) = anchor s kind multiline
+    left (boundary s negated ascii) = boundary s negated ascii
+    left (outside s what) = outside s what
 
     pub left_items : PatTrees → PatTrees
     left_items no_items = no_items
