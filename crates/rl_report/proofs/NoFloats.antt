@@ -10,6 +10,7 @@ use Rattle.serde_json.specs.Written.{has_float, members_have_float}
 use Rattle.rl_json.proofs.NoFloats.{items-plain}
 use Rattle.rl_ranges.specs.declared.universe.Universe.{Universe}
 use Rattle.rl_sites.specs.declared.call.Call.{Call}
+use Rattle.rl_sites.specs.Names.{call_word}
 use Rattle.rl_syntax.specs.declared.verdict.Family.{Family}
 use Rattle.rl_syntax.specs.declared.verdict.Suggestion.{Suggestion}
 use Rattle.rl_syntax.specs.declared.verdict.Verdict.{Verdict}
@@ -18,9 +19,10 @@ use Rattle.rl_report.specs.declared.places.Place.{Place}
 use Rattle.rl_report.specs.declared.report.Entry.{Entry}
 use Rattle.rl_report.specs.declared.report.Mark.{Mark}
 use Rattle.rl_report.specs.declared.report.Marks.{Marks}
-use Rattle.rl_report.specs.Names.{Text, call_name, cause_name, kind_name, limit_name, limit_number}
+use Rattle.rl_report.specs.Names.{Text, cause_name, kind_name, limit_name, limit_number}
 use Rattle.rl_report.specs.Findings.{verdict_of, suggestion_of, becomes_of, is_finding, is_refused, is_undecided}
-use Rattle.rl_report.specs.Document.{whole, place_members, place_data, at_members, call_members, fault_members, kind_members, verdict_members, refusal_members, outcome_members, text_data, texts_data, family_data, family_members, marks_data, marks_members, becomes_members, suggest_members, suggestion_members, front_members, entry_data, entries_data, report_data}
+use Rattle.rl_report.specs.Verdicts.{quoted_text}
+use Rattle.rl_report.specs.Document.{whole, place_members, place_data, at_members, call_members, fault_members, verdict_members, refusal_members, outcome_members, texts_data, family_data, family_members, marks_data, marks_members, becomes_members, suggest_members, suggestion_members, front_members, entry_data, entries_data, report_data}
 
 not-left : (b c : Bool) → (b || c) ≡ false → b ≡ false
 not-left false c h = refl
@@ -56,20 +58,20 @@ at-plain (Some p) ms h = place-plain p ms h
 
 call-plain : (o : Option Call) (ms : Members) → members_have_float ms ≡ false → members_have_float (call_members o ms) ≡ false
 call-plain None ms h = h
-call-plain (Some c) ms h = put-plain (codes "call") (string (call_name c)) ms refl h
+call-plain (Some c) ms h = put-plain (codes "call") (string (call_word c)) ms refl h
 
 fault-plain : (o : Option Place) (ms : Members) → members_have_float ms ≡ false → members_have_float (fault_members o ms) ≡ false
 fault-plain None ms h = h
 fault-plain (Some p) ms h = put-plain (codes "fault") (place_data p) ms (place_data-plain p) h
 
-kind-plain : (kind : Text) (ms : Members) → members_have_float ms ≡ false → members_have_float (kind_members kind ms) ≡ false
+kind-plain : (kind : Text) (ms : Members) → members_have_float ms ≡ false → members_have_float (put (codes "kind") (string kind) ms) ≡ false
 kind-plain kind ms h = put-plain (codes "kind") (string kind) ms refl h
 
 verdict-plain : (max_pairs : ℕ) (v : Verdict) (ms : Members) → members_have_float ms ≡ false → members_have_float (verdict_members max_pairs v ms) ≡ false
-verdict-plain max_pairs (Degree d family) ms h = put-plain (codes "degree") (whole d) (kind_members (codes "degree") ms) refl (kind-plain (codes "degree") ms h)
+verdict-plain max_pairs (Degree d family) ms h = put-plain (codes "degree") (whole d) (put (codes "kind") (string (codes "degree")) ms) refl (kind-plain (codes "degree") ms h)
 verdict-plain max_pairs (Expo family) ms h = kind-plain (codes "exponential") ms h
 verdict-plain max_pairs (Undecided limit) ms h =
-    let kind = kind_members (codes "undecided") ms in
+    let kind = put (codes "kind") (string (codes "undecided")) ms in
     let named = put (codes "limit") (string (limit_name limit)) kind in
     put-plain (codes "over") (whole (limit_number max_pairs limit)) named refl
     (put-plain (codes "limit") (string (limit_name limit)) kind refl (kind-plain (codes "undecided") ms h))
@@ -77,15 +79,15 @@ verdict-plain max_pairs (Undecided limit) ms h =
 refusal-plain : (kind : Text) (cause : Option Text) (fault : Option Place) (ms : Members) → members_have_float ms ≡ false → members_have_float (refusal_members kind cause fault ms) ≡ false
 refusal-plain kind None fault ms h = kind-plain kind ms h
 refusal-plain kind (Some cause) fault ms h =
-    let caused = put (codes "cause") (string cause) (kind_members kind ms) in
-    fault-plain fault caused (put-plain (codes "cause") (string cause) (kind_members kind ms) refl (kind-plain kind ms h))
+    let caused = put (codes "cause") (string cause) (put (codes "kind") (string kind) ms) in
+    fault-plain fault caused (put-plain (codes "cause") (string cause) (put (codes "kind") (string kind) ms) refl (kind-plain kind ms h))
 
 outcome-plain : (max_pairs : ℕ) (e : Entry) (v : Option Verdict) (ms : Members) → members_have_float ms ≡ false → members_have_float (outcome_members max_pairs e v ms) ≡ false
 outcome-plain max_pairs e None ms h = refusal-plain (kind_name e.outcome) (cause_name e.outcome) e.fault ms h
 outcome-plain max_pairs e (Some v) ms h = verdict-plain max_pairs v ms h
 
 texts-plain : (u : Universe) (texts : List (List ℕ)) → has_float (texts_data u texts) ≡ false
-texts-plain u texts = items-plain (text_data u) texts (λ text. refl)
+texts-plain u texts = items-plain (λ (text : List ℕ). string (quoted_text u text)) texts (λ text. refl)
 
 family_data-plain : (u : Universe) (f : Family) → has_float (family_data u f) ≡ false
 family_data-plain u f =
@@ -124,7 +126,7 @@ suggest-plain : (max_pairs report : ℕ) (u : Universe) (text : Option (List ℕ
     → members_have_float (suggest_members max_pairs report u text v ms) ≡ false
 suggest-plain max_pairs report u None v ms h = h
 suggest-plain max_pairs report u (Some text) v ms h =
-    becomes-plain max_pairs report v (put (codes "suggest") (text_data u text) ms) (put-plain (codes "suggest") (text_data u text) ms refl h)
+    becomes-plain max_pairs report v (put (codes "suggest") (string (quoted_text u text)) ms) (put-plain (codes "suggest") (string (quoted_text u text)) ms refl h)
 
 suggestion-plain : (max_pairs report : ℕ) (u : Universe) (marks : Marks) (s : Option Suggestion) (v : Option Verdict) (ms : Members) → members_have_float ms ≡ false
     → members_have_float (suggestion_members max_pairs report u marks s v ms) ≡ false
