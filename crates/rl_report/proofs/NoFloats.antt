@@ -1,11 +1,12 @@
 -- A report in JSON has no float: each part, put to members without one, gives members without one.
-use Rattle.std.proofs.Common.{◌≡◌, ℕ, Bool, true, false, cond, ◌||◌, List, refl, ap, sym, ◌∙◌, Ordering, Less, Equal, Greater, nat_cmp, codes, Option, Some, None}
+use Rattle.std.proofs.Common.{◌≡◌, ℕ, Bool, true, false, cond, ◌||◌, List, refl, ap, sym, ◌∙◌, Ordering, Less, Equal, Greater, nat_cmp, codes, map, Option, Some, None}
 use Rattle.std.specs.Prelude.{◌==◌}
 use Rattle.std.specs.Cmp.Lexicographic.{slice_cmp}
 use Rattle.std.specs.List.{count_by}
 use Rattle.std.specs.Ordering.{match_ordering}
 use Rattle.std.proofs.lemmas.Bool.{false≢true, or_from}
-use Rattle.serde_json.specs.Data.{Data, Members, member, no_members, object, string, put}
+use Rattle.serde_json.specs.Data.{Data, Members, member, no_members, array, object, string, put}
+use Rattle.serde_json.specs.View.{items_of}
 use Rattle.serde_json.specs.Written.{has_float, members_have_float}
 use Rattle.rl_json.proofs.NoFloats.{items-plain}
 use Rattle.rl_ranges.specs.declared.universe.Universe.{Universe}
@@ -22,7 +23,7 @@ use Rattle.rl_report.specs.declared.report.Marks.{Marks}
 use Rattle.rl_report.specs.Names.{Text, cause_name, kind_name, limit_name, limit_number}
 use Rattle.rl_report.specs.Findings.{verdict_of, suggestion_of, becomes_of, is_finding, is_refused, is_undecided}
 use Rattle.rl_report.specs.Verdicts.{quoted_text}
-use Rattle.rl_report.specs.Document.{whole, place_members, place_data, at_members, call_members, fault_members, verdict_members, refusal_members, outcome_members, texts_data, family_data, family_members, marks_data, marks_members, becomes_members, suggest_members, suggestion_members, front_members, entry_data, entries_data, report_data}
+use Rattle.rl_report.specs.Document.{whole, place_members, place_data, at_members, call_members, fault_members, verdict_members, refusal_members, outcome_members, texts_data, family_data, family_members, marks_data, marks_members, becomes_members, suggest_members, suggestion_members, front_members, entry_data, report_data}
 
 not-left : (b c : Bool) → (b || c) ≡ false → b ≡ false
 not-left false c h = refl
@@ -150,7 +151,7 @@ entry-plain max_pairs report e =
 report-plain : (max_degree max_pairs report : ℕ) (entries : List Entry) → has_float (report_data max_degree max_pairs report entries) ≡ false
 unfolding report_data
 report-plain max_degree max_pairs report entries =
-    let shown = put (codes "entries") (entries_data max_pairs report entries) no_members in
+    let shown = put (codes "entries") (array (items_of (map (entry_data max_pairs report) entries))) no_members in
     let found = put (codes "findings") (whole (count_by (is_finding max_degree) entries)) shown in
     let refused = put (codes "refused") (whole (count_by is_refused entries)) found in
     let passed = put (codes "undecided") (whole (count_by is_undecided entries)) refused in
@@ -158,7 +159,7 @@ report-plain max_degree max_pairs report entries =
     (put-plain (codes "undecided") (whole (count_by is_undecided entries)) refused refl
     (put-plain (codes "refused") (whole (count_by is_refused entries)) found refl
     (put-plain (codes "findings") (whole (count_by (is_finding max_degree) entries)) shown refl
-    (put-plain (codes "entries") (entries_data max_pairs report entries) no_members
+    (put-plain (codes "entries") (array (items_of (map (entry_data max_pairs report) entries))) no_members
     (items-plain (entry_data max_pairs report) entries (entry-plain max_pairs report)) refl))))
 
 -- a report in JSON has no float

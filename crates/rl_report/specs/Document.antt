@@ -83,14 +83,12 @@ marks_members marks ms =
 
 -- in report version 2
 abbrev pub becomes_members : ℕ → ℕ → Option Verdict → Members → Members
-becomes_members max_pairs report None ms = ms
-becomes_members max_pairs report (Some verdict) ms =
-    if report == 2 then put (codes "becomes") (object (verdict_members max_pairs verdict no_members)) ms else ms
+becomes_members max_pairs report becomes ms =
+    option_map_or (λ v. if report == 2 then put (codes "becomes") (object (verdict_members max_pairs v no_members)) ms else ms) becomes ms
 
 abbrev pub suggest_members : ℕ → ℕ → Universe → Option (List ℕ) → Option Verdict → Members → Members
-suggest_members max_pairs report universe None becomes ms = ms
-suggest_members max_pairs report universe (Some text) becomes ms =
-    becomes_members max_pairs report becomes (put (codes "suggest") (string (quoted_text universe text)) ms)
+suggest_members max_pairs report universe text becomes ms =
+    option_map_or (λ t. becomes_members max_pairs report becomes (put (codes "suggest") (string (quoted_text universe t)) ms)) text ms
 
 abbrev pub suggestion_members : ℕ → ℕ → Universe → Marks → Option Suggestion → Option Verdict → Members → Members
 suggestion_members max_pairs report universe marks suggestion becomes ms =
@@ -110,16 +108,13 @@ entry_data max_pairs report e =
     object (judged_members max_pairs report e
     (outcome_members max_pairs e (verdict_of e.outcome) (front_members e no_members)))
 
-abbrev pub entries_data : ℕ → ℕ → List Entry → Data
-entries_data max_pairs report entries = array (items_of (map (entry_data max_pairs report) entries))
-
 unfoldable pub report_data : ℕ → ℕ → ℕ → List Entry → Data
 report_data max_degree max_pairs report entries =
     object (put (codes "version") (whole report)
     (put (codes "undecided") (whole (count_by is_undecided entries))
     (put (codes "refused") (whole (count_by is_refused entries))
     (put (codes "findings") (whole (count_by (is_finding max_degree) entries))
-    (put (codes "entries") (entries_data max_pairs report entries) no_members)))))
+    (put (codes "entries") (array (items_of (map (entry_data max_pairs report) entries))) no_members)))))
 
 -- one line
 abbrev pub json_report : ℕ → ℕ → ℕ → List Entry → Text

@@ -1,5 +1,5 @@
 -- The layouts of a report as text.
-use Rattle.std.specs.Prelude.{ℕ, ◌==◌, List, [], ◌++◌, Option, Some, None, option_and_then, codes, length, IfSome, if◌then◌else◌}
+use Rattle.std.specs.Prelude.{ℕ, ◌==◌, List, [], ◌++◌, Option, option_and_then, codes, length, IfSome, if◌then◌else◌}
 use Rattle.std.specs.Fmt.{decimal}
 use Rattle.std.specs.List.{count_by, flat_map}
 use Rattle.std.specs.Option.{option_map_or}
@@ -68,9 +68,8 @@ becomes_line max_pairs report becomes =
     option_map_or (λ v. if report == 2 then codes "  becomes " ++ (verdict_text max_pairs v ++ codes "\n") else []) becomes []
 
 abbrev pub suggest_lines : ℕ → ℕ → Universe → Option (List ℕ) → Option Verdict → Text
-suggest_lines max_pairs report universe None becomes = []
-suggest_lines max_pairs report universe (Some text) becomes =
-    codes "  suggest " ++ (quoted_text universe text ++ (codes "\n" ++ becomes_line max_pairs report becomes))
+suggest_lines max_pairs report universe text becomes =
+    option_map_or (λ t. codes "  suggest " ++ (quoted_text universe t ++ (codes "\n" ++ becomes_line max_pairs report becomes))) text []
 
 abbrev pub suggestion_lines : ℕ → ℕ → Universe → Marks → Option Suggestion → Option Verdict → Text
 suggestion_lines max_pairs report universe marks suggestion becomes =
