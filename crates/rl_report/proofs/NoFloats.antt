@@ -1,15 +1,17 @@
 -- A report in JSON has no float: each part, put to members without one, gives members without one.
-use Rattle.std.proofs.Common.{◌≡◌, ℕ, Bool, true, false, cond, ◌||◌, List, refl, ap, sym, ◌∙◌, Ordering, Less, Equal, Greater, nat_cmp, codes, Option, Some, None}
+use Rattle.std.proofs.Common.{◌≡◌, ℕ, Bool, true, false, cond, ◌||◌, List, refl, ap, sym, ◌∙◌, Ordering, Less, Equal, Greater, nat_cmp, codes, map, Option, Some, None}
 use Rattle.std.specs.Prelude.{◌==◌}
 use Rattle.std.specs.Cmp.Lexicographic.{slice_cmp}
 use Rattle.std.specs.List.{count_by}
 use Rattle.std.specs.Ordering.{match_ordering}
 use Rattle.std.proofs.lemmas.Bool.{false≢true, or_from}
-use Rattle.serde_json.specs.Data.{Data, Members, member, no_members, object, string, put}
+use Rattle.serde_json.specs.Data.{Data, Members, member, no_members, array, object, string, put}
+use Rattle.serde_json.specs.View.{items_of}
 use Rattle.serde_json.specs.Written.{has_float, members_have_float}
 use Rattle.rl_json.proofs.NoFloats.{items-plain}
 use Rattle.rl_ranges.specs.declared.universe.Universe.{Universe}
 use Rattle.rl_sites.specs.declared.call.Call.{Call}
+use Rattle.rl_sites.specs.Names.{call_word}
 use Rattle.rl_syntax.specs.declared.verdict.Family.{Family}
 use Rattle.rl_syntax.specs.declared.verdict.Suggestion.{Suggestion}
 use Rattle.rl_syntax.specs.declared.verdict.Verdict.{Verdict}
@@ -18,9 +20,10 @@ use Rattle.rl_report.specs.declared.places.Place.{Place}
 use Rattle.rl_report.specs.declared.report.Entry.{Entry}
 use Rattle.rl_report.specs.declared.report.Mark.{Mark}
 use Rattle.rl_report.specs.declared.report.Marks.{Marks}
-use Rattle.rl_report.specs.Names.{Text, call_name, cause_name, kind_name, limit_name, limit_number}
+use Rattle.rl_report.specs.Names.{Text, cause_name, kind_name, limit_name, limit_number}
 use Rattle.rl_report.specs.Findings.{verdict_of, suggestion_of, becomes_of, is_finding, is_refused, is_undecided}
-use Rattle.rl_report.specs.Document.{whole, place_members, place_data, at_members, call_members, fault_members, kind_members, verdict_members, refusal_members, outcome_members, text_data, texts_data, family_data, family_members, marks_data, marks_members, becomes_members, suggest_members, suggestion_members, front_members, entry_data, entries_data, report_data}
+use Rattle.rl_report.specs.Verdicts.{quoted_text}
+use Rattle.rl_report.specs.Document.{whole, place_members, place_data, at_members, call_members, fault_members, verdict_members, refusal_members, outcome_members, texts_data, family_data, family_members, marks_data, marks_members, becomes_members, suggest_members, suggestion_members, front_members, entry_data, report_data}
 
 not-left : (b c : Bool) → (b || c) ≡ false → b ≡ false
 not-left false c h = refl
@@ -56,20 +59,20 @@ at-plain (Some p) ms h = place-plain p ms h
 
 call-plain : (o : Option Call) (ms : Members) → members_have_float ms ≡ false → members_have_float (call_members o ms) ≡ false
 call-plain None ms h = h
-call-plain (Some c) ms h = put-plain (codes "call") (string (call_name c)) ms refl h
+call-plain (Some c) ms h = put-plain (codes "call") (string (call_word c)) ms refl h
 
 fault-plain : (o : Option Place) (ms : Members) → members_have_float ms ≡ false → members_have_float (fault_members o ms) ≡ false
 fault-plain None ms h = h
 fault-plain (Some p) ms h = put-plain (codes "fault") (place_data p) ms (place_data-plain p) h
 
-kind-plain : (kind : Text) (ms : Members) → members_have_float ms ≡ false → members_have_float (kind_members kind ms) ≡ false
+kind-plain : (kind : Text) (ms : Members) → members_have_float ms ≡ false → members_have_float (put (codes "kind") (string kind) ms) ≡ false
 kind-plain kind ms h = put-plain (codes "kind") (string kind) ms refl h
 
 verdict-plain : (max_pairs : ℕ) (v : Verdict) (ms : Members) → members_have_float ms ≡ false → members_have_float (verdict_members max_pairs v ms) ≡ false
-verdict-plain max_pairs (Degree d family) ms h = put-plain (codes "degree") (whole d) (kind_members (codes "degree") ms) refl (kind-plain (codes "degree") ms h)
+verdict-plain max_pairs (Degree d family) ms h = put-plain (codes "degree") (whole d) (put (codes "kind") (string (codes "degree")) ms) refl (kind-plain (codes "degree") ms h)
 verdict-plain max_pairs (Expo family) ms h = kind-plain (codes "exponential") ms h
 verdict-plain max_pairs (Undecided limit) ms h =
-    let kind = kind_members (codes "undecided") ms in
+    let kind = put (codes "kind") (string (codes "undecided")) ms in
     let named = put (codes "limit") (string (limit_name limit)) kind in
     put-plain (codes "over") (whole (limit_number max_pairs limit)) named refl
     (put-plain (codes "limit") (string (limit_name limit)) kind refl (kind-plain (codes "undecided") ms h))
@@ -77,15 +80,15 @@ verdict-plain max_pairs (Undecided limit) ms h =
 refusal-plain : (kind : Text) (cause : Option Text) (fault : Option Place) (ms : Members) → members_have_float ms ≡ false → members_have_float (refusal_members kind cause fault ms) ≡ false
 refusal-plain kind None fault ms h = kind-plain kind ms h
 refusal-plain kind (Some cause) fault ms h =
-    let caused = put (codes "cause") (string cause) (kind_members kind ms) in
-    fault-plain fault caused (put-plain (codes "cause") (string cause) (kind_members kind ms) refl (kind-plain kind ms h))
+    let caused = put (codes "cause") (string cause) (put (codes "kind") (string kind) ms) in
+    fault-plain fault caused (put-plain (codes "cause") (string cause) (put (codes "kind") (string kind) ms) refl (kind-plain kind ms h))
 
 outcome-plain : (max_pairs : ℕ) (e : Entry) (v : Option Verdict) (ms : Members) → members_have_float ms ≡ false → members_have_float (outcome_members max_pairs e v ms) ≡ false
 outcome-plain max_pairs e None ms h = refusal-plain (kind_name e.outcome) (cause_name e.outcome) e.fault ms h
 outcome-plain max_pairs e (Some v) ms h = verdict-plain max_pairs v ms h
 
 texts-plain : (u : Universe) (texts : List (List ℕ)) → has_float (texts_data u texts) ≡ false
-texts-plain u texts = items-plain (text_data u) texts (λ text. refl)
+texts-plain u texts = items-plain (λ (text : List ℕ). string (quoted_text u text)) texts (λ text. refl)
 
 family_data-plain : (u : Universe) (f : Family) → has_float (family_data u f) ≡ false
 family_data-plain u f =
@@ -124,7 +127,7 @@ suggest-plain : (max_pairs report : ℕ) (u : Universe) (text : Option (List ℕ
     → members_have_float (suggest_members max_pairs report u text v ms) ≡ false
 suggest-plain max_pairs report u None v ms h = h
 suggest-plain max_pairs report u (Some text) v ms h =
-    becomes-plain max_pairs report v (put (codes "suggest") (text_data u text) ms) (put-plain (codes "suggest") (text_data u text) ms refl h)
+    becomes-plain max_pairs report v (put (codes "suggest") (string (quoted_text u text)) ms) (put-plain (codes "suggest") (string (quoted_text u text)) ms refl h)
 
 suggestion-plain : (max_pairs report : ℕ) (u : Universe) (marks : Marks) (s : Option Suggestion) (v : Option Verdict) (ms : Members) → members_have_float ms ≡ false
     → members_have_float (suggestion_members max_pairs report u marks s v ms) ≡ false
@@ -148,7 +151,7 @@ entry-plain max_pairs report e =
 report-plain : (max_degree max_pairs report : ℕ) (entries : List Entry) → has_float (report_data max_degree max_pairs report entries) ≡ false
 unfolding report_data
 report-plain max_degree max_pairs report entries =
-    let shown = put (codes "entries") (entries_data max_pairs report entries) no_members in
+    let shown = put (codes "entries") (array (items_of (map (entry_data max_pairs report) entries))) no_members in
     let found = put (codes "findings") (whole (count_by (is_finding max_degree) entries)) shown in
     let refused = put (codes "refused") (whole (count_by is_refused entries)) found in
     let passed = put (codes "undecided") (whole (count_by is_undecided entries)) refused in
@@ -156,7 +159,7 @@ report-plain max_degree max_pairs report entries =
     (put-plain (codes "undecided") (whole (count_by is_undecided entries)) refused refl
     (put-plain (codes "refused") (whole (count_by is_refused entries)) found refl
     (put-plain (codes "findings") (whole (count_by (is_finding max_degree) entries)) shown refl
-    (put-plain (codes "entries") (entries_data max_pairs report entries) no_members
+    (put-plain (codes "entries") (array (items_of (map (entry_data max_pairs report) entries))) no_members
     (items-plain (entry_data max_pairs report) entries (entry-plain max_pairs report)) refl))))
 
 -- a report in JSON has no float

@@ -1,11 +1,13 @@
 -- The layout of a report in JSON.
-use Rattle.std.specs.Prelude.{ℕ, ◌==◌, List, ◌++◌, map, Option, Some, None, codes, if◌then◌else◌}
+use Rattle.std.specs.Prelude.{ℕ, ◌==◌, List, ◌++◌, map, Option, Some, None, option_and_then, codes, if◌then◌else◌}
 use Rattle.std.specs.List.{count_by}
+use Rattle.std.specs.Option.{option_map_or}
 use Rattle.serde_json.specs.Data.{Data, Members, number, unsigned, string, array, object, no_members, put}
 use Rattle.serde_json.specs.View.{items_of}
 use Rattle.serde_json.specs.Written.{compact_text}
 use Rattle.rl_ranges.specs.declared.universe.Universe.{Universe}
 use Rattle.rl_sites.specs.declared.call.Call.{Call}
+use Rattle.rl_sites.specs.Names.{call_word}
 use Rattle.rl_syntax.specs.declared.verdict.Family.{Family}
 use Rattle.rl_syntax.specs.declared.verdict.Suggestion.{Suggestion}
 use Rattle.rl_syntax.specs.declared.verdict.Verdict.{Verdict}
@@ -14,9 +16,9 @@ use Rattle.rl_report.specs.declared.places.Place.{Place}
 use Rattle.rl_report.specs.declared.report.Entry.{Entry}
 use Rattle.rl_report.specs.declared.report.Mark.{Mark}
 use Rattle.rl_report.specs.declared.report.Marks.{Marks}
-use Rattle.rl_report.specs.Names.{Text, call_name, cause_name, kind_name, limit_name, limit_number}
+use Rattle.rl_report.specs.Names.{Text, cause_name, kind_name, limit_name, limit_number}
 use Rattle.rl_report.specs.Findings.{verdict_of, suggestion_of, becomes_of, is_finding, is_refused, is_undecided}
-use Rattle.rl_report.specs.Verdicts.{quoted_text}
+use Rattle.rl_report.specs.Verdicts.{family_of, quoted_text}
 
 -- Each definition below takes the members of an object that are there and gives these with its own. `put` keeps the keys in the
 -- order of their bytes. A key without a value isn't there.
@@ -32,43 +34,34 @@ place_data p = object (place_members p no_members)
 
 -- the place of the entry
 abbrev pub at_members : Option Place → Members → Members
-at_members None ms = ms
-at_members (Some p) ms = place_members p ms
+at_members at ms = option_map_or (λ p. place_members p ms) at ms
 
 abbrev pub call_members : Option Call → Members → Members
-call_members None ms = ms
-call_members (Some c) ms = put (codes "call") (string (call_name c)) ms
+call_members call ms = option_map_or (λ c. put (codes "call") (string (call_word c)) ms) call ms
 
 -- the place of a fault in a literal
 abbrev pub fault_members : Option Place → Members → Members
-fault_members None ms = ms
-fault_members (Some p) ms = put (codes "fault") (place_data p) ms
-
-abbrev pub kind_members : Text → Members → Members
-kind_members kind ms = put (codes "kind") (string kind) ms
+fault_members fault ms = option_map_or (λ p. put (codes "fault") (place_data p) ms) fault ms
 
 -- a degree, or the name and the number of a limit that was passed
 abbrev pub verdict_members : ℕ → Verdict → Members → Members
-verdict_members max_pairs (Degree d family) ms = put (codes "degree") (whole d) (kind_members (codes "degree") ms)
-verdict_members max_pairs (Expo family) ms = kind_members (codes "exponential") ms
+verdict_members max_pairs (Degree d family) ms = put (codes "degree") (whole d) (put (codes "kind") (string (codes "degree")) ms)
+verdict_members max_pairs (Expo family) ms = put (codes "kind") (string (codes "exponential")) ms
 verdict_members max_pairs (Undecided limit) ms =
     put (codes "over") (whole (limit_number max_pairs limit))
-    (put (codes "limit") (string (limit_name limit)) (kind_members (codes "undecided") ms))
+    (put (codes "limit") (string (limit_name limit)) (put (codes "kind") (string (codes "undecided")) ms))
 
 -- the kind, and the cause of a refusal with its place
 abbrev pub refusal_members : Text → Option Text → Option Place → Members → Members
-refusal_members kind None fault ms = kind_members kind ms
-refusal_members kind (Some cause) fault ms = fault_members fault (put (codes "cause") (string cause) (kind_members kind ms))
+refusal_members kind None fault ms = put (codes "kind") (string kind) ms
+refusal_members kind (Some cause) fault ms = fault_members fault (put (codes "cause") (string cause) (put (codes "kind") (string kind) ms))
 
 abbrev pub outcome_members : ℕ → Entry → Option Verdict → Members → Members
 outcome_members max_pairs e None ms = refusal_members (kind_name e.outcome) (cause_name e.outcome) e.fault ms
 outcome_members max_pairs e (Some verdict) ms = verdict_members max_pairs verdict ms
 
-abbrev pub text_data : Universe → List ℕ → Data
-text_data universe text = string (quoted_text universe text)
-
 abbrev pub texts_data : Universe → List (List ℕ) → Data
-texts_data universe texts = array (items_of (map (text_data universe) texts))
+texts_data universe texts = array (items_of (map (λ text. string (quoted_text universe text)) texts))
 
 abbrev pub family_data : Universe → Family → Data
 family_data universe family =
@@ -77,10 +70,8 @@ family_data universe family =
 
 -- the family of a classified entry
 abbrev pub family_members : Universe → Option Verdict → Members → Members
-family_members universe None ms = ms
-family_members universe (Some (Degree d family)) ms = put (codes "family") (family_data universe family) ms
-family_members universe (Some (Expo family)) ms = put (codes "family") (family_data universe family) ms
-family_members universe (Some (Undecided limit)) ms = ms
+family_members universe verdict ms =
+    option_map_or (λ family. put (codes "family") (family_data universe family) ms) (option_and_then family_of verdict) ms
 
 abbrev pub marks_data : List Mark → Data
 marks_data marks = array (items_of (map (λ m. place_data m.at) marks))
@@ -92,19 +83,16 @@ marks_members marks ms =
 
 -- in report version 2
 abbrev pub becomes_members : ℕ → ℕ → Option Verdict → Members → Members
-becomes_members max_pairs report None ms = ms
-becomes_members max_pairs report (Some verdict) ms =
-    if report == 2 then put (codes "becomes") (object (verdict_members max_pairs verdict no_members)) ms else ms
+becomes_members max_pairs report becomes ms =
+    option_map_or (λ v. if report == 2 then put (codes "becomes") (object (verdict_members max_pairs v no_members)) ms else ms) becomes ms
 
 abbrev pub suggest_members : ℕ → ℕ → Universe → Option (List ℕ) → Option Verdict → Members → Members
-suggest_members max_pairs report universe None becomes ms = ms
-suggest_members max_pairs report universe (Some text) becomes ms =
-    becomes_members max_pairs report becomes (put (codes "suggest") (text_data universe text) ms)
+suggest_members max_pairs report universe text becomes ms =
+    option_map_or (λ t. becomes_members max_pairs report becomes (put (codes "suggest") (string (quoted_text universe t)) ms)) text ms
 
 abbrev pub suggestion_members : ℕ → ℕ → Universe → Marks → Option Suggestion → Option Verdict → Members → Members
-suggestion_members max_pairs report universe marks None becomes ms = ms
-suggestion_members max_pairs report universe marks (Some suggestion) becomes ms =
-    suggest_members max_pairs report universe suggestion.text becomes (marks_members marks ms)
+suggestion_members max_pairs report universe marks suggestion becomes ms =
+    option_map_or (λ s. suggest_members max_pairs report universe s.text becomes (marks_members marks ms)) suggestion ms
 
 -- what stands before the outcome
 abbrev pub front_members : Entry → Members → Members
@@ -120,16 +108,13 @@ entry_data max_pairs report e =
     object (judged_members max_pairs report e
     (outcome_members max_pairs e (verdict_of e.outcome) (front_members e no_members)))
 
-abbrev pub entries_data : ℕ → ℕ → List Entry → Data
-entries_data max_pairs report entries = array (items_of (map (entry_data max_pairs report) entries))
-
 unfoldable pub report_data : ℕ → ℕ → ℕ → List Entry → Data
 report_data max_degree max_pairs report entries =
     object (put (codes "version") (whole report)
     (put (codes "undecided") (whole (count_by is_undecided entries))
     (put (codes "refused") (whole (count_by is_refused entries))
     (put (codes "findings") (whole (count_by (is_finding max_degree) entries))
-    (put (codes "entries") (entries_data max_pairs report entries) no_members)))))
+    (put (codes "entries") (array (items_of (map (entry_data max_pairs report) entries))) no_members)))))
 
 -- one line
 abbrev pub json_report : ℕ → ℕ → ℕ → List Entry → Text

@@ -28,9 +28,8 @@ is_found max_degree (Expo family) = true
 is_found max_degree (Undecided limit) = false
 
 abbrev pub is_undecided_verdict : Verdict → Bool
-is_undecided_verdict (Degree d family) = false
-is_undecided_verdict (Expo family) = false
 is_undecided_verdict (Undecided limit) = true
+is_undecided_verdict _ = false
 
 -- A finding. The verdict on a suggested pattern doesn't count
 unfoldable pub is_finding : ℕ → Entry → Bool

@@ -1,21 +1,22 @@
 -- The layouts of a report as text.
-use Rattle.std.specs.Prelude.{ℕ, ◌==◌, List, [], ◌++◌, Option, Some, None, codes, length, IfSome, if◌then◌else◌}
+use Rattle.std.specs.Prelude.{ℕ, ◌==◌, List, [], ◌++◌, Option, option_and_then, codes, length, IfSome, if◌then◌else◌}
 use Rattle.std.specs.Fmt.{decimal}
 use Rattle.std.specs.List.{count_by, flat_map}
+use Rattle.std.specs.Option.{option_map_or}
 use Rattle.rl_ranges.specs.declared.universe.Universe.{Universe}
 use Rattle.rl_ranges.specs.Text.{IsText}
 use Rattle.rl_sites.specs.declared.call.Call.{Call}
+use Rattle.rl_sites.specs.Names.{call_word}
 use Rattle.rl_syntax.specs.declared.verdict.Suggestion.{Suggestion}
 use Rattle.rl_syntax.specs.declared.verdict.Verdict.{Verdict}
-use Rattle.rl_syntax.specs.declared.verdict.Verdict.TheVariants.{Degree, Expo, Undecided}
 use Rattle.rl_report.specs.declared.places.Place.{Place}
 use Rattle.rl_report.specs.declared.report.Entry.{Entry}
 use Rattle.rl_report.specs.declared.report.Mark.{Mark}
 use Rattle.rl_report.specs.declared.report.Marks.{Marks}
 use Rattle.rl_report.specs.declared.report.Outcome.{Outcome}
-use Rattle.rl_report.specs.Names.{Text, call_name, cause_name, kind_name}
+use Rattle.rl_report.specs.Names.{Text, cause_name, kind_name}
 use Rattle.rl_report.specs.Findings.{verdict_of, suggestion_of, becomes_of, is_finding, is_refused, is_undecided}
-use Rattle.rl_report.specs.Verdicts.{verdict_text, quoted_text, family_text_line, IsVerdictOf}
+use Rattle.rl_report.specs.Verdicts.{verdict_text, quoted_text, family_of, family_text_line, IsVerdictOf}
 
 -- LINE:COLUMN
 abbrev pub place_text : Place → Text
@@ -25,26 +26,22 @@ place_text p = decimal p.line ++ (codes ":" ++ decimal p.column)
 
 -- behind the path
 abbrev pub at_text : Option Place → Text
-at_text None = []
-at_text (Some p) = codes ":" ++ place_text p
+at_text at = option_map_or (λ p. codes ":" ++ place_text p) at []
 
 abbrev pub call_text : Option Call → Text
-call_text None = []
-call_text (Some c) = call_name c ++ codes ": "
+call_text call = option_map_or (λ c. call_word c ++ codes ": ") call []
 
 -- where in the source the fault of a literal or a pattern is
 abbrev pub fault_text : Option Place → Text
-fault_text None = []
-fault_text (Some p) = codes " at " ++ place_text p
+fault_text fault = option_map_or (λ p. codes " at " ++ place_text p) fault []
 
 -- the cause of a refusal with its place, or the kind of what has no cause
 abbrev pub refusal_text : Outcome → Option Text → Option Place → Text
-refusal_text o None fault = kind_name o
-refusal_text o (Some cause) fault = codes "refused " ++ (cause ++ fault_text fault)
+refusal_text o cause fault = option_map_or (λ cause. codes "refused " ++ (cause ++ fault_text fault)) cause (kind_name o)
 
 abbrev pub outcome_text : ℕ → Entry → Option Verdict → Text
-outcome_text max_pairs e None = refusal_text e.outcome (cause_name e.outcome) e.fault
-outcome_text max_pairs e (Some verdict) = verdict_text max_pairs verdict
+outcome_text max_pairs e verdict =
+    option_map_or (verdict_text max_pairs) verdict (refusal_text e.outcome (cause_name e.outcome) e.fault)
 
 -- PATH:LINE:COLUMN: CALL: OUTCOME. What an entry doesn't have isn't there
 abbrev pub head_line : ℕ → Entry → Text
@@ -54,8 +51,7 @@ head_line max_pairs e =
 -- ---- the detail lines
 
 abbrev pub mark_text : Option Text → Text
-mark_text None = []
-mark_text (Some text) = codes " " ++ text
+mark_text text = option_map_or (λ text. codes " " ++ text) text []
 
 -- the line of a mark behind the word for its part of the suggestion
 abbrev pub mark_line : Text → Mark → Text
@@ -68,25 +64,19 @@ mark_lines marks =
 
 -- in report version 2
 abbrev pub becomes_line : ℕ → ℕ → Option Verdict → Text
-becomes_line max_pairs report None = []
-becomes_line max_pairs report (Some verdict) =
-    if report == 2 then codes "  becomes " ++ (verdict_text max_pairs verdict ++ codes "\n") else []
+becomes_line max_pairs report becomes =
+    option_map_or (λ v. if report == 2 then codes "  becomes " ++ (verdict_text max_pairs v ++ codes "\n") else []) becomes []
 
 abbrev pub suggest_lines : ℕ → ℕ → Universe → Option (List ℕ) → Option Verdict → Text
-suggest_lines max_pairs report universe None becomes = []
-suggest_lines max_pairs report universe (Some text) becomes =
-    codes "  suggest " ++ (quoted_text universe text ++ (codes "\n" ++ becomes_line max_pairs report becomes))
+suggest_lines max_pairs report universe text becomes =
+    option_map_or (λ t. codes "  suggest " ++ (quoted_text universe t ++ (codes "\n" ++ becomes_line max_pairs report becomes))) text []
 
 abbrev pub suggestion_lines : ℕ → ℕ → Universe → Marks → Option Suggestion → Option Verdict → Text
-suggestion_lines max_pairs report universe marks None becomes = []
-suggestion_lines max_pairs report universe marks (Some suggestion) becomes =
-    mark_lines marks ++ suggest_lines max_pairs report universe suggestion.text becomes
+suggestion_lines max_pairs report universe marks suggestion becomes =
+    option_map_or (λ s. mark_lines marks ++ suggest_lines max_pairs report universe s.text becomes) suggestion []
 
 abbrev pub family_lines : Universe → Option Verdict → Text
-family_lines universe None = []
-family_lines universe (Some (Degree d family)) = family_text_line universe family
-family_lines universe (Some (Expo family)) = family_text_line universe family
-family_lines universe (Some (Undecided limit)) = []
+family_lines universe verdict = option_map_or (family_text_line universe) (option_and_then family_of verdict) []
 
 abbrev pub detail_lines : ℕ → ℕ → Entry → Text
 detail_lines max_pairs report e =
@@ -97,8 +87,7 @@ detail_lines max_pairs report e =
 
 -- how many entries are known and not shown, where that is told
 abbrev pub hidden_text : Option ℕ → Text
-hidden_text None = []
-hidden_text (Some hidden) = codes ", " ++ (decimal hidden ++ codes " hidden")
+hidden_text hidden = option_map_or (λ n. codes ", " ++ (decimal n ++ codes " hidden")) hidden []
 
 abbrev pub counts_text : ℕ → List Entry → Text
 counts_text max_degree entries =

@@ -6,8 +6,6 @@ use Rattle.rl_pylex.specs.declared.fault.LexError.{LexError}
 use Rattle.rl_pylex.specs.declared.fault.LexError.TheVariants as lex_error
 use Rattle.rl_pystr.specs.declared.fault.StrError.{StrError}
 use Rattle.rl_pystr.specs.declared.fault.StrError.TheVariants as str_error
-use Rattle.rl_sites.specs.declared.call.Call.{Call}
-use Rattle.rl_sites.specs.Names.{call_word}
 use Rattle.rl_syntax.specs.declared.feature.Feature.{Feature}
 use Rattle.rl_syntax.specs.declared.feature.Feature.TheVariants as feature
 use Rattle.rl_ranges.specs.declared.letters.TheConstants.{MOST_LETTERS}
@@ -38,10 +36,6 @@ feature_name feature.Conditional = codes "conditional"
 feature_name feature.Atomic = codes "atomic"
 feature_name feature.NamedEscape = codes "named-escape"
 feature_name feature.InnerAnchor = codes "inner-anchor"
-
--- the word that names a call in a source
-abbrev pub call_name : Call → Text
-call_name c = call_word c
 
 abbrev pub limit_name : Limit → Text
 limit_name limit.Size = codes "size"
@@ -86,15 +80,12 @@ pattern_cause pattern_error.OutOfMemory = codes "out-of-memory"
 
 -- the cause of a refusal
 abbrev pub cause_name : Outcome → Option Text
-cause_name outcome.Unreadable = None
-cause_name outcome.TooDeepFolder = None
-cause_name outcome.NotPlain = None
 cause_name (outcome.Source e) = Some (lexing_cause e)
 cause_name outcome.NotWhole = Some (codes "not-whole")
 cause_name (outcome.Literal e) = Some (literal_cause e)
 cause_name outcome.FlagsUnknown = Some (codes "flags-unknown")
 cause_name (outcome.Pattern e) = Some (pattern_cause e)
-cause_name (outcome.Judged verdict suggestion becomes) = None
+cause_name _ = None
 
 abbrev pub verdict_kind : Verdict → Text
 verdict_kind (Degree d family) = codes "degree"
@@ -106,9 +97,5 @@ abbrev pub kind_name : Outcome → Text
 kind_name outcome.Unreadable = codes "unreadable"
 kind_name outcome.TooDeepFolder = codes "too-deep-folder"
 kind_name outcome.NotPlain = codes "not-plain"
-kind_name (outcome.Source e) = codes "refused"
-kind_name outcome.NotWhole = codes "refused"
-kind_name (outcome.Literal e) = codes "refused"
-kind_name outcome.FlagsUnknown = codes "refused"
-kind_name (outcome.Pattern e) = codes "refused"
 kind_name (outcome.Judged verdict suggestion becomes) = verdict_kind verdict
+kind_name _ = codes "refused"

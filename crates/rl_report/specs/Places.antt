@@ -21,13 +21,11 @@ roles (c ∷ rest) = role c rest ∷ roles rest
 
 abbrev pub ends_line : Role → Bool
 ends_line EndsLine = true
-ends_line BeginsCode = false
-ends_line GoesOn = false
+ends_line _ = false
 
 abbrev pub begins_code : Role → Bool
-begins_code EndsLine = false
 begins_code BeginsCode = true
-begins_code GoesOn = false
+begins_code _ = false
 
 -- those behind the last line end, the last first
 abbrev pub of_last_line : List Role → List Role

@@ -1,5 +1,5 @@
 -- Verdicts and families as texts.
-use Rattle.std.specs.Prelude.{ℕ, ◌+◌, List, [], ◌∷◌, ◌++◌, codes, All, ⊤}
+use Rattle.std.specs.Prelude.{ℕ, ◌+◌, List, [], ◌∷◌, ◌++◌, Option, Some, None, codes, All, IfSome}
 use Rattle.std.specs.Fmt.{decimal}
 use Rattle.rl_ranges.specs.declared.universe.Universe.{Universe}
 use Rattle.rl_ranges.specs.Text.{IsText}
@@ -8,6 +8,12 @@ use Rattle.rl_syntax.specs.declared.verdict.Family.{Family}
 use Rattle.rl_syntax.specs.declared.verdict.Verdict.{Verdict}
 use Rattle.rl_syntax.specs.declared.verdict.Verdict.TheVariants.{Degree, Expo, Undecided}
 use Rattle.rl_report.specs.Names.{Text, limit_name, limit_number}
+
+-- the heads and pumps that show a verdict
+abbrev pub family_of : Verdict → Option Family
+family_of (Degree d family) = Some family
+family_of (Expo family) = Some family
+family_of (Undecided limit) = None
 
 -- the verdict, where the limit of the pairs is the given one
 abbrev pub verdict_text : ℕ → Verdict → Text
@@ -27,11 +33,10 @@ family_part universe letter number text =
 
 -- the pumps and the heads behind them, numbered from the given number on
 abbrev pub later_parts : Universe → ℕ → List (List ℕ) → List (List ℕ) → Text
-later_parts universe number [] heads = []
-later_parts universe number (pump ∷ pumps) [] = []
 later_parts universe number (pump ∷ pumps) (head ∷ heads) =
     family_part universe (codes "y") number pump ++ family_part universe (codes "x") number head
     ++ later_parts universe (number + 1) pumps heads
+later_parts universe number _ _ = []
 
 abbrev pub family_parts : Universe → List (List ℕ) → List (List ℕ) → Text
 family_parts universe [] pumps = []
@@ -46,6 +51,4 @@ abbrev pub IsFamilyOf : Universe → Family → Type 0
 IsFamilyOf universe family = All (IsText universe) family.heads × All (IsText universe) family.pumps
 
 abbrev pub IsVerdictOf : Universe → Verdict → Type 0
-IsVerdictOf universe (Degree d family) = IsFamilyOf universe family
-IsVerdictOf universe (Expo family) = IsFamilyOf universe family
-IsVerdictOf universe (Undecided limit) = ⊤
+IsVerdictOf universe verdict = IfSome (family_of verdict) (IsFamilyOf universe)

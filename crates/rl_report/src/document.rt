@@ -1,9 +1,9 @@
 //! A report in JSON.
-ghost use Rattle.std.specs.Prelude.{◌≡◌, All, IfOk, IfSome, OnOk, codes, false, option_map};
+ghost use Rattle.std.specs.Prelude.{◌≡◌, All, IfOk, IfSome, OnOk, codes, false, map, option_map};
 ghost use Rattle.rl_ranges.specs.Text.{IsText};
-ghost use Rattle.serde_json.specs.Data.{no_members, object, put, string};
+ghost use Rattle.serde_json.specs.Data.{array, no_members, object, put, string};
 ghost use Rattle.serde_json.specs.View.{items_of, items_view, members_view, view};
-ghost use Rattle.rl_report.specs.Document.{at_members, becomes_members, call_members, entries_data, entry_data, family_data, family_members, fault_members, front_members, json_report, judged_members, kind_members, marks_data, marks_members, outcome_members, place_data, place_members, refusal_members, report_data, suggest_members, suggestion_members, text_data, texts_data, verdict_members, whole};
+ghost use Rattle.rl_report.specs.Document.{at_members, becomes_members, call_members, entry_data, family_data, family_members, fault_members, front_members, json_report, judged_members, marks_data, marks_members, outcome_members, place_data, place_members, refusal_members, report_data, suggest_members, suggestion_members, texts_data, verdict_members, whole};
 ghost use Rattle.rl_report.specs.Findings.{verdict_of};
 ghost use Rattle.rl_report.specs.Layouts.{IsOfItsUniverse};
 ghost use Rattle.rl_report.specs.Verdicts.{IsFamilyOf, IsVerdictOf, quoted_text};
@@ -171,7 +171,7 @@ fn put_outcome(
 /// A quoted text, which is ASCII.
 fn quoted_value(alloc: Global, text: &Codes, universe: Universe) -> Result<Value, OutOfMemory>
     requires { IsText universe text.now }
-    ensures { IfOk result (λ v. view v ≡ text_data universe text.now) }
+    ensures { IfOk result (λ v. view v ≡ string (quoted_text universe text.now)) }
 {
     let literal = quote(alloc, text, universe)?;
     match String::from_utf8(literal.into_vec()) {
@@ -398,7 +398,8 @@ fn entry_value(alloc: Global, terms: Terms, entry: &Entry) -> Result<Value, OutO
 #[tactic(auto, using(crate::proofs::ValueLemmas::values))]
 fn entries_value(alloc: Global, terms: Terms, entries: &[Entry]) -> Result<Value, OutOfMemory>
     requires { All IsOfItsUniverse entries.now }
-    ensures { IfOk result (λ v. view v ≡ entries_data terms.max_pairs terms.report entries.now) }
+    ensures { IfOk result (λ v. view v
+        ≡ array (items_of (map (entry_data terms.max_pairs terms.report) entries.now))) }
 {
     let mut values = Vec::new(alloc);
     for entry in entries {

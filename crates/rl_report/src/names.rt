@@ -1,6 +1,7 @@
 //! The names in a report.
 ghost use Rattle.std.specs.Prelude.{◌≡◌};
-ghost use Rattle.rl_report.specs.Names.{call_name, feature_name, lexing_cause, limit_name, limit_number, literal_cause, pattern_cause, verdict_kind};
+ghost use Rattle.rl_sites.specs.Names.{call_word};
+ghost use Rattle.rl_report.specs.Names.{feature_name, lexing_cause, limit_name, limit_number, literal_cause, pattern_cause, verdict_kind};
 
 use rl_pattern::PatError;
 use rl_pylex::LexError;
@@ -32,7 +33,7 @@ pub fn feature_name(feature: Feature) -> &'static str
 
 /// The name of a call.
 pub fn call_name(call: Call) -> &'static str
-    ensures { result.now ≡ call_name call }
+    ensures { result.now ≡ call_word call }
 {
     match call {
         Call::Compile => "compile",

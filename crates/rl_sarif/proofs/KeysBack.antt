@@ -12,6 +12,7 @@ use Rattle.serde_json.specs.View.{items_of}
 use Rattle.serde_json.proofs.Views.{get_member-put, get_member-put_other}
 use Rattle.rl_ranges.specs.declared.universe.Universe.{Universe}
 use Rattle.rl_sites.specs.declared.call.Call.{Call}
+use Rattle.rl_sites.specs.Names.{call_word}
 use Rattle.rl_syntax.specs.declared.verdict.Suggestion.{Suggestion}
 use Rattle.rl_syntax.specs.declared.verdict.Verdict.{Verdict}
 use Rattle.rl_syntax.specs.declared.verdict.Verdict.TheVariants.{Degree, Expo, Undecided}
@@ -20,9 +21,10 @@ use Rattle.rl_report.specs.declared.report.Entry.{Entry}
 use Rattle.rl_report.specs.declared.report.Marks.{Marks}
 use Rattle.rl_report.specs.declared.report.Outcome.{Outcome}
 use Rattle.rl_report.specs.declared.report.Outcome.TheVariants as outcome
-use Rattle.rl_report.specs.Document.{whole, place_data, at_members, call_members, fault_members, kind_members, verdict_members, refusal_members, outcome_members, text_data, family_data, family_members, marks_data, marks_members, becomes_members, suggest_members, suggestion_members, front_members, judged_members, entry_data}
+use Rattle.rl_report.specs.Document.{whole, place_data, at_members, call_members, fault_members, verdict_members, refusal_members, outcome_members, family_data, family_members, marks_data, marks_members, becomes_members, suggest_members, suggestion_members, front_members, judged_members, entry_data}
+use Rattle.rl_report.specs.Verdicts.{quoted_text}
 use Rattle.rl_report.specs.Findings.{verdict_of, suggestion_of, becomes_of}
-use Rattle.rl_report.specs.Names.{Text, call_name, cause_name, kind_name, limit_name, limit_number, verdict_kind}
+use Rattle.rl_report.specs.Names.{Text, cause_name, kind_name, limit_name, limit_number, verdict_kind}
 use Rattle.rl_sarif.specs.Baseline.{call_found, cause_names, fitting, key_read, keys_read, kind_names, limit_names, name_at, one_of, plain, subject_of_kind, subject_read, text_at}
 use Rattle.rl_sarif.specs.Keys.{Subject, degree_of, key_of, limit_of, subject_of}
 use Rattle.rl_sarif.specs.Laws.{FitsVerdict, IsAnswer, IsSound}
@@ -66,7 +68,7 @@ suggest-other : (q : List ℕ) → IsOutside q → (max_pairs report : ℕ) (u :
     → get_member q (suggest_members max_pairs report u text v ms) ≡ get_member q ms
 suggest-other q o max_pairs report u None v ms = refl
 suggest-other q o max_pairs report u (Some text) v ms =
-    becomes-other q o max_pairs report v (put (codes "suggest") (text_data u text) ms) ∙ skip q (codes "suggest") (text_data u text) ms o.suggest
+    becomes-other q o max_pairs report v (put (codes "suggest") (string (quoted_text u text)) ms) ∙ skip q (codes "suggest") (string (quoted_text u text)) ms o.suggest
 
 suggestion-other : (q : List ℕ) → IsOutside q → (max_pairs report : ℕ) (u : Universe) (marks : Marks) (s : Option Suggestion) (v : Option Verdict) (ms : Members)
     → get_member q (suggestion_members max_pairs report u marks s v ms) ≡ get_member q ms
@@ -87,7 +89,7 @@ record IsBeside (q : List ℕ) : Type 0 where
   cause : bytes_eq q (codes "cause") ≡ false
   fault : bytes_eq q (codes "fault") ≡ false
 
-kind-other : (q : List ℕ) → IsBeside q → (kind : Text) (ms : Members) → get_member q (kind_members kind ms) ≡ get_member q ms
+kind-other : (q : List ℕ) → IsBeside q → (kind : Text) (ms : Members) → get_member q (put (codes "kind") (string kind) ms) ≡ get_member q ms
 kind-other q b kind ms = skip q (codes "kind") (string kind) ms b.kind
 
 fault-other : (q : List ℕ) (fault : Option Place) (ms : Members) → bytes_eq q (codes "fault") ≡ false → get_member q (fault_members fault ms) ≡ get_member q ms
@@ -100,14 +102,14 @@ outcome-other q b max_pairs e None ms = by (cause_name e.outcome)
     by : (cause : Option Text) → get_member q (refusal_members (kind_name e.outcome) cause e.fault ms) ≡ get_member q ms
     by None = kind-other q b (kind_name e.outcome) ms
     by (Some cause) =
-        let kind = kind_members (kind_name e.outcome) ms in
+        let kind = put (codes "kind") (string (kind_name e.outcome)) ms in
         fault-other q e.fault (put (codes "cause") (string cause) kind) b.fault
         ∙ skip q (codes "cause") (string cause) kind b.cause ∙ kind-other q b (kind_name e.outcome) ms
 outcome-other q b max_pairs e (Some (Degree d family)) ms =
-    skip q (codes "degree") (whole d) (kind_members (codes "degree") ms) b.degree ∙ kind-other q b (codes "degree") ms
+    skip q (codes "degree") (whole d) (put (codes "kind") (string (codes "degree")) ms) b.degree ∙ kind-other q b (codes "degree") ms
 outcome-other q b max_pairs e (Some (Expo family)) ms = kind-other q b (codes "exponential") ms
 outcome-other q b max_pairs e (Some (Undecided limit)) ms =
-    let kind = kind_members (codes "undecided") ms in
+    let kind = put (codes "kind") (string (codes "undecided")) ms in
     skip q (codes "over") (whole (limit_number max_pairs limit)) (put (codes "limit") (string (limit_name limit)) kind) b.over
     ∙ skip q (codes "limit") (string (limit_name limit)) kind b.limit ∙ kind-other q b (codes "undecided") ms
 
@@ -147,30 +149,30 @@ front-path e = by e.call
     by : (c : Option Call) → get_member (codes "path") (call_members c (at_members e.at (put (codes "path") (string e.path) no_members))) ≡ Some (string e.path)
     by None = at-other (codes "path") e.at (put (codes "path") (string e.path) no_members) refl refl
     by (Some c) =
-        skip (codes "path") (codes "call") (string (call_name c)) (at_members e.at (put (codes "path") (string e.path) no_members)) refl
+        skip (codes "path") (codes "call") (string (call_word c)) (at_members e.at (put (codes "path") (string e.path) no_members)) refl
         ∙ at-other (codes "path") e.at (put (codes "path") (string e.path) no_members) refl refl
 
-front-call : (e : Entry) → get_member (codes "call") (front_members e no_members) ≡ option_map (λ c. string (call_name c)) e.call
+front-call : (e : Entry) → get_member (codes "call") (front_members e no_members) ≡ option_map (λ c. string (call_word c)) e.call
 front-call e = by e.call
   where
-    by : (c : Option Call) → get_member (codes "call") (call_members c (at_members e.at (put (codes "path") (string e.path) no_members))) ≡ option_map (λ (c : Call). string (call_name c)) c
+    by : (c : Option Call) → get_member (codes "call") (call_members c (at_members e.at (put (codes "path") (string e.path) no_members))) ≡ option_map (λ (c : Call). string (call_word c)) c
     by None = at-other (codes "call") e.at (put (codes "path") (string e.path) no_members) refl refl
-    by (Some c) = get_member-put (codes "call") (string (call_name c)) (at_members e.at (put (codes "path") (string e.path) no_members))
+    by (Some c) = get_member-put (codes "call") (string (call_word c)) (at_members e.at (put (codes "path") (string e.path) no_members))
 
 -- ---- what an outcome puts
 
 refusal-kind : (kind : Text) (cause : Option Text) (fault : Option Place) (ms : Members) → get_member (codes "kind") (refusal_members kind cause fault ms) ≡ Some (string kind)
 refusal-kind kind None fault ms = get_member-put (codes "kind") (string kind) ms
 refusal-kind kind (Some cause) fault ms =
-    fault-other (codes "kind") fault (put (codes "cause") (string cause) (kind_members kind ms)) refl
-    ∙ skip (codes "kind") (codes "cause") (string cause) (kind_members kind ms) refl ∙ get_member-put (codes "kind") (string kind) ms
+    fault-other (codes "kind") fault (put (codes "cause") (string cause) (put (codes "kind") (string kind) ms)) refl
+    ∙ skip (codes "kind") (codes "cause") (string cause) (put (codes "kind") (string kind) ms) refl ∙ get_member-put (codes "kind") (string kind) ms
 
 verdict-kind : (max_pairs : ℕ) (v : Verdict) (ms : Members) → get_member (codes "kind") (verdict_members max_pairs v ms) ≡ Some (string (verdict_kind v))
 verdict-kind max_pairs (Degree d family) ms =
-    skip (codes "kind") (codes "degree") (whole d) (kind_members (codes "degree") ms) refl ∙ get_member-put (codes "kind") (string (codes "degree")) ms
+    skip (codes "kind") (codes "degree") (whole d) (put (codes "kind") (string (codes "degree")) ms) refl ∙ get_member-put (codes "kind") (string (codes "degree")) ms
 verdict-kind max_pairs (Expo family) ms = get_member-put (codes "kind") (string (codes "exponential")) ms
 verdict-kind max_pairs (Undecided limit) ms =
-    let kind = kind_members (codes "undecided") ms in
+    let kind = put (codes "kind") (string (codes "undecided")) ms in
     skip (codes "kind") (codes "over") (whole (limit_number max_pairs limit)) (put (codes "limit") (string (limit_name limit)) kind) refl
     ∙ skip (codes "kind") (codes "limit") (string (limit_name limit)) kind refl ∙ get_member-put (codes "kind") (string (codes "undecided")) ms
 
@@ -217,10 +219,10 @@ verdict-stands : (max_pairs report : ℕ) (e : Entry) (v : Option Verdict) (ms :
 verdict-stands max_pairs report e None ms = tt
 verdict-stands max_pairs report e (Some (Degree d family)) ms =
     judged-other (codes "degree") outside-degree max_pairs report e (outcome_members max_pairs e (Some (Degree d family)) ms)
-    ∙ get_member-put (codes "degree") (whole d) (kind_members (codes "degree") ms)
+    ∙ get_member-put (codes "degree") (whole d) (put (codes "kind") (string (codes "degree")) ms)
 verdict-stands max_pairs report e (Some (Expo family)) ms = tt
 verdict-stands max_pairs report e (Some (Undecided limit)) ms =
-    let kind = kind_members (codes "undecided") ms in
+    let kind = put (codes "kind") (string (codes "undecided")) ms in
     judged-other (codes "limit") outside-limit max_pairs report e (outcome_members max_pairs e (Some (Undecided limit)) ms)
     ∙ skip (codes "limit") (codes "over") (whole (limit_number max_pairs limit)) (put (codes "limit") (string (limit_name limit)) kind) refl
     ∙ get_member-put (codes "limit") (string (limit_name limit)) kind
@@ -230,8 +232,8 @@ refusal-stands : (max_pairs report : ℕ) (e : Entry) (kind : Text) (cause : Opt
 refusal-stands max_pairs report e kind None fault ms = tt
 refusal-stands max_pairs report e kind (Some cause) fault ms =
     judged-other (codes "cause") outside-cause max_pairs report e (refusal_members kind (Some cause) fault ms)
-    ∙ fault-other (codes "cause") fault (put (codes "cause") (string cause) (kind_members kind ms)) refl
-    ∙ get_member-put (codes "cause") (string cause) (kind_members kind ms)
+    ∙ fault-other (codes "cause") fault (put (codes "cause") (string cause) (put (codes "kind") (string kind) ms)) refl
+    ∙ get_member-put (codes "cause") (string cause) (put (codes "kind") (string kind) ms)
 
 cause-stands : (max_pairs report : ℕ) (e : Entry) (v : Option Verdict) (ms : Members) → verdict_of e.outcome ≡ v
     → CauseStands (judged_members max_pairs report e (outcome_members max_pairs e v ms)) (cause_name e.outcome)
@@ -285,7 +287,7 @@ kind-read (outcome.Judged (Degree d family) suggestion becomes) call ms v c fits
 kind-read (outcome.Judged (Expo family) suggestion becomes) call ms v c fits answer = refl
 kind-read (outcome.Judged (Undecided limit) suggestion becomes) call ms v c fits answer = limit-read call ms (limit_name limit) v (limit-known limit)
 
-call-read : (c : Option Call) → call_found (option_map (λ (c : Call). string (call_name c)) c) ≡ Some (option_map call_name c)
+call-read : (c : Option Call) → call_found (option_map (λ (c : Call). string (call_word c)) c) ≡ Some (option_map call_word c)
 call-read None = refl
 call-read (Some c) = ap (option_map Some) (call-known c)
 
@@ -296,7 +298,7 @@ module _ (max_pairs report : ℕ) (e : Entry) where
   subject-back : IfSome (verdict_of e.outcome) FitsVerdict → IsAnswer e.outcome → subject_read (object members) ≡ Some (subject_of e)
   subject-back fits answer =
       let outcomes = outcome_members max_pairs e (verdict_of e.outcome) (front_members e no_members) in
-      let call : get_member (codes "call") members ≡ option_map (λ (c : Call). string (call_name c)) e.call =
+      let call : get_member (codes "call") members ≡ option_map (λ (c : Call). string (call_word c)) e.call =
       judged-other (codes "call") outside-call max_pairs report e outcomes
       ∙ outcome-other (codes "call") beside-call max_pairs e (verdict_of e.outcome) (front_members e no_members) ∙ front-call e in
       let kind : get_member (codes "kind") members ≡ Some (string (kind_name e.outcome)) =
@@ -306,8 +308,8 @@ module _ (max_pairs report : ℕ) (e : Entry) where
       ap (λ g. option_and_then (one_of kind_names) (option_and_then as_str g)) kind ∙ kind-known e.outcome in
       ap (λ found. option_and_then (λ call. option_and_then (λ kind. subject_of_kind call kind (object members)) (name_at kind_names (codes "kind") (object members))) found)
       (ap call_found call ∙ call-read e.call)
-      ∙ ap (option_and_then (λ kind. subject_of_kind (option_map call_name e.call) kind (object members))) named
-      ∙ kind-read e.outcome (option_map call_name e.call) members
+      ∙ ap (option_and_then (λ kind. subject_of_kind (option_map call_word e.call) kind (object members))) named
+      ∙ kind-read e.outcome (option_map call_word e.call) members
       (verdict-stands max_pairs report e (verdict_of e.outcome) (front_members e no_members))
       (cause-stands max_pairs report e (verdict_of e.outcome) (front_members e no_members) refl) fits answer
 

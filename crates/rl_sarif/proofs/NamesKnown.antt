@@ -12,6 +12,7 @@ use Rattle.rl_pystr.specs.declared.fault.StrError.{StrError}
 use Rattle.rl_pystr.specs.declared.fault.StrError.TheVariants as str_error
 use Rattle.rl_sites.specs.declared.call.Call.{Call}
 use Rattle.rl_sites.specs.declared.call.Call.TheVariants as call
+use Rattle.rl_sites.specs.Names.{call_word}
 use Rattle.rl_syntax.specs.declared.feature.Feature.{Feature}
 use Rattle.rl_syntax.specs.declared.feature.Feature.TheVariants as feature
 use Rattle.rl_syntax.specs.declared.verdict.Limit.{Limit}
@@ -19,10 +20,10 @@ use Rattle.rl_syntax.specs.declared.verdict.Limit.TheVariants as limit
 use Rattle.rl_syntax.specs.declared.verdict.Verdict.TheVariants.{Degree, Expo, Undecided}
 use Rattle.rl_report.specs.declared.report.Outcome.{Outcome}
 use Rattle.rl_report.specs.declared.report.Outcome.TheVariants as outcome
-use Rattle.rl_report.specs.Names.{Text, call_name, feature_name, kind_name, lexing_cause, limit_name, literal_cause, pattern_cause}
+use Rattle.rl_report.specs.Names.{Text, feature_name, kind_name, lexing_cause, limit_name, literal_cause, pattern_cause}
 use Rattle.rl_sarif.specs.Baseline.{call_names, cause_names, kind_names, limit_names, one_of}
 
-pub call-known : (c : Call) → one_of call_names (call_name c) ≡ Some (call_name c)
+pub call-known : (c : Call) → one_of call_names (call_word c) ≡ Some (call_word c)
 call-known call.Compile = refl
 call-known call.Match = refl
 call-known call.Search = refl
@@ -109,8 +110,8 @@ found-ascii (n ∷ names) text name all e =
 known-utf8 : (names : List Text) (name : Text) → list_all are_ascii names ≡ true → one_of names name ≡ Some name → IsUtf8 name
 known-utf8 names name all e = IsUtf8-are_ascii name (found-ascii names name name all e)
 
-pub call-utf8 : (c : Call) → IsUtf8 (call_name c)
-call-utf8 c = known-utf8 call_names (call_name c) refl (call-known c)
+pub call-utf8 : (c : Call) → IsUtf8 (call_word c)
+call-utf8 c = known-utf8 call_names (call_word c) refl (call-known c)
 
 pub limit-utf8 : (l : Limit) → IsUtf8 (limit_name l)
 limit-utf8 l = known-utf8 limit_names (limit_name l) refl (limit-known l)

@@ -5,10 +5,11 @@ use Rattle.std.specs.List.{count_by}
 use Rattle.std.proofs.lemmas.List.Elements.{All-head, All-tail}
 use Rattle.std.proofs.lemmas.List.Sums.{count_by-le-length}
 use Rattle.json.proofs.Printed.Utf8.{IsUtf8-are_ascii, are_ascii}
-use Rattle.serde_json.specs.Data.{Data, Members, no_members, object, string, put}
+use Rattle.serde_json.specs.Data.{Data, Members, no_members, array, object, string, put}
 use Rattle.serde_json.specs.View.{items_of}
 use Rattle.rl_ranges.specs.declared.universe.Universe.{Universe}
 use Rattle.rl_sites.specs.declared.call.Call.{Call}
+use Rattle.rl_sites.specs.Names.{call_word}
 use Rattle.rl_syntax.specs.declared.verdict.Family.{Family}
 use Rattle.rl_syntax.specs.declared.verdict.Limit.{Limit}
 use Rattle.rl_syntax.specs.declared.verdict.Limit.TheVariants as limit
@@ -20,9 +21,10 @@ use Rattle.rl_report.specs.declared.report.Entry.{Entry}
 use Rattle.rl_report.specs.declared.report.Mark.{Mark}
 use Rattle.rl_report.specs.declared.report.Outcome.{Outcome}
 use Rattle.rl_report.specs.declared.report.Outcome.TheVariants as outcome
-use Rattle.rl_report.specs.Document.{whole, place_members, place_data, at_members, call_members, fault_members, kind_members, verdict_members, refusal_members, outcome_members, text_data, texts_data, family_data, family_members, marks_data, marks_members, becomes_members, suggest_members, suggestion_members, front_members, entry_data, entries_data, report_data}
+use Rattle.rl_report.specs.Document.{whole, place_members, place_data, at_members, call_members, fault_members, verdict_members, refusal_members, outcome_members, texts_data, family_data, family_members, marks_data, marks_members, becomes_members, suggest_members, suggestion_members, front_members, entry_data, report_data}
+use Rattle.rl_report.specs.Verdicts.{quoted_text}
 use Rattle.rl_report.specs.Findings.{verdict_of, suggestion_of, becomes_of, is_finding, is_refused, is_undecided}
-use Rattle.rl_report.specs.Names.{Text, call_name, cause_name, kind_name, limit_name, limit_number}
+use Rattle.rl_report.specs.Names.{Text, cause_name, kind_name, limit_name, limit_number}
 use Rattle.rl_report.proofs.Ascii.{quoted_utf8}
 use Rattle.rl_sarif.specs.Laws.{FitsPlace, FitsVerdict, IsAnswer, IsSound}
 use Rattle.rl_sarif.proofs.NamesKnown.{call-utf8, limit-utf8, kind-utf8, cause-utf8, lexing-known, literal-known, pattern-known}
@@ -47,13 +49,13 @@ at-writable n (Some p) ms fits all = place-writable n p ms fits all
 
 call-writable : (n : ℕ) (c : Option Call) (ms : Members) → AreWritable n ms → AreWritable n (call_members c ms)
 call-writable n None ms all = all
-call-writable n (Some c) ms all = put-named n (codes "call") (string (call_name c)) ms refl (call-utf8 c) all
+call-writable n (Some c) ms all = put-named n (codes "call") (string (call_word c)) ms refl (call-utf8 c) all
 
 fault-writable : (fault : Option Place) (ms : Members) → IfSome fault FitsPlace → AreWritable 2 ms → AreWritable 2 (fault_members fault ms)
 fault-writable None ms fits all = all
 fault-writable (Some p) ms fits all = put-named 2 (codes "fault") (place_data p) ms refl (place-writable 1 p no_members fits tt) all
 
-kind-writable : (n : ℕ) (kind : Text) (ms : Members) → IsUtf8 kind → AreWritable n ms → AreWritable n (kind_members kind ms)
+kind-writable : (n : ℕ) (kind : Text) (ms : Members) → IsUtf8 kind → AreWritable n ms → AreWritable n (put (codes "kind") (string kind) ms)
 kind-writable n kind ms utf8 all = put-named n (codes "kind") (string kind) ms refl utf8 all
 
 limit-fits : (max_pairs : ℕ) (l : Limit) → max_pairs < 2 ^ 32 → limit_number max_pairs l < 2 ^ 64
@@ -65,10 +67,10 @@ limit-fits max_pairs limit.Pairs h = omega arith
 
 verdict-writable : (n max_pairs : ℕ) (v : Verdict) (ms : Members) → max_pairs < 2 ^ 32 → FitsVerdict v → AreWritable n ms → AreWritable n (verdict_members max_pairs v ms)
 verdict-writable n max_pairs (Degree d family) ms small fits all =
-    put-named n (codes "degree") (whole d) (kind_members (codes "degree") ms) refl (omega (arith, fits)) (kind-writable n (codes "degree") ms (IsUtf8-are_ascii _ refl) all)
+    put-named n (codes "degree") (whole d) (put (codes "kind") (string (codes "degree")) ms) refl (omega (arith, fits)) (kind-writable n (codes "degree") ms (IsUtf8-are_ascii _ refl) all)
 verdict-writable n max_pairs (Expo family) ms small fits all = kind-writable n (codes "exponential") ms (IsUtf8-are_ascii _ refl) all
 verdict-writable n max_pairs (Undecided l) ms small fits all =
-    let kind = kind_members (codes "undecided") ms in
+    let kind = put (codes "kind") (string (codes "undecided")) ms in
     put-named n (codes "over") (whole (limit_number max_pairs l)) (put (codes "limit") (string (limit_name l)) kind) refl (limit-fits max_pairs l small)
     (put-named n (codes "limit") (string (limit_name l)) kind refl (limit-utf8 l) (kind-writable n (codes "undecided") ms (IsUtf8-are_ascii _ refl) all))
 
@@ -87,8 +89,8 @@ refusal-writable : (kind : Text) (cause : Option Text) (fault : Option Place) (m
     → AreWritable 2 (refusal_members kind cause fault ms)
 refusal-writable kind None fault ms utf8 text fits all = kind-writable 2 kind ms utf8 all
 refusal-writable kind (Some cause) fault ms utf8 text fits all =
-    fault-writable fault (put (codes "cause") (string cause) (kind_members kind ms)) fits
-    (put-named 2 (codes "cause") (string cause) (kind_members kind ms) refl text (kind-writable 2 kind ms utf8 all))
+    fault-writable fault (put (codes "cause") (string cause) (put (codes "kind") (string kind) ms)) fits
+    (put-named 2 (codes "cause") (string cause) (put (codes "kind") (string kind) ms) refl text (kind-writable 2 kind ms utf8 all))
 
 outcome-writable : (max_pairs : ℕ) (e : Entry) (v : Option Verdict) (ms : Members) → max_pairs < 2 ^ 32 → IsSound e → IfSome v FitsVerdict → AreWritable 2 ms
     → AreWritable 2 (outcome_members max_pairs e v ms)
@@ -136,7 +138,7 @@ suggest-writable : (max_pairs report : ℕ) (u : Universe) (text : Option (List 
     → AreWritable 2 (suggest_members max_pairs report u text v ms)
 suggest-writable max_pairs report u None v ms small fits all = all
 suggest-writable max_pairs report u (Some text) v ms small fits all =
-    becomes-writable max_pairs report v (put (codes "suggest") (text_data u text) ms) small fits (put-named 2 (codes "suggest") (text_data u text) ms refl (quoted_utf8 u text) all)
+    becomes-writable max_pairs report v (put (codes "suggest") (string (quoted_text u text)) ms) small fits (put-named 2 (codes "suggest") (string (quoted_text u text)) ms refl (quoted_utf8 u text) all)
 
 suggestion-writable : (max_pairs report : ℕ) (e : Entry) (s : Option Suggestion) (ms : Members) → max_pairs < 2 ^ 32 → IsSound e → AreWritable 2 ms
     → AreWritable 2 (suggestion_members max_pairs report e.universe e.marks s (becomes_of e.outcome) ms)
@@ -164,7 +166,7 @@ pub report-writable : (max_degree max_pairs report : ℕ) (entries : List Entry)
     → IsWritable 5 (report_data max_degree max_pairs report entries)
 unfolding report_data
 report-writable max_degree max_pairs report entries small version few sound =
-    let shown = put (codes "entries") (entries_data max_pairs report entries) no_members in
+    let shown = put (codes "entries") (array (items_of (map (entry_data max_pairs report) entries))) no_members in
     let found = put (codes "findings") (whole (count_by (is_finding max_degree) entries)) shown in
     let refused = put (codes "refused") (whole (count_by is_refused entries)) found in
     let passed = put (codes "undecided") (whole (count_by is_undecided entries)) refused in
@@ -172,5 +174,5 @@ report-writable max_degree max_pairs report entries small version few sound =
     (put-named 4 (codes "undecided") (whole (count_by is_undecided entries)) refused refl (omega (arith, count_by-le-length is_undecided entries))
     (put-named 4 (codes "refused") (whole (count_by is_refused entries)) found refl (omega (arith, count_by-le-length is_refused entries))
     (put-named 4 (codes "findings") (whole (count_by (is_finding max_degree) entries)) shown refl (omega (arith, count_by-le-length (is_finding max_degree) entries))
-    (put-named 4 (codes "entries") (entries_data max_pairs report entries) no_members refl
+    (put-named 4 (codes "entries") (array (items_of (map (entry_data max_pairs report) entries))) no_members refl
     (items-writable 3 (entry_data max_pairs report) IsSound entries (entry-writable max_pairs report small) sound) tt))))

@@ -2,7 +2,7 @@
 use Rattle.std.proofs.Common.{◌≡◌, ℕ, ◌+◌, ◌<◌, ◌≤◌, Bool, true, false, cond, List, [], ◌∷◌, ◌++◌, length, get_or, take, map, filter, Option, None, Some, codes, ap, ap₂, sym, refl, ◌∙◌, Vec, Global, append-nil}
 use Rattle.std.proofs.lemmas.List.{map-append, take_more, take_all}
 use Rattle.std.proofs.lemmas.List.Elements.{filter-append}
-use Rattle.serde_json.specs.Data.{Data, array, object, no_members, put}
+use Rattle.serde_json.specs.Data.{Data, array, object, string, no_members, put}
 use Rattle.serde_json.specs.View.{items_of, view}
 use Rattle.serde_json.specs.Written.{has_float}
 use Rattle.serde_json.specs.declared.value.Value.{Value, Array}
@@ -10,7 +10,7 @@ use Rattle.serde_json.proofs.Views.{view-Array}
 use Rattle.rl_json.proofs.NoFloats.{items-plain}
 use Rattle.rl_report.specs.declared.places.Place.{Place}
 use Rattle.rl_report.specs.declared.report.Entry.{Entry}
-use Rattle.rl_sarif.specs.Sarif.{artifact_data, region_members, result_data, results_data, document_data, is_result}
+use Rattle.rl_sarif.specs.Sarif.{region_members, uri_text, result_data, results_data, document_data, is_result}
 
 module _ {X : Type 0} (p : X → Bool) (f : X → Data) (xs : List X) (i : ℕ) (x : X) where
   one-kept : (b : Bool) → p x ≡ b → filter p (x ∷ []) ≡ cond b (x ∷ []) []
@@ -42,7 +42,7 @@ pub ruleset results = (value_more, value_passed, value_all)
 
 -- ---- no float
 
-physical-plain : (at : Option Place) (path : List ℕ) → has_float (object (region_members at (put (codes "artifactLocation") (artifact_data path) no_members))) ≡ false
+physical-plain : (at : Option Place) (path : List ℕ) → has_float (object (region_members at (put (codes "artifactLocation") (object (put (codes "uri") (string (uri_text path)) no_members)) no_members))) ≡ false
 physical-plain None path = refl
 physical-plain (Some p) path = refl
 

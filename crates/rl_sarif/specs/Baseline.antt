@@ -1,19 +1,19 @@
 -- What a baseline holds: a report in JSON, read as the keys of its entries. Members that aren't named here are passed over.
-use Rattle.std.specs.Prelude.{◌≡◌, ℕ, ◌≤◌, ◌^◌, Bool, false, ◌||◌, ◌==◌, nat_lt, List, [], ◌∷◌, Option, Some, None, option_map, option_and_then, codes, find, length, map, IsUtf8, if◌then◌else◌}
+use Rattle.std.specs.Prelude.{◌≡◌, ℕ, ◌≤◌, ◌^◌, false, ◌||◌, ◌==◌, nat_lt, List, [], ◌∷◌, Option, Some, None, option_map, option_and_then, codes, find, length, map, IsUtf8, if◌then◌else◌}
 use Rattle.std.specs.Option.{option_map_or}
 use Rattle.std.specs.Str.{bytes_eq}
 use Rattle.serde_json.specs.Data.{Data, Items, no_items, item}
 use Rattle.serde_json.specs.Find.{get, as_array, as_number, as_str, as_u64}
 use Rattle.serde_json.specs.Read.{read}
-use Rattle.rl_sites.specs.Names.{calls}
+use Rattle.rl_sites.specs.Names.{calls, call_word}
 use Rattle.rl_syntax.specs.declared.verdict.Limit.TheVariants.{Size, Letters, Moves, Sets, Pairs}
-use Rattle.rl_report.specs.Names.{Text, call_name, limit_name}
+use Rattle.rl_report.specs.Names.{Text, limit_name}
 use Rattle.rl_sarif.specs.Keys.{EntryKey, Subject}
 
 -- ---- the names that a baseline may hold
 
 abbrev pub call_names : List Text
-call_names = map call_name calls
+call_names = map call_word calls
 
 abbrev pub kind_names : List Text
 kind_names =
@@ -59,27 +59,20 @@ plain call kind = record { call = call; kind = kind; degree = None; limit = None
 abbrev pub fitting : ℕ → Option ℕ
 fitting n = if nat_lt n (2 ^ 32) then Some n else None
 
-abbrev pub with_degree : Option Text → Text → Data → Option Subject
-with_degree call kind d =
-    option_map (λ n. record (plain call kind) { degree = Some n }) (option_and_then fitting (number_at (codes "degree") d))
-
-abbrev pub with_limit : Option Text → Text → Data → Option Subject
-with_limit call kind d = option_map (λ name. record (plain call kind) { limit = Some name }) (name_at limit_names (codes "limit") d)
-
-abbrev pub with_cause : Option Text → Text → Data → Option Subject
-with_cause call kind d = option_map (λ name. record (plain call kind) { cause = Some name }) (name_at cause_names (codes "cause") d)
-
 -- a degree has its number, an undecided entry its limit, and a refusal its cause
 abbrev pub subject_of_kind : Option Text → Text → Data → Option Subject
 subject_of_kind call kind d =
-    if bytes_eq kind (codes "degree") then with_degree call kind d
-    else (if bytes_eq kind (codes "undecided") then with_limit call kind d
-    else (if bytes_eq kind (codes "refused") then with_cause call kind d else Some (plain call kind)))
+    if bytes_eq kind (codes "degree")
+    then option_map (λ n. record (plain call kind) { degree = Some n }) (option_and_then fitting (number_at (codes "degree") d))
+    else (if bytes_eq kind (codes "undecided")
+    then option_map (λ name. record (plain call kind) { limit = Some name }) (name_at limit_names (codes "limit") d)
+    else (if bytes_eq kind (codes "refused")
+    then option_map (λ name. record (plain call kind) { cause = Some name }) (name_at cause_names (codes "cause") d)
+    else Some (plain call kind)))
 
 -- the call, where one is there. It has to be one of the nine then
 abbrev pub call_found : Option Data → Option (Option Text)
-call_found None = Some None
-call_found (Some d) = option_map Some (option_and_then (one_of call_names) (as_str d))
+call_found call = option_map_or (λ d. option_map Some (option_and_then (one_of call_names) (as_str d))) call (Some None)
 
 abbrev pub subject_read : Data → Option Subject
 subject_read d =
@@ -99,13 +92,10 @@ abbrev pub keys_read : Items → Option (List EntryKey)
 keys_read no_items = Some []
 keys_read (item d ds) = option_and_then (λ key. option_map (λ keys. key ∷ keys) (keys_read ds)) (key_read d)
 
--- the report has a version, and it is 1 or 2
-abbrev pub is_version : Option ℕ → Bool
-is_version version = option_map_or (λ n. n == 1 || n == 2) version false
-
+-- the keys of the entries of a report, which has a version, and it is 1 or 2
 abbrev pub report_keys : Data → Option (List EntryKey)
 report_keys d =
-    if is_version (number_at (codes "version") d)
+    if option_map_or (λ n. n == 1 || n == 2) (number_at (codes "version") d) false
     then option_and_then keys_read (option_and_then as_array (get (codes "entries") d)) else None
 
 -- The bytes are a report of at most 64 MiB, whose entries have these keys

@@ -2,11 +2,12 @@
 use Rattle.std.specs.Prelude.{ℕ, Bool, ◌&&◌, Option, Some, None, option_map, option_and_then, nat_eq, string_bytes}
 use Rattle.std.specs.Option.{option_eq}
 use Rattle.std.specs.Str.{bytes_eq}
+use Rattle.rl_sites.specs.Names.{call_word}
 use Rattle.rl_syntax.specs.declared.verdict.Verdict.{Verdict}
-use Rattle.rl_syntax.specs.declared.verdict.Verdict.TheVariants.{Degree, Expo, Undecided}
+use Rattle.rl_syntax.specs.declared.verdict.Verdict.TheVariants.{Degree, Undecided}
 use Rattle.rl_report.specs.declared.report.Entry.{Entry}
 use Rattle.rl_report.specs.Findings.{verdict_of}
-use Rattle.rl_report.specs.Names.{Text, call_name, cause_name, kind_name, limit_name}
+use Rattle.rl_report.specs.Names.{Text, cause_name, kind_name, limit_name}
 use Rattle.rl_sarif.specs.declared.key.About.{About}
 use Rattle.rl_sarif.specs.declared.key.Key.{Key}
 
@@ -26,17 +27,15 @@ pub record EntryKey : Type 0 where
 
 abbrev pub degree_of : Verdict → Option ℕ
 degree_of (Degree d family) = Some d
-degree_of (Expo family) = None
-degree_of (Undecided limit) = None
+degree_of _ = None
 
 abbrev pub limit_of : Verdict → Option Text
-limit_of (Degree d family) = None
-limit_of (Expo family) = None
 limit_of (Undecided limit) = Some (limit_name limit)
+limit_of _ = None
 
 abbrev pub subject_of : Entry → Subject
 subject_of e = record {
-  call = option_map call_name e.call;
+  call = option_map call_word e.call;
   kind = kind_name e.outcome;
   degree = option_and_then degree_of (verdict_of e.outcome);
   limit = option_and_then limit_of (verdict_of e.outcome);

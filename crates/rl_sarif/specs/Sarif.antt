@@ -1,6 +1,8 @@
 -- A report as a document of SARIF 2.1.0.
-use Rattle.std.specs.Prelude.{ℕ, ◌/◌, ◌%◌, Bool, true, ◌&&◌, ◌||◌, ◌==◌, nat_le, List, [], ◌∷◌, ◌++◌, map, filter, Option, Some, None, codes, if◌then◌else◌}
+use Rattle.std.specs.Prelude.{ℕ, ◌/◌, ◌%◌, Bool, true, ◌||◌, ◌==◌, List, [], ◌∷◌, ◌++◌, map, filter, Option, Some, None, codes, if◌then◌else◌}
+use Rattle.std.specs.Char.{is_ascii_alphanumeric}
 use Rattle.std.specs.List.{flat_map}
+use Rattle.std.specs.Option.{option_map_or}
 use Rattle.std.specs.Fmt.{digit_glyph}
 use Rattle.serde_json.specs.Data.{Data, Members, string, array, object, no_members, put}
 use Rattle.serde_json.specs.View.{items_of}
@@ -14,15 +16,9 @@ use Rattle.rl_report.specs.Names.{Text, kind_name}
 
 -- ---- the path as a relative URI
 
-abbrev pub is_letter : ℕ → Bool
-is_letter c = (nat_le 65 c && nat_le c 90) || (nat_le 97 c && nat_le c 122)
-
-abbrev pub is_digit : ℕ → Bool
-is_digit c = nat_le 48 c && nat_le c 57
-
 -- an ASCII letter, a digit, `-`, `.`, `_`, `~` or `/`
 abbrev pub is_kept : ℕ → Bool
-is_kept c = is_letter c || (is_digit c || (c == 45 || (c == 46 || (c == 95 || (c == 126 || c == 47)))))
+is_kept c = is_ascii_alphanumeric c || (c == 45 || (c == 46 || (c == 95 || (c == 126 || c == 47))))
 
 -- the byte itself, or `%` and two hexadecimal digits in upper case
 abbrev pub uri_byte : ℕ → Text
@@ -37,30 +33,25 @@ uri_text path = flat_map uri_byte path
 abbrev pub message_text : ℕ → Entry → Text
 message_text max_pairs e = call_text e.call ++ outcome_text max_pairs e (verdict_of e.outcome)
 
-abbrev pub artifact_data : Text → Data
-artifact_data path = object (put (codes "uri") (string (uri_text path)) no_members)
-
 abbrev pub region_data : Place → Data
 region_data p = object (put (codes "startLine") (whole p.line) (put (codes "startColumn") (whole p.column) no_members))
 
 -- the members that are there, and the region of an entry that has a place
 abbrev pub region_members : Option Place → Members → Members
-region_members None ms = ms
-region_members (Some p) ms = put (codes "region") (region_data p) ms
+region_members at ms = option_map_or (λ p. put (codes "region") (region_data p) ms) at ms
 
 abbrev pub physical_data : Entry → Data
-physical_data e = object (region_members e.at (put (codes "artifactLocation") (artifact_data e.path) no_members))
+physical_data e =
+    object (region_members e.at
+    (put (codes "artifactLocation") (object (put (codes "uri") (string (uri_text e.path)) no_members)) no_members))
 
 abbrev pub location_data : Entry → Data
 location_data e = object (put (codes "physicalLocation") (physical_data e) no_members)
 
-abbrev pub message_data : Text → Data
-message_data text = object (put (codes "text") (string text) no_members)
-
 abbrev pub result_data : ℕ → Entry → Data
 result_data max_pairs e =
     object (put (codes "ruleId") (string (kind_name e.outcome))
-    (put (codes "message") (message_data (message_text max_pairs e))
+    (put (codes "message") (object (put (codes "text") (string (message_text max_pairs e)) no_members))
     (put (codes "locations") (array (items_of (location_data e ∷ []))) no_members)))
 
 -- a finding, or an entry that is refused or undecided: every entry but a degree that is no finding

@@ -1,6 +1,6 @@
 //! What an entry is known by.
 ghost use Rattle.std.specs.Prelude.{◌≡◌, IfOk, option_and_then, option_map};
-ghost use Rattle.rl_report.specs.Names.{call_name};
+ghost use Rattle.rl_sites.specs.Names.{call_word};
 ghost use Rattle.rl_sarif.specs.Keys.{degree_of, key_in, key_of, limit_of, subject_in, subject_of};
 
 use rl_lists::OutOfMemory;
@@ -33,7 +33,7 @@ pub struct Key {
 }
 
 fn named(call: Option<Call>) -> Option<&'static str>
-    ensures { option_map (λ n. n.now) result ≡ option_map call_name call }
+    ensures { option_map (λ n. n.now) result ≡ option_map call_word call }
 {
     match call {
         None => None,

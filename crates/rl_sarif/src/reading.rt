@@ -1,9 +1,10 @@
 //! A baseline: a report in JSON, read as the keys of its entries.
-ghost use Rattle.std.specs.Prelude.{◌≡◌, IfOk, IsUtf8, List, None, Some, codes, map, option_and_then, option_map};
+ghost use Rattle.std.specs.Prelude.{◌≡◌, ◌||◌, ◌==◌, IfOk, IsUtf8, List, None, Some, codes, false, map, option_and_then, option_map};
+ghost use Rattle.std.specs.Option.{option_map_or};
 ghost use Rattle.serde_json.specs.Find.{get};
 ghost use Rattle.serde_json.specs.Read.{read};
 ghost use Rattle.serde_json.specs.View.{items_view, view};
-ghost use Rattle.rl_sarif.specs.Baseline.{IsBaseline, call_found, cause_names, fitting, is_version, key_read, keys_read, kind_names, limit_names, name_at, number_at, report_keys, subject_of_kind, subject_read, text_at};
+ghost use Rattle.rl_sarif.specs.Baseline.{IsBaseline, call_found, cause_names, fitting, key_read, keys_read, kind_names, limit_names, name_at, number_at, report_keys, subject_of_kind, subject_read, text_at};
 ghost use Rattle.rl_sarif.specs.Keys.{EntryKey, key_in, subject_in};
 
 use crate::key::{About, Key, KnownKeys};
@@ -213,7 +214,7 @@ fn keys_of(alloc: Global, values: &[Value]) -> Result<Vec<Key>, BaselineError>
 
 /// Whether the report has a version, and it is 1 or 2.
 fn has_version(value: &Value) -> bool
-    ensures { result ≡ is_version (number_at (codes "version") (view value.now)) }
+    ensures { result ≡ option_map_or (λ n. n == 1 || n == 2) (number_at (codes "version") (view value.now)) false }
 {
     match number_at(value, "version") {
         None => false,
