@@ -3,7 +3,7 @@ use Rattle.rl_walk.specs.Visits.{moment_of}
 use Rattle.rl_lint.specs.Files.{first_bytes}
 use Rattle.rl_lint.specs.declared.files.FileRead.TheVariants.{Unreadable}
 use Rattle.rl_lint.specs.internal.Reads.{GivesKeys}
-use Rattle.rl_lint.proofs.FileLemmas.{file-given, file-unreadable, named-result, named-some}
+use Rattle.rl_lint.proofs.FileLemmas.{file-unreadable, named-some}
 use Rattle.rl_lint.proofs.baseline.read_baseline.Goals as goal
 
 pub returns-in-None-clause-read : goal.returns-in-None-clause-read

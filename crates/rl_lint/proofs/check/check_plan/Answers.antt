@@ -1,4 +1,4 @@
-use Rattle.std.proofs.Common.{◌≡◌, ◌∙◌, ap, map, option_map, nat_eq, subst, sym}
+use Rattle.std.proofs.Common.{◌∙◌, ap, map, option_map, nat_eq, subst, sym}
 use Rattle.rl_walk.specs.Visits.{moment_of}
 use Rattle.rl_judge.specs.RightReport.{HasChecked}
 use Rattle.rl_lint.specs.CheckEnding.{ReportsWalk}
