@@ -13,7 +13,7 @@ pub use Rattle.rl_pattern.specs.declared.lex.EscapeClass.{EscapeClass}
 pub use Rattle.rl_pattern.specs.declared.lex.EscapeClass.TheVariants.{Single as single, Kinds as kinds, Hexes as hexes, Naming as naming, Octal as octal, Low as low, High as high, Edges as edges, NoEscape as no_escape}
 pub use Rattle.rl_pattern.specs.declared.lex.GroupPrefix.{GroupPrefix}
 pub use Rattle.rl_pattern.specs.declared.lex.GroupPrefix.TheVariants.{Letter as letter, Colon as colon, Minus as minus, LetterP as letter_p, Sharps as sharps, Less as less, Greater as greater, Condition as condition, Looks as looks, NoHead as no_head}
-use Rattle.rl_pattern.specs.Tree.{Count, digits, spaces, words, caret, text_start, dollar, text_end, boundary, Escaped, code, too_large, by_name, kind, reference, Kind, capturing, named, scoped, lookaround, atomic, conditional, Branch}
+use Rattle.rl_pattern.specs.Tree.{Count, digits, spaces, words, caret, text_start, dollar, text_end, boundary, Escaped, code, too_large, kind, Kind, scoped, conditional, Branch}
 
 -- c is the code of this character
 abbrev pub is : Char → ℕ → Bool

@@ -8,7 +8,7 @@ pub use Rattle.rl_syntax.specs.declared.feature.Feature.TheVariants.{Locale as i
 pub use Rattle.rl_syntax.specs.declared.anchors.Trail.{Trail}
 pub use Rattle.rl_syntax.specs.declared.anchors.Trail.TheVariants.{None as no_trail, Dollar as dollar_trail, End as end_trail}
 pub use Rattle.rl_pattern.specs.declared.faults.Fault.{Fault}
-use Rattle.rl_pattern.specs.Tree.{Span, Named, Count, Greed, greedy, lazy, possessive, Escaped, code, too_large, by_name, kind, reference, Member, one, range, Leaf, any, glyph, members, Assertion, caret, text_start, dollar, text_end, boundary, Kind, capturing, named, scoped, lookaround, atomic, conditional, SyntaxNode, leaf, mark, repeat, group, nothing, seq, choice, Nodes, no_nodes, more_nodes, Branches, no_branches, more_branches, branch_body, Front, Whole}
+use Rattle.rl_pattern.specs.Tree.{Span, Count, Greed, possessive, Escaped, code, too_large, by_name, reference, Member, one, range, Leaf, any, glyph, members, Assertion, caret, text_start, dollar, text_end, Kind, named, scoped, lookaround, atomic, conditional, SyntaxNode, leaf, mark, repeat, group, nothing, seq, choice, Nodes, no_nodes, more_nodes, Branches, no_branches, more_branches, branch_body, Front, Whole}
 use Rattle.rl_pattern.specs.Codes.{joined}
 
 -- the features in the order that decides at one place

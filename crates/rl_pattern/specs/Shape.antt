@@ -9,7 +9,7 @@ use Rattle.rl_ranges.specs.declared.universe.Universe.TheVariants.{Str, Bytes}
 use Rattle.rl_syntax.specs.declared.anchors.AnchorKind.TheVariants as anchor
 use Rattle.rl_syntax.specs.PatTree as s
 use Rattle.rl_pattern.specs.declared.flags.Flags.{Flags}
-use Rattle.rl_pattern.specs.Tree.{Span, Named, Greed, greedy, lazy, possessive, Escaped, code, kind, Member, one, range, Leaf, any, glyph, members, Assertion, caret, text_start, dollar, text_end, boundary, Kind, capturing, named, scoped, lookaround, atomic, conditional, SyntaxNode, leaf, mark, repeat, group, nothing, seq, choice, Nodes, no_nodes, more_nodes, Branches, no_branches, more_branches}
+use Rattle.rl_pattern.specs.Tree.{Span, Named, Greed, greedy, Escaped, code, kind, Member, one, range, Leaf, any, glyph, members, Assertion, caret, text_start, dollar, text_end, boundary, Kind, scoped, lookaround, atomic, conditional, SyntaxNode, leaf, mark, repeat, group, nothing, seq, choice, Nodes, no_nodes, more_nodes, Branches, no_branches, more_branches}
 use Rattle.rl_pattern.specs.Found.{is_lookaround, is_atomic, is_conditional}
 
 -- whether the universe is text

@@ -1,7 +1,6 @@
 -- Which codes begin a spelled pattern, and where a group opens too deep.
 use Rattle.std.specs.Prelude.{◌≡◌, ℕ, suc, ◌<◌, ◌≤◌, Bool, true, List, ◌++◌, length, take, if◌then◌else◌}
 use Rattle.rl_ranges.specs.Text.{IsText}
-use Rattle.rl_ranges.specs.declared.universe.Universe.{Universe}
 use Rattle.rl_ranges.specs.declared.universe.Universe.TheVariants.{Str, Bytes}
 use Rattle.rl_pattern.specs.declared.flags.Flags.{Flags}
 use Rattle.rl_pattern.specs.declared.limits.TheConstants.{MOST_OPEN_GROUPS}

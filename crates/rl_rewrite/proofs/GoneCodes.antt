@@ -1,5 +1,5 @@
 -- The codes in the holes of a pattern are those that are gone.
-use Rattle.std.proofs.Common.{◌≡◌, ℕ, suc, Bool, true, false, not, ◌||◌, if◌then◌else◌, ◌&&◌, List, [], ◌∷◌, ◌++◌, Option, Some, None, refl, sym, ap, ◌∙◌}
+use Rattle.std.proofs.Common.{◌≡◌, ℕ, Bool, true, false, not, ◌||◌, if◌then◌else◌, ◌&&◌, List, [], ◌∷◌, ◌++◌, Some, refl, ap, ◌∙◌}
 use Rattle.rl_pattern.specs.Suggested.{among, text_of, text_if}
 use Rattle.rl_pattern.specs.Thinned.{kept_from}
 use Rattle.rl_syntax.specs.declared.span.Span.{Span}

@@ -1,22 +1,19 @@
 -- What trials and the rule of quantifiers give is a right suggestion.
-use Rattle.std.proofs.Common.{◌≡◌, ◌⊎◌, ℕ, zero, suc, ◌<◌, Bool, true, false, if◌then◌else◌, List, [], ◌∷◌, length, All, Option, Some, None, Result, Ok, Err, refl, sym, ap, ◌∙◌, subst, true≢false, arith}
+use Rattle.std.proofs.Common.{◌≡◌, ℕ, zero, suc, ◌<◌, Bool, true, false, if◌then◌else◌, List, [], ◌∷◌, length, All, Option, Some, Result, Ok, refl, sym, ap, ◌∙◌, subst, arith}
 use mathlib.Core.Logic.{inl, inr, ⊎_elim}
 use Rattle.rl_ranges.specs.Text.{IsText, code_count}
 use Rattle.rl_syntax.specs.declared.span.Span.{Span}
 use Rattle.rl_syntax.specs.declared.pattern.Pattern.{Pattern}
-use Rattle.rl_syntax.specs.declared.verdict.Suggestion.{Suggestion}
 use Rattle.rl_syntax.specs.Pattern.{body_of, universe_of}
 use Rattle.rl_syntax.specs.PatTree.{PatTree}
-use Rattle.rl_syntax.specs.SameSpans.{OneLanguage}
 use Rattle.rl_syntax.specs.Tree.{Tree}
 use Rattle.rl_pattern.specs.declared.flags.Flags.{Flags}
 use Rattle.rl_pattern.specs.declared.parsing.PatError.{PatError}
-use Rattle.rl_pattern.specs.declared.parsing.PatError.TheVariants as error
 use Rattle.rl_pattern.specs.Cut.{left}
 use Rattle.rl_pattern.specs.Parsed.{IsParsed}
 use Rattle.rl_pattern.specs.Placed.{ArePlaced}
 use Rattle.rl_pattern.specs.Reread.{IsLeft, IsReread}
-use Rattle.rl_pattern.specs.Suggested.{Verdict, among, no_span, may_go, holds_guard, branches_in, merged_in, text_of, text_if, without, Tried, none_tried, left_alone, dropped_one, kept_one, passed_one, IsRight}
+use Rattle.rl_pattern.specs.Suggested.{Verdict, among, no_span, may_go, holds_guard, branches_in, merged_in, text_of, text_if, Tried, none_tried, left_alone, dropped_one, kept_one, passed_one}
 use Rattle.rl_pattern.specs.Thinned.{kept_from}
 use Rattle.rl_pattern.proofs.Final.{right_text_found, right_text_reads}
 use Rattle.rl_pattern.proofs.ListedSpans.{branches_are_placed, merged_are_placed}

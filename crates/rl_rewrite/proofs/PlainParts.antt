@@ -5,7 +5,7 @@ use Rattle.std.proofs.lemmas.Bool.{eqb-true}
 use Rattle.rl_syntax.specs.declared.span.Span.{Span}
 use Rattle.rl_syntax.specs.declared.pattern.Pattern.{Pattern}
 use Rattle.rl_syntax.specs.Pattern.{body_of, universe_of}
-use Rattle.rl_syntax.specs.PatTree.{PatTree, PatTrees, BranchTrees, nothing, class, seq, choice, repeat, group, anchor, boundary, outside, no_items, item, no_branches, branch, branches_of, pat_of}
+use Rattle.rl_syntax.specs.PatTree.{PatTree, PatTrees, nothing, class, seq, choice, repeat, group, anchor, boundary, outside, no_items, item, no_branches, branch, branches_of, pat_of}
 use Rattle.rl_syntax.specs.Counting.{branch_tree}
 use Rattle.rl_syntax.specs.declared.pat.Pat.{Pat}
 use Rattle.rl_syntax.specs.declared.pat.Branch.{Branch}

@@ -1,7 +1,7 @@
 -- The matched texts stay in every mode.
-use Rattle.std.proofs.Common.{◌≡◌, ◌⊎◌, ◌↔◌, ℕ, Bool, true, false, List, [], ◌∷◌, length, Option, Some, None, Result, Ok, refl, sym, ap, ◌∙◌, subst, IsTrue, true≢false}
+use Rattle.std.proofs.Common.{◌≡◌, ℕ, Bool, true, false, List, [], ◌∷◌, length, Ok, refl, sym, ap, ◌∙◌, subst, IsTrue, true≢false}
 use Rattle.std.proofs.lemmas.Bool.{cases_Bool}
-use mathlib.Core.Logic.{inl, inr, ⊎_elim}
+use mathlib.Core.Logic.{⊎_elim}
 use Rattle.rl_ranges.specs.declared.universe.Universe.{Universe}
 use Rattle.rl_ranges.specs.Text.{IsText}
 use Rattle.rl_syntax.specs.declared.span.Span.{Span}
@@ -19,11 +19,11 @@ use Rattle.rl_syntax.specs.PatTree as p
 use Rattle.rl_prio.proofs.MatchLemmas.{matched_to_end, matched_to_some}
 use Rattle.rl_pattern.specs.declared.flags.Flags.{Flags}
 use Rattle.rl_pattern.specs.Parsed.{IsParsed}
-use Rattle.rl_pattern.specs.Cut.{choice_of, left, left_items, left_branches}
-use Rattle.rl_syntax.specs.SameSpans.{SameSpans, Unguarded, OneLanguage, SamePlaces}
-use Rattle.rl_pattern.specs.Suggested.{among, no_span, may_go, holds_guard, merged_in, text_of, without}
-use Rattle.rl_pattern.specs.Reread.{IsLeft, IsReread}
-use Rattle.rl_pattern.proofs.Final.{right_text_reads, right_text_spans}
+use Rattle.rl_pattern.specs.Cut.{left, left_items, left_branches}
+use Rattle.rl_syntax.specs.SameSpans.{OneLanguage, SamePlaces}
+use Rattle.rl_pattern.specs.Suggested.{among, no_span, may_go, holds_guard, merged_in, without}
+use Rattle.rl_pattern.specs.Reread.{IsLeft}
+use Rattle.rl_pattern.proofs.Final.{right_text_spans}
 use Rattle.rl_syntax.proofs.Places.{same_places, wrapped_places}
 use Rattle.rl_pattern.proofs.Chain.{left_unguarded}
 use Rattle.rl_rewrite.proofs.Fewer.{choice_tree}

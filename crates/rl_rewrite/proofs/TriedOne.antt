@@ -1,13 +1,13 @@
 -- One more branch tried.
-use Rattle.std.proofs.Common.{◌≡◌, ℕ, Bool, true, false, List, [], ◌∷◌, ◌++◌, refl, sym, ap, ◌∙◌, subst, append_assoc}
+use Rattle.std.proofs.Common.{◌≡◌, ℕ, true, false, List, [], ◌∷◌, ◌++◌, sym, ap, ◌∙◌, subst, append_assoc}
 use Rattle.rl_ranges.specs.declared.universe.Universe.{Universe}
 use Rattle.rl_syntax.specs.declared.span.Span.{Span}
 use Rattle.rl_syntax.specs.PatTree.{PatTree}
 use Rattle.rl_syntax.specs.Tree.{Tree}
-use Rattle.rl_pattern.specs.Suggested.{among, may_go, without, Tried, none_tried, left_alone, dropped_one, kept_one, passed_one, equal, apart, passed_by}
+use Rattle.rl_pattern.specs.Suggested.{among, may_go, without, none_tried, left_alone, dropped_one, kept_one, passed_one, equal, apart, passed_by}
 use Rattle.rl_rewrite.specs.Verdicts.{IsVerdict}
 use Rattle.rl_rewrite.specs.declared.trial.Trial.{Trial}
-use Rattle.rl_rewrite.specs.declared.trial.Trial.TheVariants.{Equal, Apart, Passed}
+use Rattle.rl_rewrite.specs.declared.trial.Trial.TheVariants.{Equal}
 use Rattle.rl_rewrite.specs.internal.Trials.{verdict_of, IsTold, AreTried}
 
 module _ (u : Universe) (limit : ℕ) (body : PatTree) where

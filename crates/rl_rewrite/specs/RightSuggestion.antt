@@ -1,6 +1,6 @@
 -- Right suggestions for a pattern, which its codes spell under flags: what is dropped and taken out by the rules, and a text
 -- that is read as a pattern which matches the same texts.
-use Rattle.std.specs.Prelude.{◌≡◌, ◌≤◌, ◌⊎◌, ℕ, List, [], ◌∷◌, Option, Some, Result, Ok, Err}
+use Rattle.std.specs.Prelude.{◌≡◌, ◌⊎◌, ℕ, List, Some, Result, Ok, Err}
 use Rattle.rl_ranges.specs.Text.{IsText}
 use Rattle.rl_syntax.specs.declared.span.Span.{Span}
 use Rattle.rl_syntax.specs.declared.pattern.Pattern.{Pattern}

@@ -1,5 +1,5 @@
 -- For the functions that copy what is left of a pattern: what is left of lists of items and of branches.
-use Rattle.std.specs.Prelude.{Bool, List, [], ◌∷◌, map, if◌then◌else◌}
+use Rattle.std.specs.Prelude.{Bool, List, [], ◌∷◌, if◌then◌else◌}
 use Rattle.rl_syntax.specs.declared.span.Span.{Span}
 use Rattle.rl_syntax.specs.PatTree.{PatTree}
 use Rattle.rl_pattern.specs.Cut.{left}

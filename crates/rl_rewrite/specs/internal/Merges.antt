@@ -1,6 +1,5 @@
 -- For the function that lists the quantifiers which are taken out: where a part stands.
 use Rattle.rl_pattern.specs.Suggested.{Around, elsewhere, under, inside}
-use Rattle.rl_rewrite.specs.declared.merging.Times.{Times}
 use Rattle.rl_rewrite.specs.declared.merging.Place.{Place}
 use Rattle.rl_rewrite.specs.declared.merging.Place.TheVariants.{Elsewhere, Under, Inside}
 

@@ -1,4 +1,4 @@
-use Rattle.std.proofs.Common.{◌≡◌, map, sym, ap, ◌∙◌}
+use Rattle.std.proofs.Common.{map, ap, ◌∙◌}
 use Rattle.rl_syntax.specs.PatTree.{pat_of}
 use Rattle.rl_syntax.specs.Counting.{branch_tree}
 use Rattle.rl_pattern.specs.Suggested.{among}

@@ -1,4 +1,4 @@
-use Rattle.std.proofs.Common.{◌≡◌, List, [], ◌++◌, sym, ap, ◌∙◌}
+use Rattle.std.proofs.Common.{◌≡◌, [], ◌++◌, sym, ap, ◌∙◌}
 use Rattle.rl_syntax.specs.Pattern.{body_of}
 use Rattle.rl_pattern.specs.Suggested.{merged_in}
 use Rattle.rl_rewrite.specs.Plain.{IsPlain}
