@@ -21,8 +21,8 @@ LOG = (
     ("rattle build --crate-name rl_syntax src/lib.rt -o", "/top/crates/rl_syntax", 50.0),
     ("rattle build --crate-name rl_graph src/lib.rt -o", "/top/crates/rl_graph", 100.0),
     ("rattle build --crate-name rl_graph src/lib.rt --test -o", "/top/crates/rl_graph", 7.0),
-    ("rattle check --crate-name rl_graph src/lib.rt", "/tmp/rt-edit-12-abc", 20.0),
-    ("rattle check --crate-name rl_graph src/lib.rt", "/tmp/rt-edit-12-def", 3.0),
+    ("rattle check --crate-name rl_graph src/lib.rt", "/room/rt-edit-12-abc", 20.0),
+    ("rattle check --crate-name rl_graph src/lib.rt", "/room/rt-edit-12-def", 3.0),
     ("rattle check --crate-name rl_bench src/main.rt", "/top/crates/rl_bench", 9.0),
     ("rattle build --crate-name another_crate src/lib.rt -o", "/other", 1000.0),
 )
@@ -89,11 +89,11 @@ class Processes(unittest.TestCase):
         """A prover counts in a folder of the checkout, and on a copy for an edit where its libraries are the checkout's."""
         prover = ["/kit/bin/rattle", "check", "--crate-name", "rl_graph"]
         self.process(1, prover + ["-L", "dependency=/kit/rlibs", "--extern", "rl_lists=/top/x.rlib"], "/top/crates/rl_graph")
-        self.process(2, prover + ["-L", "dependency=/top/crates/rl_lists/out/rlib"], "/tmp/rt-edit-1-a")
-        self.process(3, prover + ["-L", "dependency=/other/crates/rl_lists/out/rlib"], "/tmp/rt-edit-1-b")
+        self.process(2, prover + ["-L", "dependency=/top/crates/rl_lists/out/rlib"], "/room/rt-edit-1-a")
+        self.process(3, prover + ["-L", "dependency=/other/crates/rl_lists/out/rlib"], "/room/rt-edit-1-b")
         self.process(4, prover, "/topmost/crates/rl_graph")
         self.process(5, ["cat"], "/top")
-        self.process(6, ["/kit/bin/rattle", "check", "--crate-name", "rl_lists"], "/tmp/rt-edit-1-c")
+        self.process(6, ["/kit/bin/rattle", "check", "--crate-name", "rl_lists"], "/room/rt-edit-1-c")
         found = chain().provers(self.proc, Path("/top"), {"rl_lists", "rl_graph"})
         self.assertEqual(sorted(key.split()[0] for key in found), ["1", "2", "6"])
         self.assertEqual(found["1 99"], (3.0, "/kit/bin/rattle check --crate-name rl_graph", "/top/crates/rl_graph"))
