@@ -1,5 +1,5 @@
 -- A report in JSON has no float: each part, put to members without one, gives members without one.
-use Rattle.std.proofs.Common.{◌≡◌, ℕ, Bool, true, false, cond, ◌||◌, List, refl, ap, sym, ◌∙◌, Ordering, Less, Equal, Greater, nat_cmp, codes, map, Option, Some, None}
+use Rattle.std.proofs.Common.{◌≡◌, ℕ, Bool, true, false, cond, ◌||◌, List, refl, ap, sym, ◌∙◌, Ordering, Less, Equal, Greater, nat_cmp, codes, map, Option, Some, None, option_and_then}
 use Rattle.std.specs.Prelude.{◌==◌}
 use Rattle.std.specs.Cmp.Lexicographic.{slice_cmp}
 use Rattle.std.specs.List.{count_by}
@@ -22,8 +22,8 @@ use Rattle.rl_report.specs.declared.report.Mark.{Mark}
 use Rattle.rl_report.specs.declared.report.Marks.{Marks}
 use Rattle.rl_report.specs.Names.{Text, cause_name, kind_name, limit_name, limit_number}
 use Rattle.rl_report.specs.Findings.{verdict_of, suggestion_of, becomes_of, is_finding, is_refused, is_undecided}
-use Rattle.rl_report.specs.Verdicts.{quoted_text}
-use Rattle.rl_report.specs.Document.{whole, place_members, place_data, at_members, call_members, fault_members, verdict_members, refusal_members, outcome_members, texts_data, family_data, family_members, marks_data, marks_members, becomes_members, suggest_members, suggestion_members, front_members, entry_data, report_data}
+use Rattle.rl_report.specs.Verdicts.{family_of, quoted_text}
+use Rattle.rl_report.specs.Document.{whole, place_members, place_data, at_members, put_some, verdict_members, refusal_members, outcome_members, texts_data, family_data, marks_data, marks_members, becomes_members, suggest_members, suggestion_members, front_members, entry_data, report_data}
 
 not-left : (b c : Bool) → (b || c) ≡ false → b ≡ false
 not-left false c h = refl
@@ -57,13 +57,10 @@ at-plain : (o : Option Place) (ms : Members) → members_have_float ms ≡ false
 at-plain None ms h = h
 at-plain (Some p) ms h = place-plain p ms h
 
-call-plain : (o : Option Call) (ms : Members) → members_have_float ms ≡ false → members_have_float (call_members o ms) ≡ false
-call-plain None ms h = h
-call-plain (Some c) ms h = put-plain (codes "call") (string (call_word c)) ms refl h
-
-fault-plain : (o : Option Place) (ms : Members) → members_have_float ms ≡ false → members_have_float (fault_members o ms) ≡ false
-fault-plain None ms h = h
-fault-plain (Some p) ms h = put-plain (codes "fault") (place_data p) ms (place_data-plain p) h
+some-plain : {X : Type 0} (k : List ℕ) (f : X → Data) (o : Option X) (ms : Members) → ((x : X) → has_float (f x) ≡ false) → members_have_float ms ≡ false
+    → members_have_float (put_some k f o ms) ≡ false
+some-plain k f None ms each h = h
+some-plain k f (Some x) ms each h = put-plain k (f x) ms (each x) h
 
 kind-plain : (kind : Text) (ms : Members) → members_have_float ms ≡ false → members_have_float (put (codes "kind") (string kind) ms) ≡ false
 kind-plain kind ms h = put-plain (codes "kind") (string kind) ms refl h
@@ -81,7 +78,7 @@ refusal-plain : (kind : Text) (cause : Option Text) (fault : Option Place) (ms :
 refusal-plain kind None fault ms h = kind-plain kind ms h
 refusal-plain kind (Some cause) fault ms h =
     let caused = put (codes "cause") (string cause) (put (codes "kind") (string kind) ms) in
-    fault-plain fault caused (put-plain (codes "cause") (string cause) (put (codes "kind") (string kind) ms) refl (kind-plain kind ms h))
+    some-plain (codes "fault") place_data fault caused place_data-plain (put-plain (codes "cause") (string cause) (put (codes "kind") (string kind) ms) refl (kind-plain kind ms h))
 
 outcome-plain : (max_pairs : ℕ) (e : Entry) (v : Option Verdict) (ms : Members) → members_have_float ms ≡ false → members_have_float (outcome_members max_pairs e v ms) ≡ false
 outcome-plain max_pairs e None ms h = refusal-plain (kind_name e.outcome) (cause_name e.outcome) e.fault ms h
@@ -95,12 +92,6 @@ family_data-plain u f =
     let heads = put (codes "heads") (texts_data u f.heads) no_members in
     put-plain (codes "pumps") (texts_data u f.pumps) heads (texts-plain u f.pumps)
     (put-plain (codes "heads") (texts_data u f.heads) no_members (texts-plain u f.heads) refl)
-
-family-plain : (u : Universe) (v : Option Verdict) (ms : Members) → members_have_float ms ≡ false → members_have_float (family_members u v ms) ≡ false
-family-plain u None ms h = h
-family-plain u (Some (Degree d family)) ms h = put-plain (codes "family") (family_data u family) ms (family_data-plain u family) h
-family-plain u (Some (Expo family)) ms h = put-plain (codes "family") (family_data u family) ms (family_data-plain u family) h
-family-plain u (Some (Undecided limit)) ms h = h
 
 marks_data-plain : (marks : List Mark) → has_float (marks_data marks) ≡ false
 marks_data-plain marks = items-plain (λ (m : Mark). place_data m.at) marks (λ m. place_data-plain m.at)
@@ -137,15 +128,16 @@ suggestion-plain max_pairs report u marks (Some s) v ms h = suggest-plain max_pa
 front-plain : (e : Entry) (ms : Members) → members_have_float ms ≡ false → members_have_float (front_members e ms) ≡ false
 front-plain e ms h =
     let path = put (codes "path") (string e.path) ms in
-    call-plain e.call (at_members e.at path) (at-plain e.at path (put-plain (codes "path") (string e.path) ms refl h))
+    some-plain (codes "call") (λ (c : Call). string (call_word c)) e.call (at_members e.at path) (λ c. refl) (at-plain e.at path (put-plain (codes "path") (string e.path) ms refl h))
 
 entry-plain : (max_pairs report : ℕ) (e : Entry) → has_float (entry_data max_pairs report e) ≡ false
 entry-plain max_pairs report e =
     let front = front_members e no_members in
     let judged = outcome_members max_pairs e (verdict_of e.outcome) front in
+    let family = option_and_then family_of (verdict_of e.outcome) in
     suggestion-plain max_pairs report e.universe e.marks (suggestion_of e.outcome) (becomes_of e.outcome)
-    (family_members e.universe (verdict_of e.outcome) judged)
-    (family-plain e.universe (verdict_of e.outcome) judged
+    (put_some (codes "family") (family_data e.universe) family judged)
+    (some-plain (codes "family") (family_data e.universe) family judged (family_data-plain e.universe)
     (outcome-plain max_pairs e (verdict_of e.outcome) front (front-plain e no_members refl)))
 
 report-plain : (max_degree max_pairs report : ℕ) (entries : List Entry) → has_float (report_data max_degree max_pairs report entries) ≡ false

@@ -6,7 +6,6 @@ use Rattle.serde_json.specs.Data.{Data, Members, number, unsigned, string, array
 use Rattle.serde_json.specs.View.{items_of}
 use Rattle.serde_json.specs.Written.{compact_text}
 use Rattle.rl_ranges.specs.declared.universe.Universe.{Universe}
-use Rattle.rl_sites.specs.declared.call.Call.{Call}
 use Rattle.rl_sites.specs.Names.{call_word}
 use Rattle.rl_syntax.specs.declared.verdict.Family.{Family}
 use Rattle.rl_syntax.specs.declared.verdict.Suggestion.{Suggestion}
@@ -21,7 +20,11 @@ use Rattle.rl_report.specs.Findings.{verdict_of, suggestion_of, becomes_of, is_f
 use Rattle.rl_report.specs.Verdicts.{family_of, quoted_text}
 
 -- Each definition below takes the members of an object that are there and gives these with its own. `put` keeps the keys in the
--- order of their bytes. A key without a value isn't there.
+-- order of their bytes.
+
+-- A key without a value isn't there
+abbrev pub put_some : {X : Type 0} → Text → (X → Data) → Option X → Members → Members
+put_some key data_of value ms = option_map_or (λ x. put key (data_of x) ms) value ms
 
 abbrev pub whole : ℕ → Data
 whole n = number (unsigned n)
@@ -36,13 +39,6 @@ place_data p = object (place_members p no_members)
 abbrev pub at_members : Option Place → Members → Members
 at_members at ms = option_map_or (λ p. place_members p ms) at ms
 
-abbrev pub call_members : Option Call → Members → Members
-call_members call ms = option_map_or (λ c. put (codes "call") (string (call_word c)) ms) call ms
-
--- the place of a fault in a literal
-abbrev pub fault_members : Option Place → Members → Members
-fault_members fault ms = option_map_or (λ p. put (codes "fault") (place_data p) ms) fault ms
-
 -- a degree, or the name and the number of a limit that was passed
 abbrev pub verdict_members : ℕ → Verdict → Members → Members
 verdict_members max_pairs (Degree d family) ms = put (codes "degree") (whole d) (put (codes "kind") (string (codes "degree")) ms)
@@ -54,7 +50,7 @@ verdict_members max_pairs (Undecided limit) ms =
 -- the kind, and the cause of a refusal with its place
 abbrev pub refusal_members : Text → Option Text → Option Place → Members → Members
 refusal_members kind None fault ms = put (codes "kind") (string kind) ms
-refusal_members kind (Some cause) fault ms = fault_members fault (put (codes "cause") (string cause) (put (codes "kind") (string kind) ms))
+refusal_members kind (Some cause) fault ms = put_some (codes "fault") place_data fault (put (codes "cause") (string cause) (put (codes "kind") (string kind) ms))
 
 abbrev pub outcome_members : ℕ → Entry → Option Verdict → Members → Members
 outcome_members max_pairs e None ms = refusal_members (kind_name e.outcome) (cause_name e.outcome) e.fault ms
@@ -67,11 +63,6 @@ abbrev pub family_data : Universe → Family → Data
 family_data universe family =
     object (put (codes "pumps") (texts_data universe family.pumps)
     (put (codes "heads") (texts_data universe family.heads) no_members))
-
--- the family of a classified entry
-abbrev pub family_members : Universe → Option Verdict → Members → Members
-family_members universe verdict ms =
-    option_map_or (λ family. put (codes "family") (family_data universe family) ms) (option_and_then family_of verdict) ms
 
 abbrev pub marks_data : List Mark → Data
 marks_data marks = array (items_of (map (λ m. place_data m.at) marks))
@@ -96,12 +87,13 @@ suggestion_members max_pairs report universe marks suggestion becomes ms =
 
 -- what stands before the outcome
 abbrev pub front_members : Entry → Members → Members
-front_members e ms = call_members e.call (at_members e.at (put (codes "path") (string e.path) ms))
+front_members e ms =
+    put_some (codes "call") (λ c. string (call_word c)) e.call (at_members e.at (put (codes "path") (string e.path) ms))
 
 abbrev pub judged_members : ℕ → ℕ → Entry → Members → Members
 judged_members max_pairs report e ms =
     suggestion_members max_pairs report e.universe e.marks (suggestion_of e.outcome) (becomes_of e.outcome)
-    (family_members e.universe (verdict_of e.outcome) ms)
+    (put_some (codes "family") (family_data e.universe) (option_and_then family_of (verdict_of e.outcome)) ms)
 
 abbrev pub entry_data : ℕ → ℕ → Entry → Data
 entry_data max_pairs report e =

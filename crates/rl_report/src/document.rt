@@ -1,12 +1,13 @@
 //! A report in JSON.
-ghost use Rattle.std.specs.Prelude.{◌≡◌, All, IfOk, IfSome, OnOk, codes, false, map, option_map};
+ghost use Rattle.std.specs.Prelude.{◌≡◌, All, IfOk, IfSome, OnOk, codes, false, map, option_and_then, option_map};
 ghost use Rattle.rl_ranges.specs.Text.{IsText};
 ghost use Rattle.serde_json.specs.Data.{array, no_members, object, put, string};
 ghost use Rattle.serde_json.specs.View.{items_of, items_view, members_view, view};
-ghost use Rattle.rl_report.specs.Document.{at_members, becomes_members, call_members, entry_data, family_data, family_members, fault_members, front_members, json_report, judged_members, marks_data, marks_members, outcome_members, place_data, place_members, refusal_members, report_data, suggest_members, suggestion_members, texts_data, verdict_members, whole};
+ghost use Rattle.rl_sites.specs.Names.{call_word};
+ghost use Rattle.rl_report.specs.Document.{at_members, becomes_members, entry_data, family_data, front_members, json_report, judged_members, marks_data, marks_members, outcome_members, place_data, place_members, put_some, refusal_members, report_data, suggest_members, suggestion_members, texts_data, verdict_members, whole};
 ghost use Rattle.rl_report.specs.Findings.{verdict_of};
 ghost use Rattle.rl_report.specs.Layouts.{IsOfItsUniverse};
-ghost use Rattle.rl_report.specs.Verdicts.{IsFamilyOf, IsVerdictOf, quoted_text};
+ghost use Rattle.rl_report.specs.Verdicts.{IsFamilyOf, IsVerdictOf, family_of, quoted_text};
 
 use crate::counts::{findings, refusals, undecided};
 use crate::lines::Terms;
@@ -73,7 +74,7 @@ fn put_at(alloc: Global, members: &mut Members, at: Option<Place>) -> Result<(),
 
 fn put_call(alloc: Global, members: &mut Members, call: Option<Call>) -> Result<(), OutOfMemory>
     ensures { OnOk result (members_view members.new.entries
-        ≡ call_members call (members_view members.old.entries)) }
+        ≡ put_some (codes "call") (λ c. string (call_word c)) call (members_view members.old.entries)) }
 {
     match call {
         None => Ok(()),
@@ -83,7 +84,7 @@ fn put_call(alloc: Global, members: &mut Members, call: Option<Call>) -> Result<
 
 fn put_fault(alloc: Global, members: &mut Members, fault: Option<Place>) -> Result<(), OutOfMemory>
     ensures { OnOk result (members_view members.new.entries
-        ≡ fault_members fault (members_view members.old.entries)) }
+        ≡ put_some (codes "fault") place_data fault (members_view members.old.entries)) }
 {
     match fault {
         None => Ok(()),
@@ -225,7 +226,8 @@ fn put_family_of(
 ) -> Result<(), OutOfMemory>
     requires { IfSome verdict (λ v. IsVerdictOf universe v.now) }
     ensures { OnOk result (members_view members.new.entries
-        ≡ family_members universe (option_map (λ v. v.now) verdict.entry) (members_view members.old.entries)) }
+        ≡ put_some (codes "family") (family_data universe) (option_and_then family_of (option_map (λ v. v.now) verdict.entry))
+        (members_view members.old.entries)) }
 {
     match verdict {
         None => Ok(()),

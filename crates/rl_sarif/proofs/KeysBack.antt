@@ -21,8 +21,8 @@ use Rattle.rl_report.specs.declared.report.Entry.{Entry}
 use Rattle.rl_report.specs.declared.report.Marks.{Marks}
 use Rattle.rl_report.specs.declared.report.Outcome.{Outcome}
 use Rattle.rl_report.specs.declared.report.Outcome.TheVariants as outcome
-use Rattle.rl_report.specs.Document.{whole, place_data, at_members, call_members, fault_members, verdict_members, refusal_members, outcome_members, family_data, family_members, marks_data, marks_members, becomes_members, suggest_members, suggestion_members, front_members, judged_members, entry_data}
-use Rattle.rl_report.specs.Verdicts.{quoted_text}
+use Rattle.rl_report.specs.Document.{whole, place_data, at_members, put_some, verdict_members, refusal_members, outcome_members, family_data, marks_data, marks_members, becomes_members, suggest_members, suggestion_members, front_members, judged_members, entry_data}
+use Rattle.rl_report.specs.Verdicts.{family_of, quoted_text}
 use Rattle.rl_report.specs.Findings.{verdict_of, suggestion_of, becomes_of}
 use Rattle.rl_report.specs.Names.{Text, cause_name, kind_name, limit_name, limit_number, verdict_kind}
 use Rattle.rl_sarif.specs.Baseline.{call_found, cause_names, fitting, key_read, keys_read, kind_names, limit_names, name_at, one_of, plain, subject_of_kind, subject_read, text_at}
@@ -43,11 +43,9 @@ record IsOutside (q : List ℕ) : Type 0 where
   suggest : bytes_eq q (codes "suggest") ≡ false
   becomes : bytes_eq q (codes "becomes") ≡ false
 
-family-other : (q : List ℕ) → IsOutside q → (u : Universe) (v : Option Verdict) (ms : Members) → get_member q (family_members u v ms) ≡ get_member q ms
-family-other q o u None ms = refl
-family-other q o u (Some (Degree d family)) ms = skip q (codes "family") (family_data u family) ms o.family
-family-other q o u (Some (Expo family)) ms = skip q (codes "family") (family_data u family) ms o.family
-family-other q o u (Some (Undecided limit)) ms = refl
+some-other : {X : Type 0} (q k : List ℕ) (f : X → Data) (o : Option X) (ms : Members) → bytes_eq q k ≡ false → get_member q (put_some k f o ms) ≡ get_member q ms
+some-other q k f None ms other = refl
+some-other q k f (Some x) ms other = skip q k (f x) ms other
 
 cond-other : (q : List ℕ) (b : Bool) (k : List ℕ) (d : Data) (ms : Members) → bytes_eq q k ≡ false → get_member q (cond b (put k d ms) ms) ≡ get_member q ms
 cond-other q true k d ms other = skip q k d ms other
@@ -77,8 +75,9 @@ suggestion-other q o max_pairs report u marks (Some s) v ms = suggest-other q o 
 
 judged-other : (q : List ℕ) → IsOutside q → (max_pairs report : ℕ) (e : Entry) (ms : Members) → get_member q (judged_members max_pairs report e ms) ≡ get_member q ms
 judged-other q o max_pairs report e ms =
-    suggestion-other q o max_pairs report e.universe e.marks (suggestion_of e.outcome) (becomes_of e.outcome) (family_members e.universe (verdict_of e.outcome) ms)
-    ∙ family-other q o e.universe (verdict_of e.outcome) ms
+    suggestion-other q o max_pairs report e.universe e.marks (suggestion_of e.outcome) (becomes_of e.outcome)
+    (put_some (codes "family") (family_data e.universe) (option_and_then family_of (verdict_of e.outcome)) ms)
+    ∙ some-other q (codes "family") (family_data e.universe) (option_and_then family_of (verdict_of e.outcome)) ms o.family
 
 -- neither the kind nor what goes with it
 record IsBeside (q : List ℕ) : Type 0 where
@@ -92,9 +91,8 @@ record IsBeside (q : List ℕ) : Type 0 where
 kind-other : (q : List ℕ) → IsBeside q → (kind : Text) (ms : Members) → get_member q (put (codes "kind") (string kind) ms) ≡ get_member q ms
 kind-other q b kind ms = skip q (codes "kind") (string kind) ms b.kind
 
-fault-other : (q : List ℕ) (fault : Option Place) (ms : Members) → bytes_eq q (codes "fault") ≡ false → get_member q (fault_members fault ms) ≡ get_member q ms
-fault-other q None ms other = refl
-fault-other q (Some p) ms other = skip q (codes "fault") (place_data p) ms other
+fault-other : (q : List ℕ) (fault : Option Place) (ms : Members) → bytes_eq q (codes "fault") ≡ false → get_member q (put_some (codes "fault") place_data fault ms) ≡ get_member q ms
+fault-other q fault ms other = some-other q (codes "fault") place_data fault ms other
 
 outcome-other : (q : List ℕ) → IsBeside q → (max_pairs : ℕ) (e : Entry) (v : Option Verdict) (ms : Members) → get_member q (outcome_members max_pairs e v ms) ≡ get_member q ms
 outcome-other q b max_pairs e None ms = by (cause_name e.outcome)
@@ -146,7 +144,7 @@ at-other q (Some p) ms l c = skip q (codes "column") (whole p.column) (put (code
 front-path : (e : Entry) → get_member (codes "path") (front_members e no_members) ≡ Some (string e.path)
 front-path e = by e.call
   where
-    by : (c : Option Call) → get_member (codes "path") (call_members c (at_members e.at (put (codes "path") (string e.path) no_members))) ≡ Some (string e.path)
+    by : (c : Option Call) → get_member (codes "path") (put_some (codes "call") (λ (c : Call). string (call_word c)) c (at_members e.at (put (codes "path") (string e.path) no_members))) ≡ Some (string e.path)
     by None = at-other (codes "path") e.at (put (codes "path") (string e.path) no_members) refl refl
     by (Some c) =
         skip (codes "path") (codes "call") (string (call_word c)) (at_members e.at (put (codes "path") (string e.path) no_members)) refl
@@ -155,7 +153,7 @@ front-path e = by e.call
 front-call : (e : Entry) → get_member (codes "call") (front_members e no_members) ≡ option_map (λ c. string (call_word c)) e.call
 front-call e = by e.call
   where
-    by : (c : Option Call) → get_member (codes "call") (call_members c (at_members e.at (put (codes "path") (string e.path) no_members))) ≡ option_map (λ (c : Call). string (call_word c)) c
+    by : (c : Option Call) → get_member (codes "call") (put_some (codes "call") (λ (c : Call). string (call_word c)) c (at_members e.at (put (codes "path") (string e.path) no_members))) ≡ option_map (λ (c : Call). string (call_word c)) c
     by None = at-other (codes "call") e.at (put (codes "path") (string e.path) no_members) refl refl
     by (Some c) = get_member-put (codes "call") (string (call_word c)) (at_members e.at (put (codes "path") (string e.path) no_members))
 

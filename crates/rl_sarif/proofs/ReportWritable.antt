@@ -1,5 +1,5 @@
 -- A report in JSON is a value that is read back from its text.
-use Rattle.std.proofs.Common.{◌≡◌, ℕ, ◌<◌, ◌^◌, ◌⊎◌, inl, inr, Bool, true, false, cond, List, [], ◌∷◌, length, map, Option, Some, None, All, IfSome, IsUtf8, codes, refl, arith}
+use Rattle.std.proofs.Common.{◌≡◌, ℕ, ◌<◌, ◌^◌, ◌⊎◌, inl, inr, Bool, true, false, cond, List, [], ◌∷◌, length, map, Option, Some, None, option_and_then, All, IfSome, IsUtf8, codes, refl, arith}
 use Rattle.std.specs.Prelude.{◌==◌}
 use Rattle.std.specs.List.{count_by}
 use Rattle.std.proofs.lemmas.List.Elements.{All-head, All-tail}
@@ -21,8 +21,8 @@ use Rattle.rl_report.specs.declared.report.Entry.{Entry}
 use Rattle.rl_report.specs.declared.report.Mark.{Mark}
 use Rattle.rl_report.specs.declared.report.Outcome.{Outcome}
 use Rattle.rl_report.specs.declared.report.Outcome.TheVariants as outcome
-use Rattle.rl_report.specs.Document.{whole, place_members, place_data, at_members, call_members, fault_members, verdict_members, refusal_members, outcome_members, texts_data, family_data, family_members, marks_data, marks_members, becomes_members, suggest_members, suggestion_members, front_members, entry_data, report_data}
-use Rattle.rl_report.specs.Verdicts.{quoted_text}
+use Rattle.rl_report.specs.Document.{whole, place_members, place_data, at_members, put_some, verdict_members, refusal_members, outcome_members, texts_data, family_data, marks_data, marks_members, becomes_members, suggest_members, suggestion_members, front_members, entry_data, report_data}
+use Rattle.rl_report.specs.Verdicts.{family_of, quoted_text}
 use Rattle.rl_report.specs.Findings.{verdict_of, suggestion_of, becomes_of, is_finding, is_refused, is_undecided}
 use Rattle.rl_report.specs.Names.{Text, cause_name, kind_name, limit_name, limit_number}
 use Rattle.rl_report.proofs.Ascii.{quoted_utf8}
@@ -47,11 +47,11 @@ at-writable : (n : ℕ) (at : Option Place) (ms : Members) → IfSome at FitsPla
 at-writable n None ms fits all = all
 at-writable n (Some p) ms fits all = place-writable n p ms fits all
 
-call-writable : (n : ℕ) (c : Option Call) (ms : Members) → AreWritable n ms → AreWritable n (call_members c ms)
+call-writable : (n : ℕ) (c : Option Call) (ms : Members) → AreWritable n ms → AreWritable n (put_some (codes "call") (λ (c : Call). string (call_word c)) c ms)
 call-writable n None ms all = all
 call-writable n (Some c) ms all = put-named n (codes "call") (string (call_word c)) ms refl (call-utf8 c) all
 
-fault-writable : (fault : Option Place) (ms : Members) → IfSome fault FitsPlace → AreWritable 2 ms → AreWritable 2 (fault_members fault ms)
+fault-writable : (fault : Option Place) (ms : Members) → IfSome fault FitsPlace → AreWritable 2 ms → AreWritable 2 (put_some (codes "fault") place_data fault ms)
 fault-writable None ms fits all = all
 fault-writable (Some p) ms fits all = put-named 2 (codes "fault") (place_data p) ms refl (place-writable 1 p no_members fits tt) all
 
@@ -107,7 +107,7 @@ family_data-writable u f =
     put-named 1 (codes "pumps") (texts_data u f.pumps) (put (codes "heads") (texts_data u f.heads) no_members) refl (texts-writable u f.pumps)
     (put-named 1 (codes "heads") (texts_data u f.heads) no_members refl (texts-writable u f.heads) tt)
 
-family-writable : (u : Universe) (v : Option Verdict) (ms : Members) → AreWritable 2 ms → AreWritable 2 (family_members u v ms)
+family-writable : (u : Universe) (v : Option Verdict) (ms : Members) → AreWritable 2 ms → AreWritable 2 (put_some (codes "family") (family_data u) (option_and_then family_of v) ms)
 family-writable u None ms all = all
 family-writable u (Some (Degree d family)) ms all = put-named 2 (codes "family") (family_data u family) ms refl (family_data-writable u family) all
 family-writable u (Some (Expo family)) ms all = put-named 2 (codes "family") (family_data u family) ms refl (family_data-writable u family) all
@@ -154,7 +154,7 @@ front-writable e sound =
 entry-writable : (max_pairs report : ℕ) → max_pairs < 2 ^ 32 → (e : Entry) → IsSound e → IsWritable 3 (entry_data max_pairs report e)
 entry-writable max_pairs report small e sound =
     let told = outcome_members max_pairs e (verdict_of e.outcome) (front_members e no_members) in
-    suggestion-writable max_pairs report e (suggestion_of e.outcome) (family_members e.universe (verdict_of e.outcome) told) small sound
+    suggestion-writable max_pairs report e (suggestion_of e.outcome) (put_some (codes "family") (family_data e.universe) (option_and_then family_of (verdict_of e.outcome)) told) small sound
     (family-writable e.universe (verdict_of e.outcome) told
     (outcome-writable max_pairs e (verdict_of e.outcome) (front_members e no_members) small sound sound.verdict (front-writable e sound)))
 

@@ -10,7 +10,8 @@ use Rattle.serde_json.proofs.Views.{view-Array}
 use Rattle.rl_json.proofs.NoFloats.{items-plain}
 use Rattle.rl_report.specs.declared.places.Place.{Place}
 use Rattle.rl_report.specs.declared.report.Entry.{Entry}
-use Rattle.rl_sarif.specs.Sarif.{region_members, uri_text, result_data, results_data, document_data, is_result}
+use Rattle.rl_report.specs.Document.{put_some}
+use Rattle.rl_sarif.specs.Sarif.{region_data, uri_text, result_data, results_data, document_data, is_result}
 
 module _ {X : Type 0} (p : X → Bool) (f : X → Data) (xs : List X) (i : ℕ) (x : X) where
   one-kept : (b : Bool) → p x ≡ b → filter p (x ∷ []) ≡ cond b (x ∷ []) []
@@ -42,7 +43,7 @@ pub ruleset results = (value_more, value_passed, value_all)
 
 -- ---- no float
 
-physical-plain : (at : Option Place) (path : List ℕ) → has_float (object (region_members at (put (codes "artifactLocation") (object (put (codes "uri") (string (uri_text path)) no_members)) no_members))) ≡ false
+physical-plain : (at : Option Place) (path : List ℕ) → has_float (object (put_some (codes "region") region_data at (put (codes "artifactLocation") (object (put (codes "uri") (string (uri_text path)) no_members)) no_members))) ≡ false
 physical-plain None path = refl
 physical-plain (Some p) path = refl
 

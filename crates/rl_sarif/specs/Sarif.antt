@@ -1,15 +1,14 @@
 -- A report as a document of SARIF 2.1.0.
-use Rattle.std.specs.Prelude.{ℕ, ◌/◌, ◌%◌, Bool, true, ◌||◌, ◌==◌, List, [], ◌∷◌, ◌++◌, map, filter, Option, codes, if◌then◌else◌}
+use Rattle.std.specs.Prelude.{ℕ, ◌/◌, ◌%◌, Bool, true, ◌||◌, ◌==◌, List, [], ◌∷◌, ◌++◌, map, filter, codes, if◌then◌else◌}
 use Rattle.std.specs.Char.{is_ascii_alphanumeric}
 use Rattle.std.specs.List.{flat_map}
-use Rattle.std.specs.Option.{option_map_or}
 use Rattle.std.specs.Fmt.{digit_glyph}
-use Rattle.serde_json.specs.Data.{Data, Members, string, array, object, no_members, put}
+use Rattle.serde_json.specs.Data.{Data, string, array, object, no_members, put}
 use Rattle.serde_json.specs.View.{items_of}
 use Rattle.serde_json.specs.Written.{compact_text}
 use Rattle.rl_report.specs.declared.places.Place.{Place}
 use Rattle.rl_report.specs.declared.report.Entry.{Entry}
-use Rattle.rl_report.specs.Document.{whole}
+use Rattle.rl_report.specs.Document.{put_some, whole}
 use Rattle.rl_report.specs.Findings.{verdict_of, is_finding, is_refused, is_undecided}
 use Rattle.rl_report.specs.Layouts.{call_text, outcome_text}
 use Rattle.rl_report.specs.Names.{Text, kind_name}
@@ -36,13 +35,9 @@ message_text max_pairs e = call_text e.call ++ outcome_text max_pairs e (verdict
 abbrev pub region_data : Place → Data
 region_data p = object (put (codes "startLine") (whole p.line) (put (codes "startColumn") (whole p.column) no_members))
 
--- the members that are there, and the region of an entry that has a place
-abbrev pub region_members : Option Place → Members → Members
-region_members at ms = option_map_or (λ p. put (codes "region") (region_data p) ms) at ms
-
 abbrev pub physical_data : Entry → Data
 physical_data e =
-    object (region_members e.at
+    object (put_some (codes "region") region_data e.at
     (put (codes "artifactLocation") (object (put (codes "uri") (string (uri_text e.path)) no_members)) no_members))
 
 abbrev pub location_data : Entry → Data
