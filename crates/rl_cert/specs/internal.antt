@@ -1,3 +1,4 @@
 -- Definitions for the contracts of private functions. No public contract reaches them.
 pub mod Made
 pub mod WayParts
+pub mod FormParts

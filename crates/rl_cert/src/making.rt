@@ -1,6 +1,7 @@
 //! Certificates made.
 
 ghost use Rattle.std.specs.Prelude.{◌≡◌, ℕ, ◌+◌, ◌<◌, ◌≤◌, [], ◌∷◌, List, length, IfOk, IfErr};
+ghost use Rattle.rl_graph.specs.Parts.{IsParts};
 ghost use Rattle.rl_graph.specs.Paths.{paths};
 ghost use Rattle.rl_graph.specs.Twins.{HasNoTwin, IsTwin};
 ghost use Rattle.rl_degree.specs.Chains.{links_of, HasNoCycle};
@@ -20,8 +21,9 @@ ghost use Rattle.rl_cert.specs.Holds.{Holds, question_of};
 ghost use Rattle.rl_cert.specs.TooLarge.{IsTooLarge};
 
 use crate::certificate::{Anchor, Anchors, Certificate};
-use rl_degree::{Chain, Loop, Split, degree};
-use rl_expo::{TwinPaths, twin};
+use rl_degree::{Chain, Loop, Split, degree_over};
+use rl_expo::{TwinPaths, twin_over};
+use rl_graph::Components;
 use rl_growth::spelling::family_of;
 use rl_growth::words::{chain_words, twin_words};
 use rl_lists::{Items, OutOfMemory};
@@ -198,16 +200,22 @@ fn graded(
     })
 }
 
-/// The certificate of a graph of live pairs that has no twin.
-fn polynomial(alloc: Global, a: &Prio, g: &PairGraph) -> Result<Certificate, CertError>
+/// The certificate of a graph of live pairs that has no twin, over its components.
+fn polynomial(
+    alloc: Global,
+    a: &Prio,
+    g: &PairGraph,
+    components: Components,
+) -> Result<Certificate, CertError>
     requires stands { StandsForSome a.now }
     requires led { IsLed a.now g.now }
+    requires parts { IsParts (moves_in g.now) g.now.graph.states components }
     requires no_twin { HasNoTwin (moves_in g.now) }
     ensures made { IfOk result (IsMade a.now g.now) }
     ensures told { (limit : Limit) → result ≡ Err (CertError.Undecided limit) → ⊥ }
     ensures too_large { result ≡ Err CertError.TooLarge → IsLarge a.now g.now }
 {
-    let chain = degree(alloc, g.graph())?;
+    let chain = degree_over(alloc, g.graph(), components)?;
     match &chain.cycle {
         None => {
             let certificate = flat(alloc, a, g)?;
@@ -217,7 +225,7 @@ fn polynomial(alloc: Global, a: &Prio, g: &PairGraph) -> Result<Certificate, Cer
     }
 }
 
-/// The certificate of a graph of live pairs.
+/// The certificate of a graph of live pairs. Its components are made once, for both searches.
 fn made(alloc: Global, a: &Prio, g: &PairGraph) -> Result<Certificate, CertError>
     requires stands { StandsForSome a.now }
     requires led { IsLed a.now g.now }
@@ -225,12 +233,14 @@ fn made(alloc: Global, a: &Prio, g: &PairGraph) -> Result<Certificate, CertError
     ensures told { (limit : Limit) → result ≡ Err (CertError.Undecided limit) → ⊥ }
     ensures too_large { result ≡ Err CertError.TooLarge → IsLarge a.now g.now }
 {
-    match twin(alloc, g.graph())? {
+    let graph = g.graph();
+    let components = graph.components()?;
+    match twin_over(alloc, graph, &components)? {
         Some(twin) => {
             let certificate = exponential(alloc, a, g, &twin)?;
             Ok(certificate)
         }
-        None => polynomial(alloc, a, g),
+        None => polynomial(alloc, a, g, components),
     }
 }
 

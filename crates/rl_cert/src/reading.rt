@@ -5,6 +5,7 @@ ghost use Rattle.serde_json.specs.Find.{get, as_str};
 ghost use Rattle.serde_json.specs.Read.{read};
 ghost use Rattle.serde_json.specs.View.{items_view, view};
 ghost use Rattle.rl_cert.specs.declared.certificate.Certificate.{Certificate};
+ghost use Rattle.rl_cert.specs.internal.FormParts.{numbers_read};
 ghost use Rattle.rl_cert.specs.Form.{number_read, row_read, rows_read, anchor_of, double_of, triple_of, anchors_read, doubles_read, triples_read, items_read, all_of, read_at, family_read, member_count, verdict_of, verdict_read, is_version, lists_read, certificate_read, IsForm};
 
 use crate::certificate::{Anchor, Anchors, Certificate};
@@ -331,13 +332,17 @@ fn has_version(value: &Value) -> bool
     }
 }
 
-/// The lists of a certificate, behind its verdict.
-fn lists_at(alloc: Global, value: &Value, verdict: Verdict) -> Result<Certificate, ReadError>
-    ensures certificate { IfOk result (λ c. lists_read verdict (view value.now) ≡ Some c) }
-    ensures refused { result ≡ Err ReadError.Refused → lists_read verdict (view value.now) ≡ None }
+/// The certificate of a value, behind its ranks.
+fn numbers_at(
+    alloc: Global,
+    value: &Value,
+    verdict: Verdict,
+    anchors: Anchors,
+    ranks: Ranks,
+) -> Result<Certificate, ReadError>
+    ensures certificate { IfOk result (λ c. numbers_read verdict anchors ranks (view value.now) ≡ Some c) }
+    ensures refused { result ≡ Err ReadError.Refused → numbers_read verdict anchors ranks (view value.now) ≡ None }
 {
-    let anchors = anchors_at(alloc, value)?;
-    let ranks = ranks_at(alloc, value)?;
     let doubles = doubles_at(alloc, value)?;
     let triples = triples_at(alloc, value)?;
     Ok(Certificate {
@@ -347,6 +352,16 @@ fn lists_at(alloc: Global, value: &Value, verdict: Verdict) -> Result<Certificat
         doubles,
         triples,
     })
+}
+
+/// The lists of a certificate, behind its verdict.
+fn lists_at(alloc: Global, value: &Value, verdict: Verdict) -> Result<Certificate, ReadError>
+    ensures certificate { IfOk result (λ c. lists_read verdict (view value.now) ≡ Some c) }
+    ensures refused { result ≡ Err ReadError.Refused → lists_read verdict (view value.now) ≡ None }
+{
+    let anchors = anchors_at(alloc, value)?;
+    let ranks = ranks_at(alloc, value)?;
+    numbers_at(alloc, value, verdict, anchors, ranks)
 }
 
 /// The certificate that a value is.

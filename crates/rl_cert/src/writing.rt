@@ -3,6 +3,7 @@
 ghost use Rattle.std.specs.Prelude.{◌≡◌, false, map, IfOk, OnOk};
 ghost use Rattle.serde_json.specs.Data.{put, no_members, object};
 ghost use Rattle.serde_json.specs.View.{members_view, view};
+ghost use Rattle.rl_cert.specs.internal.FormParts.{pairs_put, family_put, ranks_put};
 ghost use Rattle.rl_cert.specs.Form.{row_data, rows_data, anchor_row, double_row, triple_row, common_members, form_members, form_text, IsTold};
 
 use crate::certificate::{Anchor, Certificate};
@@ -80,23 +81,47 @@ fn doubles_value(alloc: Global, doubles: &[Double]) -> Result<Value, OutOfMemory
     Ok(Value::Array(values))
 }
 
+/// Puts the anchors and the doubles of a certificate.
+fn put_pairs(members: &mut Members, alloc: Global, c: &Certificate) -> Result<(), OutOfMemory>
+    ensures { OnOk result (members_view members.new.entries ≡ pairs_put c.now (members_view members.old.entries)) }
+{
+    let anchors = anchors_value(alloc, c.anchors.as_slice())?;
+    put(members, alloc, "anchors", anchors)?;
+    let doubles = doubles_value(alloc, c.doubles.as_slice())?;
+    put(members, alloc, "doubles", doubles)?;
+    Ok(())
+}
+
+/// Puts the heads and the pumps of a family.
+fn put_family(members: &mut Members, alloc: Global, f: &Family) -> Result<(), OutOfMemory>
+    ensures { OnOk result (members_view members.new.entries ≡ family_put f.now (members_view members.old.entries)) }
+{
+    let heads = rows_value(alloc, f.heads.as_slice())?;
+    put(members, alloc, "heads", heads)?;
+    let pumps = rows_value(alloc, f.pumps.as_slice())?;
+    put(members, alloc, "pumps", pumps)?;
+    Ok(())
+}
+
+/// Puts the ranks and the triples of a certificate.
+fn put_ranks(members: &mut Members, alloc: Global, c: &Certificate) -> Result<(), OutOfMemory>
+    ensures { OnOk result (members_view members.new.entries ≡ ranks_put c.now (members_view members.old.entries)) }
+{
+    let ranks = row_value(alloc, c.ranks.as_slice())?;
+    put(members, alloc, "ranks", ranks)?;
+    let triples = triples_value(alloc, c.triples.as_slice())?;
+    put(members, alloc, "triples", triples)?;
+    Ok(())
+}
+
 /// The members that each certificate has, but for its kind.
 fn common(alloc: Global, c: &Certificate, f: &Family) -> Result<Members, OutOfMemory>
     ensures { IfOk result (λ m. members_view m.entries ≡ common_members c.now f.now) }
 {
-    let anchors = anchors_value(alloc, c.anchors.as_slice())?;
-    let doubles = doubles_value(alloc, c.doubles.as_slice())?;
-    let heads = rows_value(alloc, f.heads.as_slice())?;
-    let pumps = rows_value(alloc, f.pumps.as_slice())?;
-    let ranks = row_value(alloc, c.ranks.as_slice())?;
-    let triples = triples_value(alloc, c.triples.as_slice())?;
     let mut members = Map::new(alloc);
-    put(&mut members, alloc, "anchors", anchors)?;
-    put(&mut members, alloc, "doubles", doubles)?;
-    put(&mut members, alloc, "heads", heads)?;
-    put(&mut members, alloc, "pumps", pumps)?;
-    put(&mut members, alloc, "ranks", ranks)?;
-    put(&mut members, alloc, "triples", triples)?;
+    put_pairs(&mut members, alloc, c)?;
+    put_family(&mut members, alloc, f)?;
+    put_ranks(&mut members, alloc, c)?;
     put(&mut members, alloc, "version", Value::from(1u32))?;
     Ok(members)
 }

@@ -1,5 +1,5 @@
 -- A longest chain put together link by link, and cycles.
-use Rattle.std.proofs.Common.{◌≡◌, ℕ, ◌<◌, ◌≤◌, ◌⊎◌, inl, inr, true, false, List, [], ◌∷◌, ◌++◌, length, get_or, sym, ◌∙◌, ap, subst, arith, append_assoc, replicate, refl}
+use Rattle.std.proofs.Common.{◌≡◌, ℕ, ◌<◌, ◌≤◌, ◌⊎◌, inl, inr, true, false, List, [], ◌∷◌, ◌++◌, length, get_or, sym, ◌∙◌, ap, subst, arith, append_assoc, replicate, refl, All, Result, Ok, Err, IfOk}
 use Rattle.std.proofs.lemmas.Bool.{cases_lt}
 use Rattle.std.proofs.lemmas.List.{map-append, get_or-replicate, length-replicate}
 use Rattle.rl_graph.specs.Paths.{paths, Reaches}
@@ -10,8 +10,9 @@ use Rattle.rl_graph.proofs.Sums.{total-there}
 use Rattle.rl_graph.proofs.PathLaws.{nil-same, along_moves, Reaches-self}
 use Rattle.rl_graph.proofs.GraphLaws.{bounded-whole}
 use Rattle.rl_degree.specs.internal.Ranks.{best_at, IsFirst, IsGood, AreBests}
+use Rattle.rl_degree.specs.internal.Greatest.{AreLongest}
 use Rattle.rl_degree.specs.Leavers.{HasNoSplit}
-use Rattle.rl_degree.specs.Chains.{link_of, links_of, IsChain, AreRanks, HasNoCycle}
+use Rattle.rl_degree.specs.Chains.{link_of, links_of, IsSplitIn, IsChain, AreRanks, HasNoCycle}
 use Rattle.rl_degree.specs.declared.chains.Split.{Split}
 use Rattle.rl_degree.specs.declared.ranks.Best.{Best}
 use Rattle.rl_kernel.proofs.InnerLaws.{move-state}
@@ -40,14 +41,23 @@ pub chain-is : (next : ℕ → ℕ → List ℕ) (start : ℕ) (links : List Spl
 chain-is next start [] c = tt
 chain-is next start (s ∷ links) c = (Reaches-self next s.from, c.1, c.2)
 
+-- where there is no state, no chain is longer than none
+pub none-longest : (g : Graph) (ranks : List ℕ) → length ranks ≡ 0 → AreRanks (edges_of g) g.states ranks → AreLongest (edges_of g) g.states []
+none-longest g ranks none are = record { chained = tt; states = λ k d lt. absurd (omega arith); longest = λ s ms hs chain. absurd (omega (arith, none, are.size)) }
+
 -- no chain is longer than that of a state of the greatest rank
-pub longest-there : (g : Graph) (p : PartTable) (bests : List Best) (ranks : List ℕ) (top d : ℕ) → IsWhole g → IsParts (edges_of g) g.states p → AreBests (edges_of g) g.states p g.states bests → AreRanks (edges_of g) g.states ranks → top < g.states
-    → ((q : ℕ) → q < g.states → get_or ranks q 0 ≤ get_or ranks top 0) → d ≡ (best_at bests (number_of p top)).rank
-    → (s : ℕ) (ms : List Link) → s < g.states → ChainFrom (edges_of g) s ms → length ms ≤ d
-longest-there g p bests ranks top d whole parts are right ht most e s ms hs c =
-    let here = right.right top ht in
-    let bound = best-bound (edges_of g) g.states g.letters p bests (bounded-whole g whole) are parts top here.chain ht here.goes in
-    omega (arith, (right.right s hs).longest ms c, most s hs, here.long, bound, e)
+pub from-longest : {E : Type 0} (g : Graph) (p : PartTable) (bests : List Best) (ranks : List ℕ) (top : ℕ) (r : Result (List Split) E) → IsWhole g → IsParts (edges_of g) g.states p → AreBests (edges_of g) g.states p g.states bests → AreRanks (edges_of g) g.states ranks → top < length ranks
+    → ((q : ℕ) → q < length ranks → get_or ranks q 0 ≤ get_or ranks top 0) → IfOk r (λ l. ChainFrom (edges_of g) top (links_of l)) → IfOk r (λ l. length l ≡ (best_at bests (number_of p top)).rank) → IfOk r (All (IsSplitIn g.states)) → IfOk r (AreLongest (edges_of g) g.states)
+from-longest g p bests ranks top (Ok links) whole parts are right ht most c e states =
+    let ht2 : top < g.states = omega (arith, ht, right.size) in
+    let here = right.right top ht2 in
+    let bound = best-bound (edges_of g) g.states g.letters p bests (bounded-whole g whole) are parts top here.chain ht2 here.goes in
+    record {
+      chained = chain-is (edges_of g) top links c;
+      states = states;
+      longest = λ s ms hs chain. omega (arith, (right.right s hs).longest ms chain, most s (omega (arith, hs, right.size)), here.long, bound, e);
+    }
+from-longest g p bests ranks top (Err e) whole parts are right ht most c long states = tt
 
 -- no state that is marked as one on a cycle, and so no cycle
 pub no-cycle : (g : Graph) (p : PartTable) → IsParts (edges_of g) g.states p → ((q : ℕ) → q < g.states → cycle_of p q ≡ false) → HasNoCycle (edges_of g)
@@ -76,11 +86,15 @@ one-component g p whole parts none one r q y hr split = by y split
         absurd (omega (arith, less, one r q hr hq ((parts.on_cycle r hr).1 (l, y, s.before)) ((parts.on_cycle q hq).1 (l, y, s.behind))))
 
 -- a chain of a graph that has no split
-pub no_split-short : (g : Graph) → IsWhole g → HasNoSplit (edges_of g) g.states → (q : ℕ) (ms : List Link) → q < g.states → ChainFrom (edges_of g) q ms → length ms ≤ 0
+no_split-short : (g : Graph) → IsWhole g → HasNoSplit (edges_of g) g.states → (q : ℕ) (ms : List Link) → q < g.states → ChainFrom (edges_of g) q ms → length ms ≤ 0
 no_split-short g whole none q [] hq c = omega arith
 no_split-short g whole none q (m ∷ ms) hq c =
     let hm = along_moves (λ x. x < g.states) (edges_of g) (λ a b x i j. whole.targets a b x j) q m.from c.0.0 hq c.0.1 in
     absurd (none m.from m.to m.word hm c.1)
+
+-- where no state has a split, no chain is longer than none
+pub no_split-longest : (g : Graph) → IsWhole g → HasNoSplit (edges_of g) g.states → AreLongest (edges_of g) g.states []
+no_split-longest g whole none = record { chained = tt; states = λ k d lt. absurd (omega arith); longest = λ s ms hs chain. no_split-short g whole none s ms hs chain }
 
 -- and its ranks
 pub no_split-ranks : (g : Graph) (n : ℕ) (ranks : List ℕ) → IsWhole g → HasNoSplit (edges_of g) g.states → n ≡ g.states → ranks ≡ replicate n 0 → AreRanks (edges_of g) g.states ranks

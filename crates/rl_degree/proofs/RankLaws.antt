@@ -211,3 +211,13 @@ pub best-rank : (next : ℕ → ℕ → List ℕ) (n k : ℕ) (p : PartTable) (b
 best-rank next n k p bests b are parts q hq =
     let c = chain-there next n p bests are parts (best_at bests (number_of p q)).rank q hq refl in
     record { chain = c.0; goes = c.1; long = c.2; longest = λ ms goes. best-bound next n k p bests b are parts q ms hq goes }
+
+-- one more rank
+pub rank-more : (f : ℕ → ℕ) (old new : List ℕ) (k x : ℕ) → length old ≡ k → new ≡ old ++ x ∷ [] → x ≡ f k → ((q : ℕ) → q < k → get_or old q 0 ≡ f q) → (q : ℕ) → q < k + 1 → get_or new q 0 ≡ f q
+rank-more f old new k x size pushed here all q lt = ap (λ (l : List ℕ). get_or l q 0) pushed ∙ by (cases_lt q k)
+  where
+    by : (q < k) ⊎ (k ≤ q) → get_or (old ++ x ∷ []) q 0 ≡ f q
+    by (inl small) = get_or_append_left old (x ∷ []) 0 q (omega (arith, small, size)) ∙ all q small
+    by (inr big) =
+        let same : q ≡ k = omega (arith, big, lt) in
+        get_or_push old x 0 q (omega (arith, size, same)) ∙ (here ∙ ap f (sym same))

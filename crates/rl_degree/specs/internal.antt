@@ -8,3 +8,4 @@ pub mod Moves
 pub mod Rows
 pub mod Splits
 pub mod Ranks
+pub mod Greatest

@@ -6,6 +6,7 @@ ghost use Rattle.rl_graph.specs.Parts.{IsParts, cycle_of, number_of};
 ghost use Rattle.rl_graph.specs.Twins.{HasNoTwin, Link, ChainFrom};
 ghost use Rattle.rl_degree.specs.internal.Pairs.{IsTable};
 ghost use Rattle.rl_degree.specs.internal.Ranks.{AreBests, best_at};
+ghost use Rattle.rl_degree.specs.internal.Greatest.{AreLongest, IsGreatest};
 ghost use Rattle.rl_degree.specs.Leavers.{HasNoSplit};
 ghost use Rattle.rl_degree.specs.Chains.{links_of, IsSplitIn, IsChain, AreRanks, IsLoop, HasNoCycle};
 
@@ -160,12 +161,7 @@ fn without_split(
 ) -> Result<Chain, OutOfMemory>
     requires parts { IsParts (edges_of g.now) g.now.states components.now }
     requires no_split { HasNoSplit (edges_of g.now) g.now.states }
-    ensures links { IfOk result (λ c. IsChain (edges_of g.now) c.links) }
-    ensures states { IfOk result (λ c. All (IsSplitIn g.now.states) c.links) }
-    ensures longest { IfOk result (λ c. (s : ℕ) (ms : List Link) → s < g.now.states → ChainFrom (edges_of g.now) s ms → length ms ≤ length c.links) }
-    ensures ranks { IfOk result (λ c. AreRanks (edges_of g.now) g.now.states c.ranks) }
-    ensures cycle { IfOk result (λ c. IfSome c.cycle (IsLoop (edges_of g.now) g.now.states)) }
-    ensures no_cycle { IfOk result (λ c. IfNone c.cycle (HasNoCycle (edges_of g.now))) }
+    ensures { IfOk result (IsGreatest (edges_of g.now) g.now.states) }
 {
     let ranks = no_ranks(alloc, g.states())?;
     let cycle = some_loop(alloc, g, components)?;
@@ -176,32 +172,65 @@ fn without_split(
     })
 }
 
-/// A longest chain of splits of a graph that may have one, all ranks and a cycle.
-fn with_splits(alloc: Global, g: &Multigraph, components: Components) -> Result<Chain, OutOfMemory>
-    requires parts { IsParts (edges_of g.now) g.now.states components }
+/// The splits of a longest chain of a graph, by the ranks.
+fn longest_links(
+    alloc: Global,
+    g: &Multigraph,
+    table: &PairTable,
+    bests: &[Best],
+    ranks: &[u32],
+) -> Result<Splits, OutOfMemory>
+    requires table { IsTable g.now table.now }
     requires no_twin { HasNoTwin (edges_of g.now) }
-    ensures links { IfOk result (λ c. IsChain (edges_of g.now) c.links) }
-    ensures states { IfOk result (λ c. All (IsSplitIn g.now.states) c.links) }
-    ensures longest { IfOk result (λ c. (s : ℕ) (ms : List Link) → s < g.now.states → ChainFrom (edges_of g.now) s ms → length ms ≤ length c.links) }
-    ensures ranks { IfOk result (λ c. AreRanks (edges_of g.now) g.now.states c.ranks) }
-    ensures cycle { IfOk result (λ c. IfSome c.cycle (IsLoop (edges_of g.now) g.now.states)) }
-    ensures no_cycle { IfOk result (λ c. IfNone c.cycle (HasNoCycle (edges_of g.now))) }
+    requires bests { AreBests (edges_of g.now) g.now.states table.now.components g.now.states bests.now }
+    requires ranks { AreRanks (edges_of g.now) g.now.states ranks.now }
+    ensures { IfOk result (AreLongest (edges_of g.now) g.now.states) }
 {
     let _states = g.states();
-    let table = table_of(alloc, g, components)?;
-    let bests = all_bests(alloc, g, &table)?;
+    if ranks.is_empty() {
+        return Ok(Items::new(alloc));
+    }
+    chain_from(alloc, g, table, bests, top_place(ranks) as u32)
+}
+
+/// A longest chain of splits of a graph, all ranks and a cycle, by the parts of its product.
+fn chain_by(alloc: Global, g: &Multigraph, table: &PairTable) -> Result<Chain, OutOfMemory>
+    requires table { IsTable g.now table.now }
+    requires no_twin { HasNoTwin (edges_of g.now) }
+    ensures { IfOk result (IsGreatest (edges_of g.now) g.now.states) }
+{
+    let bests = all_bests(alloc, g, table)?;
     let ranks = ranks_of(alloc, g, &table.components, &bests)?;
-    let links = if ranks.is_empty() {
-        Items::new(alloc)
-    } else {
-        chain_from(alloc, g, &table, &bests, top_place(ranks.as_slice()) as u32)?
-    };
+    let links = longest_links(alloc, g, table, &bests, ranks.as_slice())?;
     let cycle = some_loop(alloc, g, &table.components)?;
     Ok(Chain {
         links,
         ranks,
         cycle,
     })
+}
+
+/// A longest chain of splits of a graph that may have one, all ranks and a cycle.
+fn with_splits(alloc: Global, g: &Multigraph, components: Components) -> Result<Chain, OutOfMemory>
+    requires parts { IsParts (edges_of g.now) g.now.states components }
+    requires no_twin { HasNoTwin (edges_of g.now) }
+    ensures { IfOk result (IsGreatest (edges_of g.now) g.now.states) }
+{
+    let table = table_of(alloc, g, components)?;
+    chain_by(alloc, g, &table)
+}
+
+/// The same of a graph without a twin: it may have a split only where two components have states on cycles.
+fn greatest(alloc: Global, g: &Multigraph, components: Components) -> Result<Chain, OutOfMemory>
+    requires parts { IsParts (edges_of g.now) g.now.states components }
+    requires no_twin { HasNoTwin (edges_of g.now) }
+    ensures { IfOk result (IsGreatest (edges_of g.now) g.now.states) }
+{
+    if has_two(&components, g.states()) {
+        with_splits(alloc, g, components)
+    } else {
+        without_split(alloc, g, &components)
+    }
 }
 
 /// A longest chain of splits of a graph without a twin, all ranks and a cycle, found over the graph's strongly connected
@@ -227,11 +256,8 @@ pub fn degree_over(
     ensures cycle { IfOk result (λ c. IfSome c.cycle (IsLoop (edges_of g.now) g.now.states)) }
     ensures no_cycle { IfOk result (λ c. IfNone c.cycle (HasNoCycle (edges_of g.now))) }
 {
-    if has_two(&components, g.states()) {
-        with_splits(alloc, g, components)
-    } else {
-        without_split(alloc, g, &components)
-    }
+    let chain = greatest(alloc, g, components)?;
+    Ok(chain)
 }
 
 /// A longest chain of splits of a graph without a twin, all ranks and a cycle.

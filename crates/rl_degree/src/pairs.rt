@@ -5,7 +5,7 @@ ghost use Rattle.rl_graph.specs.Graph.{edges_of};
 ghost use Rattle.rl_graph.specs.Parts.{IsParts, number_of};
 ghost use Rattle.rl_kernel.specs.Members.{is_member, IsPlace};
 ghost use Rattle.rl_degree.specs.internal.Moves.{AreMoveTables};
-ghost use Rattle.rl_degree.specs.internal.Pairs.{is_wanted, lists_of, row_of, HasOwnList, HaveOwnLists, IsOwnList, IsPut, IsBarePlaced, IsPlaced, IsTable};
+ghost use Rattle.rl_degree.specs.internal.Pairs.{is_wanted, lists_of, row_of, HasOwnList, HaveOwnLists, IsOwnList, IsPut, IsBarePlaced, IsPlaced, IsWalked, IsTable};
 
 use crate::falling::falling_parts;
 use crate::kernel::kernel_of;
@@ -185,6 +185,36 @@ fn tables_for(
     }
 }
 
+/// The parts of the product of two copies of the graph of inner moves, the pairs of each part, and the tables of the letters.
+#[derive(Drop)]
+struct Walked {
+    parts: Parts,
+    placed: Placed,
+    moves: Vec<BitTable>,
+}
+
+/// What a table has beside the components, the states that a split may join and the graph of their inner moves.
+fn walked_of(
+    alloc: Global,
+    g: &Multigraph,
+    inner: &Multigraph,
+    levels: &[u32],
+) -> Result<Walked, OutOfMemory>
+    requires letters { inner.now.letters ≡ g.now.letters }
+    requires size { length levels.now ≡ inner.now.states }
+    ensures { IfOk result (IsWalked g.now inner.now levels.now) }
+{
+    let count = u64::from(inner.states());
+    let parts = falling_parts(alloc, inner, levels)?;
+    let placed = placed_pairs(alloc, levels, &parts, count)?;
+    let moves = tables_for(alloc, g, inner, &placed)?;
+    Ok(Walked {
+        parts,
+        placed,
+        moves,
+    })
+}
+
 /// The tables of a graph with its components.
 ///
 /// # Errors
@@ -199,10 +229,12 @@ pub(crate) fn table_of(
 {
     let kernel = kernel_of(alloc, &components, g.states())?;
     let inner = inner_graph(alloc, g, &components, &kernel)?;
-    let count = u64::from(inner.states());
-    let parts = falling_parts(alloc, &inner, &kernel.levels)?;
-    let placed = placed_pairs(alloc, &kernel.levels, &parts, count)?;
-    let moves = tables_for(alloc, g, &inner, &placed)?;
+    let walked = walked_of(alloc, g, &inner, &kernel.levels)?;
+    let Walked {
+        parts,
+        placed,
+        moves,
+    } = walked;
     Ok(PairTable {
         components,
         kernel,

@@ -229,7 +229,6 @@ pub(crate) fn ranks_of(
     components: &Components,
     bests: &[Best],
 ) -> Result<Ranks, OutOfMemory>
-    requires no_twin { HasNoTwin (edges_of g.now) }
     requires parts { IsParts (edges_of g.now) g.now.states components.now }
     requires bests { AreBests (edges_of g.now) g.now.states components.now g.now.states bests.now }
     ensures { IfOk result (λ r. AreRanks (edges_of g.now) g.now.states r) }

@@ -1,5 +1,5 @@
 -- Laws of a search: how the set pairs that it finds follow their order.
-use Rattle.std.proofs.Common.{◌≡◌, ◌∙◌, ℕ, zero, suc, ◌+◌, ◌<◌, ◌≤◌, ◌⊎◌, inl, inr, List, [], ◌∷◌, ◌++◌, length, get_or, map, take, slice_get, Some, Bool, true, false, cond, nat_lt, refl, sym, ap, ap₂, subst, arith, append_assoc}
+use Rattle.std.proofs.Common.{◌≡◌, ◌∙◌, ℕ, zero, suc, ◌+◌, ◌<◌, ◌≤◌, ◌⊎◌, inl, inr, List, [], ◌∷◌, ◌++◌, length, get_or, map, take, slice_get, Some, Result, Ok, Err, IfOk, Bool, true, false, cond, nat_lt, refl, sym, ap, ap₂, subst, arith, append_assoc}
 use Rattle.std.specs.List.{list_any}
 use Rattle.std.proofs.lemmas.Bool.{cases_lt, cond-true, cond-false, lt-ltb, le-ltb}
 use Rattle.std.proofs.lemmas.List.{length-append, length-map, map-append, append-nil, get_or_append_left, get_or-map, take_all, take_more}
@@ -7,19 +7,19 @@ use Rattle.std.proofs.lemmas.Option.{slice_get-get_or, get_or_from_slice_get}
 use Rattle.rl_syntax.specs.declared.limits.TheConstants.{MOST_SET_PAIRS}
 use Rattle.rl_prio.specs.Automaton.{Automaton, letters_count}
 use Rattle.rl_sets.specs.Live.{below}
-use Rattle.rl_sets.specs.Walk.{Walk, set_at}
+use Rattle.rl_sets.specs.Walk.{Walk, set_at, IsMadeFor}
 use Rattle.rl_sets.proofs.WalkLemmas.{get_kept}
 use Rattle.rl_equiv.specs.declared.pair.SetPair.{SetPair}
 use Rattle.rl_equiv.specs.declared.searching.Key.{Key}
-use Rattle.rl_equiv.specs.declared.searching.Way.{Way}
+use Rattle.rl_equiv.specs.declared.searching.Search.{Search}
 use Rattle.rl_equiv.specs.SetPairs.{first_pair}
 use Rattle.rl_equiv.specs.Numbering.{same_pair, with_one, with_more, Reached, reached_by, next_reached, pairs_reached, with_reached, with_all_reached}
 use Rattle.rl_equiv.specs.internal.Machines.{pair_on, ends, pairs_of}
-use Rattle.rl_equiv.specs.internal.Searching.{State, no_key, no_way, key_at, pair_of, pairs_in, pair_at, word_at, reached_in, reached_at, reached_on, with_reached_within, IsSearch, IsOnward, AreCapped, ends_of}
+use Rattle.rl_equiv.specs.internal.Searching.{State, state_of, no_key, no_way, key_at, way_at, pair_of, pairs_in, pair_at, word_at, reached_in, reached_at, reached_on, with_reached_within, IsNext, IsSearch, IsOnward, AreCapped, ends_of}
 use Rattle.rl_equiv.specs.Sides.{IsSide}
 use Rattle.rl_equiv.proofs.FoundLaws.{no_reached, reached-length, reached-get}
 use Rattle.rl_equiv.proofs.ImageLaws.{length-below}
-use Rattle.rl_equiv.proofs.SideLaws.{side-lower}
+use Rattle.rl_equiv.proofs.SideLaws.{side-lower, side-same}
 use Rattle.rl_equiv.proofs.VisitLaws.{onward-refl}
 
 -- ---- lists that grow
@@ -167,24 +167,26 @@ ends-read a b s place key x y e f g =
     let q = g ∙ second in
     λ i. record { first = p i; second = q i }
 
--- the search begins with the first set pair
-pub search-start : (a b : Automaton) (limit n m : ℕ) (v w : Walk) (keys : List Key) (ways : List Way) → 1 ≤ limit → limit ≤ MOST_SET_PAIRS → IsSide a MOST_SET_PAIRS 1 v → IsSide b MOST_SET_PAIRS 1 w
-    → n < length v.sets → m < length w.sets → set_at v n ≡ 0 ∷ [] → set_at w m ≡ 0 ∷ [] → keys ≡ record { first = n; second = m } ∷ [] → ways ≡ no_way ∷ []
-    → IsSearch a b (record { limit = limit; first = v; second = w; keys = keys; ways = ways })
-search-start a b limit n m v w keys ways some low one two n_in m_in e f ks ws =
-    subst (λ (t : State). IsSearch a b t) (λ i. record { limit = limit; first = v; second = w; keys = sym ks i; ways = sym ws i }) (record {
-      some_limit = some;
-      low_limit = low;
-      first_side = side-lower a limit MOST_SET_PAIRS 1 v low one;
-      second_side = side-lower b limit MOST_SET_PAIRS 1 w low two;
-      first_in = λ k lt. by_first k lt;
-      second_in = λ k lt. by_second k lt;
-      some = omega arith;
-      few = omega arith;
-      paired = refl;
-      start = λ i. record { first = e i; second = f i };
-      ways = λ k lt below. absurd (omega arith);
-    })
+-- a search that has found the first set pair, by the numbers of its sets
+abbrev pub first_state : ℕ → ℕ → ℕ → Walk → Walk → State
+first_state limit n m v w = record { limit = limit; first = v; second = w; keys = record { first = n; second = m } ∷ []; ways = no_way ∷ [] }
+
+-- it goes on well
+pub search-start : (a b : Automaton) (limit n m : ℕ) (v w : Walk) → 1 ≤ limit → limit ≤ MOST_SET_PAIRS → IsSide a MOST_SET_PAIRS 1 v → IsSide b MOST_SET_PAIRS 1 w
+    → n < length v.sets → m < length w.sets → set_at v n ≡ 0 ∷ [] → set_at w m ≡ 0 ∷ [] → IsSearch a b (first_state limit n m v w)
+search-start a b limit n m v w some low one two n_in m_in e f = record {
+  some_limit = some;
+  low_limit = low;
+  first_side = side-lower a limit MOST_SET_PAIRS 1 v low one;
+  second_side = side-lower b limit MOST_SET_PAIRS 1 w low two;
+  first_in = λ k lt. by_first k lt;
+  second_in = λ k lt. by_second k lt;
+  some = omega arith;
+  few = omega arith;
+  paired = refl;
+  start = λ i. record { first = e i; second = f i };
+  ways = λ k lt below. absurd (omega arith);
+}
   where
     by_first : (k : ℕ) → k < 1 → (get_or (record { first = n; second = m } ∷ []) k no_key).first < length v.sets
     by_first zero lt = n_in
@@ -193,6 +195,53 @@ search-start a b limit n m v w keys ways some low one two n_in m_in e f ks ws =
     by_second : (k : ℕ) → k < 1 → (get_or (record { first = n; second = m } ∷ []) k no_key).second < length w.sets
     by_second zero lt = m_in
     by_second (suc k) lt = absurd (omega arith)
+
+-- the same of the search that was made, if it was
+pub begun-search : {E : Type 0} (a b : Automaton) (limit n m : ℕ) (v w : Walk) → 1 ≤ limit → limit ≤ MOST_SET_PAIRS → IsSide a MOST_SET_PAIRS 1 v → IsSide b MOST_SET_PAIRS 1 w
+    → n < length v.sets → m < length w.sets → set_at v n ≡ 0 ∷ [] → set_at w m ≡ 0 ∷ [] → (r : Result Search E) → IfOk r (λ s. state_of s ≡ first_state limit n m v w) → IfOk r (λ s. IsSearch a b (state_of s))
+begun-search a b limit n m v w some low one two n_in m_in e f (Err x) h = tt
+begun-search a b limit n m v w some low one two n_in m_in e f (Ok s) h = subst (IsSearch a b) (sym h) (search-start a b limit n m v w some low one two n_in m_in e f)
+
+pub begun-limit : {E : Type 0} (limit n m : ℕ) (v w : Walk) (r : Result Search E) → IfOk r (λ s. state_of s ≡ first_state limit n m v w) → IfOk r (λ s. s.limit ≡ limit)
+begun-limit limit n m v w (Err x) h = tt
+begun-limit limit n m v w (Ok s) h = ap (λ (t : State). t.limit) h
+
+pub begun-one : {E : Type 0} (limit n m : ℕ) (v w : Walk) → set_at v n ≡ 0 ∷ [] → set_at w m ≡ 0 ∷ [] → (r : Result Search E)
+    → IfOk r (λ s. state_of s ≡ first_state limit n m v w) → IfOk r (λ s. pairs_in (state_of s) ≡ first_pair ∷ [])
+begun-one limit n m v w e f (Err x) h = tt
+begun-one limit n m v w e f (Ok s) h =
+    let first : pairs_in (first_state limit n m v w) ≡ first_pair ∷ [] = λ i. record { first = e i; second = f i } ∷ [] in
+    ap pairs_in h ∙ first
+
+-- a search whose walks have the sets that they had
+pub search-again : (a b : Automaton) (s : State) (v w : Walk) → IsSearch a b s → IsMadeFor v a → v.limit ≡ s.first.limit → v.sets ≡ s.first.sets → IsMadeFor w b → w.limit ≡ s.second.limit → w.sets ≡ s.second.sets
+    → IsSearch a b (record { limit = s.limit; first = v; second = w; keys = s.keys; ways = s.ways })
+search-again a b s v w search made limit e made' limit' f = record {
+  some_limit = search.some_limit;
+  low_limit = search.low_limit;
+  first_side = side-same a s.limit (length s.keys) s.first v search.first_side made limit e;
+  second_side = side-same b s.limit (length s.keys) s.second w search.second_side made' limit' f;
+  first_in = λ k lt. subst (λ (l : List (List ℕ)). (key_at s k).first < length l) (sym e) (search.first_in k lt);
+  second_in = λ k lt. subst (λ (l : List (List ℕ)). (key_at s k).second < length l) (sym f) (search.second_in k lt);
+  some = search.some;
+  few = search.few;
+  paired = search.paired;
+  start = pair-again (key_at s 0) ∙ search.start;
+  ways = λ k lt below. by k (search.ways k lt below);
+}
+  where
+    pair-again : (key : Key) → pair_of v w key ≡ pair_of s.first s.second key
+    pair-again key i = record { first = get_or (e i) key.first []; second = get_or (f i) key.second [] }
+
+    by : (k : ℕ) → IsNext a b s k (way_at s k) → IsNext a b (record { limit = s.limit; first = v; second = w; keys = s.keys; ways = s.ways }) k (way_at s k)
+    by k next = record {
+      earlier = next.earlier;
+      small = next.small;
+      is = pair-again (key_at s k) ∙ next.is ∙ ap (λ (p : SetPair). pair_on a b p (way_at s k).letter) (sym (pair-again (key_at s (way_at s k).parent)));
+    }
+
+pub pairs-again : (s : State) (v w : Walk) → v.sets ≡ s.first.sets → w.sets ≡ s.second.sets → map (pair_of v w) s.keys ≡ pairs_in s
+pairs-again s v w e f = ap₂ (λ (x y : List (List ℕ)). map (λ (key : Key). record { first = get_or x key.first []; second = get_or y key.second [] }) s.keys) e f
 
 -- one more of the found set pairs was put down
 pub relation-more : (s : State) (relation : List SetPair) (place : ℕ) (key : Key) (x y : List ℕ) → relation ≡ take place (pairs_in s) → place < length s.keys → slice_get s.keys place ≡ Some key

@@ -7,7 +7,7 @@ use Rattle.std.proofs.lemmas.Option.{slice_get_within, get_or_from_slice_get}
 use Rattle.rl_syntax.specs.declared.limits.TheConstants.{MOST_SET_PAIRS}
 use Rattle.rl_prio.specs.Automaton.{Automaton, accepting_state}
 use Rattle.rl_sets.specs.Live.{holds}
-use Rattle.rl_sets.specs.Walk.{Walk, set_at, set_of}
+use Rattle.rl_sets.specs.Walk.{Walk, set_at, set_of, IsMadeFor}
 use Rattle.rl_sets.proofs.SetLemmas.{filter_gap, filter_next}
 use Rattle.rl_equiv.specs.internal.Searching.{Gets}
 use Rattle.rl_equiv.specs.Sides.{IsSide}
@@ -102,6 +102,16 @@ side-lower a limit most count w low side = record {
   room = omega (arith, low, side.room);
   has_none = side.has_none;
   has_end = side.has_end;
+}
+
+-- a side whose walk has the sets that it had
+pub side-same : (a : Automaton) (limit count : ℕ) (v w : Walk) → IsSide a limit count v → IsMadeFor w a → w.limit ≡ v.limit → w.sets ≡ v.sets → IsSide a limit count w
+side-same a limit count v w side made e f = record {
+  made = made;
+  limit_is = e ∙ side.limit_is;
+  room = omega (arith, ap length f, side.room);
+  has_none = subst (λ (l : List (List ℕ)). Contains l (set_of a [])) (sym f) side.has_none;
+  has_end = subst (λ (l : List (List ℕ)). Contains l (set_of a (accepting_state a ∷ []))) (sym f) side.has_end;
 }
 
 -- a side is kept

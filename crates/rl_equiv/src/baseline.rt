@@ -78,7 +78,7 @@ fn beside(alloc: Global, first: &Prio, other: &Re, u: Universe) -> Result<Prio, 
 
 /// What the first set pairs of two automata show, and the walk over the sets of the first automaton, which goes on with the
 /// images that the kept one has made.
-fn search_on(
+pub(crate) fn search_on(
     alloc: Global,
     a: &Prio,
     b: &Prio,

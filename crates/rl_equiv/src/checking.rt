@@ -6,9 +6,10 @@ ghost use Rattle.rl_equiv.specs.SetPairs.{first_pair, set_pairs, IsKept, IsClose
 ghost use Rattle.rl_equiv.specs.Languages.{SameLanguage};
 ghost use Rattle.rl_equiv.specs.Limits.{AreWithin};
 ghost use Rattle.rl_equiv.specs.internal.Machines.{ends, pair_on, pairs_of, ShareLetters};
+ghost use Rattle.rl_equiv.specs.internal.Index.{HoldTheSame};
 ghost use Rattle.rl_equiv.specs.internal.Walks.{IsBegun};
 ghost use Rattle.rl_prio.specs.Automaton.{letters_count};
-ghost use Rattle.rl_sets.specs.Walk.{set_at};
+ghost use Rattle.rl_sets.specs.Walk.{set_at, set_of};
 
 use crate::error::SameError;
 use crate::index::Index;
@@ -64,6 +65,26 @@ fn keeps_sets(
     Ok(true)
 }
 
+/// Whether a set pair, to whose first set this walk belongs, shows no difference and has its next ones in the index.
+fn keeps_beside(
+    alloc: Global,
+    a: &Prio,
+    b: &Prio,
+    index: &Index,
+    first: &mut SetWalk,
+    pair: &SetPair,
+) -> Result<bool, OutOfMemory>
+    requires letters { ShareLetters a.now b.now }
+    requires proper { (pairs_of a.now b.now).proper pair.now ≡ true }
+    requires begun { IsBegun a.now first.old }
+    requires one { length first.old.sets ≡ 1 }
+    requires set { set_at first.old 0 ≡ set_of a.now pair.now.first }
+    ensures { IfOk result (λ ok. IsTrue ok ↔ IsKept (pairs_of a.now b.now) index.now pair.now) }
+{
+    let mut second = walk_from(alloc, b, &pair.second)?;
+    keeps_sets(a, b, index, first, &mut second)
+}
+
 /// Whether a set pair is proper, shows no difference and has its next ones in the index.
 fn keeps(
     alloc: Global,
@@ -79,8 +100,7 @@ fn keeps(
         return Ok(false);
     }
     let mut first = walk_from(alloc, a, &pair.first)?;
-    let mut second = walk_from(alloc, b, &pair.second)?;
-    keeps_sets(a, b, index, &mut first, &mut second)
+    keeps_beside(alloc, a, b, index, &mut first, pair)
 }
 
 /// Whether the pair of the sets of both starts is in the index.
@@ -92,22 +112,37 @@ fn has_start(alloc: Global, index: &Index) -> Result<bool, OutOfMemory>
     Ok(index.has(first, second))
 }
 
+/// Whether a list of set pairs of two automata, whose index this is, is closed.
+fn is_closed_in(
+    alloc: Global,
+    a: &Prio,
+    b: &Prio,
+    index: &Index,
+    relation: &[SetPair],
+) -> Result<bool, OutOfMemory>
+    requires letters { ShareLetters a.now b.now }
+    requires index { HoldTheSame index.now relation.now }
+    ensures { IfOk result (λ ok. IsTrue ok ↔ IsClosed (pairs_of a.now b.now) relation.now) }
+{
+    let start_in = has_start(alloc, index)?;
+    if !start_in {
+        return Ok(false);
+    }
+    for pair in relation {
+        if !keeps(alloc, a, b, index, pair)? {
+            return Ok(false);
+        }
+    }
+    Ok(true)
+}
+
 /// Whether a list of set pairs of two automata is closed.
 fn is_closed(alloc: Global, a: &Prio, b: &Prio, relation: &[SetPair]) -> Result<bool, OutOfMemory>
     requires { ShareLetters a.now b.now }
     ensures { IfOk result (λ ok. IsTrue ok ↔ IsClosed (pairs_of a.now b.now) relation.now) }
 {
     let index = Index::of(alloc, relation)?;
-    let start_in = has_start(alloc, &index)?;
-    if !start_in {
-        return Ok(false);
-    }
-    for pair in relation {
-        if !keeps(alloc, a, b, &index, pair)? {
-            return Ok(false);
-        }
-    }
-    Ok(true)
+    is_closed_in(alloc, a, b, &index, relation)
 }
 
 /// Whether two trees, each as fullmatch, are within the limits of their sizes, letters and moves, and a relation of their set

@@ -10,10 +10,10 @@ ghost use Rattle.rl_equiv.specs.Numbering.{IsAnswer};
 ghost use Rattle.rl_equiv.specs.internal.Machines.{pairs_of};
 ghost use Rattle.rl_equiv.specs.internal.Searching.{AreReaders, TellsApart};
 
+use crate::baseline::search_on;
 use crate::error::SameError;
 use crate::joint::Joint;
 use crate::sameness::Sameness;
-use crate::searching::Search;
 use rl_lists::OutOfMemory;
 use rl_prio::Prio;
 use rl_ranges::Universe;
@@ -28,8 +28,8 @@ fn sameness(alloc: Global, a: &Prio, b: &Prio, limit: u32) -> Result<Sameness, O
     ensures answer { IfOk result (IsAnswer (pairs_of a.now b.now) limit) }
     ensures apart { IfOk result (TellsApart a.now b.now) }
 {
-    let mut search = Search::new(alloc, a, b, limit)?;
-    search.run(alloc, a, b)
+    let (sameness, _walk) = search_on(alloc, a, b, None, limit)?;
+    Ok(sameness)
 }
 
 /// Whether two trees, each as fullmatch, span the same texts of the universe, by their first set pairs, `limit` at most: a

@@ -1,6 +1,6 @@
 //! The texts of the regions of two trees.
 
-ghost use Rattle.std.specs.Prelude.{◌≡◌, ◌≤◌, ◌&&◌, IfOk, IfErr, OnOk};
+ghost use Rattle.std.specs.Prelude.{◌≡◌, ◌≤◌, ◌∷◌, [], ◌&&◌, IfOk, IfErr, OnOk};
 ghost use Rattle.std.proofs.Math.Bool.{beq};
 ghost use Rattle.rl_syntax.specs.declared.re.Ending.TheVariants.{AtEnd};
 ghost use Rattle.rl_syntax.specs.Cost.{matched};
@@ -10,7 +10,8 @@ ghost use Rattle.rl_equiv.specs.Limits.{AreWithin, IsPassed};
 ghost use Rattle.rl_equiv.specs.Joined.{StandTogether};
 ghost use Rattle.rl_equiv.specs.Regions.{AreRegions};
 ghost use Rattle.rl_equiv.specs.Told.{AreTold};
-ghost use Rattle.rl_equiv.specs.internal.Searching.{AreReaders, state_of, IsSeen, IsThrough, IsFirstText};
+ghost use Rattle.rl_equiv.specs.SetPairs.{first_pair};
+ghost use Rattle.rl_equiv.specs.internal.Searching.{AreReaders, state_of, pairs_in, IsSearch, IsSeen, IsThrough, IsFirstText};
 
 use crate::compared::Compared;
 use crate::error::SameError;
@@ -78,6 +79,24 @@ fn texts_of(
     })
 }
 
+/// The texts of the regions of two automata, by the set pairs that a search which begins finds.
+fn texts_by(
+    alloc: Global,
+    a: &Prio,
+    b: &Prio,
+    search: &mut Search,
+    limit: u32,
+) -> Result<Compared, OutOfMemory>
+    requires readers { AreReaders a.now b.now }
+    requires search { IsSearch a.now b.now (state_of search.old) }
+    requires limit { search.old.limit ≡ limit }
+    requires one { pairs_in (state_of search.old) ≡ first_pair ∷ [] }
+    ensures { IfOk result (λ r. (u : Universe) (s t : Tree) → StandTogether u s t a.now b.now → AreRegions u s t limit r) }
+{
+    let seen = search.look(alloc, a, b, true)?;
+    texts_of(alloc, a, b, search, &seen, limit)
+}
+
 /// The texts of the regions of two automata, by their first set pairs.
 fn regions_of(alloc: Global, a: &Prio, b: &Prio, limit: u32) -> Result<Compared, OutOfMemory>
     requires readers { AreReaders a.now b.now }
@@ -86,8 +105,7 @@ fn regions_of(alloc: Global, a: &Prio, b: &Prio, limit: u32) -> Result<Compared,
     ensures { IfOk result (λ r. (u : Universe) (s t : Tree) → StandTogether u s t a.now b.now → AreRegions u s t limit r) }
 {
     let mut search = Search::new(alloc, a, b, limit)?;
-    let seen = search.look(alloc, a, b, true)?;
-    texts_of(alloc, a, b, &search, &seen, limit)
+    texts_by(alloc, a, b, &mut search, limit)
 }
 
 /// The texts of the regions of two trees, each as fullmatch, by their first set pairs in breadth-first order, `limit` at

@@ -12,7 +12,7 @@ ghost use Rattle.rl_equiv.specs.Sides.{IsSide};
 
 use crate::pair::{Relation, SetPair};
 use crate::sameness::Sameness;
-use crate::sides::{begin_side, ends_at, start_side, step_to};
+use crate::sides::{begin_side, ends_at, fresh_side, start_side, step_to};
 use indexmap::IndexSet;
 use rl_lists::{Codes, Items, OutOfMemory};
 use rl_prio::Prio;
@@ -121,9 +121,28 @@ impl Search {
         ensures limit { IfOk result (λ s. s.limit ≡ limit) }
         ensures one { IfOk result (λ s. pairs_in (state_of s) ≡ first_pair ∷ []) }
     {
-        let other = begin_side(alloc, b)?;
         let (first, start) = start_side(alloc, a, walk)?;
-        let (second, other_start) = start_side(alloc, b, other)?;
+        let (second, other_start) = fresh_side(alloc, b)?;
+        Search::begun(alloc, first, start, second, other_start, limit)
+    }
+
+    /// A search over these walks that has found the set pair of the starts, which have these numbers.
+    fn begun(
+        alloc: Global,
+        first: SetWalk,
+        start: u32,
+        second: SetWalk,
+        other_start: u32,
+        limit: u32,
+    ) -> Result<Search, OutOfMemory>
+        ensures { IfOk result (λ s. state_of s ≡ record {
+          limit = limit;
+          first = first;
+          second = second;
+          keys = record { first = start; second = other_start } ∷ [];
+          ways = no_way ∷ [];
+        }) }
+    {
         let (keys, ways) = first_found(alloc, start, other_start)?;
         Ok(Search {
             limit,

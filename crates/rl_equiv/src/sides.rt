@@ -46,15 +46,27 @@ fn put_one(alloc: Global, walk: &mut SetWalk, a: &Prio, state: u32) -> Result<u3
     put(walk, a, &members)
 }
 
+/// Appends the sets that the end letter gives to a walk that has none.
+fn put_ends(alloc: Global, walk: &mut SetWalk, a: &Prio) -> Result<(), OutOfMemory>
+    requires made { IsMadeFor walk.old a.now }
+    requires reads { IsReader a.now }
+    requires empty { walk.old.sets ≡ [] }
+    requires limit { walk.old.limit ≡ MOST_SETS }
+    ensures { OnOk result (IsSide a.now MOST_SET_PAIRS 0 walk.new) }
+{
+    let none = Vec::new(alloc);
+    put(walk, a, &none)?;
+    put_one(alloc, walk, a, a.states() - 2)?;
+    Ok(())
+}
+
 /// A new walk with the sets that the end letter gives.
 pub(crate) fn begin_side(alloc: Global, a: &Prio) -> Result<SetWalk, OutOfMemory>
     requires { IsReader a.now }
     ensures { IfOk result (IsSide a.now MOST_SET_PAIRS 0) }
 {
     let mut walk = SetWalk::new(alloc, a, MOST_SETS)?;
-    let none = Vec::new(alloc);
-    put(&mut walk, a, &none)?;
-    put_one(alloc, &mut walk, a, a.states() - 2)?;
+    put_ends(alloc, &mut walk, a)?;
     Ok(walk)
 }
 
@@ -88,6 +100,17 @@ pub(crate) fn start_side(
 {
     let start = put_one(alloc, &mut walk, a, 0)?;
     Ok((walk, start))
+}
+
+/// The walk of a search that begins with no sets that were made before, and the number of the set of the start.
+pub(crate) fn fresh_side(alloc: Global, a: &Prio) -> Result<(SetWalk, u32), OutOfMemory>
+    requires { IsReader a.now }
+    ensures side { IfOk result (λ r. IsSide a.now MOST_SET_PAIRS 1 r.0) }
+    ensures inside { IfOk result (λ r. r.1 < length r.0.sets) }
+    ensures start { IfOk result (λ r. set_at r.0 r.1 ≡ 0 ∷ []) }
+{
+    let walk = begin_side(alloc, a)?;
+    start_side(alloc, a, walk)
 }
 
 /// The number of the image of a set on a letter.

@@ -1,14 +1,16 @@
 //! The analysis of a site: the outcome of its pattern, and the parts of it that the suggestion speaks of.
-ghost use Rattle.std.specs.Prelude.{◌≡◌, ◌≢◌, ◌≤◌, None, IfOk, OnOk};
+ghost use Rattle.std.specs.Prelude.{◌≡◌, ◌≢◌, ◌≤◌, None, Ok, IfOk, OnOk};
+ghost use Rattle.rl_ranges.specs.Text.{IsText};
 ghost use Rattle.rl_ranges.specs.declared.universe.Universe.TheVariants as universe;
 ghost use Rattle.rl_pylex.specs.Source.{IsTokenList};
 ghost use Rattle.rl_pystr.specs.declared.fault.StrError.TheVariants as valuing;
 ghost use Rattle.rl_pattern.specs.declared.parsing.PatError.TheVariants as parsing;
+ghost use Rattle.rl_pattern.specs.Parsed.{IsParsed};
 ghost use Rattle.rl_report.specs.declared.report.Outcome.TheVariants as outcome;
 ghost use Rattle.rl_report.specs.Findings.{verdict_of, suggestion_of};
 ghost use Rattle.rl_sites.specs.Runs.{run_of, HasRun};
 ghost use Rattle.rl_judge.specs.Faults.{literal_fault, pattern_fault};
-ghost use Rattle.rl_judge.specs.Analysis.{refusal, IsUniverseOfRun, IsAnalysisOf};
+ghost use Rattle.rl_judge.specs.Analysis.{refusal, IsUniverseOfRun, IsAnalysisOf, IsJudged};
 ghost use Rattle.rl_judge.specs.internal.Conditions.{IsOfUniverse};
 
 use crate::options::AnalysisOptions;
@@ -16,12 +18,12 @@ use crate::parts::{Parts, code_place, no_parts, parts_of};
 use crate::suggestion::{suggested_verdict, suggestion_beside};
 use crate::verdict::verdict_on;
 use rl_lists::OutOfMemory;
-use rl_pattern::{PatError, parse};
+use rl_pattern::{Flags, PatError, parse};
 use rl_pylex::TokenList;
 use rl_pystr::{Literal, StrError, value};
 use rl_report::Outcome;
 use rl_sites::{Site, SiteFlags};
-use rl_syntax::Universe;
+use rl_syntax::{Pattern, Universe};
 use std::alloc::Global;
 
 /// What is found of a site.
@@ -130,6 +132,35 @@ fn without_pattern(
     }
 }
 
+/// The analysis of a site whose codes spell this pattern: the verdict on it, and what stands beside that.
+#[tactic(auto, using(crate::proofs::Parsing::parsing))]
+fn with_pattern(
+    alloc: Global,
+    literal: &Literal,
+    pattern: &Pattern,
+    flags: Flags,
+    options: AnalysisOptions,
+) -> Result<Analysis, OutOfMemory>
+    requires some { 1 ≤ options.max_pairs }
+    requires few { options.max_pairs ≤ 1000 }
+    requires text { IsText literal.now.universe literal.now.codes }
+    requires parsed { IsParsed flags literal.now.universe literal.now.codes (Ok pattern.now) }
+    ensures right { IfOk result (IsJudged flags options literal.now pattern.now) }
+    ensures texts { IfOk result (λ a. IsOfUniverse a.universe a.outcome) }
+{
+    let universe = literal.universe;
+    let verdict = verdict_on(alloc, pattern, options)?;
+    let suggestion = suggestion_beside(alloc, pattern, &literal.codes, flags, options, &verdict)?;
+    let becomes = suggested_verdict(alloc, suggestion.as_ref(), universe, flags, options)?;
+    let parts = parts_of(alloc, literal, suggestion.as_ref())?;
+    Ok(Analysis {
+        universe,
+        fault: None,
+        outcome: Outcome::Judged(verdict, suggestion, becomes),
+        parts,
+    })
+}
+
 /// The analysis of a site of the source with these tokens: the first of five outcomes that holds.
 #[tactic(auto, using(crate::proofs::Parsing::parsing))]
 pub fn analyze(
@@ -162,14 +193,5 @@ pub fn analyze(
         Ok(pattern) => pattern,
         Err(error) => return without_pattern(alloc, &literal, error),
     };
-    let verdict = verdict_on(alloc, &pattern, options)?;
-    let suggestion = suggestion_beside(alloc, &pattern, &literal.codes, flags, options, &verdict)?;
-    let becomes = suggested_verdict(alloc, suggestion.as_ref(), universe, flags, options)?;
-    let parts = parts_of(alloc, &literal, suggestion.as_ref())?;
-    Ok(Analysis {
-        universe,
-        fault: None,
-        outcome: Outcome::Judged(verdict, suggestion, becomes),
-        parts,
-    })
+    with_pattern(alloc, &literal, &pattern, flags, options)
 }

@@ -21,6 +21,20 @@ fn is_unread(before: bool, visit: &Visit) -> bool
     before || matches!(visit, Visit::Unreadable(_))
 }
 
+/// The entries of a visit: those of a source, or one that says why there is none.
+fn entries_of(alloc: Global, visit: &Visit, settings: &Settings) -> Result<Entries, OutOfMemory>
+    requires { IsValid settings.now }
+    ensures right { IfOk result (IsRightFor settings.now visit.now) }
+    ensures universe { IfOk result (All IsOfItsUniverse) }
+{
+    match visit {
+        Visit::Source(path, content) => Ok(judge(alloc, path, content.as_slice(), settings)?),
+        Visit::Unreadable(path) => path_entries(alloc, path, None, Outcome::Unreadable),
+        Visit::TooDeep(path) => path_entries(alloc, path, None, Outcome::TooDeepFolder),
+        Visit::NotPlain(path) => path_entries(alloc, path, None, Outcome::NotPlain),
+    }
+}
+
 /// Appends entries.
 fn append(entries: &mut Entries, later: Entries) -> Result<(), OutOfMemory>
     ensures { OnOk result (entries.new ≡ entries.old ++ later) }
@@ -98,16 +112,7 @@ impl Visitor for Checker {
     ghost config = { λ c. c.settings };
 
     fn visit(&mut self, visit: Visit) -> Result<(), OutOfMemory> {
-        let later = match &visit {
-            Visit::Source(path, content) => {
-                judge(self.alloc, path, content.as_slice(), &self.settings)?
-            }
-            Visit::Unreadable(path) => {
-                path_entries(self.alloc, path, None, Outcome::Unreadable)?
-            }
-            Visit::TooDeep(path) => path_entries(self.alloc, path, None, Outcome::TooDeepFolder)?,
-            Visit::NotPlain(path) => path_entries(self.alloc, path, None, Outcome::NotPlain)?,
-        };
+        let later = entries_of(self.alloc, &visit, &self.settings)?;
         let has_unread = is_unread(self.has_unread, &visit);
         append(&mut self.entries, later)?;
         self.has_unread = has_unread;

@@ -1,10 +1,10 @@
--- Lemmas on the vector of words of a row, once its words are written.
-use Rattle.std.proofs.Common.{◌≡◌, ℕ, ◌+◌, ◌/◌, ◌%◌, ◌^◌, ◌<◌, ◌≤◌, Option, Some, None, IfSome, IfNone, Bool, true, false, not, ◌&&◌, ◌↔◌, ◌≢◌, cond, eqb, List, length, get_or, set, replicate, refl, sym, ap, ◌∙◌, subst, arith, bit_and, IsTrue, MatchBool}
+-- Lemmas on the words of a row, once they are written.
+use Rattle.std.proofs.Common.{◌≡◌, ℕ, ◌+◌, ◌/◌, ◌%◌, ◌^◌, ◌<◌, ◌≤◌, Option, Some, None, IfSome, IfNone, Bool, true, false, not, ◌&&◌, ◌↔◌, ◌≢◌, cond, eqb, List, ◌++◌, length, get_or, set, take, drop, replicate, refl, sym, ap, ◌∙◌, subst, arith, bit_and, IsTrue, MatchBool}
 use Rattle.std.specs.Bool.{OnFalse}
-use Rattle.std.specs.Global.{Vec}
-use Rattle.std.specs.Vec.{with_items}
+use Rattle.std.specs.List.{refill}
 use Rattle.std.specs.Simd.Lanes.{zip2}
-use Rattle.std.proofs.lemmas.List.{with_items_is, get_or_read}
+use Rattle.std.proofs.Math.Seq.{take-append_seam}
+use Rattle.std.proofs.lemmas.List.{length-set}
 use Rattle.std.proofs.lemmas.Simd.{length-replicate}
 use Rattle.std.specs.Int.{bit_at, div_ceil}
 use Rattle.std.proofs.lemmas.Bool.{and_parts, both_ways, not-true, not-false, false≢true, eq-eqb, ne_eqb}
@@ -17,16 +17,20 @@ use Rattle.rl_lanes.proofs.PackedLemmas.{AreWords, IsRow, IsRow-length, IsRow-wo
 use Rattle.rl_lanes.proofs.RowLemmas.{place_within}
 use Rattle.rl_lanes.proofs.CountLemmas.{IsRow-words_of, AreWords-words_of}
 
--- the word of a place is one of the vector's
-pub place_fits : {len : ℕ} {row : List Bool} (i : ℕ) (v : Vec ℕ) → IsRow len v.items row → i < length row → i / 64 < v.len
-place_fits i v r lt = omega (arith, r.packed.enough, IsRow-length r, v.ok.0)
+-- words that are as many take the place of those held
+refill_is : (held new : List ℕ) → length new ≡ length held → refill (length held) held new ≡ new
+refill_is held new long = ap (λ n. take n (new ++ drop (length new) held)) (sym long) ∙ take-append_seam new (drop (length new) held)
 
--- the words a of a row were joined by f with those of another, b, and put back into the vector
-pub IsRow-stored : (f : ℕ → ℕ → ℕ) (t : Bool → Bool → Bool) (law : JoinsBits f t) (m n : ℕ) (v : Vec ℕ) (a b words new : List ℕ) (x y : List Bool) → IsRow m v.items x → IsRow n words y → length x ≡ length y → a ≡ v.items → b ≡ words → AreWords b → JoinsEach f a b new → IsRow m (with_items v new).items (zip2 t x y)
-IsRow-stored f t law m n v a b words new x y r s same a_is b_is fits joined =
-    let joined_b : JoinsEach f v.items words new = subst (λ l. JoinsEach f l words new) a_is (subst (λ l. JoinsEach f a l new) b_is joined) in
+-- the word of a place is one of the row's
+pub place_fits : {len : ℕ} {words : List ℕ} {row : List Bool} (i : ℕ) → IsRow len words row → i < length row → i / 64 < length words
+place_fits i r lt = omega (arith, r.packed.enough, IsRow-length r)
+
+-- the words a of a row were joined by f with those of another, b, and put back into the row
+pub IsRow-stored : (f : ℕ → ℕ → ℕ) (t : Bool → Bool → Bool) (law : JoinsBits f t) (m n : ℕ) (held a b words new : List ℕ) (x y : List Bool) → IsRow m held x → IsRow n words y → length x ≡ length y → a ≡ held → b ≡ words → AreWords b → JoinsEach f a b new → IsRow m (refill (length held) held new) (zip2 t x y)
+IsRow-stored f t law m n held a b words new x y r s same a_is b_is fits joined =
+    let joined_b : JoinsEach f held words new = subst (λ l. JoinsEach f l words new) a_is (subst (λ l. JoinsEach f a l new) b_is joined) in
     let fit : AreWords words = subst AreWords b_is fits in
-    subst (λ ws. IsRow m ws (zip2 t x y)) (sym (with_items_is v new (joined_b.long ∙ sym v.ok.0))) (IsRow-joined f t law r s same fit joined_b)
+    subst (λ ws. IsRow m ws (zip2 t x y)) (sym (refill_is held new joined_b.long)) (IsRow-joined f t law r s same fit joined_b)
 
 -- whether two rows share a place, from the words a and b of the rows
 pub meets_is : (x y : List Bool) (a b : List ℕ) (some : Bool) → length x ≡ length y → a ≡ words_of x → b ≡ words_of y → MatchBool some (SomePair bit_and a b) (NoPair bit_and a b) → (IsTrue some ↔ Meets x y) × OnFalse some (AreApart x y)
@@ -101,27 +105,29 @@ pub bit_test_is : (b : Bool) (n : ℕ) → IsTrue b ↔ (n ≡ 1) → b ≡ eqb 
 bit_test_is true n tells = sym (eq-eqb n 1 (tells.0 refl))
 bit_test_is false n tells = sym (ne_eqb n 1 (λ e. false≢true (tells.1 e)))
 
--- the value at a place, by a test of its bit in the word w
-pub IsRow-test : {len : ℕ} {row : List Bool} (i w : ℕ) (b : Bool) (v : Vec ℕ) → IsRow len v.items row → i < length row → w ≡ get_or v.items (i / 64) w → IsTrue b ↔ (bit_at w (i % 64) ≡ 1) → b ≡ get_or row i false
+-- the value at a place, by a test of its bit in the words a of the row
+pub IsRow-test : {len : ℕ} {words : List ℕ} {row : List Bool} (i : ℕ) (b : Bool) (a : List ℕ) → IsRow len words row → a ≡ words → IsTrue b ↔ (bit_at (get_or a (i / 64) 0) (i % 64) ≡ 1) → b ≡ get_or row i false
 unfolding bit
-IsRow-test i w b v r lt read tells =
-    let there : i / 64 < length v.items = omega (arith, place_fits i v r lt, v.ok.0) in
-    bit_test_is b (bit_at w (i % 64)) tells ∙ ap (λ n. eqb (bit_at n (i % 64)) 1) (get_or_read v.items (i / 64) w there read 0) ∙ sym (IsRow-get_or r i)
+IsRow-test i b a r a_is tells = bit_test_is b (bit_at (get_or a (i / 64) 0) (i % 64)) tells ∙ ap (λ l. bit l i) a_is ∙ sym (IsRow-get_or r i)
 
--- a row with a value put at a place, by the word w that was there and the word that takes its place
-pub IsRow-put : {len : ℕ} {row : List Bool} (i w word : ℕ) (to : Bool) (v : Vec ℕ) → IsRow len v.items row → i < length row → w ≡ get_or v.items (i / 64) w → bit_at word (i % 64) ≡ cond to 1 0 → ((k : ℕ) → k < 64 → k ≢ i % 64 → bit_at word k ≡ bit_at w k) → IsRow len (set v.items (i / 64) word) (set row i to)
-IsRow-put i w word to v r lt read at others =
-    let there : i / 64 < length v.items = omega (arith, place_fits i v r lt, v.ok.0) in
-    IsRow-set i word to r lt at (λ k small other. others k small other ∙ ap (λ n. bit_at n k) (get_or_read v.items (i / 64) w there read 0))
+-- the words a of a row with another word at a place, put back into the row
+pub set_is : (words a : List ℕ) (i word : ℕ) → a ≡ words → refill (length words) words (set a i word) ≡ set words i word
+set_is words a i word a_is = refill_is words (set a i word) (length-set a i word ∙ ap length a_is) ∙ ap (λ l. set l i word) a_is
+
+-- a row with a value put at a place, by the word that takes the place of that in the words a of the row
+pub IsRow-put : {len : ℕ} {words : List ℕ} {row : List Bool} (i word : ℕ) (to : Bool) (a : List ℕ) → IsRow len words row → i < length row → a ≡ words → bit_at word (i % 64) ≡ cond to 1 0 → ((k : ℕ) → k < 64 → k ≢ i % 64 → bit_at word k ≡ bit_at (get_or a (i / 64) 0) k) → IsRow len (refill (length words) words (set a (i / 64) word)) (set row i to)
+IsRow-put {len} {words} {row} i word to a r lt a_is at others =
+    subst (λ ws. IsRow len ws (set row i to)) (sym (set_is words a (i / 64) word a_is))
+    (IsRow-set i word to r lt at (λ k small other. others k small other ∙ ap (λ l. bit_at (get_or l (i / 64) 0) k) a_is))
 
 -- a row whose words were all made 0
-pub IsRow-cleared : {len : ℕ} {row : List Bool} (v : Vec ℕ) (a new : List ℕ) → IsRow len v.items row → a ≡ v.items → new ≡ replicate (length a) 0 → IsRow len (with_items v new).items (replicate (length row) false)
-IsRow-cleared {len} {row} v a new r a_is filled =
+pub IsRow-cleared : {len : ℕ} {words : List ℕ} {row : List Bool} (a new : List ℕ) → IsRow len words row → a ≡ words → new ≡ replicate (length a) 0 → IsRow len (refill (length words) words new) (replicate (length row) false)
+IsRow-cleared {len} {words} {row} a new r a_is filled =
     let long : length a ≡ div_ceil len 64 = ap length a_is ∙ r.packed.enough in
     let new_is : new ≡ replicate (div_ceil len 64) 0 = filled ∙ ap (λ n. replicate n 0) long in
-    let new_long : length new ≡ v.len = ap length filled ∙ length-replicate (length a) 0 ∙ ap length a_is ∙ sym v.ok.0 in
-    subst (λ ws. IsRow len ws (replicate (length row) false)) (sym (with_items_is v new new_long))
-    (subst (λ ws. IsRow len ws (replicate (length row) false)) (sym new_is) (subst (λ n. IsRow len (replicate (div_ceil len 64) 0) (replicate n false)) (sym (IsRow-length r)) (IsRow-zeros len)))
+    let new_long : length new ≡ length words = ap length filled ∙ length-replicate (length a) 0 ∙ ap length a_is in
+    subst (λ ws. IsRow len ws (replicate (length row) false)) (sym (refill_is words new new_long ∙ new_is))
+    (subst (λ n. IsRow len (replicate (div_ceil len 64) 0) (replicate n false)) (sym (IsRow-length r)) (IsRow-zeros len))
 
 -- the least place that the words a of a row hold at or above `start`
 pub least_is : {len : ℕ} {words : List ℕ} {row : List Bool} (start : ℕ) (a : List ℕ) (o : Option ℕ) → IsRow len words row → a ≡ words → IfSome o (IsLeastBitFrom a start) → IfSome o (IsLeastFrom row start)

@@ -9,6 +9,7 @@ ghost use Rattle.rl_lanes.specs.internal.PackedWords.{IsLeastBitFrom, NoBitFrom}
 use crate::bits::{from_bit, has_bit, lowest, with_bit};
 use crate::words::{any_both, any_outside, count_words, or_words, subtract_words};
 use rl_lists::OutOfMemory;
+use smallvec::SmallVec;
 use std::alloc::Global;
 use std::hash::{Hash, Hasher};
 use std::marker::Model;
@@ -16,12 +17,15 @@ use std::marker::Model;
 /// How many truth values a word holds.
 pub(crate) const WORD: usize = 64;
 
+/// How many words a row holds in itself. A row of more words takes memory for them.
+const INLINE: usize = 2;
+
 /// A row of truth values, which stands for the set of the places that hold true.
 ///
 /// Contracts see it as the list of its values. Its bits past the last value are false.
 #[derive(Debug, Drop)]
 pub struct BitRow {
-    words: Vec<u64>,
+    words: SmallVec<u64, INLINE>,
     len: usize,
 }
 
@@ -44,7 +48,7 @@ impl BitRow {
     pub fn zeros(alloc: Global, len: usize) -> Result<BitRow, OutOfMemory>
         ensures { IfOk result (λ row. row ≡ replicate len false) }
     {
-        let words = Vec::from_elem(alloc, 0, len.div_ceil(WORD))?;
+        let words = SmallVec::from_elem(alloc, 0, len.div_ceil(WORD))?;
         Ok(BitRow { words, len })
     }
 
@@ -81,7 +85,7 @@ impl BitRow {
         requires { i < length self.now }
         ensures { result ≡ slice_index_or self.now i false }
     {
-        has_bit(self.words[i / WORD], i % WORD)
+        has_bit(self.words.as_slice()[i / WORD], i % WORD)
     }
 
     /// Puts a value at a place.
@@ -89,8 +93,9 @@ impl BitRow {
         requires { i < length self.old }
         ensures { self.new ≡ slice_set self.old i to }
     {
+        let words = self.words.as_mut_slice();
         let word = i / WORD;
-        self.words[word] = with_bit(self.words[word], i % WORD, to);
+        words[word] = with_bit(words[word], i % WORD, to);
     }
 
     /// Makes each place hold false.
@@ -174,11 +179,8 @@ impl BitRow {
         requires { length self.now ≤ 64 }
         ensures { (i : ℕ) → i < 64 → slice_index_or self.now i false ≡ (bit_at result i == 1) }
     {
-        if self.words.is_empty() {
-            0
-        } else {
-            self.words[0]
-        }
+        let words = self.words.as_slice();
+        if words.is_empty() { 0 } else { words[0] }
     }
 
     /// Makes the values of a row of 1 to 64 places those that a word holds.
@@ -190,7 +192,7 @@ impl BitRow {
         ensures values { (i : ℕ) → i < 64 → slice_index_or self.new i false ≡ (bit_at word i == 1) }
         ensures len { length self.new ≡ length self.old }
     {
-        self.words[0] = word;
+        self.words.as_mut_slice()[0] = word;
     }
 
     /// The words that hold the values.

@@ -6,3 +6,4 @@ pub mod DoubledFalls
 pub mod NumberedFalls
 pub mod Spreading
 pub mod ReachedTriples
+pub mod ReachedDoubles

@@ -12,6 +12,7 @@ ghost use Rattle.rl_numbers.specs.Level.{IsLevelOf};
 ghost use Rattle.rl_numbers.specs.Numbered.{AreTriples};
 ghost use Rattle.rl_numbers.specs.Reached.{IsReached, IsReach, AreMore};
 ghost use Rattle.rl_numbers.specs.Starts.{AreStartsUpTo};
+ghost use Rattle.rl_numbers.specs.internal.ReachedDoubles.{AreReachedDoubles};
 ghost use Rattle.rl_numbers.specs.internal.ReachedTriples.{AreReachedTriples};
 ghost use Rattle.rl_graph.specs.Parts.{PartTable, IsParts, cycle_of};
 ghost use Rattle.rl_numbers.specs.Triples.{triple_moves};
@@ -64,6 +65,19 @@ fn doubles_from(alloc: Global, g: &Multigraph, starts: &[u64]) -> Result<IndexSe
     }
 }
 
+/// The doubles that are reached, each with the number of its part.
+fn doubles_by(alloc: Global, g: &Multigraph, starts: &[u64]) -> Result<Doubles, OutOfMemory>
+    requires few_states { g.now.states < 65536 }
+    requires starts { All (λ s. s < g.now.states * g.now.states) starts.now }
+    ensures { IfOk result (AreReachedDoubles g.now starts.now) }
+{
+    let states = g.states();
+    let keys = doubles_from(alloc, g, starts)?;
+    let parts = product_parts(alloc, g)?;
+    let doubles = listed_doubles(alloc, states, &keys, &parts)?;
+    Ok(doubles)
+}
+
 /// The doubles of a graph without a twin.
 ///
 /// # Errors
@@ -76,9 +90,7 @@ pub fn doubles_of(alloc: Global, g: &Multigraph) -> Result<Doubles, OutOfMemory>
     let states = g.states();
     let _letters = g.letters();
     let starts = diagonal(alloc, states)?;
-    let keys = doubles_from(alloc, g, &starts)?;
-    let parts = product_parts(alloc, g)?;
-    let doubles = listed_doubles(alloc, states, &keys, &parts)?;
+    let doubles = doubles_by(alloc, g, &starts)?;
     Ok(doubles)
 }
 

@@ -28,7 +28,7 @@ use Rattle.rl_pairs.proofs.FindingLaws.{number-keeps, pair-keeps, found-keeps, f
 stands-keeps : (v w : Walk) (set : List ℕ) → Keeps v w → Stands v set → Stands w set
 stands-keeps v w set k s = (s.0, number-keeps v w set s.0 k s.1)
 
-pair-stays : (v w : Walk) (f g : Found) (k : ℕ) → Keeps v w → Stays f g → k < length f.keys → (key_at f k).set < length v.sets → pair_at w g k ≡ pair_at v f k
+pub pair-stays : (v w : Walk) (f g : Found) (k : ℕ) → Keeps v w → Stays f g → k < length f.keys → (key_at f k).set < length v.sets → pair_at w g k ≡ pair_at v f k
 pair-stays v w f g k keeps stays lt in' = ap (pair_of w) (stays.same k lt) ∙ pair-keeps v w (key_at f k) keeps in'
 
 pub row-stays : (a : Automaton) (v w : Walk) (f g : Found) (ps : List Pair) (row : List ℕ) → Keeps v w → Stays f g → ((k : ℕ) → Has k row → k < length f.keys) → ((k : ℕ) → k < length f.keys → (key_at f k).set < length v.sets) → IsRowOf a v f ps row → IsRowOf a w g ps row

@@ -13,6 +13,7 @@ pub mod WorkedPairs
 mod WorkedGraph
 pub mod PrefixLaws
 pub mod CountingLaws
+pub mod RepeatLaws
 pub mod RowLaws
 pub mod FindingLaws
 pub mod ExpandLaws

@@ -22,7 +22,7 @@ use Rattle.rl_pairs.specs.LivePairs.{first_pair, next_pairs, LivePair, first, re
 use Rattle.rl_pairs.specs.PairGraph.{IsPairGraph, IsNumbered, AreFirstSeen, seen_after, seen_before, targets_of}
 use Rattle.rl_pairs.specs.Counted.{CountedSet, moved, imaged, MoreThan}
 use Rattle.rl_pairs.specs.internal.Counting.{IsCounting, Keeps, IsOnward, Stands, IsClosed}
-use Rattle.rl_pairs.specs.internal.Finding.{Found, first_key, key_at, pair_of, pair_at, lead_at, rest_at, width, next_of, flat, IsFound, IsRowOf, IsMoved, IsFurther}
+use Rattle.rl_pairs.specs.internal.Finding.{Found, first_key, key_at, pair_of, pair_at, lead_at, rest_at, width, next_of, flat, IsFound, IsRowOf, IsMoved, IsFurther, IsWhole}
 use Rattle.rl_pairs.specs.PairTable.{PairTable, moves_in, pair_in, lead_in, rest_in, IsFull}
 use Rattle.rl_pairs.specs.internal.Rows.{graph_of_rows, IsBuilt}
 use Rattle.rl_pairs.proofs.CountLaws.{number-there}
@@ -211,6 +211,16 @@ module _ (a : Automaton) (w : Walk) (f : Found) (c : IsCounting a w) (i : IsFoun
       rests = ap length b.rests ∙ i.refused ∙ sym states-are;
     }
 
+-- the walk was closed after the search
+pub whole-found : (a : Automaton) (u w x : Walk) (e f : Found) (max_pairs : ℕ) → IsFurther a u w e f (length f.keys * width a) → IsOnward a w x → IsClosed a x (length x.sets) 0 → e.limit ≡ max_pairs → IsWhole a x f max_pairs
+whole-found a u w x e f max_pairs y o closed limit = record {
+  counting = o.counting;
+  closed = closed;
+  found = found-keeps a w x f o.keeps y.found;
+  moved = moved-keeps a w x f o.keeps y.found y.moved;
+  limit = y.stays.limit ∙ limit;
+}
+
 -- what is ensured of the graph
 pub record IsAnswer (a : Automaton) (max_pairs : ℕ) (g : PairTable) : Type 0 where
   pub graph : IsPairGraph a (moves_in g) (pair_in g) g.graph.states
@@ -223,21 +233,21 @@ pub record IsAnswer (a : Automaton) (max_pairs : ℕ) (g : PairTable) : Type 0 w
   pub refused : (k : ℕ) → k < g.graph.states → refused a (pair_in g) k (rest_in g k) ≡ true
   pub lists : IsFull g
 
-pub answer : (a : Automaton) (u w x : Walk) (e f : Found) (g : PairTable) (letters max_pairs : ℕ) → letters ≡ width a → IsFurther a u w e f (length f.keys * width a) → IsOnward a w x → IsClosed a x (length x.sets) 0 → IsBuilt x f letters g → f.limit ≡ max_pairs → IsAnswer a max_pairs g
-answer a u w x e f g letters max_pairs wide y o closed b limit =
-    let i = found-keeps a w x f o.keeps y.found in
-    let m = moved-keeps a w x f o.keeps y.found y.moved in
-    let c = o.counting in
+pub answer : (a : Automaton) (w : Walk) (f : Found) (g : PairTable) (letters max_pairs : ℕ) → letters ≡ width a → IsWhole a w f max_pairs → IsBuilt w f letters g → IsAnswer a max_pairs g
+answer a w f g letters max_pairs wide y b =
+    let i = y.found in
+    let m = y.moved in
+    let c = y.counting in
     record {
-      graph = built-graph a x f c i m g letters wide b;
-      numbered = built-numbered a x f c i m g letters wide b;
-      few_pairs = omega (arith, states-are a x f c i m g letters wide b, i.few, limit);
-      few_sets = few-sets a x f c i m closed;
+      graph = built-graph a w f c i m g letters wide b;
+      numbered = built-numbered a w f c i m g letters wide b;
+      few_pairs = omega (arith, states-are a w f c i m g letters wide b, i.few, y.limit);
+      few_sets = few-sets a w f c i m y.closed;
       letters = ap (λ (h : Graph). h.letters) b.graph ∙ wide ∙ omega arith;
-      leads = built-leads a x f c i m g letters wide b;
-      rests = built-rests a x f c i m g letters wide b;
-      refused = built-refused a x f c i m g letters wide b;
-      lists = built-lists a x f c i m g letters wide b;
+      leads = built-leads a w f c i m g letters wide b;
+      rests = built-rests a w f c i m g letters wide b;
+      refused = built-refused a w f c i m g letters wide b;
+      lists = built-lists a w f c i m g letters wide b;
     }
 
 -- ---- the start of the search
@@ -283,8 +293,8 @@ has-flat x r (s ∷ rows) (inr h) i = Has-right x s (flat rows) (has-flat x r ro
 pub all-targets : (n : ℕ) (rows : List (List ℕ)) → Each (λ k. k < n) (flat rows) → All (All (λ k. k < n)) rows
 all-targets n rows each = λ p d lt q e less. Each-has (λ k. k < n) (get_or (get_or rows p d) q e) (flat rows) each (has-flat (get_or (get_or rows p d) q e) (get_or rows p d) rows (Has-get_or rows p d lt) (Has-get_or (get_or rows p d) q e less))
 
-pub all-sets : (a : Automaton) (w x : Walk) (f : Found) → Keeps w x → IsFound a w f → All (λ key. key.set < length x.sets) f.keys
-all-sets a w x f k i = λ n d lt. subst (λ (key : Key). key.set < length x.sets) (get_or_default f.keys n first_key d lt) (omega (arith, i.sets n lt, k.longer))
+pub all-sets : (a : Automaton) (w : Walk) (f : Found) → IsFound a w f → All (λ key. key.set < length w.sets) f.keys
+all-sets a w f i = λ n d lt. subst (λ (key : Key). key.set < length w.sets) (get_or_default f.keys n first_key d lt) (i.sets n lt)
 
 -- errors
 pub right-pairs : (a : Automaton) (limit : ℕ) (e : PairsError) → IsRightError a limit e → e ≡ TooMany → MoreThan limit (LivePair a)

@@ -1,13 +1,14 @@
 //! The search for live pairs.
 
-ghost use Rattle.std.specs.Prelude.{◌≡◌, ◌≢◌, ℕ, suc, ◌+◌, ◌*◌, ◌^◌, ◌<◌, ◌≤◌, [], ◌∷◌, ◌++◌, All, length, IfOk, IfErr, OnOk, IfSome, IfNone};
+ghost use Rattle.std.specs.Prelude.{◌≡◌, ◌≢◌, ℕ, suc, ◌+◌, ◌-◌, ◌*◌, ◌^◌, ◌<◌, ◌≤◌, [], ◌∷◌, ◌++◌, All, length, IfOk, IfErr, OnOk, IfSome, IfNone, IsTrue};
 ghost use Rattle.rl_prio.specs.Automaton.{letters_count};
 ghost use Rattle.rl_graph.specs.Paths.{Has};
+ghost use Rattle.rl_sets.specs.Live.{image};
 ghost use Rattle.rl_sets.specs.Walk.{set_at};
 ghost use Rattle.rl_pairs.specs.LivePairs.{next_pairs};
 ghost use Rattle.rl_pairs.specs.internal.Errors.{IsRightError};
-ghost use Rattle.rl_pairs.specs.internal.Counting.{IsCounted, IsCounting, IsOnward, IsNumberOf};
-ghost use Rattle.rl_pairs.specs.internal.Finding.{found_of, with_row, first_key, key_at, pair_of, pair_at, lead_at, width, IsFound, Stays, IsMoved, IsNoted, IsFurther, set_for};
+ghost use Rattle.rl_pairs.specs.internal.Counting.{IsCounted, IsCounting, IsOnward, IsNumberOf, Stands};
+ghost use Rattle.rl_pairs.specs.internal.Finding.{found_of, with_row, first_key, key_at, pair_of, pair_at, lead_at, width, next_of, IsFound, Stays, IsMoved, IsNoted, IsFurther, set_for};
 
 use crate::counting::{image_of, joined_with, rest_of};
 use crate::error::PairsError;
@@ -25,6 +26,18 @@ pub(crate) struct Key {
     pub state: u32,
     /// The number of the set in the walk.
     pub set: u32,
+}
+
+/// For how many pairs there is room at first. Many automata have no more live pairs.
+const FIRST_ROOM: usize = 18;
+
+/// A list of one item, with room for more.
+fn begun_with<T: Drop>(alloc: Global, room: usize, item: T) -> Result<Vec<T>, OutOfMemory>
+    ensures { IfOk result (λ list. list.items ≡ item ∷ []) }
+{
+    let mut list = Vec::with_capacity(alloc, room)?;
+    list.push(item)?;
+    Ok(list)
 }
 
 /// The pairs that are found, in the order in which they were found, with a lead and a rest for each, and the targets of the
@@ -48,14 +61,11 @@ impl Finder {
     pub(crate) fn new(alloc: Global, a: &Prio, limit: u32) -> Result<Finder, OutOfMemory>
         ensures { IfOk result (λ f. found_of f ≡ record { limit = limit; keys = first_key ∷ []; leads = [] ∷ []; rests = (letters_count a.now ∷ []) ∷ []; rows = [] }) }
     {
-        let mut keys = IndexSet::new(alloc);
+        let mut keys = IndexSet::with_capacity(alloc, FIRST_ROOM)?;
         keys.insert(Key { state: 0, set: 0 })?;
-        let mut leads = Vec::new(alloc);
-        leads.push(Items::new(alloc))?;
-        let mut rest = Items::new(alloc);
-        rest.push(a.letters().count())?;
-        let mut rests = Vec::new(alloc);
-        rests.push(rest)?;
+        let leads = begun_with(alloc, FIRST_ROOM, Items::new(alloc))?;
+        let end = begun_with(alloc, 1, a.letters().count())?;
+        let rests = begun_with(alloc, FIRST_ROOM, Items::from_vec(end))?;
         Ok(Finder {
             limit,
             keys,
@@ -176,6 +186,7 @@ impl Finder {
         requires from_in { from < length (found_of self.old).keys }
         requires letter_in { letter ≤ letters_count a.now }
         ensures further { OnOk result (IsFurther a.now walk.old walk.new (found_of self.old) (found_of self.new) (from * width a.now + suc letter)) }
+        ensures row { OnOk result (row.new.items ≡ next_of a.now (found_of self.new) from letter) }
         ensures errors { IfErr result (IsRightError a.now (found_of self.old).limit) }
     {
         let _states = a.states();
@@ -195,6 +206,60 @@ impl Finder {
         Ok(())
     }
 
+    /// Whether a pair has the same moves on a letter as on the letter before it: the state moves alike, and the set has one image.
+    fn repeats(
+        &self,
+        a: &Prio,
+        walk: &mut SetWalk,
+        from: u32,
+        letter: u32,
+    ) -> Result<bool, PairsError>
+        requires counting { IsCounting a.now walk.old }
+        requires found { IsFound a.now walk.old (found_of self.now) }
+        requires from_in { from < length (found_of self.now).keys }
+        requires letter_in { letter ≤ letters_count a.now }
+        requires later { 0 < letter }
+        ensures onward { OnOk result (IsOnward a.now walk.old walk.new) }
+        ensures stands { OnOk result (Stands walk.new (image a.now (pair_at walk.old (found_of self.now) from).set letter)) }
+        ensures same { IfOk result (λ same. IsTrue same → next_pairs a.now (pair_at walk.old (found_of self.now) from) (letter - 1)
+            ≡ next_pairs a.now (pair_at walk.old (found_of self.now) from) letter) }
+        ensures errors { IfErr result (IsRightError a.now (found_of self.now).limit) }
+    {
+        let _states = a.states();
+        let pair = self.keys[from as usize];
+        let before = image_of(walk, a, pair.set, letter - 1)?;
+        let after = image_of(walk, a, pair.set, letter)?;
+        Ok(before == after && a.moves(pair.state, letter - 1) == a.moves(pair.state, letter))
+    }
+
+    /// Looks at the moves of a pair on a letter behind the first one. The row holds that of the letter before, which is taken
+    /// again where the moves are the same.
+    fn expand_next(
+        &mut self,
+        a: &Prio,
+        walk: &mut SetWalk,
+        row: &mut Vec<u32>,
+        from: u32,
+        letter: u32,
+    ) -> Result<(), PairsError>
+        requires counting { IsCounting a.now walk.old }
+        requires found { IsFound a.now walk.old (found_of self.old) }
+        requires moved { IsMoved a.now walk.old (found_of self.old) (from * width a.now + letter) }
+        requires from_in { from < length (found_of self.old).keys }
+        requires letter_in { letter ≤ letters_count a.now }
+        requires later { 0 < letter }
+        requires before { row.old.items ≡ next_of a.now (found_of self.old) from (letter - 1) }
+        ensures further { OnOk result (IsFurther a.now walk.old walk.new (found_of self.old) (found_of self.new) (from * width a.now + suc letter)) }
+        ensures row { OnOk result (row.new.items ≡ next_of a.now (found_of self.new) from letter) }
+        ensures errors { IfErr result (IsRightError a.now (found_of self.old).limit) }
+    {
+        if self.repeats(a, walk, from, letter)? {
+            self.end_row(row.as_slice())?;
+            return Ok(());
+        }
+        self.expand_on(a, walk, row, from, letter)
+    }
+
     /// Looks at the moves of a pair: the letters in rising order, the end letter last.
     fn expand(
         &mut self,
@@ -210,11 +275,10 @@ impl Finder {
         ensures further { OnOk result (IsFurther a.now walk.old walk.new (found_of self.old) (found_of self.new) (suc from * width a.now)) }
         ensures errors { IfErr result (IsRightError a.now (found_of self.old).limit) }
     {
-        let end = a.letters().count();
-        for letter in 0..end {
-            self.expand_on(a, walk, row, from, letter)?;
+        self.expand_on(a, walk, row, from, 0)?;
+        for letter in 0..a.letters().count() {
+            self.expand_next(a, walk, row, from, letter + 1)?;
         }
-        self.expand_on(a, walk, row, from, end)?;
         Ok(())
     }
 

@@ -10,7 +10,9 @@ ghost use Rattle.rl_pairs.specs.Counted.{CountedSet, MoreThan};
 ghost use Rattle.rl_pairs.specs.PairTable.{moves_in, pair_in, lead_in, rest_in, IsFull};
 ghost use Rattle.rl_pairs.specs.internal.Rows.{IsBuilt};
 ghost use Rattle.rl_pairs.specs.declared.error.PairsError.TheVariants as error;
-ghost use Rattle.rl_pairs.specs.internal.Finding.{found_of, pair_of};
+ghost use Rattle.rl_pairs.specs.internal.Counting.{IsCounting};
+ghost use Rattle.rl_pairs.specs.internal.Errors.{IsRightError};
+ghost use Rattle.rl_pairs.specs.internal.Finding.{found_of, pair_of, IsWhole};
 ghost use Rattle.rl_syntax.specs.declared.limits.TheConstants.{MOST_COUNTED_SETS};
 
 use crate::counting::{close, start};
@@ -129,6 +131,25 @@ fn built(
     })
 }
 
+/// Finds all live pairs, from a walk on that begins with the empty set, and makes the images of all sets of the walk.
+fn find_all(
+    alloc: Global,
+    a: &Prio,
+    walk: &mut SetWalk,
+    max_pairs: u32,
+) -> Result<Finder, PairsError>
+    requires counting { IsCounting a.now walk.old }
+    requires some { 1 ≤ max_pairs }
+    ensures whole { IfOk result (λ finder. IsWhole a.now walk.new (found_of finder) max_pairs) }
+    ensures errors { IfErr result (IsRightError a.now max_pairs) }
+{
+    let _states = a.states();
+    let mut finder = Finder::new(alloc, a, max_pairs)?;
+    finder.find(a, walk)?;
+    close(walk, a)?;
+    Ok(finder)
+}
+
 /// The graph of the live pairs of an automaton: the product of the automaton with the powerset construction of earlier tries,
 /// as far as breadth-first search over live sets reaches it.
 ///
@@ -154,11 +175,8 @@ pub fn pairs(alloc: Global, a: &Prio, max_pairs: u32) -> Result<PairGraph, Pairs
     let Some(letters) = a.letters().count().checked_add(1) else {
         return Err(PairsError::OutOfMemory);
     };
-    let _states = a.states();
     let mut walk = start(alloc, a)?;
-    let mut finder = Finder::new(alloc, a, max_pairs)?;
-    finder.find(a, &mut walk)?;
-    close(&mut walk, a)?;
+    let finder = find_all(alloc, a, &mut walk, max_pairs)?;
     let graph = built(alloc, letters, &walk, finder)?;
     Ok(graph)
 }

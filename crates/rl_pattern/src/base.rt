@@ -1,9 +1,9 @@
 //! What the reader has read, with one thing more.
 
-ghost use Rattle.std.specs.Prelude.{◌≡◌, ℕ, ◌+◌, ◌-◌, ◌<◌, ◌≤◌, ◌^◌, List, [], ◌∷◌, ◌++◌, length, map, IfOk, option_map, Option, suc};
+ghost use Rattle.std.specs.Prelude.{◌≡◌, ℕ, ◌+◌, ◌-◌, ◌<◌, ◌≤◌, ◌^◌, List, [], ◌∷◌, ◌++◌, length, map, reverse, IfOk, option_map, Option, None, suc};
 ghost use Rattle.rl_pattern.specs.internal.Views.{node_of, branch_of, last_of, frame_of, base_of, lex_of, state_of};
 ghost use Rattle.rl_pattern.specs.Tree as t;
-ghost use Rattle.rl_pattern.specs.Codes.{inside, splits};
+ghost use Rattle.rl_pattern.specs.Codes.{inside, splits, joined};
 ghost use Rattle.rl_pattern.specs.internal.Machine as m;
 
 use crate::flags::{Flags, joined, scoped_flags};
@@ -13,62 +13,59 @@ use rl_lists::{Items, OutOfMemory};
 use rl_syntax::Span;
 use std::alloc::Global;
 
-/// A branch of these items: one item is the branch.
+/// What a branch of these items is: one item is the branch.
+fn branch_body(place: Span, items: Items<SyntaxNode>) -> SyntaxNode
+    ensures { node_of result ≡ t.branch_body place (map node_of items) }
+{
+    if 1 < items.len() {
+        return SyntaxNode::Seq(place, items);
+    }
+    let mut items = items.into_vec();
+    match items.pop() {
+        Some(body) => body,
+        None => SyntaxNode::Nothing(place),
+    }
+}
+
+/// A branch of these items.
 pub(crate) fn branch(place: Span, items: Items<SyntaxNode>) -> Branch
     ensures { branch_of result ≡ t.branch place (map node_of items) }
 {
-    if items.len() == 1 {
-        let mut items = items.into_vec();
-        match items.pop() {
-            Some(body) => Branch { place, body },
-            None => Branch {
-                place,
-                body: SyntaxNode::Nothing(place),
-            },
-        }
-    } else if items.is_empty() {
-        Branch {
-            place,
-            body: SyntaxNode::Nothing(place),
-        }
-    } else {
-        Branch {
-            place,
-            body: SyntaxNode::Seq(place, items),
-        }
+    Branch {
+        place,
+        body: branch_body(place, items),
     }
 }
 
 /// A body of these branches: one branch is the body.
-pub(crate) fn whole_body(place: Span, branches: Items<Branch>) -> SyntaxNode
+fn whole_body(place: Span, branches: Items<Branch>) -> SyntaxNode
     ensures { node_of result ≡ t.whole_body place (map branch_of branches) }
 {
-    if branches.len() == 1 {
-        let mut branches = branches.into_vec();
-        match branches.pop() {
-            Some(only) => {
-                let Branch { place: _, body } = only;
-                body
-            }
-            None => SyntaxNode::Nothing(place),
-        }
-    } else if branches.is_empty() {
-        SyntaxNode::Nothing(place)
-    } else {
-        SyntaxNode::Choice(place, branches)
+    if 1 < branches.len() {
+        return SyntaxNode::Choice(place, branches);
+    }
+    let mut branches = branches.into_vec();
+    match branches.pop() {
+        Some(Branch { place: _, body }) => body,
+        None => SyntaxNode::Nothing(place),
     }
 }
 
-/// The items with the last atom.
-fn settled(mut items: Items<SyntaxNode>, last: Last) -> Result<Items<SyntaxNode>, OutOfMemory>
-    ensures { IfOk result (λ all. map node_of all ≡ m.settled (map node_of items) (last_of last)) }
+/// A body with one item more.
+fn with_item(mut body: Frame, item: SyntaxNode) -> Result<Frame, OutOfMemory>
+    ensures { IfOk result (λ found. frame_of found ≡ record (frame_of body) { items = map node_of body.items ++ node_of item ∷ [] }) }
+{
+    body.items.push(item)?;
+    Ok(body)
+}
+
+/// A body with its last atom among the items.
+fn settled(body: Frame, last: Last) -> Result<Frame, OutOfMemory>
+    ensures { IfOk result (λ found. frame_of found ≡ record (frame_of body) { items = m.settled (map node_of body.items) (last_of last) }) }
 {
     match last {
-        Last::NothingYet => Ok(items),
-        Last::AnAtom(_, atom) => {
-            items.push(atom)?;
-            Ok(items)
-        }
+        Last::NothingYet => Ok(body),
+        Last::AnAtom(_, atom) => with_item(body, atom),
     }
 }
 
@@ -82,25 +79,7 @@ fn with_last(base: Base, last: Last) -> Result<Base, OutOfMemory>
         below,
         fronts,
     } = base;
-    let Frame {
-        flags,
-        kind,
-        opened,
-        start,
-        from,
-        branches,
-        items,
-    } = top;
-    let items = settled(items, before)?;
-    let top = Frame {
-        flags,
-        kind,
-        opened,
-        start,
-        from,
-        branches,
-        items,
-    };
+    let top = settled(top, before)?;
     Ok(Base {
         top,
         last,
@@ -116,13 +95,30 @@ pub(crate) fn put(base: Base, from: u32, atom: SyntaxNode) -> Result<Base, OutOf
     with_last(base, Last::AnAtom(from, atom))
 }
 
+/// A body with its last atom among the items, and one item more.
+fn settled_with(body: Frame, last: Last, item: SyntaxNode) -> Result<Frame, OutOfMemory>
+    ensures { IfOk result (λ found. frame_of found ≡ record (frame_of body) { items = m.settled (map node_of body.items) (last_of last) ++ node_of item ∷ [] }) }
+{
+    with_item(settled(body, last)?, item)
+}
+
 /// An item that takes no quantifier.
 pub(crate) fn put_item(base: Base, item: SyntaxNode) -> Result<Base, OutOfMemory>
     ensures { IfOk result (λ found. base_of found ≡ m.put_item (base_of base) (node_of item)) }
 {
-    let mut base = with_last(base, Last::NothingYet)?;
-    base.top.items.push(item)?;
-    Ok(base)
+    let Base {
+        top,
+        last,
+        below,
+        fronts,
+    } = base;
+    let top = settled_with(top, last, item)?;
+    Ok(Base {
+        top,
+        last: Last::NothingYet,
+        below,
+        fronts,
+    })
 }
 
 /// A node for one code.
@@ -145,18 +141,44 @@ pub(crate) fn put_code(base: Base, i: u32, code: u32) -> Result<Base, OutOfMemor
     put_leaf(base, i, i + 1, Leaf::Glyph(Escaped::Code(code)))
 }
 
+/// Codes from `from` on, each a literal.
+fn put_codes(mut base: Base, from: u32, codes: &[u32]) -> Result<Base, OutOfMemory>
+    requires { from + length codes.now < 2 ^ 32 }
+    ensures { IfOk result (λ found. base_of found ≡ m.put_codes (base_of base) from codes.now) }
+{
+    let mut place = from;
+    for code in codes {
+        base = put_code(base, place, *code)?;
+        place += 1;
+    }
+    Ok(base)
+}
+
 /// A brace at `from` and the text after it, which are no count.
 pub(crate) fn no_count(base: Base, from: u32, text: &[u32]) -> Result<Base, OutOfMemory>
     requires { suc from + length text.now < 2 ^ 32 }
     ensures { IfOk result (λ found. base_of found ≡ m.no_count (base_of base) from text.now) }
 {
-    let mut base = put_code(base, from, '{' as u32)?;
-    let mut place = from + 1;
-    for code in text {
-        base = put_code(base, place, *code)?;
-        place += 1;
-    }
-    Ok(base)
+    put_codes(put_code(base, from, '{' as u32)?, from + 1, text)
+}
+
+/// The node of an atom with a quantifier.
+fn repeat_of(
+    alloc: Global,
+    from: u32,
+    atom: SyntaxNode,
+    mark: Span,
+    count: Count,
+    greed: Greed,
+) -> Result<SyntaxNode, OutOfMemory>
+    ensures { IfOk result (λ node. node_of node ≡ t.repeat (t.span from mark.upto) (t.span mark.from mark.upto) count greed (node_of atom)) }
+{
+    let span = Span {
+        from,
+        upto: mark.upto,
+    };
+    let body = Box::new(alloc, atom)?;
+    Ok(SyntaxNode::Repeat(span, mark, count, greed, body))
 }
 
 /// The atom with a quantifier.
@@ -171,12 +193,8 @@ pub(crate) fn put_repeat(
 ) -> Result<Base, OutOfMemory>
     ensures { IfOk result (λ found. base_of found ≡ m.put_repeat (base_of base) from (node_of atom) mark.from mark.upto count greed) }
 {
-    let span = Span {
-        from,
-        upto: mark.upto,
-    };
-    let body = Box::new(alloc, atom)?;
-    put_item(base, SyntaxNode::Repeat(span, mark, count, greed, body))
+    let item = repeat_of(alloc, from, atom, mark, count, greed)?;
+    put_item(base, item)
 }
 
 /// A quantifier from `from` for the last atom.
@@ -203,6 +221,13 @@ pub(crate) fn count_last(base: Base, from: u32, count: Count) -> Option<State>
     }
 }
 
+/// No pattern goes on with what was read.
+pub(crate) fn stopped(_: Base) -> Option<State>
+    ensures { option_map state_of result ≡ None }
+{
+    None
+}
+
 /// Whether a `|` may follow these branches.
 fn splits(kind: &Kind, branches: &Items<Branch>) -> bool
     ensures { result ≡ splits kind.now (map branch_of branches.now) }
@@ -214,19 +239,43 @@ fn splits(kind: &Kind, branches: &Items<Branch>) -> bool
     }
 }
 
-/// The branches of a body with the open one, up to `upto`.
-pub(crate) fn all_branches(
+/// The branches of a body with the open one, up to `upto`. Its last atom is among its items.
+fn all_branches(
     mut branches: Items<Branch>,
     from: u32,
     upto: u32,
     items: Items<SyntaxNode>,
-    last: Last,
 ) -> Result<Items<Branch>, OutOfMemory>
-    ensures { IfOk result (λ all. map branch_of all ≡ map branch_of branches ++ t.branch (t.span from upto) (m.settled (map node_of items) (last_of last)) ∷ []) }
+    ensures { IfOk result (λ all. map branch_of all ≡ map branch_of branches ++ t.branch (t.span from upto) (map node_of items) ∷ []) }
 {
-    let items = settled(items, last)?;
     branches.push(branch(Span { from, upto }, items))?;
     Ok(branches)
+}
+
+/// A body with its open branch, up to `i`, after those before it, and the next one open.
+fn next_branch(alloc: Global, body: Frame, last: Last, i: u32) -> Result<Frame, OutOfMemory>
+    requires { i < 2 ^ 32 - 1 }
+    ensures { IfOk result (λ found. frame_of found ≡ record (frame_of body) { from = suc i; branches = map branch_of body.branches ++ t.branch (t.span body.from i) (m.settled (map node_of body.items) (last_of last)) ∷ []; items = [] }) }
+{
+    let Frame {
+        flags,
+        kind,
+        opened,
+        start,
+        from,
+        branches,
+        items,
+    } = settled(body, last)?;
+    let branches = all_branches(branches, from, i, items)?;
+    Ok(Frame {
+        flags,
+        kind,
+        opened,
+        start,
+        from: i + 1,
+        branches,
+        items: Items::new(alloc),
+    })
 }
 
 /// A `|` at `i`.
@@ -240,37 +289,21 @@ pub(crate) fn split(alloc: Global, base: Base, i: u32) -> Result<Option<State>, 
         below,
         fronts,
     } = base;
-    let Frame {
-        flags,
-        kind,
-        opened,
-        start,
-        from,
-        branches,
-        items,
-    } = top;
-    let branches = all_branches(branches, from, i, items, last)?;
-    if !splits(&kind, &branches) {
-        return Ok(None);
-    }
-    let top = Frame {
-        flags,
-        kind,
-        opened,
-        start,
-        from: i + 1,
-        branches,
-        items: Items::new(alloc),
+    let top = next_branch(alloc, top, last, i)?;
+    let base = Base {
+        top,
+        last: Last::NothingYet,
+        below,
+        fronts,
     };
-    Ok(Some(State {
-        base: Base {
-            top,
-            last: Last::NothingYet,
-            below,
-            fronts,
-        },
-        lex: Lex::Between,
-    }))
+    if splits(&base.top.kind, &base.top.branches) {
+        Ok(Some(State {
+            base,
+            lex: Lex::Between,
+        }))
+    } else {
+        Ok(stopped(base))
+    }
 }
 
 /// The flags inside a group.
@@ -282,6 +315,29 @@ fn inside(kind: &Kind, flags: Flags) -> Flags
         Kind::Capturing | Kind::Named(_) | Kind::Lookaround | Kind::Atomic | Kind::Conditional =>
             flags,
     }
+}
+
+/// A body in which nothing was read.
+pub(crate) fn empty_body(alloc: Global, flags: Flags, kind: Kind, opened: u32, start: u32) -> Frame
+    ensures { frame_of result ≡ record { flags = flags; kind = kind; opened = opened; start = start; from = start; branches = []; items = [] } }
+{
+    Frame {
+        flags,
+        kind,
+        opened,
+        start,
+        from: start,
+        branches: Items::new(alloc),
+        items: Items::new(alloc),
+    }
+}
+
+/// Open bodies, and one more with its last atom among the items.
+fn with_below(mut below: Vec<Frame>, body: Frame, last: Last) -> Result<Vec<Frame>, OutOfMemory>
+    ensures { IfOk result (λ all. map frame_of (reverse all.items) ≡ record (frame_of body) { items = m.settled (map node_of body.items) (last_of last) } ∷ map frame_of (reverse below.items)) }
+{
+    below.push(settled(body, last)?)?;
+    Ok(below)
 }
 
 /// A group with its parenthesis at `opened` and its body from `start` on.
@@ -296,27 +352,51 @@ pub(crate) fn open_group(
 {
     let Base {
         top,
-        last: _,
-        mut below,
+        last,
+        below,
         fronts,
-    } = with_last(base, Last::NothingYet)?;
+    } = base;
     let flags = inside(&kind, top.flags);
-    below.push(top)?;
-    let top = Frame {
-        flags,
-        kind,
-        opened,
-        start,
-        from: start,
-        branches: Items::new(alloc),
-        items: Items::new(alloc),
-    };
+    let below = with_below(below, top, last)?;
     Ok(Base {
-        top,
+        top: empty_body(alloc, flags, kind, opened, start),
         last: Last::NothingYet,
         below,
         fronts,
     })
+}
+
+/// What a body is, up to `upto`, and the body's kind.
+pub(crate) fn body_up_to(
+    body: Frame,
+    last: Last,
+    upto: u32,
+) -> Result<(SyntaxNode, Kind), OutOfMemory>
+    ensures { IfOk result (λ found. (node_of found.0 ≡ t.whole_body (t.span body.start upto) (map branch_of body.branches ++ t.branch (t.span body.from upto) (m.settled (map node_of body.items) (last_of last)) ∷ [])) × (found.1 ≡ body.kind)) }
+{
+    let Frame {
+        flags: _,
+        kind,
+        opened: _,
+        start,
+        from,
+        branches,
+        items,
+    } = settled(body, last)?;
+    let branches = all_branches(branches, from, upto, items)?;
+    Ok((whole_body(Span { from: start, upto }, branches), kind))
+}
+
+/// The group of an open body, which the `)` at `i` closes, as the last atom.
+fn closed(alloc: Global, body: Frame, last: Last, i: u32) -> Result<Last, OutOfMemory>
+    requires { i < 2 ^ 32 - 1 }
+    ensures { IfOk result (λ atom. last_of atom ≡ m.an_atom body.opened (t.group (t.span body.opened (suc i)) body.kind (t.whole_body (t.span body.start i) (map branch_of body.branches ++ t.branch (t.span body.from i) (m.settled (map node_of body.items) (last_of last)) ∷ [])))) }
+{
+    let from = body.opened;
+    let (body, kind) = body_up_to(body, last, i)?;
+    let body = Box::new(alloc, body)?;
+    let span = Span { from, upto: i + 1 };
+    Ok(Last::AnAtom(from, SyntaxNode::Group(span, kind, body)))
 }
 
 /// The `)` at `i`.
@@ -330,41 +410,26 @@ pub(crate) fn close(alloc: Global, base: Base, i: u32) -> Result<Option<State>, 
         mut below,
         fronts,
     } = base;
-    let outer = match below.pop() {
-        None => return Ok(None),
-        Some(outer) => outer,
-    };
-    let Frame {
-        flags: _,
-        kind,
-        opened,
-        start,
-        from,
-        branches,
-        items,
-    } = top;
-    let branches = all_branches(branches, from, i, items, last)?;
-    let body = whole_body(
-        Span {
-            from: start,
-            upto: i,
-        },
-        branches,
-    );
-    let body = Box::new(alloc, body)?;
-    let span = Span {
-        from: opened,
-        upto: i + 1,
-    };
-    Ok(Some(State {
-        base: Base {
-            top: outer,
-            last: Last::AnAtom(opened, SyntaxNode::Group(span, kind, body)),
+    match below.pop() {
+        None => Ok(stopped(Base {
+            top,
+            last,
             below,
             fronts,
-        },
-        lex: Lex::Between,
-    }))
+        })),
+        Some(outer) => {
+            let last = closed(alloc, top, last, i)?;
+            Ok(Some(State {
+                base: Base {
+                    top: outer,
+                    last,
+                    below,
+                    fronts,
+                },
+                lex: Lex::Between,
+            }))
+        }
+    }
 }
 
 /// Whether a flag group from `from` may stand here.
@@ -382,9 +447,19 @@ fn at_front(base: &Base, from: u32) -> bool
         && (from == 0 || !base.fronts.is_empty())
 }
 
+/// A body that begins at `start` under more flags.
+fn begun_at(mut body: Frame, letters: Flags, start: u32) -> Frame
+    ensures { frame_of result ≡ record (frame_of body) { flags = joined body.flags letters; start = start; from = start } }
+{
+    body.flags = joined(body.flags, letters);
+    body.start = start;
+    body.from = start;
+    body
+}
+
 /// A flag group.
 pub(crate) fn put_front(
-    mut base: Base,
+    base: Base,
     from: u32,
     upto: u32,
     letters: Flags,
@@ -392,17 +467,25 @@ pub(crate) fn put_front(
     ensures { IfOk result (λ found. option_map state_of found ≡ m.put_front (base_of base) from upto letters) }
 {
     if !at_front(&base, from) {
-        return Ok(None);
+        return Ok(stopped(base));
     }
-    base.top.flags = joined(base.top.flags, letters);
-    base.top.start = upto;
-    base.top.from = upto;
-    base.fronts.push(Front {
+    let Base {
+        top,
+        last,
+        below,
+        mut fronts,
+    } = base;
+    fronts.push(Front {
         place: Span { from, upto },
         letters,
     })?;
     Ok(Some(State {
-        base,
+        base: Base {
+            top: begun_at(top, letters, upto),
+            last,
+            below,
+            fronts,
+        },
         lex: Lex::Between,
     }))
 }

@@ -1,8 +1,8 @@
 //! Counts in braces.
 
-ghost use Rattle.std.specs.Prelude.{◌≡◌};
+ghost use Rattle.std.specs.Prelude.{◌≡◌, [], Some};
 ghost use Rattle.rl_pattern.specs.Codes.{count_of};
-ghost use Rattle.rl_pattern.specs.internal.Views.{part_next};
+ghost use Rattle.rl_pattern.specs.internal.Views.{part_next, part_rest};
 
 use crate::escape::with_digit;
 use crate::lex::CountPart;
@@ -38,6 +38,23 @@ fn count_next(part: CountPart, code: u32) -> Option<CountPart>
     }
 }
 
+/// The count that the text spells up to its end.
+fn count_at_end(part: CountPart) -> Count
+    ensures { Some result ≡ part_rest part [] }
+{
+    match part {
+        CountPart::Least(least) => Count {
+            least,
+            most: Some(least),
+        },
+        CountPart::Upper(least) => Count { least, most: None },
+        CountPart::Most(least, most) => Count {
+            least,
+            most: Some(most),
+        },
+    }
+}
+
 /// The count that a text of digits and commas spells between braces, if it does.
 #[tactic(auto, unfolding(crate::specs::Codes::count_of))]
 pub(crate) fn count_of(text: &[u32]) -> Option<Count>
@@ -53,15 +70,5 @@ pub(crate) fn count_of(text: &[u32]) -> Option<Count>
             Some(next) => part = next,
         }
     }
-    match part {
-        CountPart::Least(least) => Some(Count {
-            least,
-            most: Some(least),
-        }),
-        CountPart::Upper(least) => Some(Count { least, most: None }),
-        CountPart::Most(least, most) => Some(Count {
-            least,
-            most: Some(most),
-        }),
-    }
+    Some(count_at_end(part))
 }

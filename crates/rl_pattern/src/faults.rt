@@ -1,6 +1,6 @@
 //! What is refused in a tree: the first fault by its place, and of two at one place by the order of features.
 
-ghost use Rattle.std.specs.Prelude.{◌≡◌, ℕ, Bool, List, map, ◌||◌, ◌&&◌, flat_map};
+ghost use Rattle.std.specs.Prelude.{◌≡◌, ℕ, Bool, List, map, ◌||◌, ◌&&◌, ◌==◌, nat_lt, flat_map};
 ghost use Rattle.rl_pattern.specs.internal.Views.{node_of, branch_of};
 ghost use Rattle.rl_pattern.specs.Tree as t;
 ghost use Rattle.rl_pattern.specs.Found as f;
@@ -158,30 +158,48 @@ fn mark_fault(span: Span, flags: Flags, mark: Assertion) -> Option<Fault>
     }
 }
 
+/// Whether a number of a count is as large as numbers get.
+fn is_too_large(count: Count) -> bool
+    ensures { result ≡ (count.least == 4294967295 || f.is_bound (λ m. m == 4294967295) count.most) }
+{
+    match count.most {
+        None => count.least == u32::MAX,
+        Some(most) => count.least == u32::MAX || most == u32::MAX,
+    }
+}
+
+/// Whether there is a greatest number, and it is below the least.
+fn is_below(most: Option<u32>, least: u32) -> bool
+    ensures { result ≡ f.is_bound (λ m. nat_lt m least) most }
+{
+    match most {
+        None => false,
+        Some(most) => most < least,
+    }
+}
+
+/// Whether a quantifier gives nothing back.
+fn is_possessive(greed: Greed) -> bool
+    ensures { result ≡ f.is_possessive greed }
+{
+    match greed {
+        Greed::Greedy | Greed::Lazy => false,
+        Greed::Possessive => true,
+    }
+}
+
 /// The first fault of a quantifier at a place.
 #[tactic(auto, using(crate::proofs::FirstFault::first_of_joined))]
 fn count_fault(place: u32, count: Count, greed: Greed) -> Option<Fault>
     ensures { result ≡ f.first_fault (f.count_faults place count greed) }
 {
-    let is_most = match count.most {
-        None => false,
-        Some(most) => most == u32::MAX,
-    };
-    let below_least = match count.most {
-        None => false,
-        Some(most) => most < count.least,
-    };
-    let possessive = match greed {
-        Greed::Greedy | Greed::Lazy => false,
-        Greed::Possessive => true,
-    };
-    let too_large = fault_if(
-        count.least == u32::MAX || is_most,
+    let too_large = fault_if(is_too_large(count), place, Feature::RepeatTooLarge);
+    let order = fault_if(
+        is_below(count.most, count.least),
         place,
-        Feature::RepeatTooLarge,
+        Feature::RepeatOrder,
     );
-    let order = fault_if(below_least, place, Feature::RepeatOrder);
-    let kept = fault_if(possessive, place, Feature::Possessive);
+    let kept = fault_if(is_possessive(greed), place, Feature::Possessive);
     earlier(too_large, earlier(order, kept))
 }
 

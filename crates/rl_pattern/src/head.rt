@@ -105,6 +105,18 @@ fn goes_if(goes: bool, head: InHead) -> HeadAnswer
     }
 }
 
+/// The code that begins a group's name, in text or not.
+fn group_name_first(alloc: Global, text: bool, code: u32) -> Result<HeadAnswer, OutOfMemory>
+    ensures { IfOk result (λ answer. answer ≡ head_step text InHead.GroupName code) }
+{
+    if !begins_name(text, code) {
+        return Ok(Answer::Stops);
+    }
+    let mut name = Items::new(alloc);
+    name.push(code)?;
+    Ok(Answer::Goes(InHead::GroupNameGoes(name)))
+}
+
 /// A code within a group's name, in text or not.
 fn group_name_next(text: bool, mut name: Items<u32>, code: u32) -> Result<HeadAnswer, OutOfMemory>
     ensures { IfOk result (λ answer. answer ≡ head_step text (InHead.GroupNameGoes name) code) }
@@ -151,15 +163,7 @@ pub(crate) fn head_step(
             }
         }
         InHead::AfterLess => Ok(behind_next(headed(code))),
-        InHead::GroupName => {
-            if begins_name(text, code) {
-                let mut name = Items::new(alloc);
-                name.push(code)?;
-                Ok(Answer::Goes(InHead::GroupNameGoes(name)))
-            } else {
-                Ok(Answer::Stops)
-            }
-        }
+        InHead::GroupName => group_name_first(alloc, text, code),
         InHead::GroupNameGoes(name) => group_name_next(text, name, code),
         InHead::ReferenceName => Ok(goes_if(begins_name(text, code), InHead::ReferenceNameGoes)),
         InHead::ReferenceNameGoes => {

@@ -49,9 +49,9 @@ impl From<OutOfMemory> for PatError {
 }
 
 /// The pattern of a tree without its outer anchors.
-fn pattern_of(alloc: Global, left: &Inner, universe: Universe) -> Result<Pattern, OutOfMemory>
-    requires { IsPattern universe (shape universe (left_of left.now).body) }
-    ensures { IfOk result (IsPatternOf universe (left_of left.now)) }
+fn pattern_of(alloc: Global, left: Inner, universe: Universe) -> Result<Pattern, OutOfMemory>
+    requires { IsPattern universe (shape universe (left_of left).body) }
+    ensures { IfOk result (IsPatternOf universe (left_of left)) }
 {
     let body = node_pat(alloc, universe, &left.body)?;
     Ok(Pattern::new(body, left.leading, left.trailing, universe))
@@ -69,10 +69,7 @@ fn outcome(
 {
     match judge(alloc, flags, is_text(universe), whole)? {
         Judged::Refused(fault) => Err(PatError::Outside(fault.place, fault.what)),
-        Judged::Left(left) => {
-            let pattern = pattern_of(alloc, &left, universe)?;
-            Ok(pattern)
-        }
+        Judged::Left(left) => Ok(pattern_of(alloc, left, universe)?),
     }
 }
 

@@ -1,6 +1,6 @@
 //! The reader of whole patterns.
 
-ghost use Rattle.std.specs.Prelude.{◌≡◌, ℕ, ◌<◌, ◌≤◌, ◌^◌, ◌-◌, ◌+◌, suc, length, slice_get, IfOk, option_map};
+ghost use Rattle.std.specs.Prelude.{◌≡◌, ℕ, ◌<◌, ◌≤◌, ◌^◌, ◌-◌, ◌+◌, suc, length, slice_get, IfOk, option_map, Some};
 ghost use Rattle.rl_pattern.specs.declared.limits.TheConstants.{MOST_CODES};
 ghost use Rattle.rl_pattern.specs.internal.Views.{lex_of, state_of, FitsAt};
 ghost use Rattle.rl_pattern.specs.internal.Machine.{step_at, finish_at};
@@ -17,7 +17,7 @@ use rl_lists::OutOfMemory;
 use std::alloc::Global;
 
 /// Why codes give no tree.
-#[derive(Clone, Copy, Debug, PartialEq, Eq)]
+#[derive(Clone, Copy)]
 pub(crate) enum ReadError {
     /// No pattern is spelled. The number is the length of the longest prefix that begins one.
     Syntax(u32),
@@ -84,6 +84,17 @@ fn is_too_deep(state: &State, codes: &[u32], place: u32) -> bool
         && !opens_none(codes, place as usize)
 }
 
+/// The state behind the code at `place`, unless a group opens too deep there.
+fn unless_too_deep(next: State, codes: &[u32], place: u32) -> Result<State, ReadError>
+    ensures { Went codes.now place (Some (state_of next)) result }
+{
+    if is_too_deep(&next, codes, place) {
+        Err(ReadError::TooDeep(place))
+    } else {
+        Ok(next)
+    }
+}
+
 /// The state with the code at `place`.
 fn one_code(
     alloc: Global,
@@ -99,13 +110,7 @@ fn one_code(
 {
     match step(alloc, text, place, state, code)? {
         None => Err(ReadError::Syntax(place)),
-        Some(next) => {
-            if is_too_deep(&next, codes, place) {
-                Err(ReadError::TooDeep(place))
-            } else {
-                Ok(next)
-            }
-        }
+        Some(next) => unless_too_deep(next, codes, place),
     }
 }
 

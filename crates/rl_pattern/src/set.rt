@@ -1,6 +1,8 @@
 //! The reader within a class.
 
-ghost use Rattle.std.specs.Prelude.{◌≡◌, ℕ, ◌<◌, ◌^◌, ◌-◌, IfOk};
+ghost use Rattle.std.specs.Prelude.{◌≡◌, ℕ, ◌<◌, ◌^◌, ◌-◌, [], ◌∷◌, ◌++◌, Some, IfOk};
+ghost use Rattle.rl_pattern.specs.Codes.{code_of};
+ghost use Rattle.rl_pattern.specs.Tree.{span, range, code as code_side};
 ghost use Rattle.rl_pattern.specs.internal.Machine.{with_one, side_first, member_first, side_next, escape_in_set, escape_set_next, range_ends, escape_in_dash, escape_dash_next, dash_next, set_step, in_set};
 
 use crate::codes::slashed;
@@ -70,10 +72,24 @@ fn side_next(
     Ok(member_first(i, with_one(before, from, i, side)?, code))
 }
 
+/// The members with one range more.
+fn with_range(
+    mut before: Items<Member>,
+    from: u32,
+    upto: u32,
+    first: Escaped,
+    last: Escaped,
+) -> Result<Items<Member>, OutOfMemory>
+    ensures { IfOk result (λ members. members ≡ before ++ range (span from upto) first last ∷ []) }
+{
+    before.push(Member::Range(Span { from, upto }, first, last))?;
+    Ok(before)
+}
+
 /// A range that ends at `upto`.
 fn range_ends(
     upto: u32,
-    mut before: Items<Member>,
+    before: Items<Member>,
     from: u32,
     first: Escaped,
     last: Escaped,
@@ -83,8 +99,7 @@ fn range_ends(
     if is_kind(last) {
         return Ok(Answer::Stops);
     }
-    before.push(Member::Range(Span { from, upto }, first, last))?;
-    Ok(in_set(before, InSet::SetNext))
+    Ok(in_set(with_range(before, from, upto, first, last)?, InSet::SetNext))
 }
 
 /// The code behind a backslash that begins a member.
@@ -137,10 +152,27 @@ fn escape_in_dash(
     }
 }
 
+/// The code at `i` behind a range, which its last side may not end.
+fn behind_range(
+    i: u32,
+    before: Items<Member>,
+    from: u32,
+    first: Escaped,
+    last: Escaped,
+    code: u32,
+) -> Result<SetAnswer, OutOfMemory>
+    ensures { IfOk result (λ found. found ≡ escape_dash_next i before from first Answer.Stops (Some last) code) }
+{
+    if is_kind(last) {
+        return Ok(Answer::Stops);
+    }
+    Ok(member_first(i, with_range(before, from, i, first, last)?, code))
+}
+
 /// A code within an escape after a `-`.
 fn escape_dash_next(
     i: u32,
-    mut before: Items<Member>,
+    before: Items<Member>,
     from: u32,
     first: Escaped,
     answer: Answer<InEscape, Escaped>,
@@ -153,23 +185,32 @@ fn escape_dash_next(
     match answer {
         Answer::Stops => match rest {
             None => Ok(Answer::Stops),
-            Some(last) => {
-                if is_kind(last) {
-                    return Ok(Answer::Stops);
-                }
-                before.push(Member::Range(Span { from, upto: i }, first, last))?;
-                Ok(member_first(i, before, code))
-            }
+            Some(last) => behind_range(i, before, from, first, last, code),
         },
         Answer::Goes(within) => Ok(in_set(before, InSet::DashEscape(from, first, within))),
         Answer::Ends(last) => range_ends(i + 1, before, from, first, last),
     }
 }
 
+/// The members of a class that ends behind a side and a `-` at `dash`, which are members by themselves.
+fn ends_at_dash(
+    i: u32,
+    before: Items<Member>,
+    from: u32,
+    dash: u32,
+    first: Escaped,
+) -> Result<SetAnswer, OutOfMemory>
+    ensures { IfOk result (λ found. found ≡ Answer.Ends (with_one (with_one before from dash first) dash i (code_side (code_of "-")))) }
+{
+    let before = with_one(before, from, dash, first)?;
+    let all = with_one(before, dash, i, Escaped::Code('-' as u32))?;
+    Ok(Answer::Ends(all))
+}
+
 /// A code after a side and a `-` at `dash`.
 fn dash_next(
     i: u32,
-    mut before: Items<Member>,
+    before: Items<Member>,
     from: u32,
     dash: u32,
     first: Escaped,
@@ -179,8 +220,7 @@ fn dash_next(
     ensures { IfOk result (λ found. found ≡ dash_next i before from dash first code) }
 {
     if code == ']' as u32 {
-        let before = with_one(before, from, dash, first)?;
-        return Ok(Answer::Ends(with_one(before, dash, i, Escaped::Code('-' as u32))?));
+        return ends_at_dash(i, before, from, dash, first);
     }
     if is_kind(first) {
         return Ok(Answer::Stops);
@@ -188,8 +228,8 @@ fn dash_next(
     if code == '\\' as u32 {
         return Ok(in_set(before, InSet::DashSlash(from, first)));
     }
-    before.push(Member::Range(Span { from, upto: i + 1 }, first, Escaped::Code(code)))?;
-    Ok(in_set(before, InSet::SetNext))
+    let all = with_range(before, from, i + 1, first, Escaped::Code(code))?;
+    Ok(in_set(all, InSet::SetNext))
 }
 
 /// The code at `i` of a class, in text or not.

@@ -1,6 +1,6 @@
 //! The reader of patterns, one code at a time.
 
-ghost use Rattle.std.specs.Prelude.{◌≡◌, ℕ, ◌<◌, ◌^◌, ◌-◌, ◌+◌, suc, length, IfOk, option_map};
+ghost use Rattle.std.specs.Prelude.{◌≡◌, ℕ, ◌<◌, ◌^◌, ◌-◌, ◌+◌, suc, [], ◌∷◌, ◌++◌, length, IfOk, option_map, Some, ◌==◌, if◌then◌else◌};
 ghost use Rattle.rl_pattern.specs.internal.Views.{node_of, base_of, lex_of, state_of, FitsAt};
 ghost use Rattle.rl_pattern.specs.Codes.{sign, counts};
 ghost use Rattle.rl_pattern.specs.internal.Machine as m;
@@ -8,7 +8,7 @@ ghost use Rattle.rl_pattern.specs.Tree as t;
 
 use crate::base::{
     close, count_last, no_count, open_group, put_code, put_front, put_item, put_leaf, put_repeat,
-    split,
+    split, stopped,
 };
 use crate::codes::{counts, sign, slashed};
 use crate::count::count_of;
@@ -39,15 +39,31 @@ fn between(base: Base) -> Option<State>
     })
 }
 
+/// A node for one code, and the state between items behind it.
+fn leaf_between(base: Base, from: u32, upto: u32, leaf: Leaf) -> Result<Option<State>, OutOfMemory>
+    ensures { IfOk result (λ found. option_map state_of found ≡ Some (m.at (m.put_leaf (base_of base) from upto leaf) m.between)) }
+{
+    Ok(between(put_leaf(base, from, upto, leaf)?))
+}
+
+/// A literal, and the state between items behind it.
+fn code_between(base: Base, i: u32, code: u32) -> Result<Option<State>, OutOfMemory>
+    requires { i < 2 ^ 32 - 1 }
+    ensures { IfOk result (λ found. option_map state_of found ≡ Some (m.at (m.put_code (base_of base) i code) m.between)) }
+{
+    Ok(between(put_code(base, i, code)?))
+}
+
 /// A code that may be passed over.
 fn pass_or_put(base: Base, i: u32, code: u32, lex: Lex) -> Result<Option<State>, OutOfMemory>
     requires { i < 2 ^ 32 - 1 }
     ensures { IfOk result (λ found. option_map state_of found ≡ m.pass_or_put (base_of base) i code (lex_of lex)) }
 {
     if base.top.flags.verbose {
-        return Ok(Some(at(base, lex)));
+        Ok(Some(at(base, lex)))
+    } else {
+        code_between(base, i, code)
     }
-    Ok(between(put_code(base, i, code)?))
 }
 
 /// A mark from `from` up to `upto`.
@@ -71,13 +87,13 @@ fn go_on(alloc: Global, i: u32, base: Base, code: u32) -> Result<Option<State>, 
         TokenClass::Bar => split(alloc, base, i),
         TokenClass::Brace => Ok(Some(at(base, Lex::InBraces(i, Items::new(alloc))))),
         TokenClass::Slash => Ok(Some(at(base, Lex::AtSlash(i)))),
-        TokenClass::Dot => Ok(between(put_leaf(base, i, i + 1, Leaf::Any)?)),
+        TokenClass::Dot => leaf_between(base, i, i + 1, Leaf::Any),
         TokenClass::Bracket => Ok(Some(at(base, Lex::SetOpen(i)))),
         TokenClass::Times(count) => Ok(count_last(base, i, count)),
         TokenClass::Edge(mark) => put_mark(base, i, i + 1, mark),
         TokenClass::Blank => pass_or_put(base, i, code, Lex::Between),
         TokenClass::Sharp => pass_or_put(base, i, code, Lex::Line),
-        TokenClass::Plain => Ok(between(put_code(base, i, code)?)),
+        TokenClass::Plain => code_between(base, i, code),
     }
 }
 
@@ -96,10 +112,31 @@ fn end_braces(
     match count {
         None => {
             let base = no_count(base, from, text)?;
-            Ok(between(put_code(base, i, '}' as u32)?))
+            code_between(base, i, '}' as u32)
         }
         Some(count) => Ok(count_last(base, from, count)),
     }
+}
+
+/// A text with one code more.
+fn with_code(mut text: Items<u32>, code: u32) -> Result<Items<u32>, OutOfMemory>
+    ensures { IfOk result (λ all. all ≡ text ++ code ∷ []) }
+{
+    text.push(code)?;
+    Ok(text)
+}
+
+/// A code more of the text after a brace at `from`.
+fn more_text(
+    base: Base,
+    from: u32,
+    text: Items<u32>,
+    code: u32,
+) -> Result<Option<State>, OutOfMemory>
+    ensures { IfOk result (λ found. option_map state_of found ≡ Some (m.at (base_of base) (m.in_braces from (text ++ code ∷ [])))) }
+{
+    let text = with_code(text, code)?;
+    Ok(Some(at(base, Lex::InBraces(from, text))))
 }
 
 /// The code at `i` after a brace at `from` and text.
@@ -108,7 +145,7 @@ fn braces_step(
     i: u32,
     base: Base,
     from: u32,
-    mut text: Items<u32>,
+    text: Items<u32>,
     code: u32,
 ) -> Result<Option<State>, OutOfMemory>
     requires room { i < 2 ^ 32 - 1 }
@@ -120,11 +157,25 @@ fn braces_step(
         return end_braces(i, base, from, text.as_slice(), count);
     }
     if counts(code) {
-        text.push(code)?;
-        return Ok(Some(at(base, Lex::InBraces(from, text))));
+        return more_text(base, from, text, code);
     }
     let base = no_count(base, from, text.as_slice())?;
     go_on(alloc, i, base, code)
+}
+
+/// The atom from `from` with a quantifier, and the state between items behind it.
+fn repeat_between(
+    alloc: Global,
+    base: Base,
+    from: u32,
+    atom: SyntaxNode,
+    mark: Span,
+    count: Count,
+    greed: Greed,
+) -> Result<Option<State>, OutOfMemory>
+    ensures { IfOk result (λ found. option_map state_of found ≡ Some (m.at (m.put_repeat (base_of base) from (node_of atom) mark.from mark.upto count greed) m.between)) }
+{
+    Ok(between(put_repeat(alloc, base, from, atom, mark, count, greed)?))
 }
 
 /// The code at `i` after the quantifier from `mark` for the atom from `from`.
@@ -146,12 +197,10 @@ fn counted_step(
         upto: i + 1,
     };
     if code == '?' as u32 {
-        let base = put_repeat(alloc, base, from, atom, longer, count, Greed::Lazy)?;
-        return Ok(between(base));
+        return repeat_between(alloc, base, from, atom, longer, count, Greed::Lazy);
     }
     if code == '+' as u32 {
-        let base = put_repeat(alloc, base, from, atom, longer, count, Greed::Possessive)?;
-        return Ok(between(base));
+        return repeat_between(alloc, base, from, atom, longer, count, Greed::Possessive);
     }
     let span = Span {
         from: mark,
@@ -172,9 +221,9 @@ fn escape_begins(
     ensures { IfOk result (λ found. option_map state_of found ≡ m.escape_begins i (base_of base) from answer) }
 {
     match answer {
-        Answer::Stops => Ok(None),
+        Answer::Stops => Ok(stopped(base)),
         Answer::Goes(within) => Ok(Some(at(base, Lex::InEscape(from, within)))),
-        Answer::Ends(escaped) => Ok(between(put_leaf(base, from, i + 1, Leaf::Glyph(escaped))?)),
+        Answer::Ends(escaped) => leaf_between(base, from, i + 1, Leaf::Glyph(escaped)),
     }
 }
 
@@ -190,38 +239,35 @@ fn slash_step(
 {
     match slashed {
         EscapeClass::Edges(mark) => put_mark(base, from, i + 1, mark),
-        EscapeClass::NoEscape => Ok(None),
-        EscapeClass::Single(code) => {
-            escape_begins(i, base, from, escape_first(EscapeClass::Single(code)))
+        EscapeClass::NoEscape
+        | EscapeClass::Single(_)
+        | EscapeClass::Kinds(_, _)
+        | EscapeClass::Hexes(_)
+        | EscapeClass::Naming
+        | EscapeClass::Octal(_)
+        | EscapeClass::Low(_)
+        | EscapeClass::High => escape_begins(i, base, from, escape_first(slashed)),
+    }
+}
+
+/// The code at `i` behind an escape from `from` that ended before it, if it did.
+fn escape_ended(
+    alloc: Global,
+    i: u32,
+    base: Base,
+    from: u32,
+    rest: Option<Escaped>,
+    code: u32,
+) -> Result<Option<State>, OutOfMemory>
+    requires { i < 2 ^ 32 - 1 }
+    ensures { IfOk result (λ found. option_map state_of found ≡ m.escape_step i (base_of base) from m.stops rest code) }
+{
+    match rest {
+        None => Ok(stopped(base)),
+        Some(escaped) => {
+            let base = put_leaf(base, from, i, Leaf::Glyph(escaped))?;
+            go_on(alloc, i, base, code)
         }
-        EscapeClass::Kinds(named, negated) => {
-            escape_begins(
-                i,
-                base,
-                from,
-                escape_first(EscapeClass::Kinds(named, negated)),
-            )
-        }
-        EscapeClass::Hexes(count) => escape_begins(
-            i,
-            base,
-            from,
-            escape_first(EscapeClass::Hexes(count)),
-        ),
-        EscapeClass::Naming => escape_begins(i, base, from, escape_first(EscapeClass::Naming)),
-        EscapeClass::Octal(digit) => escape_begins(
-            i,
-            base,
-            from,
-            escape_first(EscapeClass::Octal(digit)),
-        ),
-        EscapeClass::Low(digit) => escape_begins(
-            i,
-            base,
-            from,
-            escape_first(EscapeClass::Low(digit)),
-        ),
-        EscapeClass::High => escape_begins(i, base, from, escape_first(EscapeClass::High)),
     }
 }
 
@@ -231,24 +277,30 @@ fn escape_step(
     i: u32,
     base: Base,
     from: u32,
-    answer: Answer<InEscape, Escaped>,
-    rest: Option<Escaped>,
+    within: InEscape,
     code: u32,
 ) -> Result<Option<State>, OutOfMemory>
     requires { i < 2 ^ 32 - 1 }
-    ensures { IfOk result (λ found. option_map state_of found ≡ m.escape_step i (base_of base) from answer rest code) }
+    ensures { IfOk result (λ found. option_map state_of found ≡ m.escape_step i (base_of base) from (m.escape_next within code) (m.escape_rest within) code) }
 {
-    match answer {
-        Answer::Stops => match rest {
-            None => Ok(None),
-            Some(escaped) => {
-                let base = put_leaf(base, from, i, Leaf::Glyph(escaped))?;
-                go_on(alloc, i, base, code)
-            }
-        },
+    match escape_next(within, code) {
+        Answer::Stops => escape_ended(alloc, i, base, from, escape_rest(within), code),
         Answer::Goes(within) => Ok(Some(at(base, Lex::InEscape(from, within)))),
-        Answer::Ends(escaped) => Ok(between(put_leaf(base, from, i + 1, Leaf::Glyph(escaped))?)),
+        Answer::Ends(escaped) => leaf_between(base, from, i + 1, Leaf::Glyph(escaped)),
     }
+}
+
+/// A group with its parenthesis at `from`, and the state between items at its first code, which is at `upto`.
+fn group_between(
+    alloc: Global,
+    base: Base,
+    from: u32,
+    upto: u32,
+    kind: Kind,
+) -> Result<Option<State>, OutOfMemory>
+    ensures { IfOk result (λ found. option_map state_of found ≡ Some (m.at (m.open_group (base_of base) from upto kind) m.between)) }
+{
+    Ok(between(open_group(alloc, base, from, upto, kind)?))
 }
 
 /// A head from `from` up to `upto`, by what it begins.
@@ -262,11 +314,10 @@ fn begin(
     ensures { IfOk result (λ found. option_map state_of found ≡ m.begin (base_of base) from upto begun) }
 {
     match begun {
-        GroupStart::BeginsGroup(kind) => Ok(between(open_group(alloc, base, from, upto, kind)?)),
+        GroupStart::BeginsGroup(kind) => group_between(alloc, base, from, upto, kind),
         GroupStart::BeginsComment => Ok(Some(at(base, Lex::Comment))),
         GroupStart::IsReference => {
-            let leaf = Leaf::Glyph(Escaped::Reference);
-            Ok(between(put_leaf(base, from, upto, leaf)?))
+            leaf_between(base, from, upto, Leaf::Glyph(Escaped::Reference))
         }
         GroupStart::IsFront(letters) => put_front(base, from, upto, letters),
     }
@@ -285,7 +336,7 @@ fn head_stops(
     ensures { IfOk result (λ found. option_map state_of found ≡ m.head_stops i (base_of base) from opens code) }
 {
     if !opens {
-        return Ok(None);
+        return Ok(stopped(base));
     }
     let base = open_group(alloc, base, from, i, Kind::Capturing)?;
     go_on(alloc, i, base, code)
@@ -324,13 +375,30 @@ fn set_answer(
     ensures { IfOk result (λ found. option_map state_of found ≡ m.set_answer i (base_of base) from inverse answer) }
 {
     match answer {
-        Answer::Stops => Ok(None),
+        Answer::Stops => Ok(stopped(base)),
         Answer::Goes(set) => Ok(Some(at(base, Lex::InClass(from, inverse, set)))),
         Answer::Ends(members) => {
-            let leaf = Leaf::Members(inverse, members);
-            Ok(between(put_leaf(base, from, i + 1, leaf)?))
+            leaf_between(base, from, i + 1, Leaf::Members(inverse, members))
         }
     }
+}
+
+/// The code at `i` of a class from `from`.
+fn class_step(
+    text: bool,
+    i: u32,
+    base: Base,
+    from: u32,
+    inverse: bool,
+    set: Set,
+    code: u32,
+) -> Result<Option<State>, OutOfMemory>
+    requires { i < 2 ^ 32 - 1 }
+    ensures { IfOk result (λ found. option_map state_of found ≡ m.set_answer i (base_of base) from inverse (m.set_step text i set.before set.part code)) }
+{
+    let Set { before, part } = set;
+    let answer = set_step(text, i, before, part, code)?;
+    set_answer(i, base, from, inverse, answer)
 }
 
 /// The code at `i` behind a bracket at `from`.
@@ -345,15 +413,26 @@ fn set_opens(
     requires { i < 2 ^ 32 - 1 }
     ensures { IfOk result (λ found. option_map state_of found ≡ m.set_opens text i (base_of base) from code) }
 {
+    let set = Set {
+        before: Items::new(alloc),
+        part: InSet::SetFirst,
+    };
     if code == '^' as u32 {
-        let set = Set {
-            before: Items::new(alloc),
-            part: InSet::SetFirst,
-        };
-        return Ok(Some(at(base, Lex::InClass(from, true, set))));
+        Ok(Some(at(base, Lex::InClass(from, true, set))))
+    } else {
+        class_step(text, i, base, from, false, set, code)
     }
-    let answer = set_step(text, i, Items::new(alloc), InSet::SetFirst, code)?;
-    set_answer(i, base, from, false, answer)
+}
+
+/// A code of a comment, which the code `last` ends.
+fn comment_step(base: Base, lex: Lex, last: char, code: u32) -> Option<State>
+    ensures { option_map state_of result ≡ (if code == last then Some (m.at (base_of base) m.between) else Some (m.at (base_of base) (lex_of lex))) }
+{
+    if code == last as u32 {
+        between(base)
+    } else {
+        Some(at(base, lex))
+    }
 }
 
 /// The state with the code at `i`, in text or not, if a pattern goes on so.
@@ -371,35 +450,16 @@ pub(crate) fn step(
     let State { base, lex } = state;
     match lex {
         Lex::Between => go_on(alloc, i, base, code),
-        Lex::Line => {
-            if code == '\n' as u32 {
-                Ok(between(base))
-            } else {
-                Ok(Some(at(base, Lex::Line)))
-            }
-        }
-        Lex::Comment => {
-            if code == ')' as u32 {
-                Ok(between(base))
-            } else {
-                Ok(Some(at(base, Lex::Comment)))
-            }
-        }
+        Lex::Line => Ok(comment_step(base, Lex::Line, '\n', code)),
+        Lex::Comment => Ok(comment_step(base, Lex::Comment, ')', code)),
         Lex::InBraces(from, text) => braces_step(alloc, i, base, from, text, code),
         Lex::Counted(from, atom, mark, count) => {
             counted_step(alloc, i, base, from, atom, mark, count, code)
         }
         Lex::AtSlash(from) => slash_step(i, base, from, slashed(text, false, code)),
-        Lex::InEscape(from, within) => {
-            let answer = escape_next(within, code);
-            escape_step(alloc, i, base, from, answer, escape_rest(within), code)
-        }
+        Lex::InEscape(from, within) => escape_step(alloc, i, base, from, within, code),
         Lex::InHead(from, head) => in_head_step(alloc, text, i, base, from, head, code),
         Lex::SetOpen(from) => set_opens(alloc, text, i, base, from, code),
-        Lex::InClass(from, inverse, set) => {
-            let Set { before, part } = set;
-            let answer = set_step(text, i, before, part, code)?;
-            set_answer(i, base, from, inverse, answer)
-        }
+        Lex::InClass(from, inverse, set) => class_step(text, i, base, from, inverse, set, code),
     }
 }

@@ -1,12 +1,14 @@
 -- Lemmas on lists of attempts whose ends are replaced.
-use Rattle.std.proofs.Common.{◌≡◌, ℕ, ◌+◌, ◌<◌, ◌≤◌, List, [], ◌∷◌, ◌++◌, length, take, get_or, sym, ap, subst, ◌∙◌, arith}
+use Rattle.std.proofs.Common.{◌≡◌, ℕ, ◌+◌, ◌<◌, ◌≤◌, inl, inr, true, List, [], ◌∷◌, ◌++◌, length, take, get_or, refl, sym, ap, subst, ◌∙◌, arith}
+use Rattle.std.proofs.lemmas.Bool.{cases_lt, false≢true}
 use Rattle.std.proofs.lemmas.List.{append-nil, take_more}
 use Rattle.std.proofs.lemmas.List.Folds.{length-flat_map-take}
 use Rattle.std.proofs.lemmas.Grind.{flat_map-append}
-use Rattle.std.specs.List.{flat_map}
+use Rattle.std.specs.List.{flat_map, list_all}
 use Rattle.rl_syntax.specs.declared.limits.TheConstants.{MOST_MOVES}
-use Rattle.rl_prio.specs.internal.Attempts.{onward, ends_replaced}
+use Rattle.rl_prio.specs.internal.Attempts.{onward, ends_replaced, is_test, AreReplaced}
 use Rattle.rl_prio.specs.declared.build.attempts.Attempt.{Attempt}
+use Rattle.rl_prio.specs.declared.build.attempts.Attempt.TheVariants.{Test, End}
 
 -- one attempt more
 pub onward_more : (l further : List Attempt) (i : ℕ) (a : Attempt) → i < length l → a ≡ get_or l i a
@@ -28,3 +30,35 @@ pub onward_many : (l further list : List Attempt) (i : ℕ) (d : Attempt) → i 
     → MOST_MOVES < length list + length (onward further (get_or l i d)) → MOST_MOVES < length (ends_replaced l further)
 onward_many l further list i d lt is many =
     omega (arith, ap length is, length-flat_map-take (onward further) l i d lt)
+
+-- tests stay as they are where each end is replaced
+pub tests_stay : (l further : List Attempt) → list_all is_test l ≡ true → ends_replaced l further ≡ l
+tests_stay [] further h = refl
+tests_stay (Test gs p ∷ l) further h = ap (λ x. Test gs p ∷ x) (tests_stay l further h)
+tests_stay (End gs ∷ l) further h = absurd (false≢true h)
+
+-- a list that stays is replaced by itself
+pub replaced_kept : (further : List Attempt) (place : ℕ) (lists : List (List Attempt)) → ends_replaced (get_or lists place []) further ≡ get_or lists place []
+    → AreReplaced further place (place + 1) lists lists
+replaced_kept further place lists same = record {
+  same_count = refl;
+  inside = λ k from to.
+      let is : place ≡ k = omega arith in
+      subst (λ j. get_or lists j [] ≡ ends_replaced (get_or lists j []) further) is (sym same);
+  outside = λ k out. refl;
+}
+
+-- the lists up to a place, and then that of the place
+pub replaced_more : (further : List Attempt) (from place : ℕ) (old mid new : List (List Attempt)) → AreReplaced further from place old mid
+    → AreReplaced further place (place + 1) mid new → from ≤ place → AreReplaced further from (place + 1) old new
+replaced_more further from place old mid new h last le = record {
+  same_count = last.same_count ∙ h.same_count;
+  inside = λ k after before. elim (cases_lt k place) [
+    | inl early ↦ last.outside k (inl early) ∙ h.inside k after early
+    | inr late ↦ last.inside k late before ∙ ap (λ l. ends_replaced l further) (h.outside k (inr late))
+  ];
+  outside = λ k out. elim out [
+    | inl early ↦ last.outside k (inl (omega arith)) ∙ h.outside k (inl early)
+    | inr late ↦ last.outside k (inr late) ∙ h.outside k (inr (omega arith))
+  ];
+}

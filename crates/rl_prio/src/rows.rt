@@ -26,7 +26,7 @@ impl Model for RowTable {
 }
 
 impl RowTable {
-    /// No row, and an open one without a number, with room for so many rows.
+    /// No row, and an open one without a number, with room for so many rows and as many numbers.
     ///
     /// # Errors
     /// [`OutOfMemory`] where there was no memory for it.
@@ -34,10 +34,8 @@ impl RowTable {
         ensures { IfOk result (λ r. r ≡ record { rows = []; open_row = [] }) }
     {
         let ends = Vec::with_capacity(alloc, count)?;
-        Ok(RowTable {
-            targets: Vec::new(alloc),
-            ends,
-        })
+        let targets = Vec::with_capacity(alloc, count)?;
+        Ok(RowTable { targets, ends })
     }
 
     /// Appends a number to the open row.

@@ -36,10 +36,8 @@ fn are_prefix_letters(first: u8, second: u8) -> bool
 
 /// How long the prefix of the literal at the front of the text is, if a literal is there.
 #[tactic(auto, unfolding(crate::specs::Literals::prefix_size, crate::specs::Literals::opens_after))]
-pub fn prefix_size(text: &[u8]) -> Option<usize>
-    ensures value { result ≡ prefix_size text.now }
-    ensures within { IfSome result (λ n. n < length text.now) }
-    ensures quote { IfSome result (λ n. has_at is_quote n text.now ≡ true) }
+fn find_prefix(text: &[u8]) -> Option<usize>
+    ensures { result ≡ prefix_size text.now }
 {
     match text {
         [a, ..] if is_quote(*a) => Some(0),
@@ -47,6 +45,16 @@ pub fn prefix_size(text: &[u8]) -> Option<usize>
         [a, b, c, ..] if is_quote(*c) && are_prefix_letters(*a, *b) => Some(2),
         _ => None,
     }
+}
+
+/// The same. A quote stands behind the prefix.
+#[tactic(auto, using(crate::proofs::Fronts::prefixes))]
+pub fn prefix_size(text: &[u8]) -> Option<usize>
+    ensures value { result ≡ prefix_size text.now }
+    ensures within { IfSome result (λ n. n < length text.now) }
+    ensures quote { IfSome result (λ n. has_at is_quote n text.now ≡ true) }
+{
+    find_prefix(text)
 }
 
 /// How many quotes open the literal whose first quote is at the front of the text.

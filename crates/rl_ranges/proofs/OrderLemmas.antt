@@ -1,6 +1,6 @@
 -- The order in which sets are taken doesn't count for their letters: those of few ranges may come first.
-use Rattle.std.proofs.Common.{Bool, List, [], ap, arith, drop, false, get_or, le_of_suc-le-suc, length, map, refl, subst, suc, sym, take, true, zero, ℕ, ◌&&◌, ◌++◌, ◌+◌, ◌<◌, ◌∙◌, ◌∷◌, ◌≡◌, ◌≤◌}
-use Rattle.std.specs.Prelude.{if◌then◌else◌}
+use Rattle.std.proofs.Common.{Bool, List, [], ap, arith, drop, false, get_or, le_of_suc-le-suc, length, map, not, refl, subst, suc, sym, take, true, zero, ℕ, ◌&&◌, ◌++◌, ◌+◌, ◌<◌, ◌∙◌, ◌∷◌, ◌≡◌, ◌≤◌}
+use Rattle.std.specs.Prelude.{if◌then◌else◌, nat_le, nat_lt}
 use Rattle.std.proofs.Math.Bool.{beq}
 use Rattle.std.proofs.lemmas.Bool.{and_parts}
 use Rattle.std.proofs.lemmas.List.{append_assoc, take-append-drop, take_more}
@@ -11,24 +11,43 @@ use Rattle.rl_ranges.specs.Letters.{alike, classes, place_where}
 use Rattle.rl_ranges.specs.Numbering.{firsts}
 use Rattle.rl_ranges.specs.internal.Splitting.{HasTooMany, TellsApart, TellsMore}
 use Rattle.rl_ranges.specs.declared.letters.TheConstants.{MOST_LETTERS}
-use Rattle.rl_ranges.specs.internal.Order.{is_wide, picked}
+use Rattle.rl_ranges.specs.internal.Order.{is_taken, picked}
+use Rattle.rl_ranges.specs.declared.letters.Pass.TheVariants.{Middle, Narrow, Wide}
 
 swap : (a b c : Bool) → (a && (b && c)) ≡ (b && (a && c))
 swap true b c = refl
 swap false true c = refl
 swap false false c = refl
 
-pub alike-order : (sets : List (List (ℕ × ℕ))) (c d : ℕ) → alike (picked false sets ++ picked true sets) c d ≡ alike (map has sets) c d
+to_front : (a b c x : Bool) → (((x && a) && b) && c) ≡ (x && ((a && b) && c))
+to_front a b c true = refl
+to_front a b c false = refl
+
+second_to_front : (a b c x : Bool) → ((a && (x && b)) && c) ≡ (x && ((a && b) && c))
+second_to_front a b c true = refl
+second_to_front true b c false = refl
+second_to_front false b c false = refl
+
+-- the sets in the order of the passes
+abbrev pub in_passes : List (List (ℕ × ℕ)) → List (ℕ → Bool)
+in_passes sets = (picked (is_taken Narrow) sets ++ picked (is_taken Middle) sets) ++ picked (is_taken Wide) sets
+
+pub alike-order : (sets : List (List (ℕ × ℕ))) (c d : ℕ) → alike (in_passes sets) c d ≡ alike (map has sets) c d
 alike-order [] c d = refl
-alike-order (s ∷ sets) c d = step (alike-order sets c d) (is_wide s)
+alike-order (s ∷ sets) c d =
+    step (picked (is_taken Narrow) sets) (picked (is_taken Middle) sets) (picked (is_taken Wide) sets) (nat_le (length s) 32) (nat_lt 256 (length s))
+    ∙ ap (λ b. beq (has s c) (has s d) && b)
+    (sym (apart (picked (is_taken Narrow) sets) (picked (is_taken Middle) sets) (picked (is_taken Wide) sets)) ∙ alike-order sets c d)
   where
-    step : alike (picked false sets ++ picked true sets) c d ≡ alike (map has sets) c d → (b : Bool)
-        → alike ((if beq b false then (has s ∷ picked false sets) else picked false sets) ++ (if beq b true then (has s ∷ picked true sets) else picked true sets)) c d ≡ (beq (has s c) (has s d) && alike (map has sets) c d)
-    step old false = ap (λ x. beq (has s c) (has s d) && x) old
-    step old true =
-        alike-append (picked false sets) (has s ∷ picked true sets) c d
-        ∙ swap (alike (picked false sets) c d) (beq (has s c) (has s d)) (alike (picked true sets) c d)
-        ∙ ap (λ x. beq (has s c) (has s d) && x) (sym (alike-append (picked false sets) (picked true sets) c d) ∙ old)
+    apart : (xs ys zs : List (ℕ → Bool)) → alike ((xs ++ ys) ++ zs) c d ≡ ((alike xs c d && alike ys c d) && alike zs c d)
+    apart xs ys zs = alike-append (xs ++ ys) zs c d ∙ ap (λ b. b && alike zs c d) (alike-append xs ys c d)
+
+    step : (xs ys zs : List (ℕ → Bool)) (narrow wide : Bool)
+        → alike (((if narrow then (has s ∷ xs) else xs) ++ (if not narrow && not wide then (has s ∷ ys) else ys)) ++ (if not narrow && wide then (has s ∷ zs) else zs)) c d
+        ≡ (beq (has s c) (has s d) && ((alike xs c d && alike ys c d) && alike zs c d))
+    step xs ys zs true wide = apart (has s ∷ xs) ys zs ∙ to_front (alike xs c d) (alike ys c d) (alike zs c d) (beq (has s c) (has s d))
+    step xs ys zs false false = apart xs (has s ∷ ys) zs ∙ second_to_front (alike xs c d) (alike ys c d) (alike zs c d) (beq (has s c) (has s d))
+    step xs ys zs false true = apart xs ys (has s ∷ zs) ∙ swap (alike xs c d && alike ys c d) (beq (has s c) (has s d)) (alike zs c d)
 
 pub TellsApart-congr : (xs ys : List (ℕ → Bool)) (n : ℕ) (stretches : List (ℕ × ℕ)) (least : List ℕ) → ((c d : ℕ) → alike xs c d ≡ alike ys c d) → TellsApart stretches least xs n → TellsApart stretches least ys n
 TellsApart-congr xs ys n stretches least e t =
@@ -47,53 +66,53 @@ many-congr xs ys n e many =
     omega (arith, many, ap length (classes-firsts xs n), ap length (classes-firsts ys n), ap length (firsts-congr (alike xs) (alike ys) n (λ c d hc hd. e c d)))
 
 -- the sets that are picked from two lists
-pub picked-append : (wide : Bool) (xs ys : List (List (ℕ × ℕ))) → picked wide (xs ++ ys) ≡ picked wide xs ++ picked wide ys
-picked-append wide [] ys = refl
-picked-append wide (s ∷ xs) ys = step (beq (is_wide s) wide) (picked-append wide xs ys)
+pub picked-append : (taken : List (ℕ × ℕ) → Bool) (xs ys : List (List (ℕ × ℕ))) → picked taken (xs ++ ys) ≡ picked taken xs ++ picked taken ys
+picked-append taken [] ys = refl
+picked-append taken (s ∷ xs) ys = step (taken s) (picked-append taken xs ys)
   where
-    step : (b : Bool) → picked wide (xs ++ ys) ≡ picked wide xs ++ picked wide ys → (if b then (has s ∷ picked wide (xs ++ ys)) else picked wide (xs ++ ys)) ≡ (if b then (has s ∷ picked wide xs) else picked wide xs) ++ picked wide ys
+    step : (b : Bool) → picked taken (xs ++ ys) ≡ picked taken xs ++ picked taken ys → (if b then (has s ∷ picked taken (xs ++ ys)) else picked taken (xs ++ ys)) ≡ (if b then (has s ∷ picked taken xs) else picked taken xs) ++ picked taken ys
     step true old = ap (λ l. has s ∷ l) old
     step false old = old
 
 -- one more set, which is picked or isn't
-picked-last : (wide b : Bool) (xs : List (List (ℕ × ℕ))) (s : List (ℕ × ℕ)) → beq (is_wide s) wide ≡ b → picked wide (xs ++ s ∷ []) ≡ picked wide xs ++ (if b then (has s ∷ []) else [])
-picked-last wide b xs s is = picked-append wide xs (s ∷ []) ∙ ap (λ b. picked wide xs ++ (if b then (has s ∷ []) else [])) is
+picked-last : (taken : List (ℕ × ℕ) → Bool) (b : Bool) (xs : List (List (ℕ × ℕ))) (s : List (ℕ × ℕ)) → taken s ≡ b → picked taken (xs ++ s ∷ []) ≡ picked taken xs ++ (if b then (has s ∷ []) else [])
+picked-last taken b xs s is = picked-append taken xs (s ∷ []) ∙ ap (λ b. picked taken xs ++ (if b then (has s ∷ []) else [])) is
 
 -- the sets up to the one at a place
 next-sets : (sets : List (List (ℕ × ℕ))) (k : ℕ) (s : List (ℕ × ℕ)) → k < length sets → s ≡ get_or sets k s → take (k + 1) sets ≡ take k sets ++ s ∷ []
 next-sets sets k s lt is = take_more sets k s lt ∙ ap (λ x. take k sets ++ x ∷ []) (sym is)
 
-pub picked-more : (wide : Bool) (sets : List (List (ℕ × ℕ))) (k : ℕ) (s : List (ℕ × ℕ)) → k < length sets → s ≡ get_or sets k s → beq (is_wide s) wide ≡ true
-    → picked wide (take (k + 1) sets) ≡ picked wide (take k sets) ++ has s ∷ []
-picked-more wide sets k s lt at is =
-    ap (picked wide) (next-sets sets k s lt at) ∙ picked-last wide true (take k sets) s is
+pub picked-more : (taken : List (ℕ × ℕ) → Bool) (sets : List (List (ℕ × ℕ))) (k : ℕ) (s : List (ℕ × ℕ)) → k < length sets → s ≡ get_or sets k s → taken s ≡ true
+    → picked taken (take (k + 1) sets) ≡ picked taken (take k sets) ++ has s ∷ []
+picked-more taken sets k s lt at is =
+    ap (picked taken) (next-sets sets k s lt at) ∙ picked-last taken true (take k sets) s is
 
-pub picked-passed : (wide : Bool) (sets : List (List (ℕ × ℕ))) (k : ℕ) (s : List (ℕ × ℕ)) → k < length sets → s ≡ get_or sets k s → beq (is_wide s) wide ≡ false
-    → picked wide (take (k + 1) sets) ≡ picked wide (take k sets)
-picked-passed wide sets k s lt at isnt =
-    ap (picked wide) (next-sets sets k s lt at) ∙ picked-last wide false (take k sets) s isnt ∙ append-none (picked wide (take k sets))
+pub picked-passed : (taken : List (ℕ × ℕ) → Bool) (sets : List (List (ℕ × ℕ))) (k : ℕ) (s : List (ℕ × ℕ)) → k < length sets → s ≡ get_or sets k s → taken s ≡ false
+    → picked taken (take (k + 1) sets) ≡ picked taken (take k sets)
+picked-passed taken sets k s lt at isnt =
+    ap (picked taken) (next-sets sets k s lt at) ∙ picked-last taken false (take k sets) s isnt ∙ append-none (picked taken (take k sets))
   where
     append-none : (l : List (ℕ → Bool)) → l ++ [] ≡ l
     append-none [] = refl
     append-none (x ∷ l) = ap (λ z. x ∷ z) (append-none l)
 
-pub picked-rest : (wide : Bool) (sets : List (List (ℕ × ℕ))) (k : ℕ) → picked wide (take k sets) ++ picked wide (drop k sets) ≡ picked wide sets
-picked-rest wide sets k = sym (picked-append wide (take k sets) (drop k sets)) ∙ ap (picked wide) (take-append-drop k sets)
+pub picked-rest : (taken : List (ℕ × ℕ) → Bool) (sets : List (List (ℕ × ℕ))) (k : ℕ) → picked taken (take k sets) ++ picked taken (drop k sets) ≡ picked taken sets
+picked-rest taken sets k = sym (picked-append taken (take k sets) (drop k sets)) ∙ ap (picked taken) (take-append-drop k sets)
 
 -- a set that stands among those that were picked splits nothing
-pub picked-splits : (wide : Bool) (sets : List (List (ℕ × ℕ))) (k n : ℕ) (s : List (ℕ × ℕ)) (c d : ℕ) → k < n → n ≤ length sets → get_or sets k [] ≡ s → beq (is_wide s) wide ≡ true
-    → alike (picked wide (take n sets)) c d ≡ true → beq (has s c) (has s d) ≡ true
-picked-splits wide [] k n s c d kn n_in at is h = absurd (omega arith)
-picked-splits wide (x ∷ sets) k zero s c d kn n_in at is h = absurd (omega arith)
-picked-splits wide (x ∷ sets) zero (suc n) s c d kn n_in at is h =
-    let known : alike (has x ∷ picked wide (take n sets)) c d ≡ true =
-    subst (λ b. alike (if b then (has x ∷ picked wide (take n sets)) else picked wide (take n sets)) c d ≡ true) (ap (λ y. beq (is_wide y) wide) at ∙ is) h in
-    subst (λ y. beq (has y c) (has y d) ≡ true) at (and_parts (beq (has x c) (has x d)) (alike (picked wide (take n sets)) c d) known).0
-picked-splits wide (x ∷ sets) (suc k) (suc n) s c d kn n_in at is h =
-    picked-splits wide sets k n s c d (le_of_suc-le-suc kn) (le_of_suc-le-suc n_in) at is (rest (beq (is_wide x) wide) h)
+pub picked-splits : (taken : List (ℕ × ℕ) → Bool) (sets : List (List (ℕ × ℕ))) (k n : ℕ) (s : List (ℕ × ℕ)) (c d : ℕ) → k < n → n ≤ length sets → get_or sets k [] ≡ s → taken s ≡ true
+    → alike (picked taken (take n sets)) c d ≡ true → beq (has s c) (has s d) ≡ true
+picked-splits taken [] k n s c d kn n_in at is h = absurd (omega arith)
+picked-splits taken (x ∷ sets) k zero s c d kn n_in at is h = absurd (omega arith)
+picked-splits taken (x ∷ sets) zero (suc n) s c d kn n_in at is h =
+    let known : alike (has x ∷ picked taken (take n sets)) c d ≡ true =
+    subst (λ b. alike (if b then (has x ∷ picked taken (take n sets)) else picked taken (take n sets)) c d ≡ true) (ap (λ y. taken y) at ∙ is) h in
+    subst (λ y. beq (has y c) (has y d) ≡ true) at (and_parts (beq (has x c) (has x d)) (alike (picked taken (take n sets)) c d) known).0
+picked-splits taken (x ∷ sets) (suc k) (suc n) s c d kn n_in at is h =
+    picked-splits taken sets k n s c d (le_of_suc-le-suc kn) (le_of_suc-le-suc n_in) at is (rest (taken x) h)
   where
-    rest : (b : Bool) → alike (if b then (has x ∷ picked wide (take n sets)) else picked wide (take n sets)) c d ≡ true → alike (picked wide (take n sets)) c d ≡ true
-    rest true all = (and_parts (beq (has x c) (has x d)) (alike (picked wide (take n sets)) c d) all).1
+    rest : (b : Bool) → alike (if b then (has x ∷ picked taken (take n sets)) else picked taken (take n sets)) c d ≡ true → alike (picked taken (take n sets)) c d ≡ true
+    rest true all = (and_parts (beq (has x c) (has x d)) (alike (picked taken (take n sets)) c d) all).1
     rest false all = all
 
 -- one more set that splits nothing

@@ -1,5 +1,6 @@
 pub mod Text
 pub mod Codes
+pub mod Listing
 pub mod Building
 pub mod Named
 pub mod Case

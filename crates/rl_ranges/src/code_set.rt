@@ -1,6 +1,6 @@
 //! Sets of codes as sorted ranges.
 
-ghost use Rattle.std.specs.Prelude.{◌≡◌, ℕ, ◌≤◌, ◌<◌, ◌&&◌, ◌||◌, not, true, false, nat_lt, List, [], IfOk, MatchOption, IsTrue};
+ghost use Rattle.std.specs.Prelude.{◌≡◌, ℕ, ◌≤◌, ◌<◌, ◌&&◌, ◌||◌, not, true, false, nat_lt, List, [], IfOk, IfSome, MatchOption, IsTrue};
 ghost use Rattle.rl_ranges.specs.Text.{code_count};
 ghost use Rattle.rl_ranges.specs.Codes.{has, is_between, Above, IsInside};
 ghost use Rattle.rl_ranges.specs.Named.{is_named, goes_by_ascii};
@@ -8,6 +8,7 @@ ghost use Rattle.rl_ranges.specs.Case.{IsCaseClosed};
 
 use crate::case::kin;
 use crate::named::Named;
+use crate::range_list::RangeList;
 use crate::ranges::{both, either, gaps, holds};
 use crate::universe::Universe;
 use rl_lists::OutOfMemory;
@@ -17,28 +18,43 @@ use std::marker::Model;
 /// A set of codes: a list of ranges, sorted, disjoint and not touching. Contracts see it as that list.
 #[derive(Drop)]
 pub struct CodeSet {
-    ranges: Vec<(u32, u32)>,
+    alloc: Global,
+    ranges: RangeList,
 }
 
 impl Model for CodeSet {
     ghost use Rattle.std.specs.Prelude.{ℕ, List};
     ghost use Rattle.rl_ranges.specs.Codes.{Above};
+    ghost use Rattle.rl_ranges.specs.Listing.{listed};
 
     ghost Value = { List (ℕ × ℕ) };
 
-    ghost view = { λ s. s.ranges.items };
+    ghost view = { λ s. listed s.ranges };
 
-    ghost invariant = { λ s. Above 0 s.ranges.items };
+    ghost invariant = { λ s. Above 0 (listed s.ranges) };
 }
 
 impl CodeSet {
-    /// The empty set. It takes memory only once it grows.
+    /// The empty set. It takes no memory.
     pub fn none(alloc: Global) -> CodeSet
         ensures { result ≡ [] }
     {
         CodeSet {
-            ranges: Vec::new(alloc),
+            alloc,
+            ranges: RangeList::Table(&[]),
         }
+    }
+
+    /// The set of the ranges.
+    ///
+    /// # Errors
+    /// [`OutOfMemory`] where there was no memory for the set.
+    fn from_ranges(alloc: Global, ranges: Vec<(u32, u32)>) -> Result<CodeSet, OutOfMemory>
+        requires { Above 0 ranges.items }
+        ensures { IfOk result (λ s. s ≡ ranges.items) }
+    {
+        let ranges = RangeList::shared(alloc, ranges)?;
+        Ok(CodeSet { alloc, ranges })
     }
 
     /// The codes from `first` to `last`.
@@ -51,8 +67,8 @@ impl CodeSet {
         ensures members { IfOk result (λ s. (c : ℕ) → has s c ≡ is_between first last c) }
         ensures inside { IfOk result (λ s. (u : Universe) → last < code_count u → IsInside u s) }
     {
-        let ranges = Vec::from_slice(alloc, &[(first, last)])?;
-        Ok(CodeSet { ranges })
+        let ranges = RangeList::One([(first, last)]);
+        Ok(CodeSet { alloc, ranges })
     }
 
     /// The codes that one of the two sets holds.
@@ -64,8 +80,37 @@ impl CodeSet {
         ensures inside { IfOk result (λ s. (u : Universe)
             → IsInside u self.now → IsInside u other.now → IsInside u s) }
     {
-        let ranges = either(*self.ranges.allocator(), &self.ranges, &other.ranges)?;
-        Ok(CodeSet { ranges })
+        match self.whole(other) {
+            Some(set) => {
+                let set = set.copy()?;
+                Ok(set)
+            }
+            None => self.merged(other),
+        }
+    }
+
+    /// The codes that one of the two sets holds, where one of them is empty: the other one.
+    fn whole<'a>(&'a self, other: &'a CodeSet) -> Option<&'a CodeSet>
+        ensures { IfSome result (λ s. (c : ℕ) → has s.now c ≡ (has self.now c || has other.now c)) }
+    {
+        if other.as_ranges().is_empty() {
+            Some(self)
+        } else if self.as_ranges().is_empty() {
+            Some(other)
+        } else {
+            None
+        }
+    }
+
+    /// The codes that one of the two sets holds, in a list of its own.
+    ///
+    /// # Errors
+    /// [`OutOfMemory`] where there was no memory for the set.
+    fn merged(&self, other: &CodeSet) -> Result<CodeSet, OutOfMemory>
+        ensures { IfOk result (λ s. (c : ℕ) → has s c ≡ (has self.now c || has other.now c)) }
+    {
+        let ranges = either(self.alloc, self.as_ranges(), other.as_ranges())?;
+        CodeSet::from_ranges(self.alloc, ranges)
     }
 
     /// The codes that both sets hold.
@@ -77,8 +122,8 @@ impl CodeSet {
         ensures inside_left { IfOk result (λ s. (u : Universe) → IsInside u self.now → IsInside u s) }
         ensures inside_right { IfOk result (λ s. (u : Universe) → IsInside u other.now → IsInside u s) }
     {
-        let ranges = both(*self.ranges.allocator(), &self.ranges, &other.ranges)?;
-        Ok(CodeSet { ranges })
+        let ranges = both(self.alloc, self.as_ranges(), other.as_ranges())?;
+        CodeSet::from_ranges(self.alloc, ranges)
     }
 
     /// The codes of the universe that the set does not hold.
@@ -91,8 +136,8 @@ impl CodeSet {
             → has s c ≡ (nat_lt c (code_count universe) && not (has self.now c))) }
         ensures inside { IfOk result (IsInside universe) }
     {
-        let ranges = gaps(*self.ranges.allocator(), &self.ranges, universe.count())?;
-        Ok(CodeSet { ranges })
+        let ranges = gaps(self.alloc, self.as_ranges(), universe.count())?;
+        CodeSet::from_ranges(self.alloc, ranges)
     }
 
     /// The named class: by ASCII under the flag and in bytes, else by Unicode.
@@ -109,8 +154,8 @@ impl CodeSet {
             → has s c ≡ is_named kind (goes_by_ascii ascii universe) c) }
         ensures inside { IfOk result (IsInside universe) }
     {
-        let ranges = Vec::from_slice(alloc, kind.ranges(universe.goes_by_ascii(ascii)))?;
-        Ok(CodeSet { ranges })
+        let ranges = RangeList::Table(kind.ranges(universe.goes_by_ascii(ascii)));
+        Ok(CodeSet { alloc, ranges })
     }
 
     /// The codes that are of one kind with a code of the set, as the flag IGNORECASE takes them: by ASCII under the flag and
@@ -123,21 +168,24 @@ impl CodeSet {
         ensures members { IfOk result (IsCaseClosed (goes_by_ascii ascii universe) self.now) }
         ensures inside { IfOk result (IsInside universe) }
     {
-        let alloc = *self.ranges.allocator();
-        let others = kin(alloc, &self.ranges, universe.goes_by_ascii(ascii))?;
-        let ranges = either(alloc, &self.ranges, &others)?;
-        Ok(CodeSet { ranges })
+        let others = kin(self.alloc, self.as_ranges(), universe.goes_by_ascii(ascii))?;
+        let ranges = either(self.alloc, self.as_ranges(), &others)?;
+        let closed = CodeSet::from_ranges(self.alloc, ranges)?;
+        Ok(closed)
     }
 
-    /// The same set once more.
+    /// The same set once more. It takes no memory.
     ///
     /// # Errors
-    /// [`OutOfMemory`] where there was no memory for the set.
+    /// [`OutOfMemory`] where there are too many copies.
     pub fn copy(&self) -> Result<CodeSet, OutOfMemory>
         ensures { IfOk result (λ s. s ≡ self.now) }
     {
-        let ranges = Vec::from_slice(*self.ranges.allocator(), &self.ranges)?;
-        Ok(CodeSet { ranges })
+        let ranges = self.ranges.copy()?;
+        Ok(CodeSet {
+            alloc: self.alloc,
+            ranges,
+        })
     }
 
     /// The least code that the set holds, if it holds one.
@@ -145,7 +193,7 @@ impl CodeSet {
         ensures { MatchOption result ((c : ℕ) → has self.now c ≡ false)
             (λ least. (has self.now least ≡ true) × ((c : ℕ) → c < least → has self.now c ≡ false)) }
     {
-        let (first, _) = self.ranges.first()?;
+        let (first, _) = self.as_ranges().first()?;
         Some(*first)
     }
 
@@ -154,13 +202,13 @@ impl CodeSet {
         ensures value { result.now ≡ self.now }
         ensures sorted { Above 0 result.now }
     {
-        &self.ranges
+        self.ranges.as_slice()
     }
 
     /// Whether the set holds the code.
     pub fn contains(&self, code: u32) -> bool
         ensures { result ≡ has self.now code }
     {
-        holds(&self.ranges, code)
+        holds(self.as_ranges(), code)
     }
 }

@@ -6,7 +6,7 @@ ghost use Rattle.rl_ranges.specs.Codes.{has, IsInside};
 ghost use Rattle.rl_ranges.specs.Letters.{LetterTable, IsLetters, classes, letter_at};
 ghost use Rattle.rl_ranges.specs.Numbering.{Covers, ValuesBelow, IsTable};
 ghost use Rattle.rl_ranges.specs.internal.Splitting.{IsPreferred, TellsMore, HasTooMany};
-ghost use Rattle.rl_ranges.specs.internal.Order.{is_wide, picked, StandsBefore};
+ghost use Rattle.rl_ranges.specs.internal.Order.{is_taken, picked, StandsBefore};
 
 use crate::code_set::CodeSet;
 use crate::stretches::{Numbering, split, stretch_before, value_at};
@@ -102,9 +102,10 @@ impl Letters {
             stretches: Vec::from_slice(alloc, &[(0, 0)])?,
             least: Vec::from_slice(alloc, &[0])?,
         };
-        // sets of many ranges come last, so that their many stretches aren't merged again with each set of few
-        let narrow = refined_by(alloc, start, sets, false, universe)?;
-        let Numbering { stretches, least } = refined_by(alloc, narrow, sets, true, universe)?;
+        // sets of many ranges come last, so that their many stretches aren't merged again with each set of fewer
+        let narrow = refined_by(alloc, start, sets, Pass::Narrow, universe)?;
+        let middle = refined_by(alloc, narrow, sets, Pass::Middle, universe)?;
+        let Numbering { stretches, least } = refined_by(alloc, middle, sets, Pass::Wide, universe)?;
         let mut samples = least;
         prefer_plain(&mut samples, &stretches);
         Ok(Letters {
@@ -139,11 +140,28 @@ impl Letters {
     }
 }
 
-/// Whether a set has so many ranges that it is taken after the others.
-fn is_wide(set: &CodeSet) -> bool
-    ensures { result ≡ is_wide set.now }
+/// Which sets of a list are taken; the passes come one after the other.
+#[derive(Clone, Copy)]
+enum Pass {
+    /// Those of few ranges.
+    Narrow,
+    /// Those of more ranges, as the digits.
+    Middle,
+    /// Those of many ranges, as the codes of words.
+    Wide,
+}
+
+/// Whether a set is taken in the pass.
+fn is_taken(set: &CodeSet, pass: Pass) -> bool
+    ensures { result ≡ is_taken pass set.now }
 {
-    set.as_ranges().len() > 32
+    let narrow = set.as_ranges().len() <= 32;
+    let wide = set.as_ranges().len() > 256;
+    match pass {
+        Pass::Narrow => narrow,
+        Pass::Middle => !narrow && !wide,
+        Pass::Wide => !narrow && wide,
+    }
 }
 
 /// How many of the sets that were taken are remembered.
@@ -188,7 +206,7 @@ fn refined(
     split(alloc, known, set.as_ranges(), universe.count())
 }
 
-/// The numbering refined by the sets of a list that are wide, or by those that aren't.
+/// The numbering refined by the sets of a list that are taken in the pass.
 ///
 /// # Errors
 /// [`LettersError::TooMany`] exactly where it has more than [`MOST_LETTERS`] numbers, [`LettersError::OutOfMemory`] where
@@ -197,22 +215,22 @@ fn refined_by(
     alloc: Global,
     first: Numbering,
     sets: &Vec<CodeSet>,
-    wide: bool,
+    pass: Pass,
     universe: Universe,
 ) -> Result<Numbering, LettersError>
     requires table { IsTable (code_count universe) first.stretches.items first.least.items }
     requires inside { All (IsInside universe) sets.now.items }
     ensures table { IfOk result (λ n. IsTable (code_count universe) n.stretches.items n.least.items) }
-    ensures ok { IfOk result (λ n. TellsMore first.stretches.items first.least.items n.stretches.items n.least.items (picked wide sets.now.items) (code_count universe)) }
+    ensures ok { IfOk result (λ n. TellsMore first.stretches.items first.least.items n.stretches.items n.least.items (picked (is_taken pass) sets.now.items) (code_count universe)) }
     ensures too_many { IfErr result (λ e. e ≡ LettersError.TooMany
-        → HasTooMany first.stretches.items first.least.items (picked wide sets.now.items) (code_count universe)) }
+        → HasTooMany first.stretches.items first.least.items (picked (is_taken pass) sets.now.items) (code_count universe)) }
 {
     let mut known = first;
     // a set that stands in the list again splits nothing: of the last one in each slot the place is kept, counted from 1
     let mut taken = [0; SLOTS];
     for place in 0..sets.len() {
         let set = &sets[place];
-        if is_wide(set) == wide && !stands_before(sets, taken[slot_of(set)], set) {
+        if is_taken(set, pass) && !stands_before(sets, taken[slot_of(set)], set) {
             known = refined(alloc, &known, set, universe)?;
             taken[slot_of(set)] = place + 1;
         }

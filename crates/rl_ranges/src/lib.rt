@@ -29,6 +29,7 @@ mod case;
 pub mod code_set;
 pub mod letters;
 pub mod named;
+mod range_list;
 mod ranges;
 mod stretches;
 mod tables;

@@ -9,5 +9,3 @@ pub piece_more : {X : Type 0} (f : X → List ℕ) (old now next : List ℕ) (xs
 piece_more f old now next xs i x h e n m =
     m ∙ ap (λ ys. ys ++ f x) n ∙ flat_map_more f old (take i xs) x
     ∙ ap (λ ys. old ++ flat_map f ys) (ap (λ y. take i xs ++ y ∷ []) e ∙ sym (take_more xs i x h))
-
-pub ruleset rounds = (piece_more)

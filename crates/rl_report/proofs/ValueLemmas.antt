@@ -17,5 +17,3 @@ value_more f vs ws xs i x v h e is so_far pushed =
 pub value_all : {X : Type 0} (f : X → Data) (vs : Vec Value Global) (xs : List X) (i : ℕ) → length xs ≤ i → map view vs.items ≡ map f (take i xs)
     → view (Array vs) ≡ array (items_of (map f xs))
 value_all f vs xs i h so_far = view-Array vs ∙ ap (λ ds. array (items_of ds)) (so_far ∙ ap (map f) (take_all i xs h))
-
-pub ruleset values = (value_more, value_all)

@@ -1,11 +1,12 @@
 //! A report in JSON.
 ghost use Rattle.std.specs.Prelude.{◌≡◌, All, IfOk, IfSome, OnOk, codes, false, map, option_and_then, option_map};
+ghost use Rattle.std.specs.List.{count_by};
 ghost use Rattle.rl_ranges.specs.Text.{IsText};
 ghost use Rattle.serde_json.specs.Data.{array, no_members, object, put, string};
 ghost use Rattle.serde_json.specs.View.{items_of, items_view, members_view, view};
 ghost use Rattle.rl_sites.specs.Names.{call_word};
 ghost use Rattle.rl_report.specs.Document.{at_members, becomes_members, entry_data, family_data, front_members, json_report, judged_members, marks_data, marks_members, outcome_members, place_data, place_members, put_some, refusal_members, report_data, suggest_members, suggestion_members, texts_data, verdict_members, whole};
-ghost use Rattle.rl_report.specs.Findings.{verdict_of};
+ghost use Rattle.rl_report.specs.Findings.{is_finding, is_refused, is_undecided, verdict_of};
 ghost use Rattle.rl_report.specs.Layouts.{IsOfItsUniverse};
 ghost use Rattle.rl_report.specs.Verdicts.{IsFamilyOf, IsVerdictOf, family_of, quoted_text};
 
@@ -19,7 +20,7 @@ use rl_lists::{Bytes, Codes, OutOfMemory};
 use rl_pystr::quote;
 use rl_sites::Call;
 use rl_syntax::{Family, Limit, Suggestion, Universe, Verdict};
-use serde_json::{Map, Value, json, put};
+use serde_json::{Map, Value, put};
 use std::alloc::Global;
 
 /// The members of an object.
@@ -59,7 +60,9 @@ fn put_place(alloc: Global, members: &mut Members, place: Place) -> Result<(), O
 fn place_value(alloc: Global, place: Place) -> Result<Value, OutOfMemory>
     ensures { IfOk result (λ v. view v ≡ place_data place) }
 {
-    Ok(json!(in alloc; {"line": place.line, "column": place.column})?)
+    let mut members = Map::new(alloc);
+    put_place(alloc, &mut members, place)?;
+    Ok(Value::Object(members))
 }
 
 fn put_at(alloc: Global, members: &mut Members, at: Option<Place>) -> Result<(), OutOfMemory>
@@ -181,7 +184,6 @@ fn quoted_value(alloc: Global, text: &Codes, universe: Universe) -> Result<Value
     }
 }
 
-#[tactic(auto, using(crate::proofs::ValueLemmas::values))]
 fn texts_value(alloc: Global, texts: &[Codes], universe: Universe) -> Result<Value, OutOfMemory>
     requires { All (IsText universe) texts.now }
     ensures { IfOk result (λ v. view v ≡ texts_data universe texts.now) }
@@ -194,13 +196,31 @@ fn texts_value(alloc: Global, texts: &[Codes], universe: Universe) -> Result<Val
     Ok(Value::Array(values))
 }
 
+fn put_texts(
+    alloc: Global,
+    members: &mut Members,
+    key: &str,
+    texts: &[Codes],
+    universe: Universe,
+) -> Result<(), OutOfMemory>
+    requires { All (IsText universe) texts.now }
+    ensures { OnOk result (members_view members.new.entries
+        ≡ put key.now (texts_data universe texts.now) (members_view members.old.entries)) }
+{
+    let value = texts_value(alloc, texts, universe)?;
+    put(members, alloc, key, value)?;
+    Ok(())
+}
+
 fn family_value(alloc: Global, family: &Family, universe: Universe) -> Result<Value, OutOfMemory>
     requires { IsFamilyOf universe family.now }
     ensures { IfOk result (λ v. view v ≡ family_data universe family.now) }
 {
-    let heads = texts_value(alloc, family.heads.as_slice(), universe)?;
-    let pumps = texts_value(alloc, family.pumps.as_slice(), universe)?;
-    Ok(json!(in alloc; {"heads": heads, "pumps": pumps})?)
+    let mut members = Map::new(alloc);
+    let (heads, pumps) = (family.heads.as_slice(), family.pumps.as_slice());
+    put_texts(alloc, &mut members, "heads", heads, universe)?;
+    put_texts(alloc, &mut members, "pumps", pumps, universe)?;
+    Ok(Value::Object(members))
 }
 
 fn put_family(
@@ -237,7 +257,6 @@ fn put_family_of(
     }
 }
 
-#[tactic(auto, using(crate::proofs::ValueLemmas::values))]
 fn marks_value(alloc: Global, marks: &[Mark]) -> Result<Value, OutOfMemory>
     ensures { IfOk result (λ v. view v ≡ marks_data marks.now) }
 {
@@ -397,7 +416,6 @@ fn entry_value(alloc: Global, terms: Terms, entry: &Entry) -> Result<Value, OutO
     Ok(Value::Object(members))
 }
 
-#[tactic(auto, using(crate::proofs::ValueLemmas::values))]
 fn entries_value(alloc: Global, terms: Terms, entries: &[Entry]) -> Result<Value, OutOfMemory>
     requires { All IsOfItsUniverse entries.now }
     ensures { IfOk result (λ v. view v
@@ -411,6 +429,31 @@ fn entries_value(alloc: Global, terms: Terms, entries: &[Entry]) -> Result<Value
     Ok(Value::Array(values))
 }
 
+/// Puts the counts and the version behind the entries.
+fn put_counts(
+    alloc: Global,
+    members: &mut Members,
+    terms: Terms,
+    entries: &[Entry],
+) -> Result<(), OutOfMemory>
+    ensures { OnOk result (members_view members.new.entries
+        ≡ put (codes "version") (whole terms.report)
+        (put (codes "undecided") (whole (count_by is_undecided entries.now))
+        (put (codes "refused") (whole (count_by is_refused entries.now))
+        (put (codes "findings") (whole (count_by (is_finding terms.max_degree) entries.now)) (members_view members.old.entries))))) }
+{
+    put_number(
+        alloc,
+        members,
+        "findings",
+        findings(entries, terms.max_degree),
+    )?;
+    put_number(alloc, members, "refused", refusals(entries))?;
+    put_number(alloc, members, "undecided", undecided(entries))?;
+    put_number(alloc, members, "version", terms.report as usize)?;
+    Ok(())
+}
+
 #[tactic(auto, unfolding(crate::specs::Document::report_data))]
 fn report_value(alloc: Global, terms: Terms, entries: &[Entry]) -> Result<Value, OutOfMemory>
     requires { All IsOfItsUniverse entries.now }
@@ -418,13 +461,10 @@ fn report_value(alloc: Global, terms: Terms, entries: &[Entry]) -> Result<Value,
         ≡ report_data terms.max_degree terms.max_pairs terms.report entries.now) }
 {
     let value = entries_value(alloc, terms, entries)?;
-    Ok(json!(in alloc; {
-        "entries": value,
-        "findings": findings(entries, terms.max_degree),
-        "refused": refusals(entries),
-        "undecided": undecided(entries),
-        "version": terms.report
-    })?)
+    let mut members = Map::new(alloc);
+    put(&mut members, alloc, "entries", value)?;
+    put_counts(alloc, &mut members, terms, entries)?;
+    Ok(Value::Object(members))
 }
 
 /// The report in JSON: one line.

@@ -99,7 +99,6 @@ fn push_mark(alloc: Global, out: &mut Vec<u8>, word: &str, mark: &Mark) -> Resul
     Ok(())
 }
 
-#[tactic(auto, using(crate::proofs::LineLemmas::rounds))]
 fn push_mark_list(
     alloc: Global,
     out: &mut Vec<u8>,
@@ -252,7 +251,6 @@ fn push_entry(
     Ok(())
 }
 
-#[tactic(auto, using(crate::proofs::LineLemmas::rounds))]
 fn push_entries(
     alloc: Global,
     out: &mut Vec<u8>,
@@ -269,7 +267,6 @@ fn push_entries(
     Ok(())
 }
 
-#[tactic(auto, using(crate::proofs::LineLemmas::rounds))]
 fn push_heads(
     alloc: Global,
     out: &mut Vec<u8>,

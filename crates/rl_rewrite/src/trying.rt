@@ -27,15 +27,24 @@ use std::alloc::Global;
 /// are some trials.
 const QUICK_FROM: usize = 3;
 
-/// What trials give, by rising place.
+/// What trials of all branches give, by rising place.
 #[derive(Drop)]
-pub(crate) struct Tries {
+pub(crate) struct Tried {
     /// The branches that were dropped.
     pub(crate) dropped: Spans,
     /// The branches whose test passed its limit.
     pub(crate) passed: Spans,
+}
+
+/// What the trials so far give, by rising place.
+#[derive(Drop)]
+struct Tries {
+    /// The branches that were dropped.
+    dropped: Spans,
+    /// The branches whose test passed its limit.
+    passed: Spans,
     /// The tree of the body without the branches that were dropped, with which others are compared, unless none was needed yet.
-    pub(crate) base: Option<Baseline>,
+    base: Option<Baseline>,
 }
 
 /// The automaton of the tree of a body without some of its branches, if others are to be tried on it.
@@ -205,92 +214,132 @@ fn trial_of(
     Ok(trial)
 }
 
-/// What trials give with the branch before those that were tried.
+/// Adds what a trial of the branch before those that were tried gives.
 fn try_branch(
     alloc: Global,
     p: &Pattern,
     branch: Span,
-    mut tries: Tries,
+    tries: &mut Tries,
     trimmer: &mut Option<Trimmer>,
     limit: u32,
-) -> Result<Tries, OutOfMemory>
+) -> Result<(), OutOfMemory>
     requires guardless { guard_in (body_of p.now) ≡ false }
     requires within { IsWithin (universe_of p.now) (lowered (body_of p.now)) }
-    requires before { goes (among tries.dropped) (body_of p.now) ≡ true }
-    requires tree { IfSome tries.base (λ b. tree_of b.tree ≡ without tries.dropped (body_of p.now)) }
-    requires universe { IfSome tries.base (λ b. b.universe ≡ universe_of p.now) }
-    requires base { IfSome trimmer.old (IsBase (universe_of p.now) (without tries.dropped (body_of p.now))) }
+    requires before { goes (among tries.old.dropped) (body_of p.now) ≡ true }
+    requires tree { IfSome tries.old.base (λ b. tree_of b.tree ≡ without tries.old.dropped (body_of p.now)) }
+    requires universe { IfSome tries.old.base (λ b. b.universe ≡ universe_of p.now) }
+    requires base { IfSome trimmer.old (IsBase (universe_of p.now) (without tries.old.dropped (body_of p.now))) }
     requires some { 1 ≤ limit }
     requires low { limit ≤ MOST_SET_PAIRS }
-    ensures tried { IfOk result (λ all. (bs : List AnySpan) → AreTried (universe_of p.now) limit (body_of p.now) bs tries.dropped tries.passed
-        → AreTried (universe_of p.now) limit (body_of p.now) (branch ∷ bs) all.dropped all.passed) }
-    ensures tree { IfOk result (λ all. IfSome all.base (λ b. tree_of b.tree ≡ without all.dropped (body_of p.now))) }
-    ensures universe { IfOk result (λ all. IfSome all.base (λ b. b.universe ≡ universe_of p.now)) }
-    ensures may { IfOk result (λ all. goes (among all.dropped) (body_of p.now) ≡ true) }
-    ensures same { IfOk result (λ all. length all.dropped ≡ length tries.dropped → all.dropped ≡ tries.dropped) }
+    ensures tried { OnOk result ((bs : List AnySpan) → AreTried (universe_of p.now) limit (body_of p.now) bs tries.old.dropped tries.old.passed
+        → AreTried (universe_of p.now) limit (body_of p.now) (branch ∷ bs) tries.new.dropped tries.new.passed) }
+    ensures tree { OnOk result (IfSome tries.new.base (λ b. tree_of b.tree ≡ without tries.new.dropped (body_of p.now))) }
+    ensures universe { OnOk result (IfSome tries.new.base (λ b. b.universe ≡ universe_of p.now)) }
+    ensures may { OnOk result (goes (among tries.new.dropped) (body_of p.now) ≡ true) }
+    ensures same { OnOk result (length tries.new.dropped ≡ length tries.old.dropped → tries.new.dropped ≡ tries.old.dropped) }
     ensures unchanged { trimmer.new ≡ trimmer.old }
 {
     let more = with_first(alloc, branch, tries.dropped.as_slice())?;
     if !may_go(p.body(), more.as_slice()) {
-        return Ok(tries);
+        return Ok(());
     }
-    match trial_of(alloc, p, branch, &mut tries, trimmer, limit)? {
-        Trial::Equal => Ok(Tries {
-            dropped: more,
-            passed: tries.passed,
-            base: None,
-        }),
-        Trial::Apart => Ok(tries),
+    match trial_of(alloc, p, branch, tries, trimmer, limit)? {
+        Trial::Equal => {
+            tries.dropped = more;
+            tries.base = None;
+            Ok(())
+        }
+        Trial::Apart => Ok(()),
         Trial::Passed => {
             let passed = with_first(alloc, branch, tries.passed.as_slice())?;
-            Ok(Tries {
-                dropped: tries.dropped,
-                passed,
-                base: tries.base,
-            })
+            tries.passed = passed;
+            Ok(())
         }
     }
 }
 
-/// The same, and the automaton of what is left then, if others are to be tried on it.
+/// The same, and makes the automaton of what is left then, if others are to be tried on it.
 fn try_next(
     alloc: Global,
     p: &Pattern,
     branch: Span,
-    tries: Tries,
+    tries: &mut Tries,
     trimmer: &mut Option<Trimmer>,
     limit: u32,
-) -> Result<Tries, OutOfMemory>
+) -> Result<(), OutOfMemory>
     requires guardless { guard_in (body_of p.now) ≡ false }
     requires within { IsWithin (universe_of p.now) (lowered (body_of p.now)) }
-    requires before { goes (among tries.dropped) (body_of p.now) ≡ true }
-    requires tree { IfSome tries.base (λ b. tree_of b.tree ≡ without tries.dropped (body_of p.now)) }
-    requires universe { IfSome tries.base (λ b. b.universe ≡ universe_of p.now) }
-    requires base { IfSome trimmer.old (IsBase (universe_of p.now) (without tries.dropped (body_of p.now))) }
+    requires before { goes (among tries.old.dropped) (body_of p.now) ≡ true }
+    requires tree { IfSome tries.old.base (λ b. tree_of b.tree ≡ without tries.old.dropped (body_of p.now)) }
+    requires universe { IfSome tries.old.base (λ b. b.universe ≡ universe_of p.now) }
+    requires base { IfSome trimmer.old (IsBase (universe_of p.now) (without tries.old.dropped (body_of p.now))) }
     requires some { 1 ≤ limit }
     requires low { limit ≤ MOST_SET_PAIRS }
-    ensures tried { IfOk result (λ all. (bs : List AnySpan) → AreTried (universe_of p.now) limit (body_of p.now) bs tries.dropped tries.passed
-        → AreTried (universe_of p.now) limit (body_of p.now) (branch ∷ bs) all.dropped all.passed) }
-    ensures tree { IfOk result (λ all. IfSome all.base (λ b. tree_of b.tree ≡ without all.dropped (body_of p.now))) }
-    ensures universe { IfOk result (λ all. IfSome all.base (λ b. b.universe ≡ universe_of p.now)) }
-    ensures base { IfOk result (λ all. IfSome trimmer.new (IsBase (universe_of p.now) (without all.dropped (body_of p.now)))) }
+    ensures tried { OnOk result ((bs : List AnySpan) → AreTried (universe_of p.now) limit (body_of p.now) bs tries.old.dropped tries.old.passed
+        → AreTried (universe_of p.now) limit (body_of p.now) (branch ∷ bs) tries.new.dropped tries.new.passed) }
+    ensures tree { OnOk result (IfSome tries.new.base (λ b. tree_of b.tree ≡ without tries.new.dropped (body_of p.now))) }
+    ensures universe { OnOk result (IfSome tries.new.base (λ b. b.universe ≡ universe_of p.now)) }
+    ensures base { OnOk result (IfSome trimmer.new (IsBase (universe_of p.now) (without tries.new.dropped (body_of p.now)))) }
 {
     let before = tries.dropped.len();
-    let all = try_branch(alloc, p, branch, tries, trimmer, limit)?;
-    if all.dropped.len() == before {
-        return Ok(all);
+    try_branch(alloc, p, branch, tries, trimmer, limit)?;
+    if tries.dropped.len() == before {
+        return Ok(());
     }
-    *trimmer = trimmer_of(alloc, p, all.dropped.as_slice(), trimmer.is_some())?;
-    Ok(all)
+    *trimmer = trimmer_of(alloc, p, tries.dropped.as_slice(), trimmer.is_some())?;
+    Ok(())
 }
 
-/// What trials of all branches of a body give, the last one tried first, where its tree is the first one to compare with.
+/// Adds what trials of branches give to tries of none, the last branch first.
+fn try_each(
+    alloc: Global,
+    p: &Pattern,
+    branches: &[Span],
+    tries: &mut Tries,
+    trimmer: &mut Option<Trimmer>,
+    limit: u32,
+) -> Result<(), OutOfMemory>
+    requires guardless { guard_in (body_of p.now) ≡ false }
+    requires within { IsWithin (universe_of p.now) (lowered (body_of p.now)) }
+    requires tried { AreTried (universe_of p.now) limit (body_of p.now) [] tries.old.dropped tries.old.passed }
+    requires tree { IfSome tries.old.base (λ b. tree_of b.tree ≡ without tries.old.dropped (body_of p.now)) }
+    requires universe { IfSome tries.old.base (λ b. b.universe ≡ universe_of p.now) }
+    requires base { IfSome trimmer.old (IsBase (universe_of p.now) (without tries.old.dropped (body_of p.now))) }
+    requires some { 1 ≤ limit }
+    requires low { limit ≤ MOST_SET_PAIRS }
+    ensures { OnOk result (AreTried (universe_of p.now) limit (body_of p.now) branches.now tries.new.dropped tries.new.passed) }
+{
+    for branch in branches.iter().rev() {
+        try_next(alloc, p, *branch, tries, trimmer, limit)?;
+    }
+    Ok(())
+}
+
+/// The same of all branches of a body.
+fn try_all(alloc: Global, p: &Pattern, tries: &mut Tries, limit: u32) -> Result<(), OutOfMemory>
+    requires guardless { guard_in (body_of p.now) ≡ false }
+    requires within { IsWithin (universe_of p.now) (lowered (body_of p.now)) }
+    requires tried { AreTried (universe_of p.now) limit (body_of p.now) [] tries.old.dropped tries.old.passed }
+    requires tree { IfSome tries.old.base (λ b. tree_of b.tree ≡ without tries.old.dropped (body_of p.now)) }
+    requires universe { IfSome tries.old.base (λ b. b.universe ≡ universe_of p.now) }
+    requires some { 1 ≤ limit }
+    requires low { limit ≤ MOST_SET_PAIRS }
+    ensures { OnOk result (AreTried (universe_of p.now) limit (body_of p.now) (branches_in (body_of p.now)) tries.new.dropped tries.new.passed) }
+{
+    let branches = with_branches(alloc, p.body(), Spans::new(alloc))?;
+    let is_quick = branches.len() >= QUICK_FROM;
+    let mut trimmer = trimmer_of(alloc, p, tries.dropped.as_slice(), is_quick)?;
+    try_each(alloc, p, branches.as_slice(), tries, &mut trimmer, limit)?;
+    Ok(())
+}
+
+/// What trials of all branches of a body give, where its tree is the first one to compare with.
 fn try_branches(
     alloc: Global,
     p: &Pattern,
     base: Baseline,
     limit: u32,
-) -> Result<Tries, OutOfMemory>
+) -> Result<Tried, OutOfMemory>
     requires guardless { guard_in (body_of p.now) ≡ false }
     requires within { IsWithin (universe_of p.now) (lowered (body_of p.now)) }
     requires tree { tree_of base.tree ≡ lowered (body_of p.now) }
@@ -300,17 +349,16 @@ fn try_branches(
     requires low { limit ≤ MOST_SET_PAIRS }
     ensures { IfOk result (λ all. AreTried (universe_of p.now) limit (body_of p.now) (branches_in (body_of p.now)) all.dropped all.passed) }
 {
-    let branches = with_branches(alloc, p.body(), Spans::new(alloc))?;
-    let mut trimmer = trimmer_of(alloc, p, &[], branches.len() >= QUICK_FROM)?;
     let mut tries = Tries {
         dropped: Spans::new(alloc),
         passed: Spans::new(alloc),
         base: Some(base),
     };
-    for branch in branches.as_slice().iter().rev() {
-        tries = try_next(alloc, p, *branch, tries, &mut trimmer, limit)?;
-    }
-    Ok(tries)
+    try_all(alloc, p, &mut tries, limit)?;
+    Ok(Tried {
+        dropped: tries.dropped,
+        passed: tries.passed,
+    })
 }
 
 /// What trials of all branches of a body give, where its tree is the first one to compare with; none is tried where the body
@@ -320,7 +368,7 @@ pub(crate) fn tries_of(
     p: &Pattern,
     base: Baseline,
     limit: u32,
-) -> Result<Tries, OutOfMemory>
+) -> Result<Tried, OutOfMemory>
     requires within { IsWithin (universe_of p.now) (lowered (body_of p.now)) }
     requires tree { tree_of base.tree ≡ lowered (body_of p.now) }
     requires universe { base.universe ≡ universe_of p.now }
@@ -331,10 +379,9 @@ pub(crate) fn tries_of(
     ensures tried { IfOk result (λ all. guard_in (body_of p.now) ≡ false → AreTried (universe_of p.now) limit (body_of p.now) (branches_in (body_of p.now)) all.dropped all.passed) }
 {
     if holds_guard(p.body()) {
-        return Ok(Tries {
+        return Ok(Tried {
             dropped: Spans::new(alloc),
             passed: Spans::new(alloc),
-            base: Some(base),
         });
     }
     try_branches(alloc, p, base, limit)

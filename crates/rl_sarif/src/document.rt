@@ -1,26 +1,55 @@
 //! A report as a document of SARIF 2.1.0.
-ghost use Rattle.std.specs.Prelude.{◌≡◌, IfOk, false, string_bytes};
-ghost use Rattle.serde_json.specs.View.{view};
-ghost use Rattle.rl_sarif.specs.Sarif.{document_data, is_result, location_data, message_text, physical_data, result_data, results_data, run_data, sarif_text, tool_data};
+ghost use Rattle.std.specs.Prelude.{◌≡◌, IfOk, OnOk, codes, false, string_bytes};
+ghost use Rattle.serde_json.specs.Data.{no_members, object, put, string};
+ghost use Rattle.serde_json.specs.View.{members_view, view};
+ghost use Rattle.rl_report.specs.Document.{put_some};
+ghost use Rattle.rl_sarif.specs.Sarif.{document_data, is_result, location_data, message_text, physical_data, region_data, result_data, results_data, run_data, sarif_text, tool_data, uri_text};
 
 use crate::uri::uri_of;
 use rl_json::line_of;
 use rl_lists::{Bytes, OutOfMemory};
-use rl_report::{Entries, Entry, call_name, outcome_text};
+use rl_report::{Entries, Entry, Place, call_name, outcome_text};
 use serde_json::{Map, Value, json, put};
 use std::alloc::Global;
+
+/// The members of an object.
+type Members = Map<String, Value>;
+
+fn region_value(alloc: Global, place: Place) -> Result<Value, OutOfMemory>
+    ensures { IfOk result (λ v. view v ≡ region_data place) }
+{
+    Ok(json!(in alloc; {"startColumn": place.column, "startLine": place.line})?)
+}
+
+fn put_region(alloc: Global, members: &mut Members, at: Option<Place>) -> Result<(), OutOfMemory>
+    ensures { OnOk result (members_view members.new.entries
+        ≡ put_some (codes "region") region_data at (members_view members.old.entries)) }
+{
+    match at {
+        None => Ok(()),
+        Some(place) => {
+            let region = region_value(alloc, place)?;
+            put(members, alloc, "region", region)?;
+            Ok(())
+        }
+    }
+}
+
+fn artifact_value(alloc: Global, path: &str) -> Result<Value, OutOfMemory>
+    ensures { IfOk result (λ v. view v ≡ object (put (codes "uri") (string (uri_text path.now)) no_members)) }
+{
+    let uri = uri_of(alloc, path)?;
+    Ok(json!(in alloc; {"uri": uri})?)
+}
 
 fn physical_value(alloc: Global, entry: &Entry) -> Result<Value, OutOfMemory>
     ensures { IfOk result (λ v. view v ≡ physical_data entry.now) }
 {
-    let uri = uri_of(alloc, entry.path.as_str())?;
-    match entry.at {
-        None => Ok(json!(in alloc; {"artifactLocation": {"uri": uri}})?),
-        Some(place) => Ok(json!(in alloc; {
-            "artifactLocation": {"uri": uri},
-            "region": {"startColumn": place.column, "startLine": place.line}
-        })?),
-    }
+    let artifact = artifact_value(alloc, entry.path.as_str())?;
+    let mut members = Map::new(alloc);
+    put(&mut members, alloc, "artifactLocation", artifact)?;
+    put_region(alloc, &mut members, entry.at)?;
+    Ok(Value::Object(members))
 }
 
 fn location_value(alloc: Global, entry: &Entry) -> Result<Value, OutOfMemory>

@@ -1,6 +1,6 @@
 -- Lemmas on looking at the images of one set, and on the notes that are made in the end.
 use Rattle.std.proofs.lemmas.Bool.{true≢false}
-use Rattle.std.proofs.Common.{◌≡◌, ℕ, ◌+◌, ◌<◌, ◌≤◌, true, false, List, [], ◌∷◌, ◌++◌, length, get_or, Option, Some, None, is_some, IfNone, sym, ap, ◌∙◌, subst, arith}
+use Rattle.std.proofs.Common.{◌≡◌, ℕ, ◌+◌, ◌<◌, ◌≤◌, true, false, List, [], ◌∷◌, ◌++◌, length, get_or, Option, Some, None, is_some, IfNone, refl, sym, ap, ◌∙◌, subst, arith}
 use Rattle.rl_prio.specs.Automaton.{Automaton, IsAutomaton, letters_count, accepting_state}
 use Rattle.rl_sets.specs.declared.life.Route.{Route}
 use Rattle.rl_sets.specs.declared.life.Route.TheVariants.{On}
@@ -9,7 +9,7 @@ use Rattle.rl_sets.specs.Live.{holds, image, IsLive}
 use Rattle.rl_sets.specs.Rests.{IsGrown, IsOver, HasRoute}
 use Rattle.rl_sets.specs.Walk.{Walk, set_at, IsMadeFor}
 use Rattle.rl_sets.specs.internal.Search.{Found, number_at, way_at, found_set, IsSearch, IsLookedAt, IsImageAt, GoesOn}
-use Rattle.rl_sets.proofs.GrowthLemmas.{IsGrown-trans, IsOver-grown, set-kept}
+use Rattle.rl_sets.proofs.GrowthLemmas.{IsGrown-same, IsGrown-trans, IsOver-grown, set-kept}
 use Rattle.rl_sets.proofs.LiveLemmas.{end-refused, refuses-image}
 use Rattle.rl_sets.proofs.RouteLemmas.{HasRoute-more, HasRoute-end}
 use Rattle.rl_sets.proofs.SearchLemmas.{all-looked, IsSearch-grown, IsLookedAt-grown, Extends-refl, Extends-trans}
@@ -89,9 +89,40 @@ note-dead a old w f k at n is s all looked in' same e live = all-looked a old f 
 pub note-live : (a : Automaton) (old w : Walk) (f : Found) (at n route : ℕ) → w.sets ≡ old.sets → n ≡ number_at f at → HasRoute a w.kept.routes (found_set old f at) route → HasRoute a w.kept.routes (set_at w n) route
 note-live a old w f at n route same e h = subst (λ (s : List ℕ). HasRoute a w.kept.routes s route) (sym (number-set old w f at n same e)) h
 
-pub trace-step : (a : Automaton) (old w noted put : Walk) (f : Found) (at route number : ℕ) (way : Way) → IsAutomaton a → IsSearch a old f → 0 < at → at < length f.numbers → way ≡ way_at f at → HasRoute a w.kept.routes (found_set old f at) route
-    → noted.kept.routes ≡ w.kept.routes → put.kept.routes ≡ noted.kept.routes ++ On way.letter route ∷ [] → number ≡ length noted.kept.routes → HasRoute a put.kept.routes (found_set old f way.parent) number
-trace-step a old w noted put f at route number way is s some in' e h same routes long =
+pub trace-step : (a : Automaton) (old noted put : Walk) (f : Found) (at route number : ℕ) (way : Way) → IsAutomaton a → IsSearch a old f → 0 < at → at < length f.numbers → way ≡ way_at f at → HasRoute a old.kept.routes (found_set old f at) route
+    → noted.kept.routes ≡ old.kept.routes → put.kept.routes ≡ noted.kept.routes ++ On way.letter route ∷ [] → number ≡ length noted.kept.routes → HasRoute a put.kept.routes (found_set old f (way_at f at).parent) number
+trace-step a old noted put f at route number way is s some in' e h same routes long =
+    let from = found_set old f (way_at f at).parent in
     let there = route-back a old f at noted.kept.routes route is s some in' (subst (λ (l : List Route). HasRoute a l (found_set old f at) route) (sym same) h) in
-    let at_way = subst (λ (x : Way). HasRoute a (noted.kept.routes ++ On x.letter route ∷ []) (found_set old f x.parent) (length noted.kept.routes)) (sym e) there in
-    subst (λ (l : List Route). HasRoute a l (found_set old f way.parent) number) (sym routes) (subst (HasRoute a (noted.kept.routes ++ On way.letter route ∷ []) (found_set old f way.parent)) (sym long) at_way)
+    let at_way = subst (λ (x : Way). HasRoute a (noted.kept.routes ++ On x.letter route ∷ []) from (length noted.kept.routes)) (sym e) there in
+    subst (λ (l : List Route). HasRoute a l from number) (sym routes) (subst (HasRoute a (noted.kept.routes ++ On way.letter route ∷ []) from) (sym long) at_way)
+
+-- ---- the way back from a set with a route to the first one
+-- a walk with the same sets has a route for the set at a place
+pub record IsTracing (a : Automaton) (old w : Walk) (f : Found) (at route : ℕ) : Type 0 where
+  pub made : IsMadeFor w a
+  pub limit : w.limit ≡ old.limit
+  pub sets : w.sets ≡ old.sets
+  pub within : at < length f.numbers
+  pub route_there : HasRoute a w.kept.routes (found_set old f at) route
+
+pub tracing-search : {a : Automaton} {old w : Walk} {f : Found} {at route : ℕ} → IsTracing a old w f at route → IsSearch a old f → IsSearch a w f
+tracing-search {a} {old} {w} {f} t s = IsSearch-grown a (found_set old f 0) old w f s (IsGrown-same a (found_set old f 0) old.sets w.sets t.sets)
+
+pub tracing-route : {a : Automaton} {old w : Walk} {f : Found} {at route : ℕ} (k : ℕ) → IsTracing a old w f at route → at ≡ k → HasRoute a w.kept.routes (found_set w f k) route
+tracing-route {a} {old} {w} {f} {at} {route} k t e =
+    subst (λ (i : ℕ). HasRoute a w.kept.routes (found_set w f i) route) e
+    (subst (λ (s : List ℕ). HasRoute a w.kept.routes s route) (sym (number-set old w f at (number_at f at) t.sets refl)) t.route_there)
+
+pub tracing-more : {a : Automaton} {old w : Walk} {f : Found} {at route : ℕ} (new : Walk) (number : ℕ) (way : Way) → IsTracing a old w f at route → IsSearch a old f → 0 < at → way ≡ way_at f at → IsMadeFor new a → new.limit ≡ w.limit → new.sets ≡ w.sets
+    → HasRoute a new.kept.routes (found_set w f (way_at f at).parent) number → IsTracing a old new f way.parent number
+tracing-more {a} {old} {w} {f} {at} new number way t s some e made limit sets h =
+    let parent = (way_at f at).parent in
+    let earlier : parent < at = (s.steps at some t.within).earlier in
+    subst (λ (x : Way). IsTracing a old new f x.parent number) (sym e) (record {
+      made = made;
+      limit = limit ∙ t.limit;
+      sets = sets ∙ t.sets;
+      within = omega (arith, earlier, t.within);
+      route_there = subst (λ (x : List ℕ). HasRoute a new.kept.routes x number) (number-set old w f parent (number_at f parent) t.sets refl) h;
+    })

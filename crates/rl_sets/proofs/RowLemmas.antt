@@ -1,7 +1,7 @@
 -- Lemmas on rows of truth values as sets.
 use Rattle.std.proofs.Common.{◌≡◌, ◌≢◌, ℕ, ◌+◌, ◌<◌, ◌≤◌, ◌⊎◌, Bool, true, false, not, ◌&&◌, ◌||◌, eqb, filter, List, [], ◌∷◌, ◌++◌, length, get_or, set, drop, replicate, refl, sym, ap, ◌∙◌, subst, inl, inr, arith}
 use Rattle.std.specs.List.{list_any, flat_map}
-use Rattle.std.proofs.lemmas.Bool.{cases_lt, cases_eq, eq-eqb, ne_eqb, cond-true, cond-false}
+use Rattle.std.proofs.lemmas.Bool.{cases_lt, cases_eq, eq-eqb, ne_eqb, cond-true, cond-false, false≢true}
 use Rattle.std.proofs.lemmas.List.{flat_map_more, set-set, at_drop_more, get_or-set_same, get_or-set_other, length-set, length-replicate, ext_get_or}
 use Rattle.std.proofs.lemmas.List.Elements.{All-from_get_or}
 use Rattle.std.proofs.lemmas.List.Folds.{list_any-append}
@@ -13,7 +13,7 @@ use Rattle.rl_prio.specs.Automaton.{Automaton, dead_state, moves_at}
 use Rattle.rl_sets.specs.Live.{below, holds, set_where, image, joined}
 use Rattle.rl_sets.specs.Walk.{set_of}
 use Rattle.rl_sets.specs.Rows.{members_of, marked, IsTableOn}
-use Rattle.rl_sets.specs.internal.Moves.{targets_of, IsReached}
+use Rattle.rl_sets.specs.internal.Moves.{targets_of, IsReached, MoveAlike}
 use Rattle.rl_sets.proofs.SetLemmas.{same_tests, filter_same, filter_gap, filter_next, any-there, any-from, holds-there, holds-from}
 
 -- a state is a member where its place holds true
@@ -166,6 +166,42 @@ unfolding members_of
 IsMarkingMoves-all a letter chosen old now from m none =
     m.marks
     ∙ ap (λ qs. marked old (targets_of a qs letter)) (sym (filter_gap (λ q. get_or chosen q false) from (length chosen) m.small (λ k after lt. none k after)))
+
+-- ---- letters on which the members move alike
+
+pub alike-more : (a : Automaton) (row : List Bool) (from q before letter : ℕ) → MoveAlike a row from before letter → IsLeastFrom row from q → moves_at a q before ≡ moves_at a q letter → MoveAlike a row (q + 1) before letter
+alike-more a row from q before letter h least e = λ k lt member. elim (cases_lt k from) [
+  | inl less ↦ h k less member
+  | inr more ↦ elim (cases_lt k q) [
+    | inl early ↦ absurd (false≢true (sym (least.before k more early) ∙ member))
+    | inr late ↦ let here : q ≡ k = omega arith in subst (λ x. moves_at a x before ≡ moves_at a x letter) here e
+  ]
+]
+
+pub alike-all : (a : Automaton) (row : List Bool) (from before letter : ℕ) → MoveAlike a row from before letter → NoneFrom row from → MoveAlike a row (length row) before letter
+alike-all a row from before letter h none = λ k lt member. elim (cases_lt k from) [
+  | inl less ↦ h k less member
+  | inr more ↦ absurd (false≢true (sym (none k more) ∙ member))
+]
+
+reaches-alike : (a : Automaton) (row : List Bool) (before letter t : ℕ) → MoveAlike a row (length row) before letter → reaches a before (members_of row) t ≡ reaches a letter (members_of row) t
+unfolding members_of
+reaches-alike a row before letter t h =
+    let p = λ (q : ℕ). get_or row q false in
+    let f = λ (q : ℕ). holds (moves_at a q before) t in
+    let g = λ (q : ℕ). holds (moves_at a q letter) t in
+    same_tests _ _ (λ e.
+    let there = any-there f p (length row) e in
+    any-from g p (length row) there.0 there.1 there.2 (ap (λ qs. holds qs t) (sym (h there.0 there.1 there.2)) ∙ there.3)) (λ e.
+    let there = any-there g p (length row) e in
+    any-from f p (length row) there.0 there.1 there.2 (ap (λ qs. holds qs t) (h there.0 there.1 there.2) ∙ there.3))
+
+-- the image is that on the other letter
+pub image-alike : (a : Automaton) (row : List Bool) (before letter : ℕ) → MoveAlike a row (length row) before letter → image a (members_of row) before ≡ image a (members_of row) letter
+unfolding image
+image-alike a row before letter h =
+    filter_same (λ t. not (eqb t (dead_state a)) && reaches a before (members_of row) t) (λ t. not (eqb t (dead_state a)) && reaches a letter (members_of row) t) a.states
+    (λ t lt. ap (λ b. not (eqb t (dead_state a)) && b) (reaches-alike a row before letter t h))
 
 -- ---- tables
 -- where the marking of a row of a table stands, before the state with the number `i`

@@ -1,12 +1,12 @@
 //! Refused rests.
 
-ghost use Rattle.std.specs.Prelude.{◌≡◌, ◌+◌, ◌<◌, ◌≤◌, [], ◌∷◌, false, length, IfOk, IfErr, OnOk, IfSome, IfNone};
-ghost use Rattle.rl_prio.specs.Automaton.{letters_count, accepting_state};
+ghost use Rattle.std.specs.Prelude.{◌≡◌, ◌+◌, ◌<◌, ◌≤◌, false, length, IfOk, IfErr, OnOk, IfSome, IfNone};
+ghost use Rattle.rl_prio.specs.Automaton.{Automaton, letters_count, accepting_state};
 ghost use Rattle.rl_sets.specs.declared.error.SetsError.TheVariants.{Sets};
 ghost use Rattle.rl_sets.specs.Live.{holds, IsLive};
 ghost use Rattle.rl_sets.specs.Rests.{IsRefusedRest, HasRoute, IsGrown, IsOver};
 ghost use Rattle.rl_sets.specs.Walk.{set_at, IsMadeFor};
-ghost use Rattle.rl_sets.specs.internal.Search.{found_of, found_set, root_way, IsSearch, IsLookedAt, IsAdded, IsImageAt, GoesOn};
+ghost use Rattle.rl_sets.specs.internal.Search.{found_of, number_at, way_at, found_set, root_of, IsSearch, IsLookedAt, IsAdded, IsImageAt, GoesOn};
 
 use crate::error::SetsError;
 use crate::life::Life;
@@ -25,24 +25,32 @@ struct Way {
 
 /// The numbers of the sets that a search has found, in order, and how each was found.
 #[derive(Drop)]
-struct Search {
+pub(crate) struct Search {
     numbers: IndexSet<u32>,
     ways: Vec<Way>,
 }
 
 impl Search {
-    /// A search from a set.
-    fn new(alloc: Global, set: u32) -> Result<Search, OutOfMemory>
-        ensures { IfOk result (λ s. found_of s ≡ record { numbers = set ∷ []; ways = root_way ∷ [] }) }
+    /// A search that hasn't begun. It takes no memory.
+    pub(crate) fn new(alloc: Global) -> Search {
+        Search {
+            numbers: IndexSet::new(alloc),
+            ways: Vec::new(alloc),
+        }
+    }
+
+    /// Begins anew, from a set. What was found is let go, and its room is used again.
+    pub(crate) fn begin(&mut self, set: u32) -> Result<(), OutOfMemory>
+        ensures { OnOk result (found_of self.new ≡ root_of set) }
     {
-        let mut numbers = IndexSet::new(alloc);
-        numbers.insert(set)?;
-        let mut ways = Vec::new(alloc);
-        ways.push(Way {
+        self.numbers.clear();
+        self.numbers.insert(set)?;
+        self.ways.clear();
+        self.ways.push(Way {
             parent: 0,
             letter: 0,
         })?;
-        Ok(Search { numbers, ways })
+        Ok(())
     }
 
     /// Appends a set unless it is found.
@@ -117,17 +125,35 @@ impl SetWalk {
         ensures grown { IsGrown a.now (set_at self.old set) self.old.sets self.new.sets }
         ensures full { IfErr result (λ e. e ≡ Sets → IsOver a.now (set_at self.old set) self.old.sets self.old.limit) }
     {
+        let mut search = self.take_search(set)?;
+        let route = self.seek(a, &mut search, set)?;
+        self.keep_search(search);
+        Ok(route)
+    }
+
+    /// Searches on from the set that a search begins with.
+    fn seek(&mut self, a: &Prio, search: &mut Search, set: u32) -> Result<Option<usize>, SetsError>
+        requires made { IsMadeFor self.old a.now }
+        requires set_in { set < length self.old.sets }
+        requires free { holds (set_at self.old set) (accepting_state a.now) ≡ false }
+        requires root { found_of search.old ≡ root_of set }
+        ensures route { IfOk result (λ o. IfSome o (HasRoute a.now self.new.kept.routes (set_at self.old set))) }
+        ensures none { IfOk result (λ o. IfNone o (IsLive a.now (set_at self.old set) → ⊥)) }
+        ensures made { IsMadeFor self.new a.now }
+        ensures limit { self.new.limit ≡ self.old.limit }
+        ensures grown { IsGrown a.now (set_at self.old set) self.old.sets self.new.sets }
+        ensures full { IfErr result (λ e. e ≡ Sets → IsOver a.now (set_at self.old set) self.old.sets self.old.limit) }
+    {
         let _states = a.states();
-        let mut search = Search::new(self.allocator(), set)?;
         let mut place = 0;
         while place < search.numbers.len() {
-            if let Some(route) = self.expand(a, &mut search, place)? {
-                let route = self.trace(a, &search, place, route)?;
+            if let Some(route) = self.expand(a, search, place)? {
+                let route = self.trace(a, search, place, route)?;
                 return Ok(Some(route));
             }
             place += 1;
         }
-        self.bury(a, &search)?;
+        self.bury(a, search)?;
         Ok(None)
     }
 
@@ -240,17 +266,52 @@ impl SetWalk {
         ensures sets { self.new.sets ≡ self.old.sets }
         ensures route { IfOk result (HasRoute a.now self.new.kept.routes (found_set self.old (found_of search.now) 0)) }
     {
-        let _states = a.states();
         let mut at = place;
         let mut route = route;
         while at > 0 {
-            self.note(search.numbers[at], Life::Live(route))?;
+            route = self.trace_back(a, search, at, route)?;
             let way = search.ways[at];
-            route = self.put_route(way.letter, route)?;
             at = way.parent;
         }
-        self.note(search.numbers[0], Life::Live(route))?;
+        self.note_route(search, 0, route)?;
         Ok(route)
+    }
+
+    /// Notes a route for the set at a place, and appends one for the set whose image it is. The number of that one.
+    fn trace_back(
+        &mut self,
+        a: &Prio,
+        search: &Search,
+        at: usize,
+        route: usize,
+    ) -> Result<usize, OutOfMemory>
+        requires made { IsMadeFor self.old a.now }
+        requires later { 0 < at }
+        requires place_in { at < length (found_of search.now).numbers }
+        requires search { IsSearch a.now self.old (found_of search.now) }
+        requires route { HasRoute a.now self.old.kept.routes (found_set self.old (found_of search.now) at) route }
+        ensures made { IsMadeFor self.new a.now }
+        ensures limit { self.new.limit ≡ self.old.limit }
+        ensures sets { self.new.sets ≡ self.old.sets }
+        ensures route { IfOk result (HasRoute a.now self.new.kept.routes (found_set self.old (found_of search.now) (way_at (found_of search.now) at).parent)) }
+    {
+        let _states = a.states();
+        self.note_route(search, at, route)?;
+        let way = search.ways[at];
+        let number = self.put_route(way.letter, route)?;
+        Ok(number)
+    }
+
+    /// Notes a route for the set at a place.
+    fn note_route(&mut self, search: &Search, at: usize, route: usize) -> Result<(), OutOfMemory>
+        requires place_in { at < length (found_of search.now).numbers }
+        requires set_in { number_at (found_of search.now) at < length self.old.sets }
+        ensures made { (a : Automaton) → IsMadeFor self.old a → HasRoute a self.old.kept.routes (found_set self.old (found_of search.now) at) route → IsMadeFor self.new a }
+        ensures limit { self.new.limit ≡ self.old.limit }
+        ensures sets { self.new.sets ≡ self.old.sets }
+        ensures routes { self.new.kept.routes ≡ self.old.kept.routes }
+    {
+        self.note(search.numbers[at], Life::Live(route))
     }
 
     /// Notes that the found sets refuse no rest.

@@ -1,9 +1,9 @@
 //! Rows of states, and the table of the moves on one letter.
 
-ghost use Rattle.std.specs.Prelude.{◌≡◌, ◌<◌, ◌≤◌, ◌^◌, All, [], length, slice_index_or, slice_set, IsTrue, IfOk};
+ghost use Rattle.std.specs.Prelude.{◌≡◌, ◌-◌, ◌<◌, ◌≤◌, ◌^◌, All, [], length, slice_index_or, slice_set, IsTrue, IfOk};
 ghost use Rattle.rl_prio.specs.Automaton.{letters_count};
 ghost use Rattle.rl_sets.specs.Rows.{members_of, marked, IsTableOn};
-ghost use Rattle.rl_sets.specs.internal.Moves.{targets_of};
+ghost use Rattle.rl_sets.specs.internal.Moves.{targets_of, MoveAlike};
 
 use rl_lanes::{BitRow, BitTable};
 use rl_lists::{Items, Members, OutOfMemory};
@@ -44,6 +44,24 @@ pub(crate) fn mark_moves(row: &mut BitRow, a: &Prio, set: &BitRow, letter: u32) 
     true
 }
 
+/// Whether the members of a set move on a letter as on the one before it.
+pub(crate) fn move_alike(a: &Prio, set: &BitRow, letter: u32) -> bool
+    requires letter_in { letter ≤ letters_count a.now }
+    requires later { 0 < letter }
+    requires set_in { length set.now ≡ a.now.states }
+    ensures { IsTrue result → MoveAlike a.now set.now (length set.now) (letter - 1) letter }
+{
+    let _states = a.states();
+    let mut from = 0;
+    while let Some(state) = set.next_from(from) {
+        if a.moves(state as u32, letter - 1) != a.moves(state as u32, letter) {
+            return false;
+        }
+        from = state + 1;
+    }
+    true
+}
+
 /// Makes the places of states hold true in one row of a table.
 fn mark_row(table: &mut BitTable, at: usize, states: &[u32])
     requires row_in { at < length table.old }
@@ -74,11 +92,11 @@ pub(crate) fn members(alloc: Global, row: &BitRow) -> Result<Members, OutOfMemor
     requires { length row.now < 2 ^ 32 }
     ensures { IfOk result (λ m. m ≡ members_of row.now) }
 {
-    let mut members = Items::new(alloc);
+    let mut members = Vec::with_capacity(alloc, row.count())?;
     let mut from = 0;
     while let Some(state) = row.next_from(from) {
         members.push(state as u32)?;
         from = state + 1;
     }
-    Ok(members)
+    Ok(Items::from_vec(members))
 }

@@ -1,19 +1,22 @@
 //! Walks over sets of states.
 
-ghost use Rattle.std.specs.Prelude.{◌≡◌, ◌≢◌, ℕ, ◌<◌, ◌≤◌, [], length, All, slice_get, Some, IsTrue, IfOk, IfErr, OnOk, OnErr, List, Bool};
+ghost use Rattle.std.specs.Prelude.{◌≡◌, ◌≢◌, ℕ, ◌<◌, ◌≤◌, [], ◌∷◌, length, replicate, All, slice_get, None, Some, IsTrue, IfOk, IfErr, IfSome, OnOk, OnErr, List, Bool};
 ghost use Rattle.rl_prio.specs.Automaton.{Automaton, letters_count, dead_state};
 ghost use Rattle.rl_sets.specs.declared.error.SetsError.TheVariants.{Sets};
+ghost use Rattle.rl_sets.specs.declared.life.Route.TheVariants.{End};
 ghost use Rattle.rl_sets.specs.Live.{holds, image, joined};
 ghost use Rattle.rl_sets.specs.Rows.{members_of};
 ghost use Rattle.rl_sets.specs.Walk.{set_at, set_of, IsMadeFor, IsListed, IsFull};
 ghost use Rattle.rl_sets.specs.internal.Moves.{IsReached};
+ghost use Rattle.rl_sets.specs.internal.Search.{found_of, root_of};
 
 mod images;
 mod lives;
 
 use crate::error::SetsError;
 use crate::life::{Life, Route};
-use crate::rows::{mark, mark_moves, members, table_on};
+use crate::rests::Search;
+use crate::rows::{mark, mark_moves, members, move_alike, table_on};
 use indexmap::IndexSet;
 use rl_lanes::{BitRow, BitTable};
 use rl_lists::{Members, OutOfMemory};
@@ -21,16 +24,21 @@ use rl_prio::Prio;
 use std::alloc::Global;
 use std::marker::Model;
 
+/// For how many sets a walk has room at first. Many automata have no more.
+const FIRST_SETS: usize = 18;
+
 /// A walk over sets of states of one automaton: its powerset construction, as far as it was asked for. Each set has one
 /// number, its place in the walk's list.
 ///
-/// A row whose set was there already is kept as the spare one, so that a set that is known takes no memory.
+/// A row whose set was there already is kept as the spare one, so that a set that is known takes no memory. In the same way
+/// the last search for a refused rest is kept idle, so that the next one takes its room.
 #[derive(Drop)]
 pub struct SetWalk {
     states: u32,
     limit: u32,
     rows: IndexSet<BitRow>,
     spare: Option<BitRow>,
+    idle: Option<Search>,
     tables: Vec<Option<BitTable>>,
     images: Vec<Option<u32>>,
     routes: Vec<Route>,
@@ -49,6 +57,26 @@ impl Model for SetWalk {
     ghost invariant = { λ w. AreRows w.states w.limit w.rows.keys };
 }
 
+/// The route of the end letter alone, in a list with room for more.
+fn first_routes(alloc: Global) -> Result<Vec<Route>, OutOfMemory>
+    ensures { IfOk result (λ routes. routes.items ≡ End ∷ []) }
+{
+    let mut routes = Vec::with_capacity(alloc, FIRST_SETS)?;
+    routes.push(Route::End)?;
+    Ok(routes)
+}
+
+/// Places for the tables of letters, where none is made.
+fn no_tables(alloc: Global, letters: usize) -> Result<Vec<Option<BitTable>>, OutOfMemory>
+    ensures { IfOk result (λ tables. tables.items ≡ replicate letters None) }
+{
+    let mut tables = Vec::with_capacity(alloc, letters)?;
+    for _letter in 0..letters {
+        tables.push(None)?;
+    }
+    Ok(tables)
+}
+
 impl SetWalk {
     /// A walk without a set, which may get `limit` of them.
     ///
@@ -61,22 +89,22 @@ impl SetWalk {
         ensures limit { IfOk result (λ w. w.limit ≡ limit) }
         ensures made { IfOk result (λ w. IsMadeFor w a.now) }
     {
-        let mut tables = Vec::new(alloc);
-        for _letter in 0..a.letters().count() {
-            tables.push(None)?;
-        }
-        tables.push(None)?;
-        let mut routes = Vec::new(alloc);
-        routes.push(Route::End)?;
+        let letters = a.letters().count() as usize + 1;
+        let tables = no_tables(alloc, letters)?;
+        let routes = first_routes(alloc)?;
+        let rows = IndexSet::with_capacity(alloc, FIRST_SETS)?;
+        let images = Vec::with_capacity(alloc, FIRST_SETS * letters)?;
+        let lives = Vec::with_capacity(alloc, FIRST_SETS)?;
         Ok(SetWalk {
             states: a.states(),
             limit,
-            rows: IndexSet::new(alloc),
+            rows,
             spare: None,
+            idle: None,
             tables,
-            images: Vec::new(alloc),
+            images,
             routes,
-            lives: Vec::new(alloc),
+            lives,
         })
     }
 
@@ -139,7 +167,7 @@ impl SetWalk {
         if let Some(number) = self.known_image(a, set, letter) {
             return Ok(number);
         }
-        self.make_image(a, set, letter)
+        self.find_image(a, set, letter)
     }
 
     /// The number of the set with one more member, which is appended unless it is there. The dead state is left
@@ -271,6 +299,26 @@ impl SetWalk {
         }
     }
 
+    /// A search from a set: the idle one begun anew, or a new one.
+    pub(crate) fn take_search(&mut self, set: u32) -> Result<Search, OutOfMemory>
+        ensures root { IfOk result (λ s. found_of s ≡ root_of set) }
+        ensures same { self.new ≡ self.old }
+    {
+        let mut search = match self.idle.take() {
+            Some(search) => search,
+            None => Search::new(self.allocator()),
+        };
+        search.begin(set)?;
+        Ok(search)
+    }
+
+    /// Keeps a search for the next one.
+    pub(crate) fn keep_search(&mut self, search: Search)
+        ensures { self.new ≡ self.old }
+    {
+        self.idle = Some(search);
+    }
+
     /// The row of a set, as a row of its own.
     fn row_of(&mut self, set: u32) -> Result<BitRow, OutOfMemory>
         requires { set < length self.old.sets }
@@ -303,8 +351,48 @@ impl SetWalk {
         Ok(row)
     }
 
-    /// The number of the image of a set on a letter, which is kept. It stands apart, so that `step` stays small.
+    /// The number of the image of a set on a letter, which is kept: that on the letter before, where the members move alike
+    /// on both, or else that of a row which is made. It stands apart, so that `step` stays small.
     #[inline(never)]
+    fn find_image(&mut self, a: &Prio, set: u32, letter: u32) -> Result<u32, SetsError>
+        requires made { IsMadeFor self.old a.now }
+        requires set_in { set < length self.old.sets }
+        requires letter_in { letter ≤ letters_count a.now }
+        ensures listed { IfOk result (IsListed self.old.sets self.new.sets (image a.now (set_at self.old set) letter)) }
+        ensures inside { IfOk result (λ n. n < length self.new.sets) }
+        ensures longer { length self.old.sets ≤ length self.new.sets }
+        ensures made { IsMadeFor self.new a.now }
+        ensures limit { self.new.limit ≡ self.old.limit }
+        ensures full { IfErr result (λ e. e ≡ Sets → IsFull self.old.sets self.old.limit (image a.now (set_at self.old set) letter)) }
+        ensures unchanged { OnErr result (self.new.sets ≡ self.old.sets) }
+    {
+        let Some(number) = self.image_before(a, set, letter) else {
+            return self.make_image(a, set, letter);
+        };
+        self.make_room(a, set)?;
+        self.keep_image(a, set, letter, number);
+        Ok(number)
+    }
+
+    /// The number of the image of a set on the letter before, where it is known and the members move alike on both letters.
+    fn image_before(&self, a: &Prio, set: u32, letter: u32) -> Option<u32>
+        requires made { IsMadeFor self.now a.now }
+        requires set_in { set < length self.now.sets }
+        requires letter_in { letter ≤ letters_count a.now }
+        ensures { IfSome result (λ n. slice_get self.now.sets n ≡ Some (image a.now (set_at self.now set) letter)) }
+    {
+        if letter == 0 {
+            return None;
+        }
+        let number = self.known_image(a, set, letter - 1)?;
+        if move_alike(a, &self.rows[set as usize], letter) {
+            Some(number)
+        } else {
+            None
+        }
+    }
+
+    /// The number of the image of a set on a letter, whose row is made, and which is kept.
     fn make_image(&mut self, a: &Prio, set: u32, letter: u32) -> Result<u32, SetsError>
         requires made { IsMadeFor self.old a.now }
         requires set_in { set < length self.old.sets }

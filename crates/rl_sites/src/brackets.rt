@@ -81,7 +81,7 @@ pub fn sizes_of(
 ) -> Result<Vec<usize>, OutOfMemory>
     ensures { IfOk result (λ sizes. IsTable source.now tokens.now sizes.items) }
 {
-    let mut sizes = Vec::new(alloc);
+    let mut sizes = Vec::with_capacity(alloc, tokens.len() + 1)?;
     sizes.push(0)?;
     let mut left = tokens.len();
     while left > 0 {

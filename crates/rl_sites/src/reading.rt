@@ -1,19 +1,19 @@
 // The sites of a source.
-ghost use Rattle.std.specs.Prelude.{◌≡◌, ◌≤◌, ◌<◌, ◌+◌, ◌-◌, ◌++◌, List, [], length, take, drop, slice_get, not, false, position, All, IfOk, OnOk, option_to_list, if◌then◌else◌};
+ghost use Rattle.std.specs.Prelude.{◌≡◌, ◌≤◌, ◌<◌, ◌+◌, ◌-◌, ◌++◌, length, take, drop, slice_get, not, false, position, All, IfOk, IfSome, OnOk, option_to_list};
 ghost use Rattle.std.specs.List.{prefix_len};
 ghost use Rattle.rl_pylex.specs.Source.{IsTokenList};
 ghost use Rattle.rl_sites.specs.Significant.{is_literal};
 ghost use Rattle.rl_sites.specs.internal.Walks.{IsTable, IsNumbered};
 ghost use Rattle.rl_sites.specs.Arguments.{arguments_of};
 ghost use Rattle.rl_sites.specs.Imports.{aliases_of};
-ghost use Rattle.rl_sites.specs.Sites.{pattern_size, site_of_run, ends_whole, site_behind, site_here, hides, sites_from, sites_of};
-ghost use Rattle.rl_sites.specs.internal.Parts.{site_by, flags_if};
+ghost use Rattle.rl_sites.specs.Sites.{pattern_size, site_of_run, ends_whole, site_behind, hides, sites_from, sites_of};
+ghost use Rattle.rl_sites.specs.internal.Parts.{site_by, flags_if, is_hidden, open_head};
 ghost use Rattle.rl_sites.specs.Runs.{HasRun, AreInOrder};
 ghost use Rattle.rl_sites.specs.internal.Meanings.{IsMeant};
 
 use crate::brackets::sizes_of;
 use crate::flags::flags_of;
-use crate::heads::head_of;
+use crate::heads::{Head, head_of};
 use crate::imports::{Alias, aliases_of};
 use crate::names::{Names, names_of};
 use crate::significant::{
@@ -131,25 +131,6 @@ fn site_behind(
     site_of_run(call, whole, flags, first(run, size))
 }
 
-/// The site that begins in front, if there is one.
-#[tactic(auto, using(crate::proofs::Numbers::numbers))]
-fn site_here(
-    source: &[u8],
-    names: &Names<'_>,
-    rest: &[SignificantToken],
-    sizes: &[usize],
-) -> Option<Site>
-    requires meant { IsMeant source.now names.now.aliases.items names.now.meanings.entries }
-    requires table { IsTable source.now rest.now sizes.now }
-    requires numbered { IsNumbered rest.now }
-    ensures { result ≡ site_here source.now names.now.aliases.items rest.now }
-{
-    match head_of(source, names, rest) {
-        Some(head) => site_behind(source, names, head.call, rest_from(rest, head.size), sizes),
-        None => None,
-    }
-}
-
 /// Whether no site begins behind the token.
 #[tactic(auto, unfolding(crate::specs::Sites::hides))]
 fn hides(source: &[u8], token: SignificantToken) -> bool
@@ -158,24 +139,68 @@ fn hides(source: &[u8], token: SignificantToken) -> bool
     is_op(source, b".", token) || is_word(source, b"def", token)
 }
 
+/// Whether the token before a place, if there is one, hides a site there.
+fn is_hidden(source: &[u8], before: Option<SignificantToken>) -> bool
+    ensures { result ≡ is_hidden source.now before }
+{
+    match before {
+        Some(token) => hides(source, token),
+        None => false,
+    }
+}
+
+/// The head of the call in front, if there is one and it isn't hidden.
+fn open_head(
+    source: &[u8],
+    names: &Names<'_>,
+    before: Option<SignificantToken>,
+    rest: &[SignificantToken],
+) -> Option<Head>
+    requires { IsMeant source.now names.now.aliases.items names.now.meanings.entries }
+    ensures value { result ≡ open_head source.now names.now.aliases.items before rest.now }
+    ensures within { IfSome result (λ found. found.size ≤ length rest.now) }
+{
+    match head_of(source, names, rest) {
+        Some(head) if !is_hidden(source, before) => Some(head),
+        _ => None,
+    }
+}
+
+/// The site that begins in front, if there is one and it isn't hidden.
+#[tactic(auto, using(crate::proofs::Numbers::numbers))]
+fn site_here(
+    source: &[u8],
+    names: &Names<'_>,
+    before: Option<SignificantToken>,
+    rest: &[SignificantToken],
+    sizes: &[usize],
+) -> Option<Site>
+    requires meant { IsMeant source.now names.now.aliases.items names.now.meanings.entries }
+    requires table { IsTable source.now rest.now sizes.now }
+    requires numbered { IsNumbered rest.now }
+    ensures { result ≡ site_by source.now names.now.aliases.items (open_head source.now names.now.aliases.items before rest.now) rest.now }
+{
+    match open_head(source, names, before, rest) {
+        Some(head) => site_behind(source, names, head.call, rest_from(rest, head.size), sizes),
+        None => None,
+    }
+}
+
 /// Appends the site that begins in front, if there is one and it isn't hidden.
 fn push_site(
     sites: &mut SiteList,
     source: &[u8],
     names: &Names<'_>,
-    hidden: bool,
+    before: Option<SignificantToken>,
     rest: &[SignificantToken],
     sizes: &[usize],
 ) -> Result<(), OutOfMemory>
     requires meant { IsMeant source.now names.now.aliases.items names.now.meanings.entries }
     requires table { IsTable source.now rest.now sizes.now }
     requires numbered { IsNumbered rest.now }
-    ensures { OnOk result (sites.new ≡ sites.old ++ (if hidden then [] else option_to_list (site_here source.now names.now.aliases.items rest.now))) }
+    ensures { OnOk result (sites.new ≡ sites.old ++ option_to_list (site_by source.now names.now.aliases.items (open_head source.now names.now.aliases.items before rest.now) rest.now)) }
 {
-    if hidden {
-        return Ok(());
-    }
-    if let Some(site) = site_here(source, names, rest, sizes) {
+    if let Some(site) = site_here(source, names, before, rest, sizes) {
         sites.push(site)?;
     }
     Ok(())
@@ -196,14 +221,38 @@ fn sites_among(
     ensures { IfOk result (λ sites. sites ≡ sites_from source.now names.now.aliases.items false tokens.now) }
 {
     let mut sites = SiteList::new(alloc);
-    let mut hidden = false;
+    let mut before = None;
     let mut rest = tokens;
     while let [token, ..] = rest {
-        push_site(&mut sites, source, names, hidden, rest, sizes)?;
-        hidden = hides(source, *token);
+        push_site(&mut sites, source, names, before, rest, sizes)?;
+        before = Some(*token);
         rest = rest_from(rest, 1);
     }
     Ok(sites)
+}
+
+/// The tokens from the first on at which a call begins that isn't hidden: before it no site begins.
+#[tactic(auto, using(crate::proofs::Numbers::numbers))]
+fn from_first_call<'a>(
+    source: &[u8],
+    names: &Names<'_>,
+    tokens: &'a [SignificantToken],
+) -> &'a [SignificantToken]
+    requires meant { IsMeant source.now names.now.aliases.items names.now.meanings.entries }
+    requires numbered { IsNumbered tokens.now }
+    ensures same { sites_from source.now names.now.aliases.items false result.now ≡ sites_from source.now names.now.aliases.items false tokens.now }
+    ensures numbered { IsNumbered result.now }
+{
+    let mut before = None;
+    let mut rest = tokens;
+    while let [token, ..] = rest {
+        if open_head(source, names, before, rest).is_some() {
+            return rest;
+        }
+        before = Some(*token);
+        rest = rest_from(rest, 1);
+    }
+    rest
 }
 
 /// The sites among the tokens, by the aliases of their source. A source that makes none has no sites.
@@ -221,8 +270,9 @@ fn sites_by(
         return Ok(SiteList::new(alloc));
     }
     let names = names_of(alloc, source, aliases)?;
-    let sizes = sizes_of(alloc, source, tokens)?;
-    sites_among(alloc, source, &names, tokens, sizes.as_slice())
+    let calls = from_first_call(source, &names, tokens);
+    let sizes = sizes_of(alloc, source, calls)?;
+    sites_among(alloc, source, &names, calls, sizes.as_slice())
 }
 
 /// The sites of a source with these tokens, which are its own: each call of the module `re` by an alias that its

@@ -118,7 +118,7 @@ pub fn significant_tokens(
     requires { length tokens.now ≤ 4194304 }
     ensures { IfOk result (λ significant. significant.items ≡ significant_from 0 tokens.now) }
 {
-    let mut significant = Vec::new(alloc);
+    let mut significant = Vec::with_capacity(alloc, tokens.len())?;
     for (number, token) in tokens.iter().enumerate() {
         if !is_comment(*token) {
             significant.push(SignificantToken {

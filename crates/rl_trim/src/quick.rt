@@ -5,16 +5,45 @@ ghost use Rattle.std.specs.Prelude.{IfOk, OnOk, IfSome};
 ghost use Rattle.rl_trim.specs.Judged.{IsFound};
 ghost use Rattle.rl_trim.specs.Reached.{AreReached};
 ghost use Rattle.rl_trim.specs.internal.Trims.{trim_pairs};
-ghost use Rattle.rl_trim.specs.internal.Quick.{IsGrown};
+ghost use Rattle.rl_trim.specs.internal.Quick.{IsGrown, ArePairs};
 
 use crate::branch::Branch;
 use crate::holders::touched_sets;
 use crate::judgement::Judgement;
+use crate::key::Way;
 use crate::pairs::Pairs;
 use crate::store::Reached;
 use crate::word::{leads_apart, word_to};
 use rl_sets::{SetWalk, SetsError};
 use std::alloc::Global;
+
+/// What the pairs tell once all of them are looked at, if that is something.
+fn judge_pairs(
+    alloc: Global,
+    branch: &Branch,
+    walk: &mut SetWalk,
+    pairs: &mut Pairs,
+    ways: &[Way],
+    limit: u32,
+) -> Result<Option<Judgement>, SetsError>
+    requires { ArePairs branch.now.automaton.now branch.now.keep.now walk.old pairs.old.count pairs.old.keys.keys }
+    ensures found { IfOk result (λ o. IfSome o (IsFound (trim_pairs branch.now.automaton.now branch.now.keep.now) limit)) }
+    ensures grown { OnOk result (IsGrown branch.now.automaton.now walk.old walk.new) }
+{
+    let count = pairs.count;
+    let all = pairs.grow(branch, walk)?;
+    if !all || pairs.keys.len() + count as usize > limit as usize {
+        return Ok(None);
+    }
+    let Some(place) = pairs.apart(branch, walk)? else {
+        return Ok(Some(Judgement::Equal));
+    };
+    let word = word_to(alloc, ways, &pairs.ways, &pairs.keys, place)?;
+    if leads_apart(branch, walk, word.as_slice())? {
+        return Ok(Some(Judgement::Apart));
+    }
+    Ok(None)
+}
 
 /// What a quick trial tells, if it tells something.
 pub(crate) fn quick_trial(
@@ -31,16 +60,6 @@ pub(crate) fn quick_trial(
     let count = reached.count;
     let touched = touched_sets(alloc, branch, &reached.holders, walk, count)?;
     let mut pairs = Pairs::new(alloc, branch, walk, &touched, count)?;
-    let all = pairs.grow(branch, walk)?;
-    if !all || pairs.keys.len() + count as usize > limit as usize {
-        return Ok(None);
-    }
-    let Some(place) = pairs.apart(branch, walk)? else {
-        return Ok(Some(Judgement::Equal));
-    };
-    let word = word_to(alloc, &reached.ways, &pairs.ways, &pairs.keys, place)?;
-    if leads_apart(branch, walk, word.as_slice())? {
-        return Ok(Some(Judgement::Apart));
-    }
-    Ok(None)
+    let told = judge_pairs(alloc, branch, walk, &mut pairs, &reached.ways, limit)?;
+    Ok(told)
 }

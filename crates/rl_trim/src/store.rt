@@ -3,7 +3,7 @@
 ghost use Rattle.std.specs.Prelude.{◌+◌, ◌<◌, length, IfOk, OnOk};
 ghost use Rattle.rl_prio.specs.Automaton.{letters_count};
 ghost use Rattle.rl_sets.specs.Walk.{IsMadeFor};
-ghost use Rattle.rl_trim.specs.Reached.{HasImage, IsClosedTo, IsStore};
+ghost use Rattle.rl_trim.specs.Reached.{HasImage, IsClosedTo, IsStored, IsStore};
 ghost use Rattle.rl_trim.specs.internal.Quick.{IsGrown};
 
 use crate::holders::holders_of;
@@ -49,8 +49,8 @@ fn begin(alloc: Global, a: &Prio) -> Result<SetWalk, SetsError>
     ensures { IfOk result (λ w. IsClosedTo a.now w 0 (length w.sets)) }
 {
     let _states = a.states();
-    let mut walk = SetWalk::new(alloc, a, MOST_SETS)?;
     let start = vec![in alloc; 0]?;
+    let mut walk = SetWalk::new(alloc, a, MOST_SETS)?;
     walk.intern(a, &start)?;
     Ok(walk)
 }
@@ -89,6 +89,36 @@ fn expand(walk: &mut SetWalk, ways: &mut Vec<Way>, a: &Prio, set: u32) -> Result
         step(walk, ways, a, set, letter)?;
     }
     Ok(())
+}
+
+/// The sets that are reached from the start, found by a walk that has the start alone; none where there are as many as said.
+fn reach(
+    alloc: Global,
+    a: &Prio,
+    walk: &mut SetWalk,
+    most: u32,
+) -> Result<Option<Reached>, SetsError>
+    requires { IsClosedTo a.now walk.old 0 (length walk.old.sets) }
+    ensures { IfOk result (IsStored a.now walk.new) }
+{
+    let mut ways = vec![in alloc;
+        Way {
+            parent: 0,
+            letter: 0
+        },
+    ]?;
+    for set in 0..most {
+        if set == walk.len() {
+            let holders = holders_of(alloc, a, walk, set)?;
+            return Ok(Some(Reached {
+                count: set,
+                holders,
+                ways,
+            }));
+        }
+        expand(walk, &mut ways, a, set)?;
+    }
+    Ok(None)
 }
 
 impl Store {
@@ -138,30 +168,10 @@ impl Store {
         ensures { IfOk result (IsStore a.now) }
     {
         let mut walk = begin(alloc, a)?;
-        let mut ways = vec![in alloc;
-            Way {
-                parent: 0,
-                letter: 0
-            },
-        ]?;
-        for set in 0..most {
-            if set == walk.len() {
-                let holders = holders_of(alloc, a, &walk, set)?;
-                return Ok(Store {
-                    walk,
-                    reached: Some(Reached {
-                        count: set,
-                        holders,
-                        ways,
-                    }),
-                    patience,
-                });
-            }
-            expand(&mut walk, &mut ways, a, set)?;
-        }
+        let reached = reach(alloc, a, &mut walk, most)?;
         Ok(Store {
             walk,
-            reached: None,
+            reached,
             patience,
         })
     }

@@ -96,7 +96,24 @@ fn trial_of(
     Ok(found)
 }
 
-/// What a trial tells of an automaton without the states of the places that aren't kept, and the sets with those that it has made.
+/// What a trial tells of an automaton without the states of the places that aren't kept.
+fn trial_on(
+    alloc: Global,
+    store: &mut Store,
+    a: &Prio,
+    keep: &[bool],
+    limit: u32,
+) -> Result<Judgement, SetsError>
+    requires { IsStore a.now store.old }
+    ensures found { IfOk result (IsFound (trim_pairs a.now keep.now) limit) }
+    ensures store { OnOk result (IsStore a.now store.new) }
+{
+    let branch = Branch::new(alloc, a, keep)?;
+    let found = trial_of(alloc, &branch, store, limit)?;
+    Ok(found)
+}
+
+/// The same, and the sets with those that it has made.
 fn judge_on(
     alloc: Global,
     store: Store,
@@ -108,9 +125,8 @@ fn judge_on(
     ensures found { IfOk result (λ r. IsFound (trim_pairs a.now keep.now) limit r.0) }
     ensures store { IfOk result (λ r. IsStore a.now r.1) }
 {
-    let branch = Branch::new(alloc, a, keep)?;
     let mut store = store.refreshed(alloc, a)?;
-    let found = trial_of(alloc, &branch, &mut store, limit)?;
+    let found = trial_on(alloc, &mut store, a, keep, limit)?;
     Ok((found, store))
 }
 

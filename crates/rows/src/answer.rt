@@ -1,7 +1,7 @@
 //! A call of the program over a tree and sinks in memory.
 
 use crate::failure::Failure;
-use crate::row::Faults;
+use crate::row::{Faults, Writes};
 use crate::tree::Places;
 use rl_lint::relint_main;
 use rl_source::{MemSink, MemTree, Tree};
@@ -19,19 +19,60 @@ pub struct Answer {
     pub tree_faults: u64,
 }
 
-/// Nothing fails.
-pub fn no_faults(alloc: Global) -> Faults {
-    Faults {
-        tree: Vec::new(alloc),
-        out: Vec::new(alloc),
-        err: Vec::new(alloc),
-        out_step: usize::MAX,
-        err_step: usize::MAX,
+/// No write fails.
+fn all_written(alloc: Global) -> Writes {
+    Writes {
+        failing: Vec::new(alloc),
+        step: usize::MAX,
     }
 }
 
-fn sink(alloc: Global, step: usize, failing: &Vec<u64>) -> Result<MemSink, Failure> {
-    Ok(MemSink::new(alloc, step.max(1), ROOM, failing.clone()?)?)
+/// Nothing fails.
+fn no_faults(alloc: Global) -> Faults {
+    Faults {
+        tree: Vec::new(alloc),
+        out: all_written(alloc),
+        err: all_written(alloc),
+    }
+}
+
+fn tree_of(
+    alloc: Global,
+    words: &Vec<String>,
+    places: &Places,
+    failing: &Vec<u64>,
+) -> Result<MemTree, Failure> {
+    let failing = failing.clone()?;
+    let nodes = places.nodes(words)?;
+    Ok(MemTree::new(alloc, nodes, failing)?)
+}
+
+fn sink_of(alloc: Global, writes: &Writes) -> Result<MemSink, Failure> {
+    let failing = writes.failing.clone()?;
+    Ok(MemSink::new(alloc, writes.step.max(1), ROOM, failing)?)
+}
+
+fn sinks_of(alloc: Global, faults: &Faults) -> Result<(MemSink, MemSink), Failure> {
+    let out = sink_of(alloc, &faults.out)?;
+    let err = sink_of(alloc, &faults.err)?;
+    Ok((out, err))
+}
+
+fn answer_over(
+    alloc: Global,
+    words: &Vec<String>,
+    mut tree: MemTree,
+    mut out: MemSink,
+    mut err: MemSink,
+) -> Answer {
+    let status = relint_main(alloc, words, &mut tree, &mut out, &mut err);
+    let tree_faults = tree.faults();
+    Answer {
+        status,
+        out,
+        err,
+        tree_faults,
+    }
 }
 
 /// The answer to these words over these files.
@@ -41,15 +82,17 @@ pub fn answer_to(
     places: &Places,
     faults: &Faults,
 ) -> Result<Answer, Failure> {
-    let mut tree = MemTree::new(alloc, places.nodes(words)?, faults.tree.clone()?)?;
-    let mut out = sink(alloc, faults.out_step, &faults.out)?;
-    let mut err = sink(alloc, faults.err_step, &faults.err)?;
-    let status = relint_main(alloc, words, &mut tree, &mut out, &mut err);
-    let tree_faults = tree.faults();
-    Ok(Answer {
-        status,
-        out,
-        err,
-        tree_faults,
-    })
+    let tree = tree_of(alloc, words, places, &faults.tree)?;
+    let (out, err) = sinks_of(alloc, faults)?;
+    Ok(answer_over(alloc, words, tree, out, err))
+}
+
+/// The answer to these words over these files, where nothing fails.
+pub fn plain_answer_to(
+    alloc: Global,
+    words: &Vec<String>,
+    places: &Places,
+) -> Result<Answer, Failure> {
+    let faults = no_faults(alloc);
+    answer_to(alloc, words, places, &faults)
 }

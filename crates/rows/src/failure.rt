@@ -6,7 +6,7 @@ use std::alloc::{AllocError, AllocFailed, Global};
 use std::fmt;
 
 /// Why a row fails: it can't be read, or it is answered otherwise than it says.
-#[derive(Debug, Drop)]
+#[derive(Drop)]
 pub enum Failure {
     Told(String),
     OutOfMemory,
@@ -53,14 +53,19 @@ impl From<MemTreeError> for Failure {
     }
 }
 
-/// Refuses bytes that aren't those that should come.
-pub fn same(alloc: Global, what: &str, got: &[u8], wanted: &[u8]) -> Result<(), Failure> {
-    if got == wanted {
-        return Ok(());
-    }
+fn differ(alloc: Global, what: &str, got: &[u8], wanted: &[u8]) -> Result<(), Failure> {
     let got = String::from_utf8_lossy(alloc, got)?;
     let wanted = String::from_utf8_lossy(alloc, wanted)?;
     Err(Failure::Told(format!(in alloc; "{what} is {got:?} and should be {wanted:?}")?))
+}
+
+/// Refuses bytes that aren't those that should come.
+pub fn same(alloc: Global, what: &str, got: &[u8], wanted: &[u8]) -> Result<(), Failure> {
+    if got == wanted {
+        Ok(())
+    } else {
+        differ(alloc, what, got, wanted)
+    }
 }
 
 /// Refuses a number that isn't the one that should come.

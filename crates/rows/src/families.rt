@@ -1,8 +1,9 @@
 //! Families, which no row spells: each is read from the line that shows it, and its texts are to cost what the verdict says.
 
-use crate::answer::{answer_to, no_faults};
+use crate::answer::{Answer, plain_answer_to};
 use crate::failure::{Failure, same, same_number};
 use crate::row::Printed;
+use crate::text::add_word;
 use crate::tree::Places;
 use std::alloc::{AllocError, Global};
 
@@ -23,14 +24,6 @@ struct Parted<'a> {
     shown: Vec<Shown<'a>>,
 }
 
-/// The line before this place.
-fn line_before<'a>(lines: &[&'a str], place: usize) -> &'a str {
-    match place.checked_sub(1) {
-        Some(before) => lines.get(before).copied().unwrap_or(""),
-        None => "",
-    }
-}
-
 /// The end of a line that names a verdict.
 fn verdict_of(line: &str) -> &str {
     let line = line.trim_end_matches('\n');
@@ -40,20 +33,41 @@ fn verdict_of(line: &str) -> &str {
     }
 }
 
+impl<'a> Parted<'a> {
+    /// Adds a line, which comes after the line `before`.
+    fn add(&mut self, before: &'a str, line: &'a str) -> Result<(), AllocError> {
+        if line.starts_with("  family ") {
+            let verdict = verdict_of(before);
+            self.shown.push(Shown { verdict, line })?;
+        } else {
+            self.rest.push_str(line)?;
+        }
+        Ok(())
+    }
+}
+
+/// The line before this place.
+fn line_before<'a>(lines: &[&'a str], place: usize) -> &'a str {
+    match place.checked_sub(1) {
+        Some(before) => lines.get(before).copied().unwrap_or(""),
+        None => "",
+    }
+}
+
+fn part_lines<'a>(alloc: Global, lines: &[&'a str]) -> Result<Parted<'a>, AllocError> {
+    let rest = String::new(alloc);
+    let shown = Vec::new(alloc);
+    let mut parted = Parted { rest, shown };
+    for (place, line) in lines.iter().enumerate() {
+        parted.add(line_before(lines, place), *line)?;
+    }
+    Ok(parted)
+}
+
 /// Takes the lines of families out of an output.
 fn part(alloc: Global, output: &str) -> Result<Parted<'_>, AllocError> {
     let lines: Vec<&str> = output.split_inclusive('\n').collect(alloc)?;
-    let mut rest = String::new(alloc);
-    let mut shown = Vec::new(alloc);
-    for (place, line) in lines.iter().enumerate() {
-        if line.starts_with("  family ") {
-            let verdict = verdict_of(line_before(lines.as_slice(), place));
-            shown.push(Shown { verdict, line })?;
-        } else {
-            rest.push_str(line)?;
-        }
-    }
-    Ok(Parted { rest, shown })
+    part_lines(alloc, lines.as_slice())
 }
 
 /// Where the reader of a line stands: between two texts, in one without or with escapes, behind a backslash, or before so many
@@ -120,24 +134,36 @@ struct Family {
 }
 
 impl Family {
+    fn push(&mut self, c: char) -> Result<(), AllocError> {
+        if let Some(text) = self.texts.last_mut() {
+            text.push(c)?;
+        }
+        Ok(())
+    }
+
+    /// Reads a character of a line.
+    fn add(&mut self, alloc: Global, reading: Reading, c: char) -> Result<(), AllocError> {
+        match (reading, c) {
+            (Reading::Between, '"') => Ok(self.texts.push(String::new(alloc))?),
+            (reading, c) => match ended_by(reading, c) {
+                Some(ended) => self.push(ended),
+                None => Ok(()),
+            },
+        }
+    }
+
     /// The family of a line.
     fn read(alloc: Global, line: &str) -> Result<Family, AllocError> {
-        let mut texts: Vec<String> = Vec::new(alloc);
+        let texts = Vec::new(alloc);
+        let mut family = Family { texts };
         let mut reading = Reading::Between;
         let mut before = ' ';
         for c in line.chars() {
-            if matches!(reading, Reading::Between) && c == '"' {
-                texts.push(String::new(alloc))?;
-            }
-            if let Some(text) = texts.last_mut() {
-                if let Some(ended) = ended_by(reading, c) {
-                    text.push(ended)?;
-                }
-            }
+            family.add(alloc, reading, c)?;
             reading = after(reading, before, c);
             before = c;
         }
-        Ok(Family { texts })
+        Ok(family)
     }
 
     fn pumps(&self) -> usize {
@@ -198,15 +224,70 @@ fn steps_of(out: &[u8]) -> Option<u64> {
     number.parse::<u64>().ok()
 }
 
-/// How many steps the text costs, or `None` where `cost` gives no number that 64 bits hold.
-fn steps(alloc: Global, printed: &Printed, text: &str) -> Result<Option<u64>, Failure> {
+/// The words that ask what a text costs.
+fn words_of_cost(alloc: Global, printed: &Printed, text: &str) -> Result<Vec<String>, AllocError> {
     let mode = printed.mode.as_str();
     let mut words = Vec::new(alloc);
     for word in ["cost", "--mode", mode, "--", printed.pattern.as_str(), text] {
-        words.push(String::from_str(alloc, word)?)?;
+        add_word(alloc, word, &mut words)?;
     }
-    let answer = answer_to(alloc, &words, &Places::new(alloc)?, &no_faults(alloc))?;
+    Ok(words)
+}
+
+fn answer_of_cost(alloc: Global, printed: &Printed, text: &str) -> Result<Answer, Failure> {
+    let words = words_of_cost(alloc, printed, text)?;
+    let places = Places::new(alloc)?;
+    plain_answer_to(alloc, &words, &places)
+}
+
+/// How many steps the text costs, or `None` where `cost` gives no number that 64 bits hold.
+fn steps(alloc: Global, printed: &Printed, text: &str) -> Result<Option<u64>, Failure> {
+    let answer = answer_of_cost(alloc, printed, text)?;
     Ok(steps_of(answer.out.bytes()))
+}
+
+/// A family that is shown, as it is read.
+#[derive(Clone, Copy)]
+struct Trial<'a> {
+    shown: Shown<'a>,
+    printed: &'a Printed,
+    family: &'a Family,
+}
+
+impl Trial<'_> {
+    /// How many steps the text for this number costs.
+    fn steps(self, alloc: Global, times: u64) -> Result<Option<u64>, Failure> {
+        let text = self.family.text(alloc, times)?;
+        steps(alloc, self.printed, text.as_str())
+    }
+
+    /// Tries the text for this number.
+    fn judge_text(self, alloc: Global, times: u64) -> Result<(), Failure> {
+        let Shown { verdict, line } = self.shown;
+        let least = self.family.least_steps(verdict, times);
+        match self.steps(alloc, times)? {
+            Some(steps) if steps >= least => Ok(()),
+            _ => Err(Failure::Told(format!(in alloc;
+                "the text for {times} doesn't cost {least} steps: {line:?}"
+            )?)),
+        }
+    }
+
+    fn judge_form(self, alloc: Global) -> Result<(), Failure> {
+        let Shown { verdict, line } = self.shown;
+        if self.family.fits(alloc, verdict)? {
+            return Ok(());
+        }
+        Err(Failure::Told(format!(in alloc; "{verdict} isn't shown by {line:?}")?))
+    }
+
+    fn judge(self, alloc: Global, greatest: u64) -> Result<(), Failure> {
+        self.judge_form(alloc)?;
+        for times in 0..=greatest {
+            self.judge_text(alloc, times)?;
+        }
+        Ok(())
+    }
 }
 
 /// Tries the texts of a family for the numbers up to the greatest.
@@ -216,44 +297,40 @@ fn judge_family(
     printed: &Printed,
     greatest: u64,
 ) -> Result<(), Failure> {
-    let Shown { verdict, line } = shown;
-    let family = Family::read(alloc, line)?;
-    if !family.fits(alloc, verdict)? {
-        return Err(Failure::Told(format!(in alloc; "{verdict} isn't shown by {line:?}")?));
-    }
-    for times in 0..=greatest {
-        let text = family.text(alloc, times)?;
-        let least = family.least_steps(verdict, times);
-        let steps = steps(alloc, printed, text.as_str())?;
-        if steps.is_none_or(|steps| steps < least) {
-            return Err(Failure::Told(format!(in alloc;
-                "the text for {times} doesn't cost {least} steps: {line:?}"
-            )?));
-        }
-    }
-    Ok(())
+    let family = Family::read(alloc, shown.line)?;
+    let trial = Trial {
+        shown,
+        printed,
+        family: &family,
+    };
+    trial.judge(alloc, greatest)
 }
 
 /// The mode that words name.
 fn mode_of(words: &Vec<String>) -> &str {
-    for (place, word) in words.iter().enumerate() {
-        if word.as_str() == "--mode" {
-            return match words.get(place.saturating_add(1)) {
-                Some(mode) => mode.as_str(),
-                None => "",
-            };
+    let mut is_next = false;
+    for word in words {
+        if is_next {
+            return word.as_str();
         }
+        is_next = word.as_str() == "--mode";
     }
     "fullmatch"
+}
+
+/// A pattern with the mode that words name.
+fn printed_by(alloc: Global, words: &Vec<String>, pattern: &String) -> Result<Printed, AllocError> {
+    let mode = String::from_str(alloc, mode_of(words))?;
+    let pattern = pattern.clone()?;
+    Ok(Printed { pattern, mode })
 }
 
 /// The pattern that ends words of `class`, and their mode.
 fn class_of(alloc: Global, words: &Vec<String>) -> Result<Vec<Printed>, AllocError> {
     let mut families = Vec::new(alloc);
     if let Some(pattern) = words.last() {
-        let mode = String::from_str(alloc, mode_of(words))?;
-        let pattern = pattern.clone()?;
-        families.push(Printed { pattern, mode })?;
+        let printed = printed_by(alloc, words, pattern)?;
+        families.push(printed)?;
     }
     Ok(families)
 }
@@ -280,6 +357,23 @@ pub fn judge_report(
     judge_families(alloc, output, wanted, families, GREATEST)
 }
 
+fn judge_parted(
+    alloc: Global,
+    parted: &Parted<'_>,
+    wanted: &[u8],
+    families: &Vec<Printed>,
+    greatest: u64,
+) -> Result<(), Failure> {
+    let rest = parted.rest.as_bytes();
+    same(alloc, "standard output without families", rest, wanted)?;
+    let (shown, expected) = (parted.shown.len() as u64, families.len() as u64);
+    same_number(alloc, "the number of families", shown, expected)?;
+    for (shown, printed) in parted.shown.iter().zip(families) {
+        judge_family(alloc, *shown, printed, greatest)?;
+    }
+    Ok(())
+}
+
 fn judge_families(
     alloc: Global,
     output: &[u8],
@@ -291,12 +385,5 @@ fn judge_families(
         return Failure::told(alloc, "standard output isn't UTF-8");
     };
     let parted = part(alloc, output)?;
-    let rest = parted.rest.as_bytes();
-    same(alloc, "standard output without families", rest, wanted)?;
-    let (shown, expected) = (parted.shown.len() as u64, families.len() as u64);
-    same_number(alloc, "the number of families", shown, expected)?;
-    for (shown, printed) in parted.shown.iter().zip(families) {
-        judge_family(alloc, *shown, printed, greatest)?;
-    }
-    Ok(())
+    judge_parted(alloc, &parted, wanted, families, greatest)
 }

@@ -11,6 +11,11 @@ pub fn refused<T>(alloc: Global, key: &str) -> Result<T, Failure> {
     Err(Failure::Told(format!(in alloc; "the value of {key} isn't one that it takes")?))
 }
 
+/// The failure of a field that has to be there.
+fn missing<T>(alloc: Global, key: &str) -> Result<T, Failure> {
+    Err(Failure::Told(format!(in alloc; "the field {key} is missing")?))
+}
+
 /// Refuses a table with other fields than these.
 pub fn has_only(alloc: Global, table: &Table, keys: &[&str]) -> Result<(), Failure> {
     for key in table.keys() {
@@ -40,7 +45,7 @@ pub fn string_at(alloc: Global, table: &Table, key: &str) -> Result<Option<Strin
 pub fn needed_at(alloc: Global, table: &Table, key: &str) -> Result<String, Failure> {
     match string_at(alloc, table, key)? {
         Some(text) => Ok(text),
-        None => Err(Failure::Told(format!(in alloc; "the field {key} is missing")?)),
+        None => missing(alloc, key),
     }
 }
 
@@ -82,23 +87,35 @@ pub fn list_at<'a>(
     }
 }
 
-pub fn numbers_at(alloc: Global, table: &Table, key: &str) -> Result<Vec<u64>, Failure> {
+fn numbers_of(alloc: Global, key: &str, values: &Array) -> Result<Vec<u64>, Failure> {
     let mut numbers = Vec::new(alloc);
-    if let Some(values) = list_at(alloc, table, key)? {
-        for value in values {
-            numbers.push(number_of(alloc, key, value)?)?;
-        }
+    for value in values {
+        let number = number_of(alloc, key, value)?;
+        numbers.push(number)?;
     }
     Ok(numbers)
 }
 
-pub fn words_at(alloc: Global, table: &Table, key: &str) -> Result<Vec<String>, Failure> {
-    let Some(values) = list_at(alloc, table, key)? else {
-        return Err(Failure::Told(format!(in alloc; "the field {key} is missing")?));
-    };
+pub fn numbers_at(alloc: Global, table: &Table, key: &str) -> Result<Vec<u64>, Failure> {
+    match list_at(alloc, table, key)? {
+        Some(values) => numbers_of(alloc, key, values),
+        None => Ok(Vec::new(alloc)),
+    }
+}
+
+fn words_of(alloc: Global, values: &Array) -> Result<Vec<String>, Failure> {
     let mut words = Vec::new(alloc);
     for value in values {
-        words.push(string_of(alloc, value)?)?;
+        let word = string_of(alloc, value)?;
+        words.push(word)?;
     }
     Ok(words)
+}
+
+/// The words of a field that has to be there.
+pub fn words_at(alloc: Global, table: &Table, key: &str) -> Result<Vec<String>, Failure> {
+    match list_at(alloc, table, key)? {
+        Some(values) => words_of(alloc, values),
+        None => missing(alloc, key),
+    }
 }

@@ -1,54 +1,67 @@
 //! Runs a row, and compares what comes with what the row says.
 
-use crate::answer::{Answer, answer_to, no_faults};
+use crate::answer::{Answer, answer_to, plain_answer_to};
 use crate::failure::{Failure, same, same_number};
 use crate::families::{judge_class, judge_report};
-use crate::row::{Calls, Expected, Faults, Row, Stdout};
+use crate::row::{Calls, Expected, Faults, Row, Saved, Setting, Stdout, Writes};
+use crate::text::add_word;
 use crate::tree::Places;
 use std::alloc::{AllocError, Global};
 
+/// Refuses a status above 1.
+fn ended_well(alloc: Global, status: u8) -> Result<(), Failure> {
+    if status <= 1 {
+        return Ok(());
+    }
+    Err(Failure::Told(format!(in alloc; "a call without faults ends with status {status}")?))
+}
+
 /// What a call wrote that has to end with status 0 or 1, and in which nothing fails.
 fn written(alloc: Global, words: &Vec<String>, places: &Places) -> Result<Vec<u8>, Failure> {
-    let answer = answer_to(alloc, words, places, &no_faults(alloc))?;
-    let status = answer.status;
-    if status > 1 {
-        return Err(Failure::Told(format!(in alloc;
-            "a call without faults ends with status {status}"
-        )?));
-    }
+    let answer = plain_answer_to(alloc, words, places)?;
+    ended_well(alloc, answer.status)?;
     Ok(Vec::from_slice(alloc, answer.out.bytes())?)
 }
 
-/// The files that the row's call finds.
-fn places_of(alloc: Global, row: &Row) -> Result<Places, Failure> {
-    let mut places = Places::new(alloc)?;
-    places.put_all(&row.files)?;
-    for call in &row.before {
-        let output = written(alloc, &call.words, &places)?;
-        places.put_file(call.save.as_str(), output.as_slice())?;
+/// Makes a call, and a file of what it wrote.
+fn put_written(alloc: Global, call: &Saved, places: &mut Places) -> Result<(), Failure> {
+    let output = written(alloc, &call.words, places)?;
+    places.put_file(call.save.as_str(), output.as_slice())?;
+    Ok(())
+}
+
+fn put_setting(alloc: Global, setting: &Setting, places: &mut Places) -> Result<(), Failure> {
+    places.put_all(&setting.files)?;
+    for call in &setting.before {
+        put_written(alloc, call, places)?;
     }
-    places.put_all(&row.then)?;
-    Ok(places)
+    places.put_all(&setting.then)?;
+    Ok(())
 }
 
 /// The words of `verify` for a certificate of what these words of `prove` name.
 fn words_of_verify(alloc: Global, words: &Vec<String>) -> Result<Vec<String>, AllocError> {
     let mut others = Vec::new(alloc);
-    others.push(String::from_str(alloc, "verify")?)?;
+    add_word(alloc, "verify", &mut others)?;
     for word in words.iter().skip(1) {
-        others.push(word.clone()?)?;
+        add_word(alloc, word.as_str(), &mut others)?;
     }
-    others.push(String::from_str(alloc, "certificate.json")?)?;
+    add_word(alloc, "certificate.json", &mut others)?;
     Ok(others)
 }
 
-/// Makes the certificate that the words of `prove` ask for.
-fn put_certificate(alloc: Global, words: &Vec<String>, places: &mut Places) -> Result<(), Failure> {
-    let made = answer_to(alloc, words, places, &no_faults(alloc))?;
+/// Compares a call of `prove`, and makes a file of the certificate that it wrote.
+fn put_made(alloc: Global, made: &Answer, places: &mut Places) -> Result<(), Failure> {
     same_number(alloc, "the status of prove", u64::from(made.status), 0)?;
     same(alloc, "standard error of prove", made.err.bytes(), &[])?;
     places.put_file("certificate.json", made.out.bytes())?;
     Ok(())
+}
+
+/// Makes the certificate that the words of `prove` ask for.
+fn put_certificate(alloc: Global, words: &Vec<String>, places: &mut Places) -> Result<(), Failure> {
+    let made = plain_answer_to(alloc, words, places)?;
+    put_made(alloc, &made, places)
 }
 
 /// Whether an output is one line that begins so.
@@ -88,69 +101,118 @@ fn judge_rest(alloc: Global, expected: &Expected, answered: &Answer) -> Result<(
     }
 }
 
+/// Compares what came of the row's call with these words.
+fn judge_answer(
+    alloc: Global,
+    row: &Row,
+    words: &Vec<String>,
+    answered: &Answer,
+) -> Result<(), Failure> {
+    judge_rest(alloc, &row.expected, answered)?;
+    judge_stdout(alloc, words, &row.expected.stdout, answered.out.bytes())
+}
+
 /// Makes the row's call with these words, and compares what comes.
 fn judge_call(
     alloc: Global,
     row: &Row,
     words: &Vec<String>,
     places: &Places,
-) -> Result<Answer, Failure> {
+) -> Result<(), Failure> {
     let answered = answer_to(alloc, words, places, &row.faults)?;
-    judge_rest(alloc, &row.expected, &answered)?;
-    judge_stdout(alloc, words, &row.expected.stdout, answered.out.bytes())?;
-    Ok(answered)
+    judge_answer(alloc, row, words, &answered)
+}
+
+/// Compares two answers to the row's call, which are the same.
+fn judge_answers(alloc: Global, row: &Row, first: &Answer, second: &Answer) -> Result<(), Failure> {
+    judge_answer(alloc, row, &row.words, first)?;
+    judge_answer(alloc, row, &row.words, second)?;
+    let (second, first) = (second.out.bytes(), first.out.bytes());
+    same(alloc, "the second output", second, first)
+}
+
+/// Makes the row's call twice.
+fn judge_same(alloc: Global, row: &Row, places: &Places) -> Result<(), Failure> {
+    let first = answer_to(alloc, &row.words, places, &row.faults)?;
+    let second = answer_to(alloc, &row.words, places, &row.faults)?;
+    judge_answers(alloc, row, &first, &second)
+}
+
+/// These writes, but that the write with this number fails.
+fn failing_at(alloc: Global, writes: &Writes, write: u64) -> Result<Writes, AllocError> {
+    let failing = Vec::from_slice(alloc, &[write])?;
+    let step = writes.step;
+    Ok(Writes { failing, step })
+}
+
+fn copy_of(writes: &Writes) -> Result<Writes, AllocError> {
+    let failing = writes.failing.clone()?;
+    let step = writes.step;
+    Ok(Writes { failing, step })
 }
 
 /// The row's faults, but that this write to standard output fails.
 fn with_failing(alloc: Global, faults: &Faults, write: u64) -> Result<Faults, AllocError> {
-    Ok(Faults {
-        tree: faults.tree.clone()?,
-        out: Vec::from_slice(alloc, &[write])?,
-        err: faults.err.clone()?,
-        out_step: faults.out_step,
-        err_step: faults.err_step,
-    })
+    let out = failing_at(alloc, &faults.out, write)?;
+    let err = copy_of(&faults.err)?;
+    let tree = faults.tree.clone()?;
+    Ok(Faults { tree, out, err })
+}
+
+/// The answer to the row's call where this write to standard output fails.
+fn answer_failing(
+    alloc: Global,
+    row: &Row,
+    places: &Places,
+    write: u64,
+) -> Result<Answer, Failure> {
+    let faults = with_failing(alloc, &row.faults, write)?;
+    answer_to(alloc, &row.words, places, &faults)
+}
+
+/// Makes the call where the write of the byte behind these fails.
+fn judge_cut(alloc: Global, row: &Row, places: &Places, cut: &[u8]) -> Result<(), Failure> {
+    let answered = answer_failing(alloc, row, places, (cut.len() as u64).saturating_add(1))?;
+    same(alloc, "standard output", answered.out.bytes(), cut)?;
+    judge_rest(alloc, &row.expected, &answered)
+}
+
+fn judge_cuts(alloc: Global, row: &Row, places: &Places, report: &[u8]) -> Result<(), Failure> {
+    if report.len() < 100 {
+        return Failure::told(alloc, "standard output has less than 100 bytes");
+    }
+    for place in 0..report.len() {
+        judge_cut(alloc, row, places, &report[..place])?;
+    }
+    Ok(())
 }
 
 /// Makes the call once for each byte that it writes: the write of that byte fails.
 fn judge_each_write(alloc: Global, row: &Row, places: &Places) -> Result<(), Failure> {
     let report = written(alloc, &row.words, places)?;
-    if report.len() < 100 {
-        return Failure::told(alloc, "standard output has less than 100 bytes");
-    }
-    for place in 0..report.len() {
-        let faults = with_failing(alloc, &row.faults, place as u64 + 1)?;
-        let answered = answer_to(alloc, &row.words, places, &faults)?;
-        let cut = &report.as_slice()[..place];
-        same(alloc, "standard output", answered.out.bytes(), cut)?;
-        judge_rest(alloc, &row.expected, &answered)?;
-    }
-    Ok(())
+    judge_cuts(alloc, row, places, report.as_slice())
 }
 
-/// Makes the row's call twice.
-fn judge_same(alloc: Global, row: &Row, places: &Places) -> Result<(), Failure> {
-    let first = judge_call(alloc, row, &row.words, places)?;
-    let second = judge_call(alloc, row, &row.words, places)?;
-    same(
-        alloc,
-        "the second output",
-        second.out.bytes(),
-        first.out.bytes(),
-    )
+/// Makes the certificate, and has it verified.
+fn judge_verified(alloc: Global, row: &Row, places: &mut Places) -> Result<(), Failure> {
+    put_certificate(alloc, &row.words, places)?;
+    let words = words_of_verify(alloc, &row.words)?;
+    judge_call(alloc, row, &words, places)
+}
+
+/// Makes the row's calls, and compares what comes.
+fn judge_calls(alloc: Global, row: &Row, places: &mut Places) -> Result<(), Failure> {
+    put_setting(alloc, &row.setting, places)?;
+    match row.calls {
+        Calls::One => judge_call(alloc, row, &row.words, places),
+        Calls::Same => judge_same(alloc, row, places),
+        Calls::EachWrite => judge_each_write(alloc, row, places),
+        Calls::Verified => judge_verified(alloc, row, places),
+    }
 }
 
 /// Runs a row.
 pub fn judge(alloc: Global, row: &Row) -> Result<(), Failure> {
-    let mut places = places_of(alloc, row)?;
-    match row.calls {
-        Calls::One => judge_call(alloc, row, &row.words, &places).map(|_| ()),
-        Calls::Same => judge_same(alloc, row, &places),
-        Calls::EachWrite => judge_each_write(alloc, row, &places),
-        Calls::Verified => {
-            put_certificate(alloc, &row.words, &mut places)?;
-            let words = words_of_verify(alloc, &row.words)?;
-            judge_call(alloc, row, &words, &places).map(|_| ())
-        }
-    }
+    let mut places = Places::new(alloc)?;
+    judge_calls(alloc, row, &mut places)
 }

@@ -19,10 +19,12 @@ mod tree;
 use crate::failure::Failure;
 use crate::judge::judge;
 use crate::read::{name_of, row_of, values_of};
+use crate::text::add_word;
 use std::collections::BTreeSet;
 use std::process::ExitCode;
 use std::{fs, io};
 use toml::Value;
+use toml::value::Array;
 
 type Runtime = HostRuntime;
 
@@ -49,50 +51,89 @@ impl Tally {
         println!(rt; "{place}: {failure}")
     }
 
+    /// Notes the name of a row, which no other row has.
+    fn add_name(&mut self, rt: &Runtime, name: &String) -> Result<(), Failure> {
+        let name = name.clone()?;
+        if self.names.insert(name)? {
+            return Ok(());
+        }
+        Failure::told(rt.alloc(), "another row has this name")
+    }
+
     /// Reads and runs the row that stands at this place of a file.
     fn run_row(&mut self, rt: &Runtime, value: &Value) -> Result<(), Failure> {
         let row = row_of(rt.alloc(), value)?;
-        if !self.names.insert(row.name.clone()?)? {
-            return Failure::told(rt.alloc(), "another row has this name");
-        }
+        self.add_name(rt, &row.name)?;
         judge(rt.alloc(), &row)
+    }
+
+    /// Runs a row, and prints why it fails.
+    fn tell_row(
+        &mut self,
+        rt: &Runtime,
+        file: &str,
+        place: usize,
+        value: &Value,
+    ) -> io::Result<()> {
+        self.rows = self.rows.saturating_add(1);
+        match self.run_row(rt, value) {
+            Ok(()) => Ok(()),
+            Err(failure) => {
+                let name = name_of(rt.alloc(), file, place, value)?;
+                self.fail(rt, name.as_str(), &failure)
+            }
+        }
+    }
+
+    fn run_values(&mut self, rt: &Runtime, file: &str, values: &Array) -> io::Result<()> {
+        for (place, value) in values.iter().enumerate() {
+            self.tell_row(rt, file, place, value)?;
+        }
+        Ok(())
     }
 
     /// Runs the rows of a file with this text.
     fn run_file(&mut self, rt: &Runtime, file: &str, text: &str) -> io::Result<()> {
-        let values = match values_of(rt.alloc(), text) {
-            Ok(values) => values,
-            Err(failure) => return self.fail(rt, file, &failure),
-        };
-        for (place, value) in values.iter().enumerate() {
-            self.rows = self.rows.saturating_add(1);
-            if let Err(failure) = self.run_row(rt, value) {
-                let name = name_of(rt.alloc(), file, place, value)?;
-                self.fail(rt, name.as_str(), &failure)?;
-            }
+        match values_of(rt.alloc(), text) {
+            Ok(values) => self.run_values(rt, file, &values),
+            Err(failure) => self.fail(rt, file, &failure),
         }
-        Ok(())
     }
+}
+
+/// Adds the name of a file, where it is one of rows.
+fn add_file_name(rt: &Runtime, name: &str, names: &mut Vec<String>) -> io::Result<()> {
+    if name.ends_with(".toml") {
+        add_word(rt.alloc(), name, names)?;
+    }
+    Ok(())
+}
+
+fn add_file_names(rt: &Runtime, names: &mut Vec<String>) -> io::Result<()> {
+    for entry in fs::read_dir(rt, ".")? {
+        let entry = entry?;
+        add_file_name(rt, entry.file_name(), names)?;
+    }
+    Ok(())
 }
 
 /// The names of the files of rows, in order.
 fn file_names(rt: &Runtime) -> io::Result<Vec<String>> {
     let mut names = Vec::new(rt.alloc());
-    for entry in fs::read_dir(rt, ".")? {
-        let name = String::from_str(rt.alloc(), entry?.file_name())?;
-        if name.as_str().ends_with(".toml") {
-            names.push(name)?;
-        }
-    }
+    add_file_names(rt, &mut names)?;
     names.sort()?;
     Ok(names)
 }
 
-fn run_files(rt: &Runtime) -> io::Result<Tally> {
+fn run_named(rt: &Runtime, name: &str, tally: &mut Tally) -> io::Result<()> {
+    let text = fs::read_to_string(rt, name)?;
+    tally.run_file(rt, name, text.as_str())
+}
+
+fn run_files(rt: &Runtime, names: &Vec<String>) -> io::Result<Tally> {
     let mut tally = Tally::new(rt);
-    for name in &file_names(rt)? {
-        let text = fs::read_to_string(rt, name.as_str())?;
-        tally.run_file(rt, name.as_str(), text.as_str())?;
+    for name in names {
+        run_named(rt, name.as_str(), &mut tally)?;
     }
     Ok(tally)
 }
@@ -106,7 +147,8 @@ fn report(rt: &Runtime, tally: &Tally) -> io::Result<bool> {
 }
 
 fn run(rt: &Runtime) -> io::Result<bool> {
-    let tally = run_files(rt)?;
+    let names = file_names(rt)?;
+    let tally = run_files(rt, &names)?;
     report(rt, &tally)
 }
 

@@ -5,10 +5,11 @@ use crate::fields::{
     bytes_at, has_only, is_set, list_at, needed_at, number_at, numbers_at, refused, string_at,
     words_at,
 };
-use crate::row::{Calls, Expected, Faults, File, Files, Printed, Row, Saved, Stdout};
+use crate::row::{
+    Calls, Expected, Faults, File, Files, Printed, Row, Saved, Setting, Stdout, Writes,
+};
 use crate::text::bytes_of;
 use std::alloc::{AllocError, Global};
-use std::collections::BTreeMap;
 use toml::value::Array;
 use toml::{Table, Value};
 
@@ -35,12 +36,16 @@ const FIELDS: [&str; 20] = [
     "every_call",
 ];
 
+fn document_of(alloc: Global, text: &str) -> Result<Table, Failure> {
+    match toml::table_from_str(alloc, text) {
+        Ok(document) => Ok(document),
+        Err(error) => Err(Failure::Told(format!(in alloc; "{error}")?)),
+    }
+}
+
 /// The values of a file's rows.
 pub fn values_of(alloc: Global, text: &str) -> Result<Array, Failure> {
-    let mut document = match toml::table_from_str(alloc, text) {
-        Ok(document) => document,
-        Err(error) => return Err(Failure::Told(format!(in alloc; "{error}")?)),
-    };
+    let mut document = document_of(alloc, text)?;
     match document.remove("row") {
         Some(Value::Array(values)) if document.is_empty() => Ok(values),
         _ => Failure::told(alloc, "there has to be [[row]], and nothing else"),
@@ -63,19 +68,27 @@ pub fn name_of(
 
 /// The row that a value is.
 pub fn row_of(alloc: Global, value: &Value) -> Result<Row, Failure> {
-    let Some(table) = value.as_table() else {
-        return Failure::told(alloc, "it is no table");
-    };
+    match value {
+        Value::Table(table) => row_in(alloc, table),
+        _ => Failure::told(alloc, "it is no table"),
+    }
+}
+
+fn row_in(alloc: Global, table: &Table) -> Result<Row, Failure> {
     has_only(alloc, table, &FIELDS)?;
+    let calls = calls_of(alloc, table)?;
+    let name = needed_at(alloc, table, "name")?;
+    let words = words_at(alloc, table, "words")?;
+    let setting = setting_of(alloc, table)?;
+    let faults = faults_of(alloc, table)?;
+    let expected = expected_of(alloc, table)?;
     Ok(Row {
-        name: needed_at(alloc, table, "name")?,
-        words: words_at(alloc, table, "words")?,
-        files: files_at(alloc, table, "files")?,
-        before: before_of(alloc, table)?,
-        then: files_at(alloc, table, "then")?,
-        calls: calls_of(alloc, table)?,
-        faults: faults_of(alloc, table)?,
-        expected: expected_of(alloc, table)?,
+        name,
+        words,
+        setting,
+        calls,
+        faults,
+        expected,
     })
 }
 
@@ -97,36 +110,66 @@ fn file_of(alloc: Global, path: &str, value: &Value) -> Result<File, Failure> {
     }
 }
 
+fn add_file(alloc: Global, path: &String, value: &Value, files: &mut Files) -> Result<(), Failure> {
+    let file = file_of(alloc, path.as_str(), value)?;
+    let path = path.clone()?;
+    files.insert(path, file)?;
+    Ok(())
+}
+
+fn files_of(alloc: Global, values: &Table) -> Result<Files, Failure> {
+    let mut files = Files::new(alloc);
+    for (path, value) in values {
+        add_file(alloc, path, value, &mut files)?;
+    }
+    Ok(files)
+}
+
 fn files_at(alloc: Global, table: &Table, key: &str) -> Result<Files, Failure> {
-    let mut files = BTreeMap::new(alloc);
     match table.get(key) {
-        Some(Value::Table(values)) => {
-            for (path, value) in values {
-                files.insert(path.clone()?, file_of(alloc, path.as_str(), value)?)?;
-            }
-            Ok(files)
-        }
+        Some(Value::Table(values)) => files_of(alloc, values),
         Some(_) => refused(alloc, key),
-        None => Ok(files),
+        None => Ok(Files::new(alloc)),
     }
 }
 
-fn saved_of(alloc: Global, table: &Table) -> Result<Saved, Failure> {
+fn saved_in(alloc: Global, table: &Table) -> Result<Saved, Failure> {
     has_only(alloc, table, &["words", "save"])?;
-    Ok(Saved {
-        words: words_at(alloc, table, "words")?,
-        save: needed_at(alloc, table, "save")?,
-    })
+    let words = words_at(alloc, table, "words")?;
+    let save = needed_at(alloc, table, "save")?;
+    Ok(Saved { words, save })
+}
+
+fn saved_of(alloc: Global, value: &Value) -> Result<Saved, Failure> {
+    let table = item(alloc, "before", value)?;
+    saved_in(alloc, table)
+}
+
+fn calls_before(alloc: Global, values: &Array) -> Result<Vec<Saved>, Failure> {
+    let mut calls = Vec::new(alloc);
+    for value in values {
+        let call = saved_of(alloc, value)?;
+        calls.push(call)?;
+    }
+    Ok(calls)
 }
 
 fn before_of(alloc: Global, table: &Table) -> Result<Vec<Saved>, Failure> {
-    let mut calls = Vec::new(alloc);
-    if let Some(values) = list_at(alloc, table, "before")? {
-        for value in values {
-            calls.push(saved_of(alloc, item(alloc, "before", value)?)?)?;
-        }
+    match list_at(alloc, table, "before")? {
+        Some(values) => calls_before(alloc, values),
+        None => Ok(Vec::new(alloc)),
     }
-    Ok(calls)
+}
+
+fn setting_of(alloc: Global, table: &Table) -> Result<Setting, Failure> {
+    let files = files_at(alloc, table, "files")?;
+    let before = before_of(alloc, table)?;
+    let then = files_at(alloc, table, "then")?;
+    Ok(Setting {
+        files,
+        before,
+        then,
+    })
 }
 
 fn calls_of(alloc: Global, table: &Table) -> Result<Calls, Failure> {
@@ -150,43 +193,61 @@ fn step_at(alloc: Global, table: &Table, key: &str) -> Result<usize, Failure> {
     }
 }
 
-fn faults_of(alloc: Global, table: &Table) -> Result<Faults, Failure> {
-    Ok(Faults {
-        tree: numbers_at(alloc, table, "tree_failing")?,
-        out: numbers_at(alloc, table, "out_failing")?,
-        err: numbers_at(alloc, table, "err_failing")?,
-        out_step: step_at(alloc, table, "out_step")?,
-        err_step: step_at(alloc, table, "err_step")?,
-    })
+fn writes_of(alloc: Global, table: &Table, failing: &str, step: &str) -> Result<Writes, Failure> {
+    let step = step_at(alloc, table, step)?;
+    let failing = numbers_at(alloc, table, failing)?;
+    Ok(Writes { failing, step })
 }
 
-fn printed_of(alloc: Global, table: &Table) -> Result<Printed, Failure> {
+fn faults_of(alloc: Global, table: &Table) -> Result<Faults, Failure> {
+    let tree = numbers_at(alloc, table, "tree_failing")?;
+    let out = writes_of(alloc, table, "out_failing", "out_step")?;
+    let err = writes_of(alloc, table, "err_failing", "err_step")?;
+    Ok(Faults { tree, out, err })
+}
+
+fn printed_in(alloc: Global, table: &Table) -> Result<Printed, Failure> {
     has_only(alloc, table, &["pattern", "mode"])?;
-    Ok(Printed {
-        pattern: needed_at(alloc, table, "pattern")?,
-        mode: needed_at(alloc, table, "mode")?,
-    })
+    let pattern = needed_at(alloc, table, "pattern")?;
+    let mode = needed_at(alloc, table, "mode")?;
+    Ok(Printed { pattern, mode })
+}
+
+fn printed_of(alloc: Global, value: &Value) -> Result<Printed, Failure> {
+    let table = item(alloc, "families", value)?;
+    printed_in(alloc, table)
 }
 
 fn families_of(alloc: Global, values: &Array) -> Result<Vec<Printed>, Failure> {
     let mut families = Vec::new(alloc);
     for value in values {
-        families.push(printed_of(alloc, item(alloc, "families", value)?)?)?;
+        let family = printed_of(alloc, value)?;
+        families.push(family)?;
     }
     Ok(families)
 }
 
-fn stdout_of(alloc: Global, table: &Table) -> Result<Stdout, Failure> {
-    if let Some(begins) = string_at(alloc, table, "begins")? {
-        return Ok(Stdout::Begins(begins));
-    }
-    let bytes = bytes_at(alloc, table, "stdout")?;
-    if let Some(greatest) = number_at(alloc, table, "family")? {
-        return Ok(Stdout::WithFamily(bytes, greatest));
-    }
+/// These bytes, with the lines of families among them where there are any.
+fn with_families(alloc: Global, table: &Table, bytes: Vec<u8>) -> Result<Stdout, Failure> {
     match list_at(alloc, table, "families")? {
         Some(values) => Ok(Stdout::WithFamilies(bytes, families_of(alloc, values)?)),
         None => Ok(Stdout::Is(bytes)),
+    }
+}
+
+fn bytes_wanted(alloc: Global, table: &Table) -> Result<Stdout, Failure> {
+    let family = number_at(alloc, table, "family")?;
+    let bytes = bytes_at(alloc, table, "stdout")?;
+    match family {
+        Some(greatest) => Ok(Stdout::WithFamily(bytes, greatest)),
+        None => with_families(alloc, table, bytes),
+    }
+}
+
+fn stdout_of(alloc: Global, table: &Table) -> Result<Stdout, Failure> {
+    match string_at(alloc, table, "begins")? {
+        Some(begins) => Ok(Stdout::Begins(begins)),
+        None => bytes_wanted(alloc, table),
     }
 }
 
@@ -199,10 +260,14 @@ fn status_of(alloc: Global, table: &Table) -> Result<u8, Failure> {
 }
 
 fn expected_of(alloc: Global, table: &Table) -> Result<Expected, Failure> {
+    let status = status_of(alloc, table)?;
+    let tree_faults = number_at(alloc, table, "tree_faults")?;
+    let stdout = stdout_of(alloc, table)?;
+    let stderr = bytes_at(alloc, table, "stderr")?;
     Ok(Expected {
-        stdout: stdout_of(alloc, table)?,
-        stderr: bytes_at(alloc, table, "stderr")?,
-        status: status_of(alloc, table)?,
-        tree_faults: number_at(alloc, table, "tree_faults")?,
+        stdout,
+        stderr,
+        status,
+        tree_faults,
     })
 }

@@ -7,13 +7,19 @@ use std::collections::BTreeMap;
 pub struct Row {
     pub name: String,
     pub words: Vec<String>,
+    pub setting: Setting,
+    pub calls: Calls,
+    pub faults: Faults,
+    pub expected: Expected,
+}
+
+/// What the row's call finds.
+#[derive(Drop)]
+pub struct Setting {
     pub files: Files,
     pub before: Vec<Saved>,
     /// The files that are written after the calls of `before`.
     pub then: Files,
-    pub calls: Calls,
-    pub faults: Faults,
-    pub expected: Expected,
 }
 
 /// Files by their paths.
@@ -47,14 +53,19 @@ pub enum Calls {
     EachWrite,
 }
 
-/// Which calls of the file system and which writes fail, and how many bytes a write takes at most.
+/// Which calls of the file system and which writes fail.
 #[derive(Drop)]
 pub struct Faults {
     pub tree: Vec<u64>,
-    pub out: Vec<u64>,
-    pub err: Vec<u64>,
-    pub out_step: usize,
-    pub err_step: usize,
+    pub out: Writes,
+    pub err: Writes,
+}
+
+/// Which writes to an output fail, and how many bytes a write takes at most.
+#[derive(Drop)]
+pub struct Writes {
+    pub failing: Vec<u64>,
+    pub step: usize,
 }
 
 /// What the row's call has to answer.

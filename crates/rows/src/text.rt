@@ -1,21 +1,26 @@
 //! The texts of a row, which spell bytes.
 
 use crate::failure::Failure;
-use std::alloc::Global;
+use std::alloc::{AllocError, Global};
 use toml::{Table, Value};
 
 /// The bytes of a text: a string, or a table that spells a longer one.
 pub fn bytes_of(alloc: Global, value: &Value) -> Result<Vec<u8>, Failure> {
     let mut bytes = Vec::new(alloc);
+    add_text(alloc, value, &mut bytes)?;
+    Ok(bytes)
+}
+
+fn add_text(alloc: Global, value: &Value, bytes: &mut Vec<u8>) -> Result<(), Failure> {
     match value.get("parts") {
         Some(Value::Array(parts)) => {
             for part in parts {
-                add_part(alloc, part, &mut bytes)?;
+                add_part(alloc, part, bytes)?;
             }
+            Ok(())
         }
-        _ => add_part(alloc, value, &mut bytes)?,
+        _ => add_part(alloc, value, bytes),
     }
-    Ok(bytes)
 }
 
 /// The string that a text stands for.
@@ -25,6 +30,13 @@ pub fn string_of(alloc: Global, value: &Value) -> Result<String, Failure> {
         Ok(text) => Ok(String::from_str(alloc, text)?),
         Err(_) => Failure::told(alloc, "a word isn't UTF-8"),
     }
+}
+
+/// Adds a copy of a word.
+pub fn add_word(alloc: Global, word: &str, words: &mut Vec<String>) -> Result<(), AllocError> {
+    let word = String::from_str(alloc, word)?;
+    words.push(word)?;
+    Ok(())
 }
 
 fn add_part(alloc: Global, value: &Value, bytes: &mut Vec<u8>) -> Result<(), Failure> {
@@ -85,13 +97,20 @@ fn add_first(text: &str, first: u32, bytes: &mut Vec<u8>) -> Result<(), Failure>
 
 /// Adds the characters of these numbers, in order.
 fn add_characters(alloc: Global, from: u32, upto: u32, bytes: &mut Vec<u8>) -> Result<(), Failure> {
-    let mut text = String::new(alloc);
     for number in from..=upto {
-        let Some(character) = char::from_u32(number) else {
-            return Failure::told(alloc, "a number from `from` to `upto` is no character");
-        };
-        text.push(character)?;
+        match char::from_u32(number) {
+            Some(character) => add_character(alloc, character, bytes)?,
+            None => {
+                return Failure::told(alloc, "a number from `from` to `upto` is no character");
+            }
+        }
     }
+    Ok(())
+}
+
+fn add_character(alloc: Global, character: char, bytes: &mut Vec<u8>) -> Result<(), Failure> {
+    let mut text = String::new(alloc);
+    text.push(character)?;
     bytes.extend_from_slice(text.as_bytes())?;
     Ok(())
 }

@@ -13,31 +13,58 @@ const TOP: &str = ".";
 #[derive(Drop)]
 pub struct Places {
     alloc: Global,
-    places: BTreeMap<String, Held>,
+    files: Files,
 }
 
-fn copy_of(alloc: Global, held: &Held) -> Result<Held, OutOfMemory> {
-    match held {
-        Held::File(bytes) => Ok(Held::File(Content::from_slice(alloc, bytes.as_slice())?)),
-        Held::Folder(_) => Ok(Held::Folder(Children::new(alloc))),
-        Held::Other => Ok(Held::Other),
+/// What stands at a path.
+#[derive(Clone, Copy)]
+struct Place<'a> {
+    path: &'a str,
+    file: &'a File,
+}
+
+/// Places by the spellings of their paths.
+type Spellings<'a> = BTreeMap<String, Place<'a>>;
+
+impl Place<'_> {
+    fn kind(self) -> Kind {
+        match self.file {
+            File::Holds(_) => Kind::File,
+            File::Folder => Kind::Folder,
+            File::Link => Kind::Other,
+        }
+    }
+
+    /// It as a child of its folder, in which this is its name.
+    fn child(self, alloc: Global, name: &str) -> Result<Child, OutOfMemory> {
+        let name = Name::from_text(alloc, name)?;
+        let kind = self.kind();
+        Ok(Child { name, kind })
     }
 }
 
 impl Places {
     /// The folder, which is empty.
     pub fn new(alloc: Global) -> Result<Places, OutOfMemory> {
-        let mut places = Places {
-            alloc,
-            places: BTreeMap::new(alloc),
-        };
-        places.put(TOP, Held::Folder(Children::new(alloc)))?;
+        let files = Files::new(alloc);
+        let mut places = Places { alloc, files };
+        places.put(TOP, File::Folder)?;
         Ok(places)
     }
 
-    fn put(&mut self, path: &str, held: Held) -> Result<(), OutOfMemory> {
-        self.places
-            .insert(String::from_str(self.alloc, path)?, held)?;
+    fn put(&mut self, path: &str, file: File) -> Result<(), OutOfMemory> {
+        let path = String::from_str(self.alloc, path)?;
+        self.files.insert(path, file)?;
+        Ok(())
+    }
+
+    /// Puts the folder that a path names so far, and goes on to the next name.
+    fn put_next(&mut self, above: &mut String, name: &str) -> Result<(), OutOfMemory> {
+        if !above.is_empty() {
+            self.put(above.as_str(), File::Folder)?;
+            above.push('/')?;
+        }
+        above.push_str(name)?;
         Ok(())
     }
 
@@ -45,99 +72,152 @@ impl Places {
     fn put_above(&mut self, path: &str) -> Result<(), OutOfMemory> {
         let mut above = String::new(self.alloc);
         for name in path.split('/') {
-            if !above.is_empty() {
-                self.put(above.as_str(), Held::Folder(Children::new(self.alloc)))?;
-                above.push('/')?;
-            }
-            above.push_str(name)?;
+            self.put_next(&mut above, name)?;
         }
         Ok(())
+    }
+
+    fn put_bytes(&mut self, path: &str, bytes: &[u8]) -> Result<(), OutOfMemory> {
+        let bytes = Vec::from_slice(self.alloc, bytes)?;
+        self.put(path, File::Holds(bytes))
     }
 
     /// Puts a file in the place of what stands at the path.
     pub fn put_file(&mut self, path: &str, bytes: &[u8]) -> Result<(), OutOfMemory> {
         self.put_above(path)?;
-        self.put(path, Held::File(Content::from_slice(self.alloc, bytes)?))
+        self.put_bytes(path, bytes)
+    }
+
+    fn put_link(&mut self, path: &str) -> Result<(), OutOfMemory> {
+        self.put_above(path)?;
+        self.put(path, File::Link)
+    }
+
+    fn put_one(&mut self, path: &str, file: &File) -> Result<(), OutOfMemory> {
+        match file {
+            File::Holds(bytes) => self.put_file(path, bytes.as_slice()),
+            File::Folder => self.put_above(path),
+            File::Link => self.put_link(path),
+        }
     }
 
     /// Puts the files of a row.
     pub fn put_all(&mut self, files: &Files) -> Result<(), OutOfMemory> {
         for (path, file) in files {
-            match file {
-                File::Holds(bytes) => self.put_file(path.as_str(), bytes.as_slice())?,
-                File::Folder => self.put_above(path.as_str())?,
-                File::Link => {
-                    self.put_above(path.as_str())?;
-                    self.put(path.as_str(), Held::Other)?;
-                }
+            self.put_one(path.as_str(), file)?;
+        }
+        Ok(())
+    }
+
+    /// Adds what stands in a folder. The last name comes first: to put them in order is for the program.
+    fn add_children(&self, folder: &str, children: &mut Children) -> Result<(), OutOfMemory> {
+        for (path, file) in self.files.iter().rev() {
+            let path = path.as_str();
+            if let Some(name) = name_in(folder, path) {
+                let child = Place { path, file }.child(self.alloc, name)?;
+                children.push(child)?;
             }
         }
         Ok(())
     }
 
-    /// What stands in a folder. The last name comes first: to put them in order is for the program.
-    fn children(&self, folder: &str) -> Result<Children, OutOfMemory> {
+    fn folder(&self, path: &str) -> Result<Held, OutOfMemory> {
         let mut children = Children::new(self.alloc);
-        for (path, held) in self.places.iter().rev() {
-            let (above, name) = parted(path.as_str());
-            if above == folder && name != TOP {
-                let name = Name::from_text(self.alloc, name)?;
-                let kind = held.kind();
-                children.push(Child { name, kind })?;
-            }
-        }
-        Ok(children)
+        self.add_children(path, &mut children)?;
+        Ok(Held::Folder(children))
     }
 
-    /// The node of what stands at a path, with another spelling of the path.
-    fn node(&self, spelling: &str, path: &str, held: &Held) -> Result<Node, OutOfMemory> {
-        let held = match held.kind() {
-            Kind::Folder => Held::Folder(self.children(path)?),
-            _ => copy_of(self.alloc, held)?,
-        };
+    fn held(&self, place: Place<'_>) -> Result<Held, OutOfMemory> {
+        match place.file {
+            File::Holds(bytes) => Ok(Held::File(Content::from_slice(
+                self.alloc,
+                bytes.as_slice(),
+            )?)),
+            File::Folder => self.folder(place.path),
+            File::Link => Ok(Held::Other),
+        }
+    }
+
+    /// The node of a place, with this spelling of its path.
+    fn node(&self, spelling: &str, place: Place<'_>) -> Result<Node, OutOfMemory> {
         let path = Name::from_text(self.alloc, spelling)?;
+        let held = self.held(place)?;
         Ok(Node { path, held })
     }
 
-    /// Adds the nodes at and below the path that a word spells, as the word spells it: so `./a.py` and `p/` are found where the
-    /// paths are `a.py` and `p`.
-    fn add_spelled(
-        &self,
+    /// Adds each place by its own path.
+    fn add_plain<'a>(&'a self, spellings: &mut Spellings<'a>) -> Result<(), OutOfMemory> {
+        for (path, file) in &self.files {
+            let spelling = path.clone()?;
+            let path = path.as_str();
+            spellings.insert(spelling, Place { path, file })?;
+        }
+        Ok(())
+    }
+
+    /// Adds the places at and below a path, which a word spells.
+    fn add_below<'a>(
+        &'a self,
         word: &str,
-        nodes: &mut BTreeMap<String, Node>,
+        wanted: &str,
+        spellings: &mut Spellings<'a>,
     ) -> Result<(), OutOfMemory> {
-        let wanted = plain(self.alloc, word)?;
-        for (path, held) in &self.places {
-            if let Some(rest) = below(wanted.as_str(), path.as_str()) {
+        for (path, file) in &self.files {
+            let path = path.as_str();
+            if let Some(rest) = below(wanted, path) {
                 let spelling = joined(self.alloc, word, rest)?;
-                let node = self.node(spelling.as_str(), path.as_str(), held)?;
-                nodes.insert(spelling, node)?;
+                spellings.insert(spelling, Place { path, file })?;
             }
         }
         Ok(())
     }
 
-    /// The nodes by their paths.
-    fn nodes_by_path(&self, words: &Vec<String>) -> Result<BTreeMap<String, Node>, OutOfMemory> {
-        let mut nodes = BTreeMap::new(self.alloc);
-        for (path, held) in &self.places {
-            let node = self.node(path.as_str(), path.as_str(), held)?;
-            nodes.insert(path.clone()?, node)?;
-        }
+    /// Adds the places at and below the path that a word spells, as the word spells it: so `./a.py` and `p/` are found where the
+    /// paths are `a.py` and `p`.
+    fn add_spelled<'a>(
+        &'a self,
+        word: &str,
+        spellings: &mut Spellings<'a>,
+    ) -> Result<(), OutOfMemory> {
+        let wanted = plain(self.alloc, word)?;
+        self.add_below(word, wanted.as_str(), spellings)
+    }
+
+    fn add_words<'a>(
+        &'a self,
+        words: &Vec<String>,
+        spellings: &mut Spellings<'a>,
+    ) -> Result<(), OutOfMemory> {
         for word in words {
-            if !word.is_empty() && !word.as_str().starts_with('/') {
-                self.add_spelled(word.as_str(), &mut nodes)?;
+            let word = word.as_str();
+            if !word.is_empty() && !word.starts_with('/') {
+                self.add_spelled(word, spellings)?;
             }
         }
-        Ok(nodes)
+        Ok(())
+    }
+
+    /// All places, as they are spelled in a call with these words.
+    fn spellings(&self, words: &Vec<String>) -> Result<Spellings<'_>, OutOfMemory> {
+        let mut spellings = Spellings::new(self.alloc);
+        self.add_plain(&mut spellings)?;
+        self.add_words(words, &mut spellings)?;
+        Ok(spellings)
+    }
+
+    fn add_nodes(&self, spellings: &Spellings<'_>, nodes: &mut Nodes) -> Result<(), OutOfMemory> {
+        for (spelling, place) in spellings {
+            let node = self.node(spelling.as_str(), *place)?;
+            nodes.push(node)?;
+        }
+        Ok(())
     }
 
     /// The nodes of a tree with these files, where a call with these words finds them.
     pub fn nodes(&self, words: &Vec<String>) -> Result<Nodes, OutOfMemory> {
+        let spellings = self.spellings(words)?;
         let mut nodes = Nodes::new(self.alloc);
-        for node in self.nodes_by_path(words)?.into_values() {
-            nodes.push(node)?;
-        }
+        self.add_nodes(&spellings, &mut nodes)?;
         Ok(nodes)
     }
 }
@@ -150,17 +230,38 @@ fn parted(path: &str) -> (&str, &str) {
     }
 }
 
+/// The name of a path in this folder.
+fn name_in<'a>(folder: &str, path: &'a str) -> Option<&'a str> {
+    let (above, name) = parted(path);
+    if above == folder && name != TOP {
+        Some(name)
+    } else {
+        None
+    }
+}
+
+fn add_name(path: &mut String, name: &str) -> Result<(), OutOfMemory> {
+    if !path.is_empty() {
+        path.push('/')?;
+    }
+    path.push_str(name)?;
+    Ok(())
+}
+
+/// Adds the names of a word that aren't `.`.
+fn add_names(path: &mut String, word: &str) -> Result<(), OutOfMemory> {
+    for name in word.split('/') {
+        if !name.is_empty() && name != TOP {
+            add_name(path, name)?;
+        }
+    }
+    Ok(())
+}
+
 /// The path that a word spells, without names `.` and needless slashes.
 fn plain(alloc: Global, word: &str) -> Result<String, OutOfMemory> {
     let mut path = String::new(alloc);
-    for name in word.split('/') {
-        if !name.is_empty() && name != TOP {
-            if !path.is_empty() {
-                path.push('/')?;
-            }
-            path.push_str(name)?;
-        }
-    }
+    add_names(&mut path, word)?;
     if path.is_empty() {
         path.push_str(TOP)?;
     }

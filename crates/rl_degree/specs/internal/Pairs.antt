@@ -10,6 +10,7 @@ use Rattle.rl_degree.specs.internal.Moves.{AreMoveTables}
 use Rattle.rl_degree.specs.internal.FallingPairs.{falls, falling_moves, IsParted}
 use Rattle.rl_degree.specs.declared.pairs.Placed.{Placed}
 use Rattle.rl_degree.specs.declared.pairs.PairTable.{PairTable}
+use Rattle.rl_degree.specs.declared.pairs.Walked.{Walked}
 
 -- the pair lies on a cycle of the product, and falls; `levels` are the numbers of the components
 abbrev pub is_wanted : List ℕ → PartTable → ℕ → ℕ → Bool
@@ -86,6 +87,12 @@ IsPlaced levels parts n p = IsPlacedUpTo levels parts n (n * n) p
 -- some part has a list of its own
 abbrev pub HasOwnList : Lists → Type 0
 HasOwnList p = 1 < length p.members
+
+-- the parts are those of the pairs that fall, their wanted pairs are held, and the tables are right where some pair is wanted
+pub record IsWalked (g inner : Graph) (levels : List ℕ) (w : Walked) : Type 0 where
+  pub parts : IsParted (falling_moves (edges_of inner) levels inner.states) (inner.states * inner.states) w.parts
+  pub placed : IsPlaced levels w.parts inner.states (lists_of w.placed)
+  pub moves : (x : ℕ) → x < inner.states * inner.states → is_wanted levels w.parts inner.states x ≡ true → AreMoveTables g inner w.moves.items
 
 -- the tables are right for the graph, those of its moves where some pair is wanted. A state of a pair is a place among the states
 -- that a split may join

@@ -11,7 +11,7 @@ use Rattle.rl_pairs.specs.declared.finder.Key.{Key}
 use Rattle.rl_pairs.specs.declared.finder.Finder.{Finder}
 use Rattle.rl_pairs.specs.LivePairs.{pairs_from, next_pairs, LivePair}
 use Rattle.rl_pairs.specs.PairGraph.{KeptLive, AreFirstSeen, seen_after}
-use Rattle.rl_pairs.specs.internal.Counting.{IsNumberOf, Stands, IsOnward}
+use Rattle.rl_pairs.specs.internal.Counting.{IsCounting, IsNumberOf, Stands, IsOnward, IsClosed}
 
 -- the keys of the pairs that are found, how many there may be, a lead and a rest for each, and a row of targets for each pair
 -- and letter that was looked at
@@ -128,6 +128,14 @@ pub record IsFurther (a : Automaton) (old w : Walk) (f g : Found) (count : ℕ) 
   pub found : IsFound a w g
   pub stays : Stays f g
   pub moved : IsMoved a w g count
+
+-- the search has come to its end: the moves of all pairs that are found were looked at, and the walk has the images of its sets
+pub record IsWhole (a : Automaton) (w : Walk) (f : Found) (max_pairs : ℕ) : Type 0 where
+  pub counting : IsCounting a w
+  pub closed : IsClosed a w (length w.sets) 0
+  pub found : IsFound a w f
+  pub moved : IsMoved a w f (length f.keys * width a)
+  pub limit : f.limit ≡ max_pairs
 
 -- a pair's number was put behind a row if the pair is live
 abbrev pub IsNoted : Automaton → Walk → Found → Pair → List ℕ → List ℕ → Type 0

@@ -1,5 +1,5 @@
 -- Attempts: items with their guards as a set, and the item lists of a tree, one for each place, in order.
-use Rattle.std.specs.Prelude.{◌≡◌, ℕ, ◌+◌, ◌<◌, ◌≤◌, ◌⊎◌, Bool, List, [], ◌∷◌, ◌++◌, length, map, max, slice_index_or}
+use Rattle.std.specs.Prelude.{◌≡◌, ℕ, ◌+◌, ◌<◌, ◌≤◌, ◌⊎◌, Bool, true, false, List, [], ◌∷◌, ◌++◌, length, map, max, slice_index_or}
 use Rattle.std.specs.List.{flat_map}
 use Rattle.rl_syntax.specs.Tree.{Tree, empty, one, guard, both, either, many, places}
 use Rattle.rl_syntax.specs.declared.limits.TheConstants.{MOST_MOVES}
@@ -25,6 +25,11 @@ guards_of (End gs) = gs
 -- whether an attempt has no guard
 abbrev pub is_unguarded : Attempt → Bool
 is_unguarded a = met (guards_of a) no_guards
+
+-- whether an attempt is the test of a place
+abbrev pub is_test : Attempt → Bool
+is_test (Test gs p) = true
+is_test (End gs) = false
 
 -- the attempt with more guards in front
 abbrev pub behind : Guards → Attempt → Attempt

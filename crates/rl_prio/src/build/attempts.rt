@@ -1,8 +1,8 @@
 //! Lists of attempts.
 
-ghost use Rattle.std.specs.Prelude.{◌≡◌, ℕ, ◌<◌, ◌≤◌, ◌+◌, ◌++◌, ◌∷◌, [], List, map, length, IfOk, IfErr, OnOk, slice_index_or};
+ghost use Rattle.std.specs.Prelude.{◌≡◌, ℕ, ◌<◌, ◌≤◌, ◌+◌, ◌++◌, ◌∷◌, [], List, true, map, length, IfOk, IfErr, OnOk, slice_index_or};
 ghost use Rattle.std.specs.List.{list_all};
-ghost use Rattle.rl_prio.specs.internal.Attempts.{guards_of, is_unguarded, behind, onward, ends_replaced, AreReplaced, AreShort};
+ghost use Rattle.rl_prio.specs.internal.Attempts.{guards_of, is_unguarded, is_test, behind, onward, ends_replaced, AreReplaced, AreShort};
 
 use crate::build::guards::Guards;
 use rl_lists::{Items, OutOfMemory};
@@ -59,6 +59,13 @@ impl Attempt {
         self.guards().are_met(Guards::none())
     }
 
+    /// Whether the attempt is the test of a place.
+    fn is_test(self) -> bool
+        ensures { result ≡ is_test self }
+    {
+        matches!(self, Attempt::Test(_, _))
+    }
+
     /// The attempt with more guards in front.
     pub(crate) fn behind(self, guards: Guards) -> Attempt
         ensures { result ≡ behind guards self }
@@ -75,6 +82,32 @@ pub(crate) fn are_unguarded(attempts: &[Attempt]) -> bool
     ensures { result ≡ list_all is_unguarded attempts.now }
 {
     attempts.iter().all(|attempt| attempt.is_unguarded())
+}
+
+/// Whether each attempt is the test of a place.
+fn are_tests(attempts: &[Attempt]) -> bool
+    ensures { result ≡ list_all is_test attempts.now }
+{
+    attempts.iter().all(|attempt| attempt.is_test())
+}
+
+/// Whether the list stays as it is where each end is replaced: it isn't too long, and has no end.
+fn stays(attempts: &[Attempt]) -> bool
+    ensures same { result ≡ true → (further : List Attempt) → ends_replaced attempts.now further ≡ attempts.now }
+    ensures short { result ≡ true → length attempts.now ≤ MOST_MOVES }
+{
+    attempts.len() <= MOST_MOVES && are_tests(attempts)
+}
+
+/// The empty list, with room for so many attempts, but for no more than [`MOST_MOVES`].
+///
+/// # Errors
+/// [`OutOfMemory`] where there was no memory for it.
+fn with_room(alloc: Global, count: usize) -> Result<AttemptList, OutOfMemory>
+    ensures { IfOk result (λ l. l ≡ []) }
+{
+    let list = Vec::with_capacity(alloc, count.min(MOST_MOVES))?;
+    Ok(Items::from_vec(list))
 }
 
 /// The list of one attempt.
@@ -161,11 +194,36 @@ pub(crate) fn with_ends_replaced(
     ensures moves { IfErr result (λ e. e ≡ ListError.TooLong
         → MOST_MOVES < length (ends_replaced attempts.now further.now)) }
 {
-    let mut list = Items::new(alloc);
+    let mut list = with_room(alloc, attempts.len().saturating_add(further.len()))?;
     for attempt in attempts {
         put_onward(&mut list, *attempt, further)?;
     }
     Ok(list)
+}
+
+/// Replaces each end in the list of a place. A list without an end isn't made again.
+///
+/// # Errors
+/// [`ListError::TooLong`] only where the list would have more than [`MOST_MOVES`] attempts, [`ListError::OutOfMemory`] where
+/// there was no memory for it.
+fn replace_ends_of(
+    alloc: Global,
+    lists: &mut Vec<AttemptList>,
+    place: usize,
+    further: &[Attempt],
+) -> Result<(), ListError>
+    requires { place < length lists.old.items }
+    ensures ok { OnOk result (AreReplaced further.now place (place + 1) lists.old.items lists.new.items) }
+    ensures short { OnOk result (AreShort place (place + 1) lists.new.items) }
+    ensures moves { IfErr result (λ e. e ≡ ListError.TooLong
+        → MOST_MOVES < length (ends_replaced (slice_index_or lists.old.items place []) further.now)) }
+{
+    if stays(lists[place].as_slice()) {
+        return Ok(());
+    }
+    let list = with_ends_replaced(alloc, lists[place].as_slice(), further)?;
+    lists[place] = list;
+    Ok(())
 }
 
 /// Replaces each end in the lists from one place to another.
@@ -188,8 +246,7 @@ pub(crate) fn replace_ends(
         × (MOST_MOVES < length (ends_replaced (slice_index_or lists.old.items k []) further.now))) }
 {
     for place in from..to {
-        let list = with_ends_replaced(alloc, lists[place].as_slice(), further)?;
-        lists[place] = list;
+        replace_ends_of(alloc, lists, place, further)?;
     }
     Ok(())
 }

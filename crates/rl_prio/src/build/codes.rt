@@ -20,7 +20,7 @@ use std::alloc::Global;
 pub(crate) fn samples(alloc: Global, letters: &Letters) -> Result<Vec<u32>, OutOfMemory>
     ensures { IfOk result (λ codes. codes.items ≡ letters.now.samples) }
 {
-    let mut codes = Vec::new(alloc);
+    let mut codes = Vec::with_capacity(alloc, letters.count() as usize)?;
     for letter in 0..letters.count() {
         codes.push(letters.sample(letter))?;
     }
@@ -39,7 +39,7 @@ pub(crate) fn kinds_of(
     requires { All (λ c. c < kinds.now.codes) codes.now }
     ensures { IfOk result (λ list. list.items ≡ map (letter_at kinds.now) codes.now) }
 {
-    let mut list = Vec::new(alloc);
+    let mut list = Vec::with_capacity(alloc, codes.len())?;
     for code in codes {
         list.push(kinds.letter_of(*code))?;
     }
@@ -125,7 +125,8 @@ pub(crate) fn shown_before(
     ensures { IfOk result
         (λ list. list.items ≡ shown None ∷ map (λ c. shown (Some c)) codes.now) }
 {
-    let mut list = Vec::from_slice(alloc, &[Shown::nothing()])?;
+    let mut list = Vec::with_capacity(alloc, codes.len().saturating_add(1))?;
+    list.push(Shown::nothing())?;
     add_shown(words, codes, &mut list)?;
     Ok(list)
 }
@@ -144,7 +145,7 @@ pub(crate) fn shown_next(
     ensures { IfOk result
         (λ list. list.items ≡ map (λ c. shown (Some c)) codes.now ++ shown None ∷ []) }
 {
-    let mut list = Vec::new(alloc);
+    let mut list = Vec::with_capacity(alloc, codes.len().saturating_add(1))?;
     add_shown(words, codes, &mut list)?;
     list.push(Shown::nothing())?;
     Ok(list)

@@ -1,16 +1,19 @@
 -- The order in which the sets of a list are taken: those of many ranges come last.
-use Rattle.std.specs.Prelude.{◌≡◌, ℕ, ◌<◌, Bool, List, [], ◌∷◌, length, nat_lt, slice_index_or, if◌then◌else◌}
-use Rattle.std.proofs.Math.Bool.{beq}
+use Rattle.std.specs.Prelude.{◌≡◌, ℕ, ◌<◌, Bool, ◌&&◌, not, List, [], ◌∷◌, length, nat_le, nat_lt, slice_index_or, if◌then◌else◌}
 use Rattle.rl_ranges.specs.Codes.{has}
+use Rattle.rl_ranges.specs.declared.letters.Pass.{Pass}
+use Rattle.rl_ranges.specs.declared.letters.Pass.TheVariants.{Narrow, Middle, Wide}
 
--- a set of many ranges
-abbrev pub is_wide : List (ℕ × ℕ) → Bool
-is_wide ranges = nat_lt 32 (length ranges)
+-- whether a set is taken in the pass
+abbrev pub is_taken : Pass → List (ℕ × ℕ) → Bool
+is_taken Narrow ranges = nat_le (length ranges) 32
+is_taken Middle ranges = not (nat_le (length ranges) 32) && not (nat_lt 256 (length ranges))
+is_taken Wide ranges = not (nat_le (length ranges) 32) && nat_lt 256 (length ranges)
 
--- what the sets of a list hold that are wide, or of those that aren't
-abbrev pub picked : Bool → List (List (ℕ × ℕ)) → List (ℕ → Bool)
-picked wide [] = []
-picked wide (s ∷ sets) = if beq (is_wide s) wide then (has s ∷ picked wide sets) else picked wide sets
+-- what the sets of a list hold that are taken
+abbrev pub picked : (List (ℕ × ℕ) → Bool) → List (List (ℕ × ℕ)) → List (ℕ → Bool)
+picked taken [] = []
+picked taken (s ∷ sets) = if taken s then (has s ∷ picked taken sets) else picked taken sets
 
 -- the set stands at one of the first `count` places of a list
 abbrev pub StandsBefore : List (List (ℕ × ℕ)) → ℕ → List (ℕ × ℕ) → Type 0

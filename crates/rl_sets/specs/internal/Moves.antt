@@ -1,5 +1,5 @@
 -- Where the moves of the members of a set lead to.
-use Rattle.std.specs.Prelude.{◌≡◌, ℕ, ◌<◌, Bool, false, List, length, slice_index_or}
+use Rattle.std.specs.Prelude.{◌≡◌, ℕ, ◌<◌, Bool, true, false, List, length, slice_index_or}
 use Rattle.std.specs.List.{list_any, flat_map}
 use Rattle.rl_prio.specs.Automaton.{Automaton, moves_at}
 use Rattle.rl_sets.specs.Live.{holds}
@@ -12,3 +12,7 @@ targets_of a set letter = flat_map (λ q. moves_at a q letter) set
 pub record IsReached (a : Automaton) (set : List ℕ) (letter : ℕ) (row : List Bool) : Type 0 where
   pub wide : length row ≡ a.states
   pub moves : (t : ℕ) → t < a.states → slice_index_or row t false ≡ list_any (λ q. holds (moves_at a q letter) t) set
+
+-- the states below a number that a row holds move on a letter as on another one
+abbrev pub MoveAlike : Automaton → List Bool → ℕ → ℕ → ℕ → Type 0
+MoveAlike a row upto before letter = (q : ℕ) → q < upto → slice_index_or row q false ≡ true → moves_at a q before ≡ moves_at a q letter

@@ -20,6 +20,10 @@ found_of s = record { numbers = s.numbers.keys; ways = s.ways.items }
 abbrev pub root_way : Way
 root_way = record { parent = 0; letter = 0 }
 
+-- the search that has found its first set alone
+abbrev pub root_of : ℕ → Found
+root_of set = record { numbers = set ∷ []; ways = root_way ∷ [] }
+
 abbrev pub number_at : Found → ℕ → ℕ
 number_at f i = slice_index_or f.numbers i 0
 

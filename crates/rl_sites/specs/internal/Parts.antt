@@ -1,5 +1,5 @@
 -- Parts of the definitions of sites, for the functions that compute them.
-use Rattle.std.specs.Prelude.{ℕ, Bool, not, ◌&&◌, List, drop, codes, Option, Some, None, option_map, bytes_eq, if◌then◌else◌}
+use Rattle.std.specs.Prelude.{ℕ, Bool, false, not, ◌&&◌, List, drop, codes, Option, Some, None, option_map, bytes_eq, if◌then◌else◌}
 use Rattle.std.specs.List.{slice_split}
 use Rattle.std.specs.Option.{option_and_then, option_map_or}
 use Rattle.rl_pattern.specs.declared.flags.Flags.{Flags}
@@ -19,7 +19,7 @@ use Rattle.rl_sites.specs.Names.{is_module, flag_named, flag_aliased}
 use Rattle.rl_sites.specs.Imports.{is_renamed}
 use Rattle.rl_sites.specs.Arguments.{arguments_of}
 use Rattle.rl_sites.specs.Flags.{with_flag, flags_of}
-use Rattle.rl_sites.specs.Sites.{site_behind}
+use Rattle.rl_sites.specs.Sites.{head_of, site_behind, hides}
 
 -- the token is the number `0`
 abbrev pub is_zero : List ℕ → SignificantToken → Bool
@@ -61,6 +61,14 @@ head size call = option_map (λ call. record { call = call; size = size }) call
 -- what stands for a call at a place, if a token stands there
 abbrev pub call_by : (SignificantToken → Option Call) → Option SignificantToken → Option Call
 call_by names token = option_and_then names token
+
+-- the token before a place, if there is one, hides a site there
+abbrev pub is_hidden : List ℕ → Option SignificantToken → Bool
+is_hidden source before = option_map_or (hides source) before false
+
+-- the head of the call in front, if there is one and it isn't hidden
+abbrev pub open_head : List ℕ → List Alias → Option SignificantToken → List SignificantToken → Option Head
+open_head source aliases before rest = if is_hidden source before then None else head_of source aliases rest
 
 abbrev pub flags_if : Bool → List ℕ → List Alias → Call → List SignificantToken → SiteFlags
 flags_if whole source aliases call rest =

@@ -99,6 +99,27 @@ loop-found-preserved c =
       wide = c.follow.ensures.same_width ∙ i.wide;
     }
 
+pub loop-found-preserved-in_ok-follow : goal.loop-found-preserved-in_ok-follow
+loop-found-preserved-in_ok-follow c =
+    let g = c.args.g.now in
+    let t = c.args.table.now in
+    let f = c.in-Some.found in
+    let part = c.of-part.result in
+    let s = stand_of c.next.new.self in
+    let i = c.loop-found.invariant in
+    let e = c.in-Some.ensures.found in
+    let is = for-behind g t c.args.pair part s (stand_of c.loop-found.search) f e i.asked in
+    let o = c.in_ok-follow.ensures in
+    let both = search-further g t c.states-states.ensures.whole c.requires.table c.args.pair part s (stand_of c.follow.new.self) f is o.further o.followed (c.is_goal.ensures.no c.if-is_goal.false) in
+    record {
+      searching = both.0;
+      asked = both.1;
+      keeps = o.further.keeps ∙ (sym (ap (λ (z : Stand). z.keeps) e) ∙ i.keeps);
+      from = o.further.from ∙ (sym (ap (λ (z : Stand). z.from) e) ∙ i.from);
+      to = o.further.to ∙ (sym (ap (λ (z : Stand). z.to) e) ∙ i.to);
+      wide = c.follow.ensures.same_width ∙ i.wide;
+    }
+
 pub returns-clause-none : goal.returns-clause-none
 returns-clause-none c =
     let g = c.args.g.now in

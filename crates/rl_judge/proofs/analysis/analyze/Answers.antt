@@ -1,6 +1,6 @@
-use Rattle.std.proofs.Common.{◌≡◌, ◌≢◌, ℕ, true, List, Result, Ok, Err, IfOk, OnOk, refl, sym, subst, arith, rules}
-use Rattle.rl_ranges.specs.Text.{IsText}
+use Rattle.std.proofs.Common.{◌≡◌, ◌≢◌, ℕ, true, List, Result, Ok, Err, IfOk, OnOk, refl, arith}
 use Rattle.rl_ranges.specs.declared.universe.Universe.TheVariants as universe
+use Rattle.rl_syntax.specs.declared.pattern.Pattern.{Pattern}
 use Rattle.rl_pattern.specs.declared.flags.Flags.{Flags}
 use Rattle.rl_pattern.specs.declared.parsing.PatError.{PatError}
 use Rattle.rl_pattern.specs.declared.parsing.PatError.TheVariants as parsing
@@ -19,9 +19,8 @@ use Rattle.rl_sites.specs.Runs.{run_of}
 use Rattle.rl_report.specs.declared.report.Outcome.TheVariants as outcome
 use Rattle.rl_judge.specs.declared.analysis.Analysis.{Analysis}
 use Rattle.rl_judge.specs.declared.options.AnalysisOptions.{AnalysisOptions}
-use Rattle.rl_judge.specs.Analysis.{IsAnalysisOf, IsSuggestedVerdict, has_no_pattern, has_no_value, has_unknown_flags, is_judged, is_not_whole, refusal, text_to_judge}
+use Rattle.rl_judge.specs.Analysis.{IsAnalysisOf, IsJudged, has_no_pattern, has_no_value, has_unknown_flags, is_judged, is_not_whole, refusal}
 use Rattle.rl_judge.specs.Faults.{literal_fault, pattern_fault}
-use Rattle.rl_judge.proofs.Parsing.{parsed_universe}
 use Rattle.rl_judge.proofs.Values.{value_text}
 use Rattle.rl_judge.proofs.analysis.analyze.Goals as goal
 
@@ -53,6 +52,12 @@ module _ {E : Type 0} (source : List ℕ) (tokens : List Token) (options : Analy
   without_pattern (Ok a) literal flags e whole value known refused is some = has_no_pattern whole value known refused some is
   without_pattern (Err failed) literal flags e whole value known refused is some = tt
 
+  judged : (r : Result Analysis E) (literal : Literal) (flags : Flags) (p : Pattern) → site.whole ≡ true → IsValue source (run_of tokens site) literal
+      → site.flags ≡ Known flags → IsParsed flags literal.universe literal.codes (Ok p) → IfOk r (IsJudged flags options literal p)
+      → IfOk r (IsAnalysisOf source tokens options site)
+  judged (Ok a) literal flags p whole value known parsed right = is_judged whole value known parsed right
+  judged (Err failed) literal flags p whole value known parsed right = tt
+
 pub returns-then-not-site-clause-right : goal.returns-then-not-site-clause-right
 returns-then-not-site-clause-right c =
     is_not_whole (grind (arith, c.if-not-site.true)) c.in_ok-universe.ensures c.refusal.ensures
@@ -78,26 +83,11 @@ pub parse-requires : goal.parse-requires
 parse-requires c =
     value_text c.args.source.now c.args.tokens.now c.args.site.count c.args.site.first c.in-Ok.literal c.requires.tokens c.in-Ok.ensures.ok
 
-pub suggestion_beside-requires-clause-text : goal.suggestion_beside-requires-clause-text
-suggestion_beside-requires-clause-text c =
-    subst (λ u. IsText u c.in-Ok.literal.codes)
-    (sym (parsed_universe c.in-Known.flags c.in-Ok.literal.universe c.in-Ok.literal.codes c.in-Ok-parse.pattern c.in-Ok-parse.ensures))
-    (value_text c.args.source.now c.args.tokens.now c.args.site.count c.args.site.first c.in-Ok.literal c.requires.tokens c.in-Ok.ensures.ok)
-
-pub parts_of-requires-clause-text : goal.parts_of-requires-clause-text
-parts_of-requires-clause-text c =
+pub with_pattern-requires-clause-text : goal.with_pattern-requires-clause-text
+with_pattern-requires-clause-text c =
     value_text c.args.source.now c.args.tokens.now c.args.site.count c.args.site.first c.in-Ok.literal c.requires.tokens c.in-Ok.ensures.ok
 
 pub returns-clause-right : goal.returns-clause-right
 returns-clause-right c =
-    is_judged (grind (arith, c.if-not-site.false)) c.in-Ok.ensures.ok c.in-Known.is c.in-Ok-parse.ensures (record {
-      verdict = c.in_ok-verdict.verdict;
-      suggestion = c.in_ok-suggestion.suggestion;
-      becomes = c.in_ok-becomes.becomes;
-      right = c.in_ok-verdict.ensures.right;
-      suggested = c.in_ok-suggestion.ensures.right;
-      next =
-          subst (λ s. IsSuggestedVerdict c.in-Known.flags c.args.options c.in-Ok.literal.universe (text_to_judge c.args.options s) c.in_ok-becomes.becomes)
-          c.as_ref.ensures.value c.in_ok-becomes.ensures;
-      is = search rules;
-    })
+    judged c.args.source.now c.args.tokens.now c.args.options c.args.site c.with_pattern.result c.in-Ok.literal c.in-Known.flags c.in-Ok-parse.pattern
+    (grind (arith, c.if-not-site.false)) c.in-Ok.ensures.ok c.in-Known.is c.in-Ok-parse.ensures c.with_pattern.ensures.right

@@ -1,8 +1,18 @@
-use Rattle.std.proofs.Common.{◌-◌, ℕ, List, get_or, drop, sym, refl, subst, arith}
+use Rattle.std.proofs.Common.{◌-◌, ◌∙◌, ℕ, List, length, get_or, drop, sym, ap, refl, subst, arith}
 use Rattle.rl_graph.specs.Graph.{edges_of}
 use Rattle.rl_numbers.specs.Columns.{IsColumn}
-use Rattle.rl_numbers.proofs.ColumnLaws.{at-front}
+use Rattle.rl_numbers.proofs.ColumnLaws.{at-front, low-column}
 use Rattle.rl_numbers.proofs.columns.column.Goals as goal
+
+pub before-requires-clause-size : goal.before-requires-clause-size
+before-requires-clause-size c = ap length c.deref.ensures.value ∙ c.loop-place.invariant.column.size
+
+pub before-requires-clause-low : goal.before-requires-clause-low
+before-requires-clause-low c =
+    let g = c.args.g.now in
+    let word = drop c.loop-place.place c.args.word.now in
+    let column = subst (IsColumn (edges_of g) g.states c.args.to word) (sym c.deref.ensures.value) c.loop-place.invariant.column in
+    low-column (edges_of g) g.states c.args.to word c.deref.result.now column
 
 pub loop-place-preserved : goal.loop-place-preserved
 loop-place-preserved c =

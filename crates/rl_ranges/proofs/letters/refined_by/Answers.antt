@@ -1,14 +1,13 @@
-use Rattle.std.proofs.Common.{List, ap, arith, drop, get_or, length, subst, sym, take, ℕ, ◌+◌, ◌<◌, ◌∙◌, ◌∷◌, ◌≡◌, ◌≤◌, []}
-use Rattle.std.proofs.Math.Bool.{beq}
+use Rattle.std.proofs.Common.{List, arith, drop, get_or, length, subst, sym, take, ℕ, ◌+◌, ◌<◌, ◌∙◌, ◌∷◌, ◌≡◌, ◌≤◌, []}
 use Rattle.std.proofs.lemmas.List.{length-replicate, length-set}
 use Rattle.std.proofs.lemmas.List.Elements.{All-replicate, All-set, All-weaker}
 use Rattle.std.proofs.lemmas.Result.{err_from_is_err_and}
 use Rattle.rl_ranges.proofs.OrderLemmas.{many-later, many-more, picked-more, picked-passed, picked-rest, picked-splits, tells-known, tells-more, tells-none}
 use Rattle.rl_ranges.specs.Codes.{has}
 use Rattle.rl_ranges.specs.internal.Splitting.{HasTooMany, TellsMore}
-use Rattle.rl_ranges.specs.internal.Order.{StandsBefore, picked}
+use Rattle.rl_ranges.specs.internal.Order.{StandsBefore, is_taken, picked}
 use Rattle.rl_ranges.specs.Text.{code_count}
-use Rattle.rl_ranges.proofs.letters.refined_by.Goals.{then-is_wide-wide+then-not-stands_before+in_ok-known, else-is_wide-wide, else-is_wide-wide-via-then-is_wide-wide+else-not-stands_before, else-is_wide-wide-via-else-is_wide-wide}
+use Rattle.rl_ranges.proofs.letters.refined_by.Goals.{then-is_taken+then-not-stands_before+in_ok-known, else-is_taken, else-is_taken-via-then-is_taken+else-not-stands_before, else-is_taken-via-else-is_taken}
 use Rattle.rl_ranges.proofs.letters.refined_by.Goals as goal
 
 stands_earlier : (sets : List (List (ℕ × ℕ))) (count k : ℕ) (s : List (ℕ × ℕ)) → StandsBefore sets count s → count ≤ k → StandsBefore sets k s
@@ -32,33 +31,34 @@ loop-place-preserved c =
     let s = c.index-set.result.now in
     let k_in : k < length sets = omega (arith, c.loop-place-test.true, c.len-place-end.ensures, c.args.sets.now.ok.0) in
     let at : s ≡ get_or sets k s = c.index-set.ensures in
+    let taken = is_taken c.args.pass in
     let later = All-weaker (λ count. count ≤ k) (λ count. count ≤ k + 1) (λ x le. omega (arith, le)) c.loop-place.taken c.loop-place.invariant.taken in
-    elim c.if-is_wide-wide.branch [
-      | then-is_wide-wide+then-not-stands_before+in_ok-known w ↦
-          let wide = ap (λ b. beq b c.args.wide) (sym c.is_wide.ensures) ∙ w.if-is_wide-wide.true in
+    elim c.if-is_taken.branch [
+      | then-is_taken+then-not-stands_before+in_ok-known w ↦
+          let here_taken = sym c.is_taken.ensures ∙ w.if-is_taken.true in
           rw (w.known-is, w.taken-is) (record {
             table = w.in_ok-known.ensures.table;
-            told = subst (λ more. TellsMore old.stretches.items old.least.items w.in_ok-known.known.stretches.items w.in_ok-known.known.least.items more n) (sym (picked-more c.args.wide sets k s k_in at wide))
-                (tells-more (picked c.args.wide (take k sets)) (has s ∷ []) n old.stretches.items here.stretches.items w.in_ok-known.known.stretches.items old.least.items here.least.items w.in_ok-known.known.least.items c.loop-place.invariant.told w.in_ok-known.ensures.ok);
+            told = subst (λ more. TellsMore old.stretches.items old.least.items w.in_ok-known.known.stretches.items w.in_ok-known.known.least.items more n) (sym (picked-more taken sets k s k_in at here_taken))
+                (tells-more (picked taken (take k sets)) (has s ∷ []) n old.stretches.items here.stretches.items w.in_ok-known.known.stretches.items old.least.items here.least.items w.in_ok-known.known.least.items c.loop-place.invariant.told w.in_ok-known.ensures.ok);
             slots = length-set c.loop-place.taken _ (k + 1) ∙ c.loop-place.invariant.slots;
             taken = All-set (λ count. count ≤ k + 1) c.loop-place.taken _ (k + 1) (omega arith) later;
           })
-      | else-is_wide-wide w ↦ elim w.else-is_wide-wide.branch [
-        | else-is_wide-wide-via-then-is_wide-wide+else-not-stands_before v ↦
-            let wide = ap (λ b. beq b c.args.wide) (sym c.is_wide.ensures) ∙ v.if-is_wide-wide.true in
+      | else-is_taken w ↦ elim w.else-is_taken.branch [
+        | else-is_taken-via-then-is_taken+else-not-stands_before v ↦
+            let here_taken = sym c.is_taken.ensures ∙ v.if-is_taken.true in
             let stands = stands_earlier sets _ k s (v.stands_before.ensures v.if-not-stands_before.false) (c.loop-place.invariant.taken _ _ (omega (arith, v.slot_of.ensures, c.loop-place.invariant.slots))) in
             rw (w.known-is, w.taken-is) (record {
               table = c.loop-place.invariant.table;
-              told = subst (λ more. TellsMore old.stretches.items old.least.items here.stretches.items here.least.items more n) (sym (picked-more c.args.wide sets k s k_in at wide))
-                  (tells-known (picked c.args.wide (take k sets)) (has s) n old.stretches.items here.stretches.items old.least.items here.least.items
-                  (λ x y h. picked-splits c.args.wide sets stands.0 k s x y stands.1 (omega (arith, k_in)) stands.2 wide h) c.loop-place.invariant.told);
+              told = subst (λ more. TellsMore old.stretches.items old.least.items here.stretches.items here.least.items more n) (sym (picked-more taken sets k s k_in at here_taken))
+                  (tells-known (picked taken (take k sets)) (has s) n old.stretches.items here.stretches.items old.least.items here.least.items
+                  (λ x y h. picked-splits taken sets stands.0 k s x y stands.1 (omega (arith, k_in)) stands.2 here_taken h) c.loop-place.invariant.told);
               slots = c.loop-place.invariant.slots;
               taken = later;
             })
-        | else-is_wide-wide-via-else-is_wide-wide v ↦
+        | else-is_taken-via-else-is_taken v ↦
             rw (w.known-is, w.taken-is) (record {
               table = c.loop-place.invariant.table;
-              told = subst (λ more. TellsMore old.stretches.items old.least.items here.stretches.items here.least.items more n) (sym (picked-passed c.args.wide sets k s k_in at (ap (λ b. beq b c.args.wide) (sym c.is_wide.ensures) ∙ v.if-is_wide-wide.false))) c.loop-place.invariant.told;
+              told = subst (λ more. TellsMore old.stretches.items old.least.items here.stretches.items here.least.items more n) (sym (picked-passed taken sets k s k_in at (sym c.is_taken.ensures ∙ v.if-is_taken.false))) c.loop-place.invariant.told;
               slots = c.loop-place.invariant.slots;
               taken = later;
             })
@@ -75,10 +75,11 @@ returns-in_err-known-clause-too_many c =
     let s = c.index-set.result.now in
     let k_in : k < length sets = omega (arith, c.loop-place-test.true, c.len-place-end.ensures, c.args.sets.now.ok.0) in
     let at : s ≡ get_or sets k s = c.index-set.ensures in
+    let taken = is_taken c.args.pass in
     let p = err_from_is_err_and c.from_residual.result c.from_residual.ensures.1 in
     rw p.1 (λ e.
-    let more = picked-more c.args.wide sets k s k_in at (ap (λ b. beq b c.args.wide) (sym c.is_wide.ensures) ∙ c.if-is_wide-wide.true) in
-    let many = many-later (picked c.args.wide (take k sets)) (has s ∷ []) n old.stretches.items here.stretches.items old.least.items here.least.items c.loop-place.invariant.told (c.in_err-known.ensures.too_many (sym p.2 ∙ e)) in
-    let next : HasTooMany old.stretches.items old.least.items (picked c.args.wide (take (k + 1) sets)) n = subst (λ x. HasTooMany old.stretches.items old.least.items x n) (sym more) many in
-    subst (λ x. HasTooMany old.stretches.items old.least.items x n) (picked-rest c.args.wide sets (k + 1))
-    (many-more (picked c.args.wide (take (k + 1) sets)) (picked c.args.wide (drop (k + 1) sets)) n old.stretches.items old.least.items next))
+    let more = picked-more taken sets k s k_in at (sym c.is_taken.ensures ∙ c.if-is_taken.true) in
+    let many = many-later (picked taken (take k sets)) (has s ∷ []) n old.stretches.items here.stretches.items old.least.items here.least.items c.loop-place.invariant.told (c.in_err-known.ensures.too_many (sym p.2 ∙ e)) in
+    let next : HasTooMany old.stretches.items old.least.items (picked taken (take (k + 1) sets)) n = subst (λ x. HasTooMany old.stretches.items old.least.items x n) (sym more) many in
+    subst (λ x. HasTooMany old.stretches.items old.least.items x n) (picked-rest taken sets (k + 1))
+    (many-more (picked taken (take (k + 1) sets)) (picked taken (drop (k + 1) sets)) n old.stretches.items old.least.items next))

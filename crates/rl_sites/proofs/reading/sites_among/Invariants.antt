@@ -1,12 +1,13 @@
 -- The sites so far, in front of those of the rest, are the whole.
 use Rattle.std.proofs.Common.{◌≡◌, ◌++◌, length, false}
+use Rattle.rl_sites.specs.internal.Parts.{is_hidden}
 use Rattle.rl_sites.specs.internal.Walks.{IsTable, IsNumbered}
 use Rattle.rl_sites.specs.Sites.{sites_from}
 use Rattle.rl_sites.proofs.reading.sites_among.Given as goal
 
 abbrev pub invariant-loop-rest : goal.invariant-loop-rest
 invariant-loop-rest l = record {
-  same : sites_from l.source l.names.aliases.items false l.tokens ≡ l.sites ++ sites_from l.source l.names.aliases.items l.hidden l.rest;
+  same : sites_from l.source l.names.aliases.items false l.tokens ≡ l.sites ++ sites_from l.source l.names.aliases.items (is_hidden l.source l.before) l.rest;
   table : IsTable l.source l.rest l.sizes;
   numbered : IsNumbered l.rest;
 }

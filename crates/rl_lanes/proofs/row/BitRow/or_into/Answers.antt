@@ -12,12 +12,12 @@ or_words-requires c = ap length c.as_mut_slice.ensures.value ∙ IsRow-words (re
 
 pub invariant_of-self : goal.invariant_of-self
 invariant_of-self c =
-    (IsRow-stored bit_or (λ x y. x || y) JoinsBits-or c.self.inside.len (length c.args.other.now) c.self.inside.words _ _ (words_of c.args.other.now) c.or_words.new.into c.args.self.now c.args.other.now
+    (IsRow-stored bit_or (λ x y. x || y) JoinsBits-or c.self.inside.len (length c.args.other.now) c.self.inside.words.items _ _ (words_of c.args.other.now) c.or_words.new.into c.args.self.now c.args.other.now
     (record { packed = c.self.invariant; shows = c.self.view_is }) (IsRow-words_of c.args.other.now) c.requires c.as_mut_slice.ensures.value c.words.ensures (subst AreWords (sym c.words.ensures) (AreWords-words_of c.args.other.now)) c.or_words.ensures).packed
 
 pub returns : goal.returns
 unfolding list_or
 returns c =
-    let row = (IsRow-stored bit_or (λ x y. x || y) JoinsBits-or c.self.inside.len (length c.args.other.now) c.self.inside.words _ _ (words_of c.args.other.now) c.or_words.new.into c.args.self.now c.args.other.now
+    let row = (IsRow-stored bit_or (λ x y. x || y) JoinsBits-or c.self.inside.len (length c.args.other.now) c.self.inside.words.items _ _ (words_of c.args.other.now) c.or_words.new.into c.args.self.now c.args.other.now
     (record { packed = c.self.invariant; shows = c.self.view_is }) (IsRow-words_of c.args.other.now) c.requires c.as_mut_slice.ensures.value c.words.ensures (subst AreWords (sym c.words.ensures) (AreWords-words_of c.args.other.now)) c.or_words.ensures) in
     record { union = row.shows; len = ap length row.shows ∙ length-list_or c.args.self.now c.args.other.now c.requires }

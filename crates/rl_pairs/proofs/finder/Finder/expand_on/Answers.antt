@@ -1,9 +1,10 @@
-use Rattle.std.proofs.Common.{ℕ, suc, ◌+◌, ◌*◌, ◌<◌, List, length, get_or, refl, sym, subst, ap, ◌∙◌, arith}
+use Rattle.std.proofs.Common.{◌≡◌, ℕ, suc, ◌+◌, ◌*◌, ◌<◌, List, length, get_or, refl, sym, subst, ap, ◌∙◌, arith}
 use Rattle.std.proofs.lemmas.Result.{err_from_is_err_and}
 use Rattle.rl_sets.specs.Live.{image}
 use Rattle.rl_pairs.specs.declared.finder.Key.{Key}
 use Rattle.rl_pairs.specs.internal.Errors.{IsRightError}
-use Rattle.rl_pairs.specs.internal.Finding.{Found, found_of, with_row, pair_at, width, IsTrying, IsFurther}
+use Rattle.rl_pairs.specs.internal.Finding.{Found, found_of, with_row, pair_at, width, next_of, IsTrying, IsFurther}
+use Rattle.rl_pairs.proofs.RowLaws.{next-last}
 use Rattle.rl_pairs.proofs.ExpandLaws.{pair-image, move-pairs, key-read, number-read, trying-start, trying-counted, trying-reached, trying-found, trying-more, letter-done}
 use Rattle.rl_pairs.proofs.finder.Finder.expand_on.Goals as goal
 
@@ -110,3 +111,11 @@ returns-clause-further c =
     let whole = move-pairs a v f c.index-pair.result.now c.args.from c.args.letter ts (key-read f c.args.from c.index-pair.result.now c.index-pair.ensures) c.moves-targets.ensures.moves in
     let done = letter-done a v f c.args.from c.args.letter (image a (pair_at v f c.args.from).set c.args.letter) ts whole c.requires.found c.requires.from_in c.requires.letter_in c.loop-k.walk (found_of c.loop-k.self) c.loop-k.row.items c.loop-k.k c.loop-k.set c.loop-k.invariant c.loop-k-test.false c.requires.moved in
     subst (λ (g : Found). IsFurther a v c.loop-k.walk f g (c.args.from * width a + suc c.args.letter)) (sym (c.in_ok-end_row.ensures ∙ ap (with_row (found_of c.loop-k.self)) c.as_slice.ensures.value)) done
+
+pub returns-clause-row : goal.returns-clause-row
+returns-clause-row c =
+    let a = c.args.a.now in
+    let g = found_of c.loop-k.self in
+    let place : length g.rows ≡ c.args.from * width a + c.args.letter = ap length c.loop-k.invariant.rows ∙ c.requires.moved.long in
+    let here = next-last (width a) g.rows c.args.from c.args.letter c.loop-k.row.items (omega (arith, c.requires.letter_in)) place in
+    sym here ∙ ap (λ (h : Found). next_of a h c.args.from c.args.letter) (sym (c.in_ok-end_row.ensures ∙ ap (with_row g) c.as_slice.ensures.value))

@@ -26,32 +26,32 @@ last_small u ranges held k sorted inside same lt =
 
 pub kin-requires : goal.kin-requires
 kin-requires c = λ k lt.
-    last_small c.args.universe c.deref.result.now c.args.self.now k (subst (Above 0) (sym c.deref.ensures.value) c.self.invariant) c.requires (c.deref.ensures.value ∙ c.self.view_is) lt
+    last_small c.args.universe c.as_ranges.result.now c.args.self.now k c.as_ranges.ensures.sorted c.requires c.as_ranges.ensures.value lt
 
 pub either-requires-clause-left : goal.either-requires-clause-left
-either-requires-clause-left c = subst ComeInOrder (sym c.deref-2.ensures.value) (ComeInOrder-from_Above 0 _ c.self.invariant)
+either-requires-clause-left c = ComeInOrder-from_Above 0 _ c.as_ranges-2.ensures.sorted
 
 pub either-requires-clause-right : goal.either-requires-clause-right
-either-requires-clause-right c = subst ComeInOrder (sym c.deref-3.ensures.value) (ComeInOrder-from_Above 0 _ c.in_ok-others.ensures.sorted)
+either-requires-clause-right c = subst ComeInOrder (sym c.deref.ensures.value) (ComeInOrder-from_Above 0 _ c.in_ok-others.ensures.sorted)
 
 pub returns-clause-members : goal.returns-clause-members
 returns-clause-members c = λ x.
     let ascii = goes_by_ascii c.args.ascii c.args.universe in
     let self = c.args.self.now in
-    let is : has c.in_ok-ranges.ranges.items x ≡ (has self x || has_kin ascii self x) =
-    c.in_ok-ranges.ensures.members x
-    ∙ ap₂ ◌||◌ (ap (λ l. has l x) (c.deref-2.ensures.value ∙ c.self.view_is))
-    (ap (λ l. has l x) c.deref-3.ensures.value ∙ c.in_ok-others.ensures.members x ∙ ap₂ (λ a l. has_kin a l x) c.goes_by_ascii.ensures (c.deref.ensures.value ∙ c.self.view_is)) in
+    let is : has c.in_ok-closed.closed x ≡ (has self x || has_kin ascii self x) =
+    ap (λ l. has l x) c.in_ok-closed.ensures ∙ c.in_ok-ranges.ensures.members x
+    ∙ ap₂ ◌||◌ (ap (λ l. has l x) c.as_ranges-2.ensures.value)
+    (ap (λ l. has l x) c.deref.ensures.value ∙ c.in_ok-others.ensures.members x ∙ ap₂ (λ a l. has_kin a l x) c.goes_by_ascii.ensures c.as_ranges.ensures.value) in
     (λ held. kin_sound ascii self x (sym is ∙ held), λ from. is ∙ kin_complete ascii self x from)
 
 pub returns-clause-inside : goal.returns-clause-inside
 returns-clause-inside c = λ x held.
     let ascii = goes_by_ascii c.args.ascii c.args.universe in
     let self = c.args.self.now in
-    let is : has c.in_ok-ranges.ranges.items x ≡ (has self x || has_kin ascii self x) =
-    c.in_ok-ranges.ensures.members x
-    ∙ ap₂ ◌||◌ (ap (λ l. has l x) (c.deref-2.ensures.value ∙ c.self.view_is))
-    (ap (λ l. has l x) c.deref-3.ensures.value ∙ c.in_ok-others.ensures.members x ∙ ap₂ (λ a l. has_kin a l x) c.goes_by_ascii.ensures (c.deref.ensures.value ∙ c.self.view_is)) in
+    let is : has c.in_ok-closed.closed x ≡ (has self x || has_kin ascii self x) =
+    ap (λ l. has l x) c.in_ok-closed.ensures ∙ c.in_ok-ranges.ensures.members x
+    ∙ ap₂ ◌||◌ (ap (λ l. has l x) c.as_ranges-2.ensures.value)
+    (ap (λ l. has l x) c.deref.ensures.value ∙ c.in_ok-others.ensures.members x ∙ ap₂ (λ a l. has_kin a l x) c.goes_by_ascii.ensures c.as_ranges.ensures.value) in
     elim (or_cases (has self x) (has_kin ascii self x) (sym is ∙ held)) [
       | inl here ↦ c.requires x here
       | inr other ↦ kin_inside c.args.ascii c.args.universe self x other

@@ -18,9 +18,9 @@ least_held (x ∷ xs) ys r sorted is same =
 
 pub returns-in_err-first : goal.returns-in_err-first
 returns-in_err-first c =
-    rw c.from_residual.ensures (none_held _ _ c.in_err-first.ensures.value (c.deref.ensures.value ∙ c.self.view_is))
+    rw c.from_residual.ensures (none_held _ _ c.in_err-first.ensures.value c.as_ranges.ensures.value)
 
 pub returns : goal.returns
 returns c =
-    least_held _ _ c.in_ok-first.field-0.now (subst (Above 0) (sym c.deref.ensures.value) c.self.invariant)
-    c.in_ok-first.ensures.value (c.deref.ensures.value ∙ c.self.view_is)
+    least_held _ _ c.in_ok-first.field-0.now c.as_ranges.ensures.sorted
+    c.in_ok-first.ensures.value c.as_ranges.ensures.value

@@ -1,0 +1,19 @@
+-- Longest chains of splits, as one fact.
+use Rattle.std.specs.Prelude.{ℕ, ◌<◌, ◌≤◌, List, length, All, IfSome, IfNone}
+use Rattle.rl_graph.specs.Twins.{Link, ChainFrom}
+use Rattle.rl_degree.specs.declared.chains.Split.{Split}
+use Rattle.rl_degree.specs.declared.chains.Chain.{Chain}
+use Rattle.rl_degree.specs.Chains.{IsSplitIn, IsChain, AreRanks, IsLoop, HasNoCycle}
+
+-- the splits are a chain, and no chain of states below `n` is longer
+pub record AreLongest (next : ℕ → ℕ → List ℕ) (n : ℕ) (links : List Split) : Type 0 where
+  pub chained : IsChain next links
+  pub states : All (IsSplitIn n) links
+  pub longest : (s : ℕ) (ms : List Link) → s < n → ChainFrom next s ms → length ms ≤ length links
+
+-- the answer: such a chain, the ranks, and a cycle unless there is none
+pub record IsGreatest (next : ℕ → ℕ → List ℕ) (n : ℕ) (c : Chain) : Type 0 where
+  pub chain : AreLongest next n c.links
+  pub ranks : AreRanks next n c.ranks
+  pub cycle : IfSome c.cycle (IsLoop next n)
+  pub no_cycle : IfNone c.cycle (HasNoCycle next)

@@ -1,0 +1,9 @@
+-- What stands in a list of ranges, wherever it is kept.
+use Rattle.std.specs.Prelude.{ℕ, List}
+use Rattle.rl_ranges.specs.declared.range_list.RangeList.{RangeList}
+use Rattle.rl_ranges.specs.declared.range_list.RangeList.TheVariants.{One, Table, Shared}
+
+abbrev pub listed : RangeList → List (ℕ × ℕ)
+listed (One range) = range
+listed (Table table) = table.now
+listed (Shared ranges) = ranges.value.items

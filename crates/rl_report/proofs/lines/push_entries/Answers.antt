@@ -1,0 +1,8 @@
+use Rattle.rl_report.specs.Layouts.{entry_lines}
+use Rattle.rl_report.proofs.LineLemmas.{piece_more}
+use Rattle.rl_report.proofs.lines.push_entries.Goals as goal
+
+pub loop-entry-preserved : goal.loop-entry-preserved
+loop-entry-preserved c =
+    piece_more (entry_lines c.args.terms.max_pairs c.args.terms.report) _ _ _ c.args.entries.now c.loop-entry.entry-index c.entry-item.result
+    c.loop-entry-test.true c.entry-item.is c.loop-entry.invariant c.in_ok-push_entry.ensures

@@ -1,0 +1,63 @@
+//! Tests of `rl_settings`: settings files that are read, and settings files that are refused.
+
+use rl_settings::{SettingsError, read_settings};
+use rl_words::{FormatWord, ModeWord, PartialSettings};
+
+#[test]
+fn a_full_file(rt: HostRuntime) {
+    let text = "# strict\nformat = \"sarif\"\nmax-degree = 0\n\nreport = 1\nmax-pairs = 1_000\n\
+                compile-as = 'fullmatch'\n";
+    let said = PartialSettings {
+        mode: Some(ModeWord::Fullmatch),
+        max_degree: Some(0),
+        max_pairs: Some(1000),
+        format: Some(FormatWord::Sarif),
+        report: Some(1),
+    };
+    assert!(rt; read_settings(rt.alloc(), text.as_bytes()) == Ok(said));
+}
+
+#[test]
+fn an_empty_file(rt: HostRuntime) {
+    let nothing = PartialSettings {
+        mode: None,
+        max_degree: None,
+        max_pairs: None,
+        format: None,
+        report: None,
+    };
+    assert!(rt; read_settings(rt.alloc(), b"") == Ok(nothing));
+}
+
+static REFUSED: [&[u8]; 20] = [
+    b"colour = 1",
+    b"\"\" = 1",
+    b"Report = 1",
+    b"max-pairs = 0",
+    b"max-pairs = 1001",
+    b"max-degree = 1000000",
+    b"max-degree = -1",
+    b"report = 0",
+    b"report = 3",
+    b"report = 4294967297",
+    b"report = 1.0",
+    b"report = true",
+    b"report = \"1\"",
+    b"format = 1",
+    b"format = \"TEXT\"",
+    b"compile-as = \"split\"",
+    b"report.x = 1",
+    b"[format]",
+    b"report = 1\nreport = 1",
+    b"format = \"\xFF\"",
+];
+
+#[test]
+fn refused_files(rt: HostRuntime) {
+    for bytes in REFUSED.iter() {
+        assert!(rt;
+            read_settings(rt.alloc(), bytes) == Err(SettingsError::Refused),
+            "{bytes:?}"
+        );
+    }
+}
