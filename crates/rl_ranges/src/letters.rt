@@ -155,8 +155,9 @@ enum Pass {
 fn is_taken(set: &CodeSet, pass: Pass) -> bool
     ensures { result ≡ is_taken pass set.now }
 {
-    let narrow = set.as_ranges().len() <= 32;
-    let wide = set.as_ranges().len() > 256;
+    let ranges = set.as_ranges().len();
+    let narrow = ranges <= 32;
+    let wide = ranges > 256;
     match pass {
         Pass::Narrow => narrow,
         Pass::Middle => !narrow && !wide,

@@ -374,14 +374,15 @@ impl SetWalk {
         Ok(number)
     }
 
-    /// The number of the image of a set on the letter before, where it is known and the members move alike on both letters.
+    /// The number of the image of a set on the letter before, where it is known and the members move alike on both letters. Where
+    /// the letter has a table, members have many moves, and the image by the table costs less than comparing them.
     fn image_before(&self, a: &Prio, set: u32, letter: u32) -> Option<u32>
         requires made { IsMadeFor self.now a.now }
         requires set_in { set < length self.now.sets }
         requires letter_in { letter ≤ letters_count a.now }
         ensures { IfSome result (λ n. slice_get self.now.sets n ≡ Some (image a.now (set_at self.now set) letter)) }
     {
-        if letter == 0 {
+        if letter == 0 || self.tables[letter as usize].is_some() {
             return None;
         }
         let number = self.known_image(a, set, letter - 1)?;

@@ -7,7 +7,6 @@ use indexmap::{IndexMap, IndexSet};
 use rl_lanes::{BitRow, BitTable};
 use rl_lists::OutOfMemory;
 use std::alloc::Global;
-use std::test::Fail;
 
 /// A word and less, one more than a word, the same of eight words, and more.
 const LENGTHS: [usize; 9] = [0, 1, 63, 64, 65, 511, 512, 513, 1_100];
@@ -35,21 +34,43 @@ fn holds(row: &BitRow, places: &[usize]) -> bool {
     row.next_from(from).is_none()
 }
 
-/// Whether the union of the multiples of two and of three, and their difference, are those of the lists.
-fn join_as_lists(alloc: Global, len: usize) -> Result<bool, OutOfMemory> {
-    let thirds = multiples(alloc, len, 0, 3)?;
-    let mut union = multiples(alloc, len, 0, 2)?;
-    union.or_into(&thirds);
-    let mut rest = multiples(alloc, len, 0, 2)?;
-    rest.subtract(&thirds);
+/// Whether a union and a difference of the multiples of two and of three are those of the lists.
+fn are_lists(len: usize, union: &BitRow, rest: &BitRow) -> bool
+    requires union { length union.now ≡ len }
+    requires rest { length rest.now ≡ len }
+{
     for i in 0..len {
         let second = i % 2 == 0;
         let third = i % 3 == 0;
         if union.get(i) != (second || third) || rest.get(i) != (second && !third) {
-            return Ok(false);
+            return false;
         }
     }
-    Ok(true)
+    true
+}
+
+/// Whether the union of the multiples of two and of three, and their difference, are those of the lists. Both rows hold the
+/// multiples of two.
+fn join(
+    alloc: Global,
+    len: usize,
+    union: &mut BitRow,
+    rest: &mut BitRow,
+) -> Result<bool, OutOfMemory>
+    requires union { length union.old ≡ len }
+    requires rest { length rest.old ≡ len }
+{
+    let thirds = multiples(alloc, len, 0, 3)?;
+    union.or_into(&thirds);
+    rest.subtract(&thirds);
+    Ok(are_lists(len, union, rest))
+}
+
+/// Whether rows of this length join as the lists do.
+fn join_as_lists(alloc: Global, len: usize) -> Result<bool, OutOfMemory> {
+    let mut union = multiples(alloc, len, 0, 2)?;
+    let mut rest = multiples(alloc, len, 0, 2)?;
+    join(alloc, len, &mut union, &mut rest)
 }
 
 /// The odd places.
@@ -74,51 +95,82 @@ fn relation(first: &BitRow, second: &BitRow) -> (bool, bool, bool)
 }
 
 #[test]
-fn union_and_difference_are_those_of_the_lists(rt: HostRuntime) -> Result<(), Fail> {
+fn union_and_difference_are_those_of_the_lists(rt: HostRuntime) -> Result<(), OutOfMemory> {
     for len in LENGTHS {
-        assert!(rt; join_as_lists(rt.alloc(), len)?, "{len}");
+        assert!(rt; join_as_lists(rt.alloc(), len)?);
     }
     Ok(())
 }
 
+/// Whether the multiples of two and of six, and the odd places, are as many as those of the lists, and lie as those do.
+fn lie_as_lists(len: usize, seconds: &BitRow, sixths: &BitRow, odd: &BitRow) -> bool
+    requires seconds { length seconds.now ≡ len }
+    requires sixths { length sixths.now ≡ len }
+    requires odd { length odd.now ≡ len }
+{
+    let counts = (seconds.count(), sixths.count(), odd.count());
+    counts == (len.div_ceil(2), len.div_ceil(6), len / 2)
+        && relation(sixths, seconds) == (true, len <= 2, len > 0)
+        && !odd.meets(seconds)
+        && odd.is_empty() == (len <= 1)
+}
+
+/// Whether rows of this length lie as the lists do.
+fn counts_as_lists(alloc: Global, len: usize) -> Result<bool, OutOfMemory> {
+    let seconds = multiples(alloc, len, 0, 2)?;
+    let sixths = multiples(alloc, len, 0, 6)?;
+    let odd = odds(alloc, len)?;
+    Ok(lie_as_lists(len, &seconds, &sixths, &odd))
+}
+
 #[test]
-fn tests_and_counts_are_those_of_the_lists(rt: HostRuntime) -> Result<(), Fail> {
+fn tests_and_counts_are_those_of_the_lists(rt: HostRuntime) -> Result<(), OutOfMemory> {
     for len in LENGTHS {
-        let seconds = multiples(rt.alloc(), len, 0, 2)?;
-        let sixths = multiples(rt.alloc(), len, 0, 6)?;
-        let odd = odds(rt.alloc(), len)?;
-        let counts = (seconds.count(), sixths.count(), odd.count());
-        let is_counted = counts == (len.div_ceil(2), len.div_ceil(6), len / 2);
-        let is_related = relation(&sixths, &seconds) == (true, len <= 2, len > 0);
-        let is_apart = !odd.meets(&seconds) && odd.is_empty() == (len <= 1);
-        assert!(rt; is_counted && is_related && is_apart, "{len}");
+        assert!(rt; counts_as_lists(rt.alloc(), len)?);
     }
     Ok(())
+}
+
+/// Whether a row lies to an empty one as it is wanted, is equal to it or not, and holds these places.
+fn lies(
+    row: &BitRow,
+    of: &BitRow,
+    wanted: (bool, bool, bool),
+    is_same: bool,
+    places: &[usize],
+) -> bool
+    requires { length row.now ≡ length of.now }
+{
+    relation(row, of) == wanted && (row == of) == is_same && holds(row, places)
 }
 
 /// Whether a difference in the last place is seen, and is gone when the row is cleared.
 fn sees_the_last_place(alloc: Global) -> Result<bool, OutOfMemory> {
     let mut row = BitRow::zeros(alloc, 513)?;
     let of = row.copy()?;
-    let before = relation(&row, &of) == (true, true, false) && row == of;
+    let before = lies(&row, &of, (true, true, false), true, &[]);
     row.set(512, true);
-    let after = relation(&row, &of) == (false, true, false) && row != of;
-    let is_last = holds(&row, &[512]);
+    let after = lies(&row, &of, (false, true, false), false, &[512]);
     row.clear();
-    Ok(before && after && is_last && row == of)
+    let cleared = row == of;
+    Ok(before && after && cleared)
 }
 
 #[test]
-fn difference_in_the_last_place(rt: HostRuntime) -> Result<(), Fail> {
+fn difference_in_the_last_place(rt: HostRuntime) -> Result<(), OutOfMemory> {
     assert!(rt; sees_the_last_place(rt.alloc())?);
     Ok(())
 }
 
+/// Whether these are the members of a row, and the second one is found at its own place.
+fn are_members(row: &BitRow) -> bool {
+    holds(row, &[0, 511, 1_022]) && row.next_from(511) == Some(511)
+}
+
 #[test]
-fn members_come_in_rising_order(rt: HostRuntime) -> Result<(), Fail> {
+fn members_come_in_rising_order(rt: HostRuntime) -> Result<(), OutOfMemory> {
     let row = multiples(rt.alloc(), 1_100, 0, 511)?;
-    assert!(rt; holds(&row, &[0, 511, 1_022]));
-    assert!(rt; row.next_from(511) == Some(511));
+    assert!(rt; are_members(&row));
     Ok(())
 }
 
@@ -244,56 +296,110 @@ static IMAGES: [Image; 7] = [
     },
 ];
 
-/// The image, in a row that held each place before.
-fn image_of(alloc: Global, image: &Image) -> Result<BitRow, OutOfMemory> {
-    let mut table = empty_table(alloc, image.rows, image.len)?;
-    fill(&mut table, image.rows, image.len, image.places);
-    table.find_runs()?;
-    fill(&mut table, image.rows, image.len, image.later);
+/// The image over a table, in a row that held each place before.
+fn image_over(alloc: Global, image: &Image, table: &BitTable) -> Result<BitRow, OutOfMemory>
+    requires high { length table.now ≡ image.now.rows }
+    requires wide { All (λ r. length r ≡ image.now.len) table.now }
+{
     let chosen = multiples(alloc, image.rows, image.from, image.of)?;
     let mut into = multiples(alloc, image.len, 0, 1)?;
     table.image(&chosen, &mut into);
     Ok(into)
 }
 
+/// The image.
+fn image_of(alloc: Global, image: &Image) -> Result<BitRow, OutOfMemory> {
+    let mut table = empty_table(alloc, image.rows, image.len)?;
+    fill(&mut table, image.rows, image.len, image.places);
+    table.find_runs()?;
+    fill(&mut table, image.rows, image.len, image.later);
+    image_over(alloc, image, &table)
+}
+
+/// Whether an image holds its places.
+fn is_image(alloc: Global, image: &Image) -> Result<bool, OutOfMemory> {
+    let into = image_of(alloc, image)?;
+    Ok(holds(&into, image.held))
+}
+
 #[test]
-fn image_is_the_union_of_the_chosen_rows(rt: HostRuntime) -> Result<(), Fail> {
+fn image_is_the_union_of_the_chosen_rows(rt: HostRuntime) -> Result<(), OutOfMemory> {
     for image in &IMAGES {
-        let into = image_of(rt.alloc(), image)?;
-        assert!(rt; holds(&into, image.held), "{} of {}", image.of, image.rows);
+        assert!(rt; is_image(rt.alloc(), image)?);
     }
     Ok(())
 }
 
-/// The numbers of rows of a hundred places in a set, and whether each was new.
-fn numbers_of(alloc: Global, steps: &[usize]) -> Result<Vec<(usize, bool)>, OutOfMemory> {
-    let mut seen = IndexSet::new(alloc);
-    let mut numbers = Vec::new(alloc);
-    for step in steps {
-        let row = multiples(alloc, 100, 0, *step)?;
-        numbers.push(seen.insert_full(row)?)?;
-    }
-    Ok(numbers)
+/// The number of a row of a hundred places in a set, and whether it was new.
+fn number_in(
+    alloc: Global,
+    seen: &mut IndexSet<BitRow>,
+    step: usize,
+) -> Result<(usize, bool), OutOfMemory> {
+    let row = multiples(alloc, 100, 0, step)?;
+    Ok(seen.insert_full(row)?)
 }
 
-/// What an empty map has at one row before it is given 7 there, and what it has then at another.
-fn found_at(
+/// Whether the rows of a set have these numbers, and are new or not.
+fn are_numbered(
     alloc: Global,
-    put: usize,
-    asked: usize,
-) -> Result<(Option<u32>, Option<u32>), OutOfMemory> {
+    seen: &mut IndexSet<BitRow>,
+    wanted: &[(usize, (usize, bool))],
+) -> Result<bool, OutOfMemory> {
+    let mut is_so = true;
+    for (step, number) in wanted {
+        is_so &= number_in(alloc, seen, *step)? == *number;
+    }
+    Ok(is_so)
+}
+
+/// What a map has at a row before it is given 7 there.
+fn put_seven(
+    alloc: Global,
+    numbers: &mut IndexMap<BitRow, u32>,
+    step: usize,
+) -> Result<Option<u32>, OutOfMemory> {
+    let row = multiples(alloc, 100, 0, step)?;
+    Ok(numbers.insert(row, 7)?)
+}
+
+/// Whether a map has this number at a row, or none.
+fn has(
+    alloc: Global,
+    numbers: &IndexMap<BitRow, u32>,
+    step: usize,
+    wanted: Option<u32>,
+) -> Result<bool, OutOfMemory> {
+    let row = multiples(alloc, 100, 0, step)?;
+    Ok(numbers.get(&row).copied() == wanted)
+}
+
+/// Whether an empty map that is given 7 at a row has it there, and nothing at another one.
+fn are_found(alloc: Global, numbers: &mut IndexMap<BitRow, u32>) -> Result<bool, OutOfMemory> {
+    let before = put_seven(alloc, numbers, 3)?;
+    let is_there = has(alloc, numbers, 3, Some(7))?;
+    let is_elsewhere = has(alloc, numbers, 0, None)?;
+    Ok(before.is_none() && is_there && is_elsewhere)
+}
+
+/// The rows of three steps: the third one is the first one again.
+const NUMBERS: &[(usize, (usize, bool))] = &[(3, (0, true)), (5, (1, true)), (3, (0, false))];
+
+/// Whether rows are keys of a set.
+fn are_keys_of_a_set(alloc: Global) -> Result<bool, OutOfMemory> {
+    let mut seen = IndexSet::new(alloc);
+    are_numbered(alloc, &mut seen, NUMBERS)
+}
+
+/// Whether rows are keys of a map.
+fn are_keys_of_a_map(alloc: Global) -> Result<bool, OutOfMemory> {
     let mut numbers = IndexMap::new(alloc);
-    let row = multiples(alloc, 100, 0, put)?;
-    let before = numbers.insert(row.copy()?, 7u32)?;
-    let asked = multiples(alloc, 100, 0, asked)?;
-    Ok((before, numbers.get(&asked).copied()))
+    are_found(alloc, &mut numbers)
 }
 
 #[test]
-fn rows_are_keys(rt: HostRuntime) -> Result<(), Fail> {
-    let numbers = numbers_of(rt.alloc(), &[3, 5, 3])?;
-    assert!(rt; numbers.as_slice() == [(0, true), (1, true), (0, false)].as_slice());
-    assert!(rt; found_at(rt.alloc(), 3, 3)? == (None, Some(7)));
-    assert!(rt; found_at(rt.alloc(), 3, 0)? == (None, None));
+fn rows_are_keys(rt: HostRuntime) -> Result<(), OutOfMemory> {
+    assert!(rt; are_keys_of_a_set(rt.alloc())?);
+    assert!(rt; are_keys_of_a_map(rt.alloc())?);
     Ok(())
 }

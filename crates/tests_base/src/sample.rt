@@ -21,6 +21,6 @@ re.fullmatch(r\"\\d+\\.\\d+\", s)
 #[test]
 fn the_seed_one_gives_its_lines(rt: HostRuntime) -> Result<(), OutOfMemory> {
     let text = sample_source(rt.alloc(), 1, 10)?;
-    assert_eq!(rt; text.as_slice(), FIRST_TEN.as_bytes());
+    assert!(rt; text.as_slice() == FIRST_TEN.as_bytes());
     Ok(())
 }

@@ -3,30 +3,35 @@
 use rl_settings::{SettingsError, read_settings};
 use rl_words::{FormatWord, ModeWord, PartialSettings};
 
-#[test]
-fn a_full_file(rt: HostRuntime) {
-    let text = "# strict\nformat = \"sarif\"\nmax-degree = 0\n\nreport = 1\nmax-pairs = 1_000\n\
-                compile-as = 'fullmatch'\n";
-    let said = PartialSettings {
-        mode: Some(ModeWord::Fullmatch),
-        max_degree: Some(0),
-        max_pairs: Some(1000),
-        format: Some(FormatWord::Sarif),
-        report: Some(1),
-    };
-    assert!(rt; read_settings(rt.alloc(), text.as_bytes()) == Ok(said));
-}
+/// Files that are read, and what they say.
+static READ: [(&[u8], PartialSettings); 2] = [
+    (
+        b"# strict\nformat = \"sarif\"\nmax-degree = 0\n\nreport = 1\nmax-pairs = 1_000\ncompile-as = 'fullmatch'\n",
+        PartialSettings {
+            mode: Some(ModeWord::Fullmatch),
+            max_degree: Some(0),
+            max_pairs: Some(1000),
+            format: Some(FormatWord::Sarif),
+            report: Some(1),
+        },
+    ),
+    (
+        b"",
+        PartialSettings {
+            mode: None,
+            max_degree: None,
+            max_pairs: None,
+            format: None,
+            report: None,
+        },
+    ),
+];
 
 #[test]
-fn an_empty_file(rt: HostRuntime) {
-    let nothing = PartialSettings {
-        mode: None,
-        max_degree: None,
-        max_pairs: None,
-        format: None,
-        report: None,
-    };
-    assert!(rt; read_settings(rt.alloc(), b"") == Ok(nothing));
+fn a_full_file_and_an_empty_one(rt: HostRuntime) {
+    for (bytes, said) in &READ {
+        assert!(rt; read_settings(rt.alloc(), bytes) == Ok(*said));
+    }
 }
 
 static REFUSED: [&[u8]; 20] = [
@@ -55,9 +60,6 @@ static REFUSED: [&[u8]; 20] = [
 #[test]
 fn refused_files(rt: HostRuntime) {
     for bytes in REFUSED.iter() {
-        assert!(rt;
-            read_settings(rt.alloc(), bytes) == Err(SettingsError::Refused),
-            "{bytes:?}"
-        );
+        assert!(rt; read_settings(rt.alloc(), bytes) == Err(SettingsError::Refused));
     }
 }

@@ -1,59 +1,23 @@
 //! Tests of `rl_source`: trees of files in memory, whose calls fail by their numbers, and on the disk; and sinks of both
 //! kinds. The files are a small map, and a scratch folder that a test makes and fills.
 
+use crate::files::{Put, child, tree_of};
 use rl_lists::OutOfMemory;
 use rl_source::{
-    Child, Children, Content, DiskTree, Held, Kind, MemSink, MemTree, MemTreeError, Name, Node,
-    Nodes, Sink, SinkFailed, StdSink, Tree, TreeError, write_all,
+    Child, DiskTree, Kind, MemSink, MemTree, MemTreeError, Name, Sink, SinkFailed, StdSink, Tree,
+    TreeError, write_all,
 };
 use std::alloc::{AllocError, Global};
 use std::os::unix::fs::symlink;
 use std::test::Fail;
 use std::{fs, io, process};
 
-fn child(alloc: Global, name: &str, kind: Kind) -> Result<Child, OutOfMemory> {
-    let name = Name::from_text(alloc, name)?;
-    Ok(Child { name, kind })
-}
-
-fn children_of(alloc: Global, listed: &[(&str, Kind)]) -> Result<Children, OutOfMemory> {
-    let mut children = Children::new(alloc);
-    for (name, kind) in listed {
-        children.push(child(alloc, name, *kind)?)?;
-    }
-    Ok(children)
-}
-
-fn push(alloc: Global, nodes: &mut Nodes, path: &str, held: Held) -> Result<(), OutOfMemory> {
-    let path = Name::from_text(alloc, path)?;
-    nodes.push(Node { path, held })
-}
-
-fn push_file(
-    alloc: Global,
-    nodes: &mut Nodes,
-    path: &str,
-    bytes: &[u8],
-) -> Result<(), OutOfMemory> {
-    let content = Content::from_slice(alloc, bytes)?;
-    push(alloc, nodes, path, Held::File(content))
-}
-
-// A folder `d` with the files `a` and `b`, and a pipe.
-fn small_map(alloc: Global) -> Result<Nodes, OutOfMemory> {
-    let children = children_of(alloc, &[("a", Kind::File), ("b", Kind::File)])?;
-    let mut nodes = Nodes::new(alloc);
-    push(alloc, &mut nodes, "d", Held::Folder(children))?;
-    push_file(alloc, &mut nodes, "d/a", b"one")?;
-    push_file(alloc, &mut nodes, "d/b", b"two two")?;
-    push(alloc, &mut nodes, "pipe", Held::Other)?;
-    Ok(nodes)
-}
-
 fn keeps_its_text(alloc: Global, text: &str) -> Result<bool, OutOfMemory> {
     let name = Name::from_string(String::from_str(alloc, text)?);
     let copy = name.clone()?;
-    Ok(copy.as_str() == text && name.into_string().as_str() == text)
+    let is_copied = copy.as_str() == text;
+    let back = name.into_string();
+    Ok(is_copied && back.as_str() == text)
 }
 
 fn keeps_its_kind(alloc: Global, kind: Kind) -> Result<bool, OutOfMemory> {
@@ -64,110 +28,133 @@ fn keeps_its_kind(alloc: Global, kind: Kind) -> Result<bool, OutOfMemory> {
 
 #[test]
 fn clones_are_the_same(rt: HostRuntime) -> Result<(), OutOfMemory> {
-    let text = keeps_its_text(rt.alloc(), "naïve")?;
-    assert!(rt; text && keeps_its_kind(rt.alloc(), Kind::Other)?);
+    assert!(rt; keeps_its_text(rt.alloc(), "naïve")?);
+    assert!(rt; keeps_its_kind(rt.alloc(), Kind::Other)?);
     Ok(())
 }
 
-fn small_tree(alloc: Global, failing: &[u64]) -> Result<MemTree, MemTreeError> {
-    MemTree::new(
-        alloc,
-        small_map(alloc)?,
-        Vec::from_slice(alloc, failing).map_err(OutOfMemory::from)?,
-    )
+/// A folder `d` with the files `a` and `b`, and a pipe.
+static SMALL: [(&str, Put); 4] = [
+    ("d", Put::Folder(&[("a", Kind::File), ("b", Kind::File)])),
+    ("d/a", Put::File(b"one")),
+    ("d/b", Put::File(b"two two")),
+    ("pipe", Put::Other),
+];
+
+/// A call of a tree with its answer: a kind, the number of children, or the bytes, at most so many. `None` is a fault.
+enum Call {
+    Kind(&'static str, Result<Kind, TreeError>),
+    Children(&'static str, Option<usize>),
+    Read(&'static str, usize, Option<&'static [u8]>),
 }
 
-static KINDS: [(&str, Result<Kind, TreeError>); 4] = [
-    ("d", Ok(Kind::Folder)),
-    ("d/a", Ok(Kind::File)),
-    ("pipe", Ok(Kind::Other)),
-    ("e", Err(TreeError::Failed)),
+/// The numbers of the calls that fail, calls of the small map with their answers, and how many faults it tells then.
+struct Calls {
+    failing: &'static [u64],
+    calls: &'static [Call],
+    faults: u64,
+}
+
+/// In the last row the third call of a walk over the folder fails, and the fourth answers again.
+static CALLS: [Calls; 3] = [
+    Calls {
+        failing: &[],
+        calls: &[
+            Call::Kind("d", Ok(Kind::Folder)),
+            Call::Kind("d/a", Ok(Kind::File)),
+            Call::Kind("pipe", Ok(Kind::Other)),
+            Call::Kind("e", Err(TreeError::Failed)),
+        ],
+        faults: 1,
+    },
+    Calls {
+        failing: &[],
+        calls: &[
+            Call::Children("d", Some(2)),
+            Call::Read("d/b", 5, Some(b"two t")),
+            Call::Read("d/a", 5, Some(b"one")),
+            Call::Children("d/a", None),
+            Call::Read("d", 1, None),
+        ],
+        faults: 2,
+    },
+    Calls {
+        failing: &[3],
+        calls: &[
+            Call::Children("d", Some(2)),
+            Call::Read("d/a", 9, Some(b"one")),
+            Call::Read("d/b", 9, None),
+            Call::Read("d/b", 9, Some(b"two two")),
+        ],
+        faults: 1,
+    },
+];
+
+/// Whether there are so many children, or a fault.
+fn are_so_many(found: Result<Vec<Child>, TreeError>, count: Option<usize>) -> bool {
+    match found {
+        Ok(children) => count == Some(children.len()),
+        Err(_) => count.is_none(),
+    }
+}
+
+/// Whether these bytes were read, or there was a fault.
+fn are_read(found: Result<Vec<u8>, TreeError>, wanted: Option<&[u8]>) -> bool {
+    match found {
+        Ok(bytes) => wanted == Some(bytes.as_slice()),
+        Err(_) => wanted.is_none(),
+    }
+}
+
+/// Whether a call has its answer.
+fn answers(tree: &mut MemTree, call: &Call) -> bool {
+    match call {
+        Call::Kind(path, kind) => tree.kind(path) == *kind,
+        Call::Children(path, count) => are_so_many(tree.children(path), *count),
+        Call::Read(path, limit, wanted) => are_read(tree.read(path, *limit), *wanted),
+    }
+}
+
+/// Whether the calls of the small map have their answers.
+fn answer(alloc: Global, row: &Calls) -> Result<bool, MemTreeError> {
+    let mut tree = tree_of(alloc, &SMALL, row.failing)?;
+    let mut is_so = true;
+    for call in row.calls {
+        is_so &= answers(&mut tree, call);
+    }
+    Ok(is_so && tree.faults() == row.faults)
+}
+
+#[test]
+fn a_map_answers_calls(rt: HostRuntime) -> Result<(), MemTreeError> {
+    for row in &CALLS {
+        assert!(rt; answer(rt.alloc(), row)?);
+    }
+    Ok(())
+}
+
+/// The small map with one of its paths again, and a folder with a name twice.
+static DOUBLE: [&[(&str, Put)]; 2] = [
+    &[
+        ("d", Put::Folder(&[("a", Kind::File), ("b", Kind::File)])),
+        ("d/a", Put::File(b"one")),
+        ("d/b", Put::File(b"two two")),
+        ("pipe", Put::Other),
+        ("d/a", Put::File(b"")),
+    ],
+    &[("f", Put::Folder(&[("x", Kind::File), ("x", Kind::Folder)]))],
 ];
 
 #[test]
-fn a_map_has_kinds(rt: HostRuntime) -> Result<(), MemTreeError> {
-    let mut tree = small_tree(rt.alloc(), &[])?;
-    for (path, kind) in &KINDS {
-        assert!(rt; tree.kind(path) == *kind, "{path}");
+fn a_path_stands_once(rt: HostRuntime) {
+    for rows in &DOUBLE {
+        assert!(rt;
+            matches!(
+                tree_of(rt.alloc(), rows, &[]),
+                Err(MemTreeError::DoublePath)
+            )
+        );
     }
-    assert!(rt; tree.faults() == 1);
-    Ok(())
-}
-
-// whether there are so many children
-fn are_so_many(found: Result<Vec<Child>, TreeError>, count: usize) -> bool {
-    match found {
-        Ok(children) => children.len() == count,
-        Err(_) => false,
-    }
-}
-
-// whether these bytes were read
-fn are_read(found: Result<Vec<u8>, TreeError>, wanted: &[u8]) -> bool {
-    match found {
-        Ok(bytes) => bytes.as_slice() == wanted,
-        Err(_) => false,
-    }
-}
-
-// whether the map has these children and bytes, and tells two faults
-fn has_children_and_bytes(tree: &mut MemTree) -> bool {
-    are_so_many(tree.children("d"), 2)
-        && are_read(tree.read("d/b", 5), b"two t")
-        && are_read(tree.read("d/a", 5), b"one")
-        && tree.children("d/a").is_err()
-        && tree.read("d", 1).is_err()
-        && tree.faults() == 2
-}
-
-#[test]
-fn a_map_has_children_and_bytes(rt: HostRuntime) -> Result<(), MemTreeError> {
-    let mut tree = small_tree(rt.alloc(), &[])?;
-    assert!(rt; has_children_and_bytes(&mut tree));
-    Ok(())
-}
-
-// whether the third call of a walk over the folder fails, and the fourth answers again
-fn fails_once(tree: &mut MemTree) -> bool {
-    are_so_many(tree.children("d"), 2)
-        && are_read(tree.read("d/a", 9), b"one")
-        && tree.read("d/b", 9).is_err()
-        && are_read(tree.read("d/b", 9), b"two two")
-        && tree.faults() == 1
-}
-
-#[test]
-fn a_numbered_call_fails(rt: HostRuntime) -> Result<(), MemTreeError> {
-    let mut tree = small_tree(rt.alloc(), &[3])?;
-    assert!(rt; fails_once(&mut tree));
-    Ok(())
-}
-
-fn is_double(alloc: Global, nodes: Nodes) -> bool {
-    matches!(
-        MemTree::new(alloc, nodes, Vec::new(alloc)),
-        Err(MemTreeError::DoublePath)
-    )
-}
-
-fn map_with_a_path_twice(alloc: Global) -> Result<Nodes, OutOfMemory> {
-    let mut nodes = small_map(alloc)?;
-    push_file(alloc, &mut nodes, "d/a", b"")?;
-    Ok(nodes)
-}
-
-fn map_with_a_name_twice(alloc: Global) -> Result<Nodes, OutOfMemory> {
-    let children = children_of(alloc, &[("x", Kind::File), ("x", Kind::Folder)])?;
-    let mut nodes = Nodes::new(alloc);
-    push(alloc, &mut nodes, "f", Held::Folder(children))?;
-    Ok(nodes)
-}
-
-#[test]
-fn a_path_stands_once(rt: HostRuntime) -> Result<(), OutOfMemory> {
-    assert!(rt; is_double(rt.alloc(), map_with_a_path_twice(rt.alloc())?));
-    assert!(rt; is_double(rt.alloc(), map_with_a_name_twice(rt.alloc())?));
-    Ok(())
 }
 
 static PIECES: [(&[u8], Result<usize, SinkFailed>); 4] = [
@@ -199,38 +186,54 @@ fn a_sink_of_memory_takes_steps(rt: HostRuntime) -> Result<(), Fail> {
     Ok(())
 }
 
-fn has_no_room(sink: &mut MemSink) -> bool {
-    write_all(sink, b"abc") == Ok(())
-        && write_all(sink, b"defg") == Err(SinkFailed)
-        && sink.faults() == 1
-        && sink.bytes() == b"abcde".as_slice()
+/// Texts that a sink is given whole, and whether it takes each.
+type Texts = &'static [(&'static [u8], Result<(), SinkFailed>)];
+
+/// Whether a sink takes these texts or not, and then tells so many faults.
+fn takes<O: Sink>(sink: &mut O, texts: Texts, faults: u64) -> bool {
+    for (text, answer) in texts {
+        if write_all(sink, text) != *answer {
+            return false;
+        }
+    }
+    sink.faults() == faults
 }
 
 #[test]
 fn a_text_is_written_whole_or_has_no_room(rt: HostRuntime) -> Result<(), Fail> {
     let mut sink = small_sink(rt.alloc(), &[])?;
-    assert!(rt; has_no_room(&mut sink));
+    assert!(rt;
+        takes(
+            &mut sink,
+            &[(b"abc", Ok(())), (b"defg", Err(SinkFailed))],
+            1
+        )
+    );
+    assert!(rt; sink.bytes() == b"abcde".as_slice());
     Ok(())
 }
 
 #[test]
 fn a_writer_is_a_sink(rt: HostRuntime) {
     let mut held = Vec::new(rt.alloc());
-    let mut sink = StdSink::new(&mut held);
-    let first = write_all(&mut sink, b"one ") == Ok(());
-    let second = write_all(&mut sink, b"two") == Ok(());
-    let faults = sink.faults();
-    assert!(rt; first && second && faults == 0 && held.as_slice() == b"one two".as_slice());
+    let is_taken = takes(
+        &mut StdSink::new(&mut held),
+        &[(b"one ", Ok(())), (b"two", Ok(()))],
+        0,
+    );
+    assert!(rt; is_taken && held.as_slice() == b"one two".as_slice());
 }
 
-// A writer with room for two bytes, which then takes nothing.
+/// A writer with room for two bytes, which then takes nothing.
 #[test]
 fn a_full_writer_is_a_fault(rt: HostRuntime) {
     let mut room = [0u8; 2];
-    let mut sink = StdSink::new(&mut room[..]);
-    let refused = write_all(&mut sink, b"abc") == Err(SinkFailed);
-    let faults = sink.faults();
-    assert!(rt; refused && faults == 1 && room.as_slice() == b"ab".as_slice());
+    let is_taken = takes(
+        &mut StdSink::new(&mut room[..]),
+        &[(b"abc", Err(SinkFailed))],
+        1,
+    );
+    assert!(rt; is_taken && room.as_slice() == b"ab".as_slice());
 }
 
 fn joined(rt: &HostRuntime, folder: &str, name: &str) -> Result<String, AllocError> {
@@ -270,18 +273,22 @@ fn has_both(rt: &HostRuntime, folder: &str, first: &str) -> bool {
     let mut tree = DiskTree::new(rt);
     tree.kind(folder) == Ok(Kind::Folder)
         && are_both(tree.children(folder))
-        && are_read(tree.read(first, 6), b"import")
-        && are_read(tree.read(first, 99), b"import re\n")
+        && are_read(tree.read(first, 6), Some(b"import"))
+        && are_read(tree.read(first, 99), Some(b"import re\n"))
         && tree.faults() == 0
 }
 
+/// Whether the folder answers.
+fn answers_in(rt: &HostRuntime, folder: &str) -> io::Result<bool> {
+    let first = joined(rt, folder, "first.py")?;
+    Ok(has_both(rt, folder, first.as_str()))
+}
+
 #[test]
-fn a_disk_is_a_tree(rt: HostRuntime) -> Result<(), Fail> {
+fn a_disk_is_a_tree(rt: HostRuntime) -> io::Result<()> {
     let folder = folder_on_disk(&rt, "answers")?;
-    let first = joined(&rt, folder.as_str(), "first.py")?;
-    assert!(rt; has_both(&rt, folder.as_str(), first.as_str()));
-    fs::remove_dir_all(&rt, folder.as_str())?;
-    Ok(())
+    assert!(rt; answers_in(&rt, folder.as_str())?);
+    fs::remove_dir_all(&rt, folder.as_str())
 }
 
 // A symbolic link is neither a file nor a folder, a file has no children, and a folder has no bytes.
@@ -294,13 +301,17 @@ fn refuses(rt: &HostRuntime, folder: &str, first: &str, link: &str) -> bool {
         && tree.faults() == 3
 }
 
+/// Whether the folder refuses, once it has a link to its first file.
+fn refuses_in(rt: &HostRuntime, folder: &str) -> io::Result<bool> {
+    let first = joined(rt, folder, "first.py")?;
+    let link = joined(rt, folder, "link")?;
+    symlink(rt, first.as_str(), link.as_str())?;
+    Ok(refuses(rt, folder, first.as_str(), link.as_str()))
+}
+
 #[test]
-fn a_disk_refuses(rt: HostRuntime) -> Result<(), Fail> {
+fn a_disk_refuses(rt: HostRuntime) -> io::Result<()> {
     let folder = folder_on_disk(&rt, "refuses")?;
-    let first = joined(&rt, folder.as_str(), "first.py")?;
-    let link = joined(&rt, folder.as_str(), "link")?;
-    symlink(&rt, first.as_str(), link.as_str())?;
-    assert!(rt; refuses(&rt, folder.as_str(), first.as_str(), link.as_str()));
-    fs::remove_dir_all(&rt, folder.as_str())?;
-    Ok(())
+    assert!(rt; refuses_in(&rt, folder.as_str())?);
+    fs::remove_dir_all(&rt, folder.as_str())
 }

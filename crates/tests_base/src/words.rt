@@ -1,6 +1,8 @@
 //! Tests of `rl_words`: calls that are taken, with what they ask for, calls that are refused, and the usage text.
 
-use rl_words::{Action, FormatWord, ModeWord, WordsError, read_words, usage_text};
+use rl_words::{
+    Action, FormatWord, ModeWord, PartialSettings, Words, WordsError, read_words, usage_text,
+};
 use std::alloc::{AllocError, Global};
 use std::test::Fail;
 
@@ -12,55 +14,112 @@ fn strings(alloc: Global, words: &[&str]) -> Result<Vec<String>, AllocError> {
     Ok(strings)
 }
 
-struct Taken {
-    words: &'static [&'static str],
-    mode: Option<ModeWord>,
-    format: Option<FormatWord>,
-    max_pairs: Option<u32>,
+/// An action: its name with its two texts, or with its two numbers.
+#[derive(Clone, Copy, PartialEq, Eq)]
+enum Asked<'a> {
+    Texts(&'static str, &'a str, &'a str),
+    Numbers(u32, u32),
 }
 
-static TAKEN: [Taken; 7] = [
+/// A call, and what it asks for.
+struct Taken {
+    words: &'static [&'static str],
+    asked: Asked<'static>,
+    values: PartialSettings,
+    settings: Option<&'static str>,
+}
+
+const NOTHING: PartialSettings = PartialSettings {
+    mode: None,
+    max_degree: None,
+    max_pairs: None,
+    format: None,
+    report: None,
+};
+
+const COST: Asked<'static> = Asked::Texts("cost", "a*", "aa");
+
+static TAKEN: [Taken; 11] = [
     Taken {
         words: &["cost", "a*", "aa"],
-        mode: None,
-        format: None,
-        max_pairs: None,
+        asked: COST,
+        values: NOTHING,
+        settings: None,
     },
     Taken {
         words: &["--mode=match", "cost", "a*", "aa"],
-        mode: Some(ModeWord::Match),
-        format: None,
-        max_pairs: None,
+        asked: COST,
+        values: PartialSettings {
+            mode: Some(ModeWord::Match),
+            ..NOTHING
+        },
+        settings: None,
     },
     Taken {
         words: &["cost", "--mode", "search", "a*", "aa"],
-        mode: Some(ModeWord::Search),
-        format: None,
-        max_pairs: None,
+        asked: COST,
+        values: PartialSettings {
+            mode: Some(ModeWord::Search),
+            ..NOTHING
+        },
+        settings: None,
     },
     Taken {
         words: &["cost", "a*", "--format", "json", "aa"],
-        mode: None,
-        format: Some(FormatWord::Json),
-        max_pairs: None,
+        asked: COST,
+        values: PartialSettings {
+            format: Some(FormatWord::Json),
+            ..NOTHING
+        },
+        settings: None,
     },
     Taken {
         words: &["cost", "a*", "--format=sarif", "aa"],
-        mode: None,
-        format: Some(FormatWord::Sarif),
-        max_pairs: None,
+        asked: COST,
+        values: PartialSettings {
+            format: Some(FormatWord::Sarif),
+            ..NOTHING
+        },
+        settings: None,
     },
     Taken {
         words: &["cost", "a*", "aa", "--max-pairs=000600"],
-        mode: None,
-        format: None,
-        max_pairs: Some(600),
+        asked: COST,
+        values: PartialSettings {
+            max_pairs: Some(600),
+            ..NOTHING
+        },
+        settings: None,
     },
     Taken {
         words: &["cost", "--", "a*", "aa"],
-        mode: None,
-        format: None,
-        max_pairs: None,
+        asked: COST,
+        values: NOTHING,
+        settings: None,
+    },
+    Taken {
+        words: &["sample", "--settings=s.toml", "7", "20000"],
+        asked: Asked::Numbers(7, 20_000),
+        values: NOTHING,
+        settings: Some("s.toml"),
+    },
+    Taken {
+        words: &["verify", "a", "f.json"],
+        asked: Asked::Texts("verify", "a", "f.json"),
+        values: NOTHING,
+        settings: None,
+    },
+    Taken {
+        words: &["compare", "", "b"],
+        asked: Asked::Texts("compare", "", "b"),
+        values: NOTHING,
+        settings: None,
+    },
+    Taken {
+        words: &["prove", ""],
+        asked: Asked::Texts("prove", "", ""),
+        values: NOTHING,
+        settings: None,
     },
 ];
 
@@ -94,72 +153,56 @@ static REFUSED: [&[&str]; 27] = [
     &["--version"],
 ];
 
+/// The action with its texts or its numbers.
+fn asked_of<'a>(action: &Action<'a>) -> Asked<'a> {
+    match action {
+        Action::Check { .. } => Asked::Texts("check", "", ""),
+        Action::Class { pattern } => Asked::Texts("class", pattern, ""),
+        Action::Cost { pattern, text } => Asked::Texts("cost", pattern, text),
+        Action::Sample { seed, count } => Asked::Numbers(*seed, *count),
+        Action::Prove { pattern } => Asked::Texts("prove", pattern, ""),
+        Action::Verify { pattern, file } => Asked::Texts("verify", pattern, file),
+        Action::Compare { first, second } => Asked::Texts("compare", first, second),
+    }
+}
+
+/// Whether a call was read as it is wanted.
+fn is_as(read: &Words, wanted: &Taken) -> bool {
+    asked_of(&read.action) == wanted.asked
+        && read.options.values == wanted.values
+        && read.options.settings == wanted.settings
+}
+
+/// Whether a call is taken as it is wanted.
+fn is_taken(alloc: Global, words: &Vec<String>, wanted: &Taken) -> bool {
+    match read_words(alloc, words) {
+        Ok(read) => is_as(&read, wanted),
+        Err(_) => false,
+    }
+}
+
 #[test]
-fn takes_cost(rt: HostRuntime) -> Result<(), Fail> {
+fn takes_calls(rt: HostRuntime) -> Result<(), Fail> {
     for row in &TAKEN {
         let words = strings(rt.alloc(), row.words)?;
-        let read = read_words(rt.alloc(), &words)?;
-        match read.action {
-            Action::Cost { pattern, text } => {
-                assert!(rt; pattern == "a*" && text == "aa");
-            }
-            _ => assert!(rt; false, "another action"),
-        }
-        assert_eq!(rt; read.options.values.mode, row.mode);
-        assert_eq!(rt; read.options.values.format, row.format);
-        assert_eq!(rt; read.options.values.max_pairs, row.max_pairs);
-        assert_eq!(rt; read.options.values.max_degree, None);
-        assert_eq!(rt; read.options.values.report, None);
+        assert!(rt; is_taken(rt.alloc(), &words, row));
     }
     Ok(())
 }
 
-#[test]
-fn takes_sample(rt: HostRuntime) -> Result<(), Fail> {
-    let words = strings(rt.alloc(), &["sample", "--settings=s.toml", "7", "20000"])?;
-    let read = read_words(rt.alloc(), &words)?;
-    match read.action {
-        Action::Sample { seed, count } => {
-            assert!(rt; seed == 7 && count == 20_000);
-        }
-        _ => assert!(rt; false, "another action"),
+/// Whether a call is refused.
+fn is_refused(alloc: Global, words: &Vec<String>) -> bool {
+    match read_words(alloc, words) {
+        Ok(_) => false,
+        Err(error) => error == WordsError::Invalid,
     }
-    assert_eq!(rt; read.options.settings, Some("s.toml"));
-    Ok(())
-}
-
-#[test]
-fn takes_pattern_words(rt: HostRuntime) -> Result<(), Fail> {
-    let words = strings(rt.alloc(), &["verify", "a", "f.json"])?;
-    let read = read_words(rt.alloc(), &words)?;
-    match read.action {
-        Action::Verify { pattern, file } => assert!(rt; pattern == "a" && file == "f.json"),
-        _ => assert!(rt; false, "another action"),
-    }
-    let words = strings(rt.alloc(), &["compare", "", "b"])?;
-    let read = read_words(rt.alloc(), &words)?;
-    match read.action {
-        Action::Compare { first, second } => assert!(rt; first == "" && second == "b"),
-        _ => assert!(rt; false, "another action"),
-    }
-    let words = strings(rt.alloc(), &["prove", ""])?;
-    let read = read_words(rt.alloc(), &words)?;
-    match read.action {
-        Action::Prove { pattern } => assert!(rt; pattern == ""),
-        _ => assert!(rt; false, "another action"),
-    }
-    Ok(())
 }
 
 #[test]
 fn refuses(rt: HostRuntime) -> Result<(), Fail> {
     for words in &REFUSED {
         let words = strings(rt.alloc(), words)?;
-        let refused = match read_words(rt.alloc(), &words) {
-            Ok(_) => false,
-            Err(error) => error == WordsError::Invalid,
-        };
-        assert!(rt; refused);
+        assert!(rt; is_refused(rt.alloc(), &words));
     }
     Ok(())
 }

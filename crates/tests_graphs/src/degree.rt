@@ -1,12 +1,176 @@
 //! Tests of `rl_degree`: the longest chains and the ranks of small graphs. The graphs and their answers were worked out by
 //! hand.
 
-use rl_degree::{Chain, degree};
+use crate::moves::{Move, graph_of};
+use rl_degree::{Chain, Loop, Split, degree};
 use rl_expo::twin;
 use rl_graph::Multigraph;
 use rl_lists::OutOfMemory;
 use std::alloc::Global;
-use std::test::Fail;
+
+/// A link: its word and, where they are told, the state that it leads from and the one that it leads to.
+struct Link {
+    ends: Option<(u32, u32)>,
+    word: &'static [u32],
+}
+
+/// A cycle: none, one that isn't told, or one through a state along a word.
+enum Cycle {
+    None,
+    Any,
+    At(u32, &'static [u32]),
+}
+
+/// The letters and the moves of a graph of 4 states, its ranks, a longest chain and a cycle.
+struct Row {
+    letters: u32,
+    moves: &'static [Move],
+    ranks: [u32; 4],
+    links: &'static [Link],
+    cycle: Cycle,
+}
+
+static ROWS: [Row; 8] = [
+    // no cycle
+    Row {
+        letters: 2,
+        moves: &[(0, 0, 1), (0, 0, 2), (1, 1, 3), (2, 1, 3)],
+        ranks: [0, 0, 0, 0],
+        links: &[],
+        cycle: Cycle::None,
+    },
+    // one loop
+    Row {
+        letters: 2,
+        moves: &[(0, 0, 1), (1, 1, 1), (1, 0, 2)],
+        ranks: [0, 0, 0, 0],
+        links: &[],
+        cycle: Cycle::At(1, &[1]),
+    },
+    // the loops of the states 0 and 1, with a move between them, and those of 2 and 3; a move on another letter leads from 1 to 2
+    Row {
+        letters: 2,
+        moves: &[
+            (0, 0, 0),
+            (0, 0, 1),
+            (1, 0, 1),
+            (1, 1, 2),
+            (2, 0, 2),
+            (2, 0, 3),
+            (3, 0, 3),
+        ],
+        ranks: [2, 1, 1, 0],
+        links: &[
+            Link {
+                ends: Some((0, 1)),
+                word: &[0],
+            },
+            Link {
+                ends: Some((2, 3)),
+                word: &[0],
+            },
+        ],
+        cycle: Cycle::Any,
+    },
+    // two rings of two states side by side, and a move between them that never meets both rings at the right time
+    Row {
+        letters: 2,
+        moves: &[(0, 0, 1), (1, 1, 0), (0, 0, 2), (2, 0, 3), (3, 1, 2)],
+        ranks: [0, 0, 0, 0],
+        links: &[],
+        cycle: Cycle::Any,
+    },
+    // the same rings with their moves on one letter: a split takes two moves, one of them between the rings
+    Row {
+        letters: 2,
+        moves: &[(0, 0, 1), (1, 0, 0), (0, 0, 2), (2, 0, 3), (3, 0, 2)],
+        ranks: [1, 1, 0, 0],
+        links: &[Link {
+            ends: None,
+            word: &[0, 0],
+        }],
+        cycle: Cycle::Any,
+    },
+    // the loops of the states 0, 1 and 2 in a row: the first two share the letter 1, on which a move leads from the one to the
+    // other; the last two share none
+    Row {
+        letters: 4,
+        moves: &[
+            (0, 0, 0),
+            (0, 1, 0),
+            (0, 2, 0),
+            (0, 1, 1),
+            (1, 1, 1),
+            (1, 3, 1),
+            (1, 2, 2),
+            (2, 0, 2),
+            (2, 2, 2),
+        ],
+        ranks: [1, 0, 0, 0],
+        links: &[Link {
+            ends: Some((0, 1)),
+            word: &[1],
+        }],
+        cycle: Cycle::Any,
+    },
+    // the state 0 is entered on the letter 0 alone, and the state 1 on the letters 0 and 64, but it loops on 64 alone
+    Row {
+        letters: 65,
+        moves: &[(0, 0, 0), (0, 0, 1), (1, 64, 1)],
+        ranks: [0, 0, 0, 0],
+        links: &[],
+        cycle: Cycle::Any,
+    },
+    // both states loop on the letter 64, on which a move leads from the one to the other; the first one loops on 0 too
+    Row {
+        letters: 65,
+        moves: &[(0, 0, 0), (0, 64, 0), (0, 64, 1), (1, 64, 1)],
+        ranks: [1, 0, 0, 0],
+        links: &[Link {
+            ends: None,
+            word: &[64],
+        }],
+        cycle: Cycle::Any,
+    },
+];
+
+/// Whether this is the link.
+fn is_link(found: &Split, wanted: &Link) -> bool {
+    found.word.as_slice() == wanted.word
+        && match wanted.ends {
+            Some(ends) => (found.from, found.to) == ends,
+            None => true,
+        }
+}
+
+/// Whether these are the links.
+fn are_links(found: &[Split], wanted: &[Link]) -> bool {
+    for (link, wanted) in found.iter().zip(wanted) {
+        if !is_link(link, wanted) {
+            return false;
+        }
+    }
+    found.len() == wanted.len()
+}
+
+/// Whether this is the cycle.
+fn is_cycle(found: &Option<Loop>, wanted: &Cycle) -> bool {
+    match (found, wanted) {
+        (None, Cycle::None) => true,
+        (Some(_), Cycle::Any) => true,
+        (Some(round), Cycle::At(state, word)) => {
+            round.state == *state && round.word.as_slice() == *word
+        }
+        _ => false,
+    }
+}
+
+/// Whether this is the chain.
+fn is_chain(chain: &Chain, row: &Row) -> bool {
+    chain.ranks.as_slice() == row.ranks.as_slice()
+        && are_links(chain.links.as_slice(), row.links)
+        && is_cycle(&chain.cycle, &row.cycle)
+}
 
 /// The longest chain of a graph. A graph with a twin has none.
 fn chain_of(alloc: Global, graph: &Multigraph) -> Result<Option<Chain>, OutOfMemory> {
@@ -19,163 +183,51 @@ fn chain_of(alloc: Global, graph: &Multigraph) -> Result<Option<Chain>, OutOfMem
     }
 }
 
-/// The longest chain of the graph of 4 states and so many letters with these moves: from, letter, to. A graph with a twin has none.
-fn chain_over(
+/// The longest chain of the graph with these moves. A graph with a twin has none.
+fn chain_in(
     alloc: Global,
+    states: u32,
     letters: u32,
-    moves: &[(u32, u32, u32)],
+    moves: &[Move],
 ) -> Result<Option<Chain>, OutOfMemory> {
-    let mut graph = Multigraph::new(alloc, 4, letters)?;
-    for step in moves {
-        let from = step.0;
-        let letter = step.1;
-        let to = step.2;
-        if from < 4 && letter < letters && to < 4 {
-            if graph.edges(from, letter).len() < 1000 {
-                graph.add(from, letter, to)?;
-            }
-        }
-    }
+    let graph = graph_of(alloc, states, letters, moves)?;
     chain_of(alloc, &graph)
 }
 
-/// The same for a graph of 2 letters.
-fn chain_in(alloc: Global, moves: &[(u32, u32, u32)]) -> Result<Option<Chain>, OutOfMemory> {
-    chain_over(alloc, 2, moves)
-}
-
-#[test]
-fn no_cycle(rt: HostRuntime) -> Result<(), Fail> {
-    let none = chain_in(rt.alloc(), &[(0, 0, 1), (0, 0, 2), (1, 1, 3), (2, 1, 3)])?.ok_or(
-        "a twin",
-    )?;
-    assert!(rt; none.links.is_empty());
-    assert_eq!(rt; none.ranks.as_slice(), [0, 0, 0, 0].as_slice());
-    assert!(rt; none.cycle.is_none());
-    Ok(())
-}
-
-/// A graph of 65,536 states and no move has no link, no rank but 0 and no cycle.
-#[test]
-fn many_states_and_no_move(rt: HostRuntime) -> Result<(), Fail> {
-    let graph = Multigraph::new(rt.alloc(), 65_536, 1)?;
-    let chain = chain_of(rt.alloc(), &graph)?.ok_or("a twin")?;
-    assert!(rt; chain.links.is_empty());
-    assert_eq!(rt; chain.ranks.len(), 65_536);
-    assert!(rt; chain.ranks.as_slice().iter().all(|rank| *rank == 0));
-    assert!(rt; chain.cycle.is_none());
-    Ok(())
-}
-
-#[test]
-fn one_loop(rt: HostRuntime) -> Result<(), Fail> {
-    let one = chain_in(rt.alloc(), &[(0, 0, 1), (1, 1, 1), (1, 0, 2)])?.ok_or("a twin")?;
-    assert!(rt; one.links.is_empty());
-    assert_eq!(rt; one.ranks.as_slice(), [0, 0, 0, 0].as_slice());
-    let round = one.cycle.ok_or("no cycle")?;
-    assert_eq!(rt; round.state, 1);
-    assert_eq!(rt; round.word.as_slice(), [1].as_slice());
-    Ok(())
-}
-
-/// The loops of the states 0 and 1, with a move between them, and those of 2 and 3; a move on another letter leads from 1 to 2.
-#[test]
-fn two_splits(rt: HostRuntime) -> Result<(), Fail> {
-    let moves = [
-        (0, 0, 0),
-        (0, 0, 1),
-        (1, 0, 1),
-        (1, 1, 2),
-        (2, 0, 2),
-        (2, 0, 3),
-        (3, 0, 3),
-    ];
-    let two = chain_in(rt.alloc(), &moves)?.ok_or("a twin")?;
-    assert_eq!(rt; two.ranks.as_slice(), [2, 1, 1, 0].as_slice());
-    match two.links.as_slice() {
-        [first, second] => {
-            assert_eq!(rt; first.from, 0);
-            assert_eq!(rt; first.to, 1);
-            assert_eq!(rt; first.word.as_slice(), [0].as_slice());
-            assert_eq!(rt; second.from, 2);
-            assert_eq!(rt; second.to, 3);
-            assert_eq!(rt; second.word.as_slice(), [0].as_slice());
-        }
-        _ => return Err(Fail::from("not two links")),
+/// Whether the graph of a row has no twin, and its chain.
+fn has_chain(alloc: Global, row: &Row) -> Result<bool, OutOfMemory> {
+    match chain_in(alloc, 4, row.letters, row.moves)? {
+        Some(chain) => Ok(is_chain(&chain, row)),
+        None => Ok(false),
     }
-    assert!(rt; two.cycle.is_some());
-    Ok(())
 }
 
-/// Two rings of two states side by side, and a move between them that never meets both rings at the right time.
 #[test]
-fn rings_out_of_step(rt: HostRuntime) -> Result<(), Fail> {
-    let moves = [(0, 0, 1), (1, 1, 0), (0, 0, 2), (2, 0, 3), (3, 1, 2)];
-    let none = chain_in(rt.alloc(), &moves)?.ok_or("a twin")?;
-    assert!(rt; none.links.is_empty());
-    Ok(())
-}
-
-/// The same rings with their moves on one letter. A split takes two moves, one of them between the rings.
-#[test]
-fn rings_in_step(rt: HostRuntime) -> Result<(), Fail> {
-    let moves = [(0, 0, 1), (1, 0, 0), (0, 0, 2), (2, 0, 3), (3, 0, 2)];
-    let one = chain_in(rt.alloc(), &moves)?.ok_or("a twin")?;
-    assert_eq!(rt; one.ranks.as_slice(), [1, 1, 0, 0].as_slice());
-    match one.links.as_slice() {
-        [link] => assert_eq!(rt; link.word.as_slice(), [0, 0].as_slice()),
-        _ => return Err(Fail::from("not one link")),
+fn chains_of_small_graphs(rt: HostRuntime) -> Result<(), OutOfMemory> {
+    for row in &ROWS {
+        assert!(rt; has_chain(rt.alloc(), row)?);
     }
     Ok(())
 }
 
-/// The loops of the states 0, 1 and 2 in a row. The first two share the letter 1, on which a move leads from the one to the other;
-/// the last two share none.
-#[test]
-fn loops_on_some_letters(rt: HostRuntime) -> Result<(), Fail> {
-    let moves = [
-        (0, 0, 0),
-        (0, 1, 0),
-        (0, 2, 0),
-        (0, 1, 1),
-        (1, 1, 1),
-        (1, 3, 1),
-        (1, 2, 2),
-        (2, 0, 2),
-        (2, 2, 2),
-    ];
-    let one = chain_over(rt.alloc(), 4, &moves)?.ok_or("a twin")?;
-    assert_eq!(rt; one.ranks.as_slice(), [1, 0, 0, 0].as_slice());
-    match one.links.as_slice() {
-        [link] => {
-            assert_eq!(rt; link.from, 0);
-            assert_eq!(rt; link.to, 1);
-            assert_eq!(rt; link.word.as_slice(), [1].as_slice());
-        }
-        _ => return Err(Fail::from("not one link")),
-    }
-    Ok(())
+/// Whether a chain has no link and no cycle, and so many ranks, each of them 0.
+fn is_still(chain: &Chain, states: usize) -> bool {
+    chain.links.is_empty()
+        && chain.ranks.len() == states
+        && chain.ranks.as_slice().iter().all(|rank| *rank == 0)
+        && chain.cycle.is_none()
 }
 
-/// The state 0 is entered on the letter 0 alone, and the state 1 on the letters 0 and 64, but it loops on 64 alone.
-#[test]
-fn letters_that_are_64_apart(rt: HostRuntime) -> Result<(), Fail> {
-    let moves = [(0, 0, 0), (0, 0, 1), (1, 64, 1)];
-    let none = chain_over(rt.alloc(), 65, &moves)?.ok_or("a twin")?;
-    assert!(rt; none.links.is_empty());
-    assert_eq!(rt; none.ranks.as_slice(), [0, 0, 0, 0].as_slice());
-    Ok(())
+/// Whether a graph of 65,536 states and no move has no link, no rank but 0 and no cycle.
+fn many_are_still(alloc: Global) -> Result<bool, OutOfMemory> {
+    match chain_in(alloc, 65_536, 1, &[])? {
+        Some(chain) => Ok(is_still(&chain, 65_536)),
+        None => Ok(false),
+    }
 }
 
-/// Both states loop on the letter 64, on which a move leads from the one to the other; the first one loops on 0 too.
 #[test]
-fn a_split_on_a_letter_behind_64(rt: HostRuntime) -> Result<(), Fail> {
-    let moves = [(0, 0, 0), (0, 64, 0), (0, 64, 1), (1, 64, 1)];
-    let one = chain_over(rt.alloc(), 65, &moves)?.ok_or("a twin")?;
-    assert_eq!(rt; one.ranks.as_slice(), [1, 0, 0, 0].as_slice());
-    match one.links.as_slice() {
-        [link] => assert_eq!(rt; link.word.as_slice(), [64].as_slice()),
-        _ => return Err(Fail::from("not one link")),
-    }
+fn many_states_and_no_move(rt: HostRuntime) -> Result<(), OutOfMemory> {
+    assert!(rt; many_are_still(rt.alloc())?);
     Ok(())
 }

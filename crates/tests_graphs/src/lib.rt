@@ -8,4 +8,6 @@ mod expo;
 #[cfg(test)]
 mod graph;
 #[cfg(test)]
+mod moves;
+#[cfg(test)]
 mod numbers;

@@ -3,6 +3,7 @@
 
 ghost use Rattle.std.specs.Prelude.{◌≡◌, ◌<◌, IfOk};
 
+use crate::moves::{graph_of, in_turn};
 use rl_degree::degree;
 use rl_graph::Multigraph;
 use rl_lists::OutOfMemory;
@@ -14,30 +15,6 @@ use rl_numbers::leveling::level_graph;
 use rl_numbers::triple::{Triple, Triples};
 use rl_numbers::{TriplesError, doubles_of, triples_of};
 use std::alloc::Global;
-
-/// The graph with these moves: from, letter, to.
-fn graph(
-    alloc: Global,
-    states: u32,
-    letters: u32,
-    moves: &[(u32, u32, u32)],
-) -> Result<Multigraph, OutOfMemory>
-    ensures states { IfOk result (λ g. g.states ≡ states) }
-    ensures letters { IfOk result (λ g. g.letters ≡ letters) }
-{
-    let mut graph = Multigraph::new(alloc, states, letters)?;
-    for step in moves {
-        let from = step.0;
-        let letter = step.1;
-        let to = step.2;
-        if from < states && letter < letters && to < states {
-            if graph.edges(from, letter).len() < 1000 {
-                graph.add(from, letter, to)?;
-            }
-        }
-    }
-    Ok(graph)
-}
 
 /// The doubles, and the triples for the ranks that the lengths of chains give, if the given doubles exclude a twin.
 fn lists(
@@ -81,7 +58,7 @@ fn are_listed(alloc: Global, g: &Multigraph, given: &[Double]) -> Result<bool, T
 
 #[test]
 fn one_loop(rt: HostRuntime) -> Result<(), TriplesError> {
-    let g = graph(rt.alloc(), 1, 1, &[(0, 0, 0)])?;
+    let g = graph_of(rt.alloc(), 1, 1, &[(0, 0, 0)])?;
     assert!(rt; are_listed(rt.alloc(), &g, &[double(0, 0, 0)])?);
     Ok(())
 }
@@ -91,7 +68,7 @@ fn loops(alloc: Global) -> Result<Multigraph, OutOfMemory>
     ensures states { IfOk result (λ g. g.states ≡ 2) }
     ensures letters { IfOk result (λ g. g.letters ≡ 1) }
 {
-    graph(alloc, 2, 1, &[(0, 0, 0), (0, 0, 1), (1, 0, 1)])
+    graph_of(alloc, 2, 1, &[(0, 0, 0), (0, 0, 1), (1, 0, 1)])
 }
 
 /// The doubles of those loops.
@@ -104,11 +81,16 @@ fn four(number: u32) -> [Double; 4] {
     ]
 }
 
+/// Whether the doubles of those loops hold.
+fn four_hold(alloc: Global, g: &Multigraph, number: u32) -> Result<bool, OutOfMemory> {
+    doubles_hold(alloc, g, &four(number))
+}
+
 /// Whether four doubles are listed, which hold, and there is no triple.
-fn are_held(alloc: Global, g: &Multigraph, given: &[Double]) -> Result<bool, TriplesError>
+fn are_held(alloc: Global, g: &Multigraph, number: u32) -> Result<bool, TriplesError>
     requires { g.now.states < 65536 }
 {
-    match lists(alloc, g, given)? {
+    match lists(alloc, g, &four(number))? {
         Some((doubles, triples)) => {
             let held = doubles_hold(alloc, g, doubles.as_slice())?;
             Ok(held && doubles.as_slice().len() == 4 && triples.is_empty())
@@ -121,8 +103,8 @@ fn are_held(alloc: Global, g: &Multigraph, given: &[Double]) -> Result<bool, Tri
 #[test]
 fn loops_in_a_row(rt: HostRuntime) -> Result<(), TriplesError> {
     let g = loops(rt.alloc())?;
-    assert!(rt; are_held(rt.alloc(), &g, &four(1))?);
-    assert!(rt; !doubles_hold(rt.alloc(), &g, &four(0))?);
+    assert!(rt; are_held(rt.alloc(), &g, 1)?);
+    assert!(rt; !four_hold(rt.alloc(), &g, 0)?);
     Ok(())
 }
 
@@ -153,7 +135,7 @@ fn nine(number: u32) -> [Triple; 9] {
 fn loops_of_three(alloc: Global) -> Result<Multigraph, OutOfMemory>
     ensures states { IfOk result (λ g. g.states ≡ 3) }
 {
-    graph(
+    graph_of(
         alloc,
         3,
         2,
@@ -195,38 +177,39 @@ fn loops_of_one_rank(rt: HostRuntime) -> Result<(), TriplesError> {
     Ok(())
 }
 
+/// Whether the triples of those loops hold.
+fn nine_hold(alloc: Global, g: &Multigraph, number: u32) -> Result<bool, OutOfMemory>
+    requires { g.now.states ≡ 3 }
+{
+    triples_hold(alloc, g, &[0, 0, 0], &nine(number))
+}
+
 /// The triple (0, 1, 1) has a greater number than (0, 0, 1), or it would let a split pass.
 #[test]
 fn numbers_of_triples_fall(rt: HostRuntime) -> Result<(), OutOfMemory> {
     let g = loops_of_three(rt.alloc())?;
-    assert!(rt; triples_hold(rt.alloc(), &g, &[0, 0, 0], &nine(1))?);
-    assert!(rt; !triples_hold(rt.alloc(), &g, &[0, 0, 0], &nine(0))?);
+    assert!(rt; nine_hold(rt.alloc(), &g, 1)?);
+    assert!(rt; !nine_hold(rt.alloc(), &g, 0)?);
     Ok(())
 }
 
-/// The graph of two states with so many moves from the first one to the second one.
-fn parallel(alloc: Global, count: usize) -> Result<Multigraph, OutOfMemory>
-    ensures states { IfOk result (λ g. g.states ≡ 2) }
-    ensures letters { IfOk result (λ g. g.letters ≡ 1) }
-{
-    let mut graph = Multigraph::new(alloc, 2, 1)?;
-    for _move in 0..count {
-        if graph.edges(0, 0).len() < 100_000 {
-            graph.add(0, 0, 1)?;
-        }
-    }
-    Ok(graph)
+/// Whether so many moves from the first of two states to the second one are kept as these, on a rank.
+fn are_kept(alloc: Global, count: usize, kept: &[u32]) -> Result<bool, OutOfMemory> {
+    let moves = in_turn(alloc, &[(0, 0, 1)], count)?;
+    let graph = graph_of(alloc, 2, 1, &moves)?;
+    let level = level_graph(alloc, &graph, &[0, 0])?;
+    Ok(is_kept(&level, kept))
+}
+
+/// Whether the first state has these targets.
+fn is_kept(level: &Multigraph, kept: &[u32]) -> bool {
+    level.states() == 2 && level.letters() == 1 && level.edges(0, 0) == kept
 }
 
 /// Of more moves of a state on a letter than are kept one by one, one is kept for each state that they lead to.
 #[test]
 fn parallel_moves_on_a_rank(rt: HostRuntime) -> Result<(), OutOfMemory> {
-    let ranks = [0, 0];
-    let few = parallel(rt.alloc(), 3)?;
-    let level = level_graph(rt.alloc(), &few, &ranks)?;
-    assert_eq!(rt; level.edges(0, 0), [1, 1, 1].as_slice());
-    let many = parallel(rt.alloc(), 65_536)?;
-    let kept = level_graph(rt.alloc(), &many, &ranks)?;
-    assert_eq!(rt; kept.edges(0, 0), [1].as_slice());
+    assert!(rt; are_kept(rt.alloc(), 3, &[1, 1, 1])?);
+    assert!(rt; are_kept(rt.alloc(), 65_536, &[1])?);
     Ok(())
 }

@@ -6,7 +6,7 @@ use Rattle.rl_ranges.specs.Codes.{has}
 use Rattle.rl_ranges.specs.Numbering.{firsts, Covers, ValuesBelow}
 use Rattle.rl_ranges.specs.declared.letters.TheConstants.{MOST_LETTERS}
 
--- where the stretch at the place begins, and `count` behind the last
+-- where the stretch or range at the place begins, and `count` behind the last
 abbrev pub start_or : List (ℕ × ℕ) → ℕ → ℕ → ℕ
 start_or stretches place count = if nat_lt place (length stretches) then (range_at stretches place).0 else count
 
@@ -14,20 +14,9 @@ start_or stretches place count = if nat_lt place (length stretches) then (range_
 abbrev pub value_in : List (ℕ × ℕ) → List (ℕ × ℕ) → ℕ → ℕ
 value_in stretches held code = 2 * letter_from 0 stretches code + (if has held code then 1 else 0)
 
--- the stretch at the place begins by the code, and ends no earlier than just before it
-pub record IsNearStretch (stretches : List (ℕ × ℕ)) (place code count : ℕ) : Type 0 where
-  pub inside : place < length stretches
-  pub begun : (range_at stretches place).0 ≤ code
-  pub near : code ≤ start_or stretches (place + 1) count
-
 -- each stretch behind the place begins after the code
 abbrev pub AreLater : List (ℕ × ℕ) → ℕ → ℕ → Type 0
 AreLater stretches place code = (k : ℕ) → place < k → k < length stretches → code < (range_at stretches k).0
-
--- the ranges in front of the place end before the code, and the one there ends no earlier than just before it
-pub record IsNearRange (ranges : List (ℕ × ℕ)) (place code : ℕ) : Type 0 where
-  pub before : (k : ℕ) → k < place → k < length ranges → (range_at ranges k).1 < code
-  pub near : place < length ranges → code ≤ (range_at ranges place).1 + 1
 
 -- the ranges in front of the place end before the code, and the one there doesn't
 pub record ArePassed (ranges : List (ℕ × ℕ)) (place code : ℕ) : Type 0 where

@@ -1,4 +1,4 @@
-use Rattle.std.proofs.Common.{◌≡◌, ℕ, ◌<◌, ◌≤◌, ◌^◌, List, slice_index, arith}
+use Rattle.std.proofs.Common.{ℕ, ◌^◌, List, slice_index, arith}
 use Rattle.rl_graph.specs.Graph.{Graph, edges_of, IsWhole}
 use Rattle.rl_graph.specs.Paths.{IsWithin}
 use Rattle.rl_graph.specs.Twins.{HasNoTwin}

@@ -10,8 +10,8 @@ pub returns-then-move_alike : goal.returns-then-move_alike
 returns-then-move_alike c =
     let a = c.args.a.now in
     let w = c.args.self.now in
-    let row = c.index.result.now in
-    let members = row_at c.self.inside.rows.keys row c.args.set c.index.ensures ∙ ap (λ (w : Walk). set_at w c.args.set) c.self.view_is in
+    let row = c.index-2.result.now in
+    let members = row_at c.self.inside.rows.keys row c.args.set c.index-2.ensures ∙ ap (λ (w : Walk). set_at w c.args.set) c.self.view_is in
     let same = image-alike a row (c.args.letter - 1) c.args.letter (c.move_alike.ensures c.if-move_alike.true) in
     let known = c.requires.made.images c.args.set (c.args.letter - 1) c.in_ok-number.number c.requires.set_in (omega (arith, c.requires.letter_in)) (sym c.known_image.ensures ∙ c.in_ok-number.was) in
     known ∙ ap (λ (s : List ℕ). Some (image a s (c.args.letter - 1))) (sym members) ∙ ap Some same ∙ ap (λ (s : List ℕ). Some (image a s c.args.letter)) members

@@ -1,0 +1,208 @@
+-- One more run of a stretch of codes, where the ranges split the stretch.
+use Rattle.std.proofs.Common.{Bool, List, None, Option, Some, ap, ap₂, arith, get_or, inl, inr, length, refl, subst, sym, true, false, add-zero, ℕ, ◌*◌, ◌++◌, ◌+◌, ◌<◌, ◌∙◌, ◌∷◌, ◌≡◌, ◌≤◌, le_refl, []}
+use Rattle.std.proofs.lemmas.Bool.{cases_lt}
+use Rattle.std.proofs.lemmas.List.{get_or-set_other, get_or-set_same, get_or_default, length_push}
+use Rattle.std.specs.Prelude.{if◌then◌else◌}
+use Rattle.rl_ranges.proofs.NumberingLemmas.{Progress, Progress-more, Progress-too_many, start_or-in, start_or-next, start_or-past, stretch_value}
+use Rattle.rl_ranges.proofs.SetLemmas.{Above-at, Above-gap, has-at, has-outside, within-true}
+use Rattle.rl_ranges.specs.Building.{range_at}
+use Rattle.rl_ranges.specs.Codes.{Above, has}
+use Rattle.rl_ranges.specs.Numbering.{Covers, ValuesBelow, firsts, same_value}
+use Rattle.rl_ranges.specs.declared.letters.TheConstants.{MOST_LETTERS}
+use Rattle.rl_ranges.specs.internal.Splitting.{ArePassed, HasNumber, start_or, value_in}
+
+-- the value has its number from now on, and no other value's number changes
+pub number_own : (o : Option ℕ) (n v code : ℕ) (known known' : List (Option ℕ)) (least least' : List ℕ) → v < length known → o ≡ get_or known v None
+    → HasNumber o n known known' least least' v code → Some n ≡ get_or known' v None
+number_own None n v code known known' least least' lt there is = rw is.1 (sym (get_or-set_same known v (Some n) None lt))
+number_own (Some m) n v code known known' least least' lt there is = rw (is.0, is.1) there
+
+pub number_other : (o : Option ℕ) (n v w code : ℕ) (known known' : List (Option ℕ)) (least least' : List ℕ) → (w ≡ v → ⊥)
+    → HasNumber o n known known' least least' v code → get_or known' w None ≡ get_or known w None
+number_other None n v w code known known' least least' other is = rw is.1 (get_or-set_other known v w (Some n) None other)
+number_other (Some m) n v w code known known' least least' other is = rw is.1 refl
+
+-- the codes of a range
+pub in_range : (s : List (ℕ × ℕ)) (p x : ℕ) → p < length s → (range_at s p).0 ≤ x → x ≤ (range_at s p).1 → has s x ≡ true
+in_range s p x lt low high = has-at s p x lt (within-true (range_at s p).0 (range_at s p).1 x low high)
+
+-- the codes in front of the next range, also where no range is left
+pub in_front : (s : List (ℕ × ℕ)) (p at x count : ℕ) → Above 0 s → ArePassed s p at → at ≤ x → x < start_or s p count → has s x ≡ false
+in_front s p at x count sorted h low high = has-outside s x (λ k k_in. elim (cases_lt k p) [
+  | inl less ↦ inr (omega (arith, h.before k less k_in))
+  | inr more ↦
+      let p_in : p < length s = omega arith in
+      let is = start_or-in s p count p_in in
+      inl (elim (cases_lt p k) [
+        | inl later ↦ omega (arith, Above-gap 0 s p k sorted later k_in, Above-at 0 s p sorted p_in)
+        | inr here ↦ let same : p ≡ k = omega arith in omega (arith, ap (λ i. (range_at s i).0) same)
+      ])
+])
+
+-- the ranges that are passed once the next one is, or a part of it
+pub passed_one : (s : List (ℕ × ℕ)) (p at : ℕ) → Above 0 s → ArePassed s p at → p < length s → ArePassed s (p + 1) ((range_at s p).1 + 1)
+passed_one s p at sorted h p_in = record {
+  before = λ k lt k_in. elim (cases_lt k p) [
+    | inl less ↦ omega (arith, h.before k less k_in, h.unpassed p_in)
+    | inr more ↦ let same : p ≡ k = omega arith in omega (arith, ap (λ i. (range_at s i).1) same)
+  ];
+  unpassed = λ next_in. omega (arith, Above-gap 0 s p (p + 1) sorted (omega arith) next_in, Above-at 0 s (p + 1) sorted next_in);
+}
+
+pub passed_later : (s : List (ℕ × ℕ)) (p at next : ℕ) → ArePassed s p at → at ≤ next → (p < length s → next ≤ (range_at s p).1) → ArePassed s p next
+passed_later s p at next h le in_it = record { before = λ k lt k_in. omega (arith, h.before k lt k_in); unpassed = in_it }
+
+-- the next range ends no earlier than it begins
+pub passed_front : (s : List (ℕ × ℕ)) (p at next count : ℕ) → Above 0 s → ArePassed s p at → at ≤ next → next ≤ start_or s p count → ArePassed s p next
+passed_front s p at next count sorted h le front =
+    passed_later s p at next h le (λ p_in. omega (arith, start_or-in s p count p_in, Above-at 0 s p sorted p_in))
+
+-- the stretch at a place, from its first code to where it ends: `v` is twice its number
+pub record InPlace (left held : List (ℕ × ℕ)) (count values place start end v : ℕ) : Type 0 where
+  pub covers : Covers left count
+  pub sorted : Above 0 held
+  pub place_in : place < length left
+  pub start_is : start ≡ (range_at left place).0
+  pub end_is : end ≡ start_or left (place + 1) count
+  pub value_is : v ≡ 2 * (range_at left place).1
+  pub values_in : v + 1 < values
+
+pub in_place : (left held : List (ℕ × ℕ)) (count values m place end : ℕ) (x d : ℕ × ℕ) → Covers left count → ValuesBelow m left → Above 0 held → place < length left
+    → x ≡ get_or left place d → end ≡ start_or left (place + 1) count → values ≡ 2 * m → InPlace left held count values place x.0 end (2 * x.1)
+in_place left held count values m place end x d covers below sorted lt read ends many =
+    let is : x ≡ range_at left place = read ∙ get_or_default left place d (0, 0) lt in
+    record {
+      covers = covers;
+      sorted = sorted;
+      place_in = lt;
+      start_is = ap (λ (r : ℕ × ℕ). r.0) is;
+      end_is = ends;
+      value_is = ap (λ (r : ℕ × ℕ). 2 * r.1) is;
+      values_in = omega (arith, many, below place lt, ap (λ (r : ℕ × ℕ). r.1) is);
+    }
+
+-- the stretch ends within the codes
+pub end_in : (left held : List (ℕ × ℕ)) (count values place start end v : ℕ) → InPlace left held count values place start end v → (start < end) × (end ≤ count)
+end_in left held count values place start end v h =
+    let next = start_or-next left place count h.covers h.place_in in
+    (omega (arith, next.0, h.start_is, h.end_is), omega (arith, next.1, h.end_is))
+
+-- a range that begins below the stretch's end is one of the list
+pub range_next : (s : List (ℕ × ℕ)) (k end count : ℕ) → start_or s k count < end → end ≤ count → k < length s
+range_next s k end count lt le = elim (cases_lt k (length s)) [
+  | inl less ↦ less
+  | inr more ↦ absurd (omega (arith, start_or-past s k count more))
+]
+
+-- the codes below `at` are numbered, and it is known whether the stretch's two values have numbers
+pub record InRun (left held : List (ℕ × ℕ)) (values start end v range at : ℕ) (outside inside : Option ℕ) (numbers : List (Option ℕ)) (stretches : List (ℕ × ℕ)) (least : List ℕ) : Type 0 where
+  pub low : start ≤ at
+  pub high : at ≤ end
+  pub passed : ArePassed held range at
+  pub progress : Progress (value_in left held) values at numbers stretches least
+  pub outside_is : outside ≡ get_or numbers v None
+  pub inside_is : inside ≡ get_or numbers (v + 1) None
+
+-- the codes from one on have one value
+run_value : (left held : List (ℕ × ℕ)) (count values place start end v at next bit c : ℕ) → InPlace left held count values place start end v → start ≤ at → next ≤ end
+    → at ≤ c → c < next → (if has held c then 1 else 0) ≡ bit → value_in left held c ≡ v + bit
+run_value left held count values place start end v at next bit c h low ends above below alike =
+    ap₂ (λ v b. 2 * v + b) (stretch_value left place count c h.covers h.place_in (omega (arith, h.start_is)) (omega (arith, h.end_is))) alike
+    ∙ omega (arith, h.value_is)
+
+advance : (left held : List (ℕ × ℕ)) (count values place start end v at next bit n : ℕ) (numbers numbers' : List (Option ℕ)) (stretches stretches' : List (ℕ × ℕ)) (least least' : List ℕ)
+    → InPlace left held count values place start end v → start ≤ at → next ≤ end → at < next → v + bit < values
+    → ((c : ℕ) → at ≤ c → c < next → (if has held c then 1 else 0) ≡ bit)
+    → Progress (value_in left held) values at numbers stretches least → HasNumber (get_or numbers (v + bit) None) n numbers numbers' least least' (v + bit) at
+    → stretches' ≡ stretches ++ (at, n) ∷ [] → Progress (value_in left held) values next numbers' stretches' least'
+advance left held count values place start end v at next bit n numbers numbers' stretches stretches' least least' h low ends some v_in alike p has_it pushed =
+    subst (λ l. Progress (value_in left held) values next numbers' l least') (sym pushed)
+    (Progress-more (value_in left held) values at next n (v + bit) numbers numbers' stretches least least' some
+    (λ c above below. run_value left held count values place start end v at next bit c h low ends above below (alike c above below)) v_in p has_it)
+
+full : (left held : List (ℕ × ℕ)) (count values place start end v at bit : ℕ) (numbers : List (Option ℕ)) (stretches : List (ℕ × ℕ)) (least : List ℕ)
+    → InPlace left held count values place start end v → start ≤ at → at < end → v + bit < values → (if has held at then 1 else 0) ≡ bit
+    → Progress (value_in left held) values at numbers stretches least → (get_or numbers (v + bit) None ≡ None) × (length least ≡ MOST_LETTERS)
+    → MOST_LETTERS < length (firsts (same_value (value_in left held)) count)
+full left held count values place start end v at bit numbers stretches least h low some v_in alike p is =
+    let ends = end_in left held count values place start end v h in
+    Progress-too_many (value_in left held) count values at (v + bit) numbers stretches least (omega (arith, ends.1))
+    (run_value left held count values place start end v at (at + 1) bit at h low (omega arith) (le_refl at) (omega arith) alike) v_in p is.0 is.1
+
+bit_of : (held : List (ℕ × ℕ)) (c : ℕ) (b : Bool) → has held c ≡ b → ◌≡◌ {A = ℕ} (if has held c then 1 else 0) (if b then 1 else 0)
+bit_of held c b is = let bit : Bool → ℕ = λ x. if x then 1 else 0 in ap bit is
+
+-- one more run outside the ranges
+pub outside_run : (left held : List (ℕ × ℕ)) (count values place start end v range at next n : ℕ) (outside inside : Option ℕ) (numbers numbers' : List (Option ℕ)) (stretches stretches' : List (ℕ × ℕ)) (least least' : List ℕ)
+    → InPlace left held count values place start end v → InRun left held values start end v range at outside inside numbers stretches least
+    → at < next → next ≤ end → next ≤ start_or held range count
+    → HasNumber (get_or numbers v None) n numbers numbers' least least' v at → stretches' ≡ stretches ++ (at, n) ∷ []
+    → InRun left held values start end v range next (Some n) inside numbers' stretches' least'
+outside_run left held count values place start end v range at next n outside inside numbers numbers' stretches stretches' least least' h r some ends front has_it pushed =
+    record {
+      low = omega (arith, r.low);
+      high = ends;
+      passed = passed_front held range at next count h.sorted r.passed (omega arith) front;
+      progress = advance left held count values place start end v at next 0 n numbers numbers' stretches stretches' least least' h r.low ends some (omega (arith, h.values_in))
+          (λ c above below. bit_of held c false (in_front held range at c count h.sorted r.passed above (omega arith))) r.progress
+          (subst (λ w. HasNumber (get_or numbers w None) n numbers numbers' least least' w at) (sym (add-zero v)) has_it) pushed;
+      outside_is = number_own (get_or numbers v None) n v at numbers numbers' least least' (omega (arith, h.values_in, r.progress.width)) refl has_it;
+      inside_is = r.inside_is ∙ sym (number_other (get_or numbers v None) n v (v + 1) at numbers numbers' least least' (λ e. absurd (omega arith)) has_it);
+    }
+
+-- one more run in a range, which is passed then or isn't
+pub inside_run : (left held : List (ℕ × ℕ)) (count values place start end v range range' at next n : ℕ) (outside inside : Option ℕ) (numbers numbers' : List (Option ℕ)) (stretches stretches' : List (ℕ × ℕ)) (least least' : List ℕ)
+    → InPlace left held count values place start end v → InRun left held values start end v range at outside inside numbers stretches least
+    → range < length held → (range_at held range).0 ≤ at → at < next → next ≤ end → next ≤ (range_at held range).1 + 1 → ArePassed held range' next
+    → HasNumber (get_or numbers (v + 1) None) n numbers numbers' least least' (v + 1) at → stretches' ≡ stretches ++ (at, n) ∷ []
+    → InRun left held values start end v range' next outside (Some n) numbers' stretches' least'
+inside_run left held count values place start end v range range' at next n outside inside numbers numbers' stretches stretches' least least' h r range_in begun some ends within passed has_it pushed =
+    record {
+      low = omega (arith, r.low);
+      high = ends;
+      passed = passed;
+      progress = advance left held count values place start end v at next 1 n numbers numbers' stretches stretches' least least' h r.low ends some h.values_in
+          (λ c above below. bit_of held c true (in_range held range c range_in (omega arith) (omega arith))) r.progress has_it pushed;
+      outside_is = r.outside_is ∙ sym (number_other (get_or numbers (v + 1) None) n (v + 1) v at numbers numbers' least least' (λ e. absurd (omega arith)) has_it);
+      inside_is = number_own (get_or numbers (v + 1) None) n (v + 1) at numbers numbers' least least' (omega (arith, h.values_in, r.progress.width)) refl has_it;
+    }
+
+-- a run with no number, where all numbers are taken
+pub outside_full : (left held : List (ℕ × ℕ)) (count values place start end v range at : ℕ) (outside inside : Option ℕ) (numbers : List (Option ℕ)) (stretches : List (ℕ × ℕ)) (least : List ℕ)
+    → InPlace left held count values place start end v → InRun left held values start end v range at outside inside numbers stretches least → at < end → at < start_or held range count
+    → (get_or numbers v None ≡ None) × (length least ≡ MOST_LETTERS) → MOST_LETTERS < length (firsts (same_value (value_in left held)) count)
+outside_full left held count values place start end v range at outside inside numbers stretches least h r some front is =
+    full left held count values place start end v at 0 numbers stretches least h r.low some (omega (arith, h.values_in))
+    (bit_of held at false (in_front held range at at count h.sorted r.passed (le_refl at) front)) r.progress
+    (subst (λ w. get_or numbers w None ≡ None) (sym (add-zero v)) is.0, is.1)
+
+pub inside_full : (left held : List (ℕ × ℕ)) (count values place start end v range at : ℕ) (outside inside : Option ℕ) (numbers : List (Option ℕ)) (stretches : List (ℕ × ℕ)) (least : List ℕ)
+    → InPlace left held count values place start end v → InRun left held values start end v range at outside inside numbers stretches least → at < end
+    → range < length held → (range_at held range).0 ≤ at
+    → (get_or numbers (v + 1) None ≡ None) × (length least ≡ MOST_LETTERS) → MOST_LETTERS < length (firsts (same_value (value_in left held)) count)
+inside_full left held count values place start end v range at outside inside numbers stretches least h r some range_in begun is =
+    full left held count values place start end v at 1 numbers stretches least h r.low some h.values_in
+    (bit_of held at true (in_range held range at range_in begun (r.passed.unpassed range_in))) r.progress is
+
+-- the gap in front of a range is numbered
+pub record InGap (left held : List (ℕ × ℕ)) (values place start end v range at cap : ℕ) (outside inside : Option ℕ) (numbers : List (Option ℕ)) (stretches : List (ℕ × ℕ)) (least : List ℕ) (room : ℕ) : Type 0 where
+  pub run : InRun left held values start end v range at outside inside numbers stretches least
+  pub begun : (range_at held range).0 ≤ at
+  pub some : at < end
+  pub short : length stretches ≤ place + 2 * range + 1
+  pub same_room : room ≡ cap
+
+pub gap_numbered : (left held : List (ℕ × ℕ)) (count values place start end v range at cap n : ℕ) (outside inside : Option ℕ) (numbers numbers' : List (Option ℕ)) (stretches stretches' : List (ℕ × ℕ)) (least least' : List ℕ) (room : ℕ)
+    → InPlace left held count values place start end v → InRun left held values start end v range at outside inside numbers stretches least
+    → range < length held → at < (range_at held range).0 → (range_at held range).0 < end → length stretches ≤ place + 2 * range
+    → HasNumber (get_or numbers v None) n numbers numbers' least least' v at → stretches' ≡ stretches ++ (at, n) ∷ [] → room ≡ cap
+    → InGap left held values place start end v range (range_at held range).0 cap (Some n) inside numbers' stretches' least' room
+gap_numbered left held count values place start end v range at cap n outside inside numbers numbers' stretches stretches' least least' room h r range_in some ends short has_it pushed same =
+    record {
+      run = outside_run left held count values place start end v range at (range_at held range).0 n outside inside numbers numbers' stretches stretches' least least' h r some (omega arith)
+          (omega (arith, start_or-in held range count range_in)) has_it pushed;
+      begun = le_refl _;
+      some = ends;
+      short = omega (arith, ap length pushed, length_push stretches (at, n));
+      same_room = same;
+    }
