@@ -1,0 +1,90 @@
+"""Wrong bodies, those that the gate tries and those of tools/wrong-bodies: each can be applied, and the tool knows its crates."""
+from __future__ import annotations
+
+import unittest
+from pathlib import Path
+from typing import Dict, List, Set
+
+from show_support import TOP, tool
+
+CRATES = TOP / "crates"
+BODIES = TOP / "tests" / "wrong_bodies"
+
+
+def of_the_gate() -> List[Path]:
+    """The wrong bodies that the gate tries."""
+    return sorted(CRATES.glob("*/must-fail/*.edit"))
+
+
+def beside_the_gate() -> List[Path]:
+    """The wrong bodies that the tool tries."""
+    return sorted(BODIES.glob("*/*.edit"))
+
+
+def crate_of(edit: Path) -> str:
+    """The crate of a wrong body, by its folder."""
+    return edit.parent.parent.name if edit.parent.name == "must-fail" else edit.parent.name
+
+
+def edited(edit: Path) -> Dict[str, str]:
+    """The texts of the files that a wrong body changes, once it is applied. Each old text stands once in its file."""
+    texts: Dict[str, str] = {}
+    path, old = "", ""
+    for line in edit.read_text(encoding="utf-8").splitlines():
+        word, _, rest = line.partition(":")
+        rest = rest[1:]
+        if word == "file":
+            path = rest
+            texts.setdefault(path, (CRATES / crate_of(edit) / path).read_text(encoding="utf-8"))
+        elif word == "old":
+            old = rest
+            if texts[path].count(old) != 1:
+                raise ValueError("%s stands %d times in %s" % (old, texts[path].count(old), path))
+        elif word == "new":
+            texts[path] = texts[path].replace(old, rest)
+    return texts
+
+
+class WrongBodies(unittest.TestCase):
+    """The edits as they stand."""
+
+    def test_each_can_be_applied(self) -> None:
+        for edit in of_the_gate() + beside_the_gate():
+            with self.subTest(edit=edit.name):
+                texts = edited(edit)
+                self.assertTrue(texts)
+                for path, text in texts.items():
+                    before = (CRATES / crate_of(edit) / path).read_text(encoding="utf-8")
+                    self.assertFalse(text == before, "%s stays as it is" % path)
+
+    def test_names_are_given_once(self) -> None:
+        seen: Set[str] = set()
+        for edit in of_the_gate() + beside_the_gate():
+            name = "%s/%s" % (crate_of(edit), edit.stem)
+            self.assertNotIn(name, seen)
+            seen.add(name)
+
+
+class Tool(unittest.TestCase):
+    """The tool, without the kit."""
+
+    def test_list(self) -> None:
+        ran = tool("wrong-bodies", "--list")
+        self.assertEqual((ran.status, ran.err), (0, ""))
+        self.assertEqual(len(ran.out.splitlines()), len(beside_the_gate()))
+        one = tool("wrong-bodies", "--list", "rl_sets")
+        self.assertEqual(one.out, "rl_sets: no_rest_ever (src/rests.rt)\n")
+
+    def test_crate_without(self) -> None:
+        ran = tool("wrong-bodies", "rows")
+        self.assertEqual((ran.status, ran.out), (2, ""))
+        self.assertEqual(ran.err, "wrong-bodies: rows has no wrong bodies in tests/wrong_bodies\n")
+
+    def test_no_kit(self) -> None:
+        ran = tool("wrong-bodies", "rl_sets", environment={"PATH": ""})
+        self.assertEqual((ran.status, ran.out), (2, ""))
+        self.assertEqual(ran.err, "wrong-bodies: rt, the command of the Rattle kit, isn't on the PATH\n")
+
+
+if __name__ == "__main__":
+    unittest.main()
