@@ -23,7 +23,7 @@ LOG = (
     ("rattle build --crate-name rl_graph src/lib.rt --test -o", "/top/crates/rl_graph", 7.0),
     ("rattle check --crate-name rl_graph src/lib.rt", "/room/rt-edit-12-abc", 20.0),
     ("rattle check --crate-name rl_graph src/lib.rt", "/room/rt-edit-12-def", 3.0),
-    ("rattle check --crate-name rows src/main.rt", "/top/crates/rows", 9.0),
+    ("rattle check --crate-name rl_kernel src/lib.rt", "/top/crates/rl_kernel", 9.0),
     ("rattle build --crate-name another_crate src/lib.rt -o", "/other", 1000.0),
 )
 
@@ -53,7 +53,7 @@ class Report(unittest.TestCase):
         ran = reported(lines)
         self.assertEqual((ran.status, ran.err), (0, ""))
         self.assertIn("| `rl_graph` | 100 | 7 | 23 | 130 |\n", ran.out)
-        self.assertIn("| `rows` | 9 | 0 | 0 | 9 |\n", ran.out)
+        self.assertIn("| `rl_kernel` | 9 | 0 | 0 | 9 |\n", ran.out)
         self.assertIn("| all | 234 | 7 | 23 | 264 |\n", ran.out)
         self.assertIn("Together 4.4 processor minutes.\n", ran.out)
         self.assertIn("takes 124 seconds:\n", ran.out)
