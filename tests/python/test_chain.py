@@ -52,12 +52,11 @@ class Report(unittest.TestCase):
         lines: List[Line] = [{"first": 1, "last": 2, "cpu": cpu, "args": args, "cwd": cwd} for args, cwd, cpu in LOG]
         ran = reported(lines)
         self.assertEqual((ran.status, ran.err), (0, ""))
-        self.assertIn("| `rl_graph` | 100 | 7 | 23 | 130 |\n", ran.out)
-        self.assertIn("| `rl_kernel` | 9 | 0 | 0 | 9 |\n", ran.out)
-        self.assertIn("| all | 234 | 7 | 23 | 264 |\n", ran.out)
-        self.assertIn("Together 4.4 processor minutes.\n", ran.out)
-        self.assertIn("takes 124 seconds:\n", ran.out)
-        rows = ["| `rl_lists` | 4 | 4 |", "| `rl_ranges` | 70 | 74 |", "| `rl_syntax` | 50 | 124 |"]
+        self.assertIn("| `rl_graph` | 1.7 | 0.1 | 0.4 | 2.2 |\n", ran.out)
+        self.assertIn("| `rl_kernel` | 0.1 |  |  | 0.1 |\n", ran.out)
+        self.assertIn("| all | 3.9 | 0.1 | 0.4 | 4.4 |\n", ran.out)
+        self.assertIn("takes 2.1 minutes:\n", ran.out)
+        rows = ["| `rl_lists` | 0.1 | 0.1 |", "| `rl_ranges` | 1.2 | 1.2 |", "| `rl_syntax` | 0.8 | 2.1 |"]
         self.assertIn("\n".join(rows), ran.out)
 
     def test_a_log_that_is_none(self) -> None:
