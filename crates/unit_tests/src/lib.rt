@@ -8,6 +8,8 @@
 #[cfg(test)]
 mod degree;
 #[cfg(test)]
+mod equiv;
+#[cfg(test)]
 mod graph;
 #[cfg(test)]
 mod lanes;
@@ -19,5 +21,9 @@ mod numbers;
 mod prio;
 #[cfg(test)]
 mod pylex;
+#[cfg(test)]
+mod ranges;
+#[cfg(test)]
+mod report;
 #[cfg(test)]
 mod source;

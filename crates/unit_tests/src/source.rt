@@ -22,8 +22,8 @@ fn nodes(alloc: Global, paths: &[&str]) -> Result<Nodes, OutOfMemory> {
 
 /// The tree of these nodes, whose second call fails.
 fn tree(alloc: Global, paths: &[&str]) -> Result<MemTree, MemTreeError> {
-    let nodes = nodes(alloc, paths)?;
     let failing = Vec::from_slice(alloc, &[2]).map_err(OutOfMemory::from)?;
+    let nodes = nodes(alloc, paths)?;
     MemTree::new(alloc, nodes, failing)
 }
 
