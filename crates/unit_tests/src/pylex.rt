@@ -111,7 +111,10 @@ fn pieces_in_blocks(rt: HostRuntime) -> Result<(), Fail> {
     for behind in [0, 3, 17, 33] {
         for (piece, wanted) in &PIECES {
             let wrong = wrong_at(rt.alloc(), piece, behind, *wanted)?;
-            assert!(rt; wrong.is_none(), "{piece:?} at {wrong:?}, with {behind} behind");
+            assert!(rt;
+                wrong.is_none(),
+                "{piece:?} at {wrong:?}, with {behind} behind"
+            );
         }
     }
     Ok(())
