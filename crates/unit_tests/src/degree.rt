@@ -1,0 +1,37 @@
+//! A test of `rl_degree`: many states and no move.
+
+use crate::moves::graph_of;
+use rl_degree::{Chain, degree};
+use rl_expo::twin;
+use rl_graph::Multigraph;
+use rl_lists::OutOfMemory;
+use std::alloc::Global;
+
+/// The longest chain of a graph. A graph with a twin has none.
+fn chain_of(alloc: Global, graph: &Multigraph) -> Result<Option<Chain>, OutOfMemory> {
+    match twin(alloc, graph)? {
+        Some(_) => Ok(None),
+        None => {
+            let chain = degree(alloc, graph)?;
+            Ok(Some(chain))
+        }
+    }
+}
+
+/// Whether a chain has no link and no cycle, and so many ranks, each of them 0.
+fn is_still(chain: &Chain, states: usize) -> bool {
+    chain.links.is_empty()
+        && chain.ranks.len() == states
+        && chain.ranks.as_slice().iter().all(|rank| *rank == 0)
+        && chain.cycle.is_none()
+}
+
+#[test]
+fn many_states_and_no_move(rt: HostRuntime) -> Result<(), OutOfMemory> {
+    let graph = graph_of(rt.alloc(), 65_536, &[], 0)?;
+    match chain_of(rt.alloc(), &graph)? {
+        Some(chain) => assert!(rt; is_still(&chain, 65_536)),
+        None => assert!(rt; false, "a twin"),
+    }
+    Ok(())
+}
