@@ -12,22 +12,22 @@ use Rattle.rl_ranges.specs.declared.letters.TheConstants.{MOST_LETTERS}
 use Rattle.rl_ranges.specs.internal.Splitting.{ArePassed, HasNumber, start_or, value_in}
 
 -- the value has its number from now on, and no other value's number changes
-pub number_own : (o : Option ℕ) (n v code : ℕ) (known known' : List (Option ℕ)) (least least' : List ℕ) → v < length known → o ≡ get_or known v None
+number_own : (o : Option ℕ) (n v code : ℕ) (known known' : List (Option ℕ)) (least least' : List ℕ) → v < length known → o ≡ get_or known v None
     → HasNumber o n known known' least least' v code → Some n ≡ get_or known' v None
 number_own None n v code known known' least least' lt there is = rw is.1 (sym (get_or-set_same known v (Some n) None lt))
 number_own (Some m) n v code known known' least least' lt there is = rw (is.0, is.1) there
 
-pub number_other : (o : Option ℕ) (n v w code : ℕ) (known known' : List (Option ℕ)) (least least' : List ℕ) → (w ≡ v → ⊥)
+number_other : (o : Option ℕ) (n v w code : ℕ) (known known' : List (Option ℕ)) (least least' : List ℕ) → (w ≡ v → ⊥)
     → HasNumber o n known known' least least' v code → get_or known' w None ≡ get_or known w None
 number_other None n v w code known known' least least' other is = rw is.1 (get_or-set_other known v w (Some n) None other)
 number_other (Some m) n v w code known known' least least' other is = rw is.1 refl
 
 -- the codes of a range
-pub in_range : (s : List (ℕ × ℕ)) (p x : ℕ) → p < length s → (range_at s p).0 ≤ x → x ≤ (range_at s p).1 → has s x ≡ true
+in_range : (s : List (ℕ × ℕ)) (p x : ℕ) → p < length s → (range_at s p).0 ≤ x → x ≤ (range_at s p).1 → has s x ≡ true
 in_range s p x lt low high = has-at s p x lt (within-true (range_at s p).0 (range_at s p).1 x low high)
 
 -- the codes in front of the next range, also where no range is left
-pub in_front : (s : List (ℕ × ℕ)) (p at x count : ℕ) → Above 0 s → ArePassed s p at → at ≤ x → x < start_or s p count → has s x ≡ false
+in_front : (s : List (ℕ × ℕ)) (p at x count : ℕ) → Above 0 s → ArePassed s p at → at ≤ x → x < start_or s p count → has s x ≡ false
 in_front s p at x count sorted h low high = has-outside s x (λ k k_in. elim (cases_lt k p) [
   | inl less ↦ inr (omega (arith, h.before k less k_in))
   | inr more ↦
@@ -40,7 +40,7 @@ in_front s p at x count sorted h low high = has-outside s x (λ k k_in. elim (ca
 ])
 
 -- the ranges that are passed once the next one is, or a part of it
-pub passed_one : (s : List (ℕ × ℕ)) (p at : ℕ) → Above 0 s → ArePassed s p at → p < length s → ArePassed s (p + 1) ((range_at s p).1 + 1)
+passed_one : (s : List (ℕ × ℕ)) (p at : ℕ) → Above 0 s → ArePassed s p at → p < length s → ArePassed s (p + 1) ((range_at s p).1 + 1)
 passed_one s p at sorted h p_in = record {
   before = λ k lt k_in. elim (cases_lt k p) [
     | inl less ↦ omega (arith, h.before k less k_in, h.unpassed p_in)
@@ -49,11 +49,11 @@ passed_one s p at sorted h p_in = record {
   unpassed = λ next_in. omega (arith, Above-gap 0 s p (p + 1) sorted (omega arith) next_in, Above-at 0 s (p + 1) sorted next_in);
 }
 
-pub passed_later : (s : List (ℕ × ℕ)) (p at next : ℕ) → ArePassed s p at → at ≤ next → (p < length s → next ≤ (range_at s p).1) → ArePassed s p next
+passed_later : (s : List (ℕ × ℕ)) (p at next : ℕ) → ArePassed s p at → at ≤ next → (p < length s → next ≤ (range_at s p).1) → ArePassed s p next
 passed_later s p at next h le in_it = record { before = λ k lt k_in. omega (arith, h.before k lt k_in); unpassed = in_it }
 
 -- the next range ends no earlier than it begins
-pub passed_front : (s : List (ℕ × ℕ)) (p at next count : ℕ) → Above 0 s → ArePassed s p at → at ≤ next → next ≤ start_or s p count → ArePassed s p next
+passed_front : (s : List (ℕ × ℕ)) (p at next count : ℕ) → Above 0 s → ArePassed s p at → at ≤ next → next ≤ start_or s p count → ArePassed s p next
 passed_front s p at next count sorted h le front =
     passed_later s p at next h le (λ p_in. omega (arith, start_or-in s p count p_in, Above-at 0 s p sorted p_in))
 
@@ -83,13 +83,13 @@ in_place left held count values m many place end x d covers below sorted place_i
     }
 
 -- the stretch ends within the codes
-pub end_in : (left held : List (ℕ × ℕ)) (count values place start end v : ℕ) → InPlace left held count values place start end v → (start < end) × (end ≤ count)
+end_in : (left held : List (ℕ × ℕ)) (count values place start end v : ℕ) → InPlace left held count values place start end v → (start < end) × (end ≤ count)
 end_in left held count values place start end v h =
     let next = start_or-next left place count h.covers h.place_in in
     (omega (arith, next.0, h.start_is, h.end_is), omega (arith, next.1, h.end_is))
 
 -- a range that begins below the stretch's end is one of the list
-pub range_next : (s : List (ℕ × ℕ)) (k end count : ℕ) → start_or s k count < end → end ≤ count → k < length s
+range_next : (s : List (ℕ × ℕ)) (k end count : ℕ) → start_or s k count < end → end ≤ count → k < length s
 range_next s k end count lt le = elim (cases_lt k (length s)) [
   | inl less ↦ less
   | inr more ↦ absurd (omega (arith, start_or-past s k count more))
@@ -134,7 +134,7 @@ bit_of : (held : List (ℕ × ℕ)) (c : ℕ) (b : Bool) → has held c ≡ b �
 bit_of held c b is = let bit : Bool → ℕ = λ x. if x then 1 else 0 in ap bit is
 
 -- one more run outside the ranges
-pub outside_run : (left held : List (ℕ × ℕ)) (count values place start end v range at next n : ℕ) (outside inside : Option ℕ) (numbers numbers' : List (Option ℕ)) (stretches stretches' : List (ℕ × ℕ)) (least least' : List ℕ)
+outside_run : (left held : List (ℕ × ℕ)) (count values place start end v range at next n : ℕ) (outside inside : Option ℕ) (numbers numbers' : List (Option ℕ)) (stretches stretches' : List (ℕ × ℕ)) (least least' : List ℕ)
     → InPlace left held count values place start end v → InRun left held values start end v range at outside inside numbers stretches least
     → at < next → next ≤ end → next ≤ start_or held range count
     → HasNumber (get_or numbers v None) n numbers numbers' least least' v at → stretches' ≡ stretches ++ (at, n) ∷ []
@@ -152,7 +152,7 @@ outside_run left held count values place start end v range at next n outside ins
     }
 
 -- one more run in a range, which is passed then or isn't
-pub inside_run : (left held : List (ℕ × ℕ)) (count values place start end v range range' at next n : ℕ) (outside inside : Option ℕ) (numbers numbers' : List (Option ℕ)) (stretches stretches' : List (ℕ × ℕ)) (least least' : List ℕ)
+inside_run : (left held : List (ℕ × ℕ)) (count values place start end v range range' at next n : ℕ) (outside inside : Option ℕ) (numbers numbers' : List (Option ℕ)) (stretches stretches' : List (ℕ × ℕ)) (least least' : List ℕ)
     → InPlace left held count values place start end v → InRun left held values start end v range at outside inside numbers stretches least
     → range < length held → (range_at held range).0 ≤ at → at < next → next ≤ end → next ≤ (range_at held range).1 + 1 → ArePassed held range' next
     → HasNumber (get_or numbers (v + 1) None) n numbers numbers' least least' (v + 1) at → stretches' ≡ stretches ++ (at, n) ∷ []
@@ -169,7 +169,7 @@ inside_run left held count values place start end v range range' at next n outsi
     }
 
 -- a run with no number, where all numbers are taken
-pub outside_full : (left held : List (ℕ × ℕ)) (count values place start end v range at : ℕ) (outside inside : Option ℕ) (numbers : List (Option ℕ)) (stretches : List (ℕ × ℕ)) (least : List ℕ)
+outside_full : (left held : List (ℕ × ℕ)) (count values place start end v range at : ℕ) (outside inside : Option ℕ) (numbers : List (Option ℕ)) (stretches : List (ℕ × ℕ)) (least : List ℕ)
     → InPlace left held count values place start end v → InRun left held values start end v range at outside inside numbers stretches least → at < end → at < start_or held range count
     → (get_or numbers v None ≡ None) × (length least ≡ MOST_LETTERS) → MOST_LETTERS < length (firsts (same_value (value_in left held)) count)
 outside_full left held count values place start end v range at outside inside numbers stretches least h r some front is =
@@ -363,6 +363,19 @@ pub rest_full : {left held : List (ℕ × ℕ)} {count values place start end v 
     → (get_or numbers v None ≡ None) × (length least ≡ MOST_LETTERS) → MOST_LETTERS < length (firsts (same_value (value_in left held)) count)
 rest_full {left} {held} {count} {values} {place} {start} {end} {v} {range} {at} {outside} {inside} {numbers} {stretches} {least} {room} was some front is =
     outside_full left held count values place start end v range at outside inside numbers stretches least was.here was.run some (omega arith) is
+
+pub rest_room : {left held : List (ℕ × ℕ)} {count values place start end v range at : ℕ} {outside inside : Option ℕ} {numbers : List (Option ℕ)} {stretches : List (ℕ × ℕ)} {least : List ℕ} {room many : ℕ}
+    → InStretch left held count values place start end v range at outside inside numbers stretches least room → at < end → end ≤ start_or held range count
+    → many ≡ length stretches → many < room
+rest_room {left} {held} {count} {values} {place} {start} {end} {v} {range} {at} {outside} {inside} {numbers} {stretches} {least} {room} {many} was some front is =
+    let short : length stretches ≤ place + 2 * range = was.short (λ r_in. omega (arith, start_or-in held range count r_in)) in
+    omega (arith, was.here.place_in, was.range_in, was.capacity)
+
+-- both values of the stretch have a place among the numbers
+pub reach_values : {left held : List (ℕ × ℕ)} {count values place start end v range at : ℕ} {outside inside : Option ℕ} {numbers : List (Option ℕ)} {stretches : List (ℕ × ℕ)} {least : List ℕ}
+    → InPlace left held count values place start end v → InRun left held values start end v range at outside inside numbers stretches least → (v < length numbers) × (v + 1 < length numbers)
+reach_values {left} {held} {count} {values} {place} {start} {end} {v} h r =
+    (omega (arith, h.values_in, r.progress.width), omega (arith, h.values_in, r.progress.width))
 
 -- nothing is left of the stretch
 pub rest_none : {left held : List (ℕ × ℕ)} {count values place start end v range at : ℕ} {outside inside : Option ℕ} {numbers : List (Option ℕ)} {stretches : List (ℕ × ℕ)} {least : List ℕ} {room : ℕ}
