@@ -1,4 +1,4 @@
-use Rattle.std.proofs.Common.{◌≡◌, ℕ, ◌+◌, ◌-◌, ◌*◌, ◌/◌, ◌%◌, ◌<◌, ◌≤◌, List, length, get_or, sym, subst, ◌∙◌, ap, arith, mul_comm}
+use Rattle.std.proofs.Common.{◌≡◌, ℕ, ◌+◌, ◌-◌, ◌*◌, ◌/◌, ◌%◌, ◌<◌, ◌≤◌, length, get_or, sym, subst, ◌∙◌, ap, arith, mul_comm}
 use Rattle.std.proofs.lemmas.Nat.{mul-lt, mul-add-lt, mod_below}
 use Rattle.rl_graph.specs.Paths.{Has}
 use Rattle.rl_graph.proofs.Sums.{Has-get_or}
