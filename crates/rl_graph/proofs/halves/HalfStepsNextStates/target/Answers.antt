@@ -201,4 +201,3 @@ returns-clause-inside c =
     subst (λ (l : ℕ). r ≡ get_or h.rows.now.numbers.items (c.args.from / count * width + l) r) c.from-3.ensures c.index-row.ensures in
     let move = pair-read g h.marks.now h.rows.now.numbers.items owners c.args.from c.args.letter c.args.number count width r c.edges-targets.result.now c.states.ensures.whole h.numbered.numbered e f c.if-first-count.false c.requires.letter_in c.requires.number_in at c.edges-targets.ensures.targets in
     subst (λ (u : ℕ). (count + r) * count + u < (g.states + length owners) * g.states) (sym c.from-4.ensures) move.inside
-
