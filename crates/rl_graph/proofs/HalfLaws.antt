@@ -314,7 +314,7 @@ half-of-pair next n marks number row x l lt =
 
 -- what the program reads at a half node: the row of its number
 
-row-in : (n k x : ℕ) → x < (n + k) * n → n ≤ x / n → x / n - n < k
+pub row-in : (n k x : ℕ) → x < (n + k) * n → n ≤ x / n → x / n - n < k
 row-in zero k x lt le = absurd (omega arith)
 row-in (suc n) k x lt le = omega (arith, div_below x (suc n) (suc n + k) (omega arith) lt)
 
@@ -326,31 +326,71 @@ row-moves g marks numbers owners x l place row le lt e r =
     ∙ ap (λ (z : List ℕ). cond (eqb l 0) (map (λ t. t * g.states + x % g.states) z) [])
     (ap (row_at g) (sym (get_or_read owners (x / g.states - g.states) place (row-in g.states (length owners) x lt le) e 0)) ∙ sym r)
 
-pub row-target : (f : ℕ → ℕ) (row all : List ℕ) (b : Bool) (i : ℕ) → all ≡ cond b (map f row) [] → i < length all → (i < length row) × (get_or all i 0 ≡ f (get_or row i 0))
+row-target : (f : ℕ → ℕ) (row all : List ℕ) (b : Bool) (i : ℕ) → all ≡ cond b (map f row) [] → i < length all → (i < length row) × (get_or all i 0 ≡ f (get_or row i 0))
 row-target f row all true i e lt =
     let small : i < length row = omega (arith, ap length e, length-map row f) in (small, ap (λ (z : List ℕ). get_or z i 0) e ∙ get_or-map f row i 0 0 small)
 row-target f row all false i e lt = absurd (omega (arith, ap length e))
+
+-- the move of a half node with a number, where `n` is the number of states as the program has it
+pub row-read : (g : Graph) (marks : List Bool) (numbers owners : List ℕ) (x l i n place : ℕ) (row : List ℕ) → n ≡ g.states → n ≤ x / n → x < (g.states + length owners) * g.states
+    → place ≡ get_or owners (x / n - n) place → row ≡ row_at g place → i < length (halves g marks numbers owners x l)
+    → (i < length row) × (get_or row i 0 * n + x % n ≡ get_or (halves g marks numbers owners x l) i 0)
+row-read g marks numbers owners x l i n place row e le lt read r h =
+    let high : g.states ≤ x / g.states = subst (λ (k : ℕ). k ≤ x / k) e le in
+    let there : place ≡ get_or owners (x / g.states - g.states) place = subst (λ (k : ℕ). place ≡ get_or owners (x / k - k) place) e read in
+    let moves = row-moves g marks numbers owners x l place row high lt there r in
+    let t = row-target (λ t. t * g.states + x % g.states) row (halves g marks numbers owners x l) (eqb l 0) i moves h in
+    (t.0, ap (λ (k : ℕ). get_or row i 0 * k + x % k) e ∙ sym t.1)
 
 pub back-in : (n k t x : ℕ) → t < n → t * n + x % n < (n + k) * n
 back-in n k t x lt = omega (arith, mul-add-lt t n (x % n) n lt (mod_below x n (omega (arith, lt))))
 
 -- and at a pair: the number of the row of its first state
 
-pub pair-targets : (g : Graph) (marks : List Bool) (numbers owners : List ℕ) (x l i : ℕ) → x / g.states < g.states → i < length (halves g marks numbers owners x l)
-    → i < length (edges_of g (x % g.states) l)
-pair-targets g marks numbers owners x l i lt h =
-    cond_both (get_or marks x false && not (eqb (length (edges_of g (x / g.states) l)) 0)) (map (λ u. (g.states + get_or numbers (x / g.states * g.letters + l) 0) * g.states + u) (edges_of g (x % g.states) l)) []
-    (λ z. i < length z → i < length (edges_of g (x % g.states) l))
-    (λ _ k. omega (arith, length-map (edges_of g (x % g.states) l) (λ u. (g.states + get_or numbers (x / g.states * g.letters + l) 0) * g.states + u)))
-    (λ _ k. absurd (omega arith))
-    (subst (λ (z : List ℕ). i < length z) (half-of-pair (edges_of g) g.states marks (λ p l. get_or numbers (p * g.letters + l) 0) (λ r. row_at g (get_or owners r 0)) x l lt) h)
+pair-moved : (g : Graph) (marks : List Bool) (numbers owners : List ℕ) (x l i : ℕ) → x / g.states < g.states → i < length (halves g marks numbers owners x l)
+    → (i < length (edges_of g (x % g.states) l)) × (get_or (halves g marks numbers owners x l) i 0 ≡ (g.states + get_or numbers (x / g.states * g.letters + l) 0) * g.states + get_or (edges_of g (x % g.states) l) i 0)
+pair-moved g marks numbers owners x l i lt h =
+    row-target (λ u. (g.states + get_or numbers (x / g.states * g.letters + l) 0) * g.states + u) (edges_of g (x % g.states) l) (halves g marks numbers owners x l)
+    (get_or marks x false && not (eqb (length (edges_of g (x / g.states) l)) 0)) i
+    (half-of-pair (edges_of g) g.states marks (λ p l. get_or numbers (p * g.letters + l) 0) (λ r. row_at g (get_or owners r 0)) x l lt) h
 
-pub number-read : (g : Graph) (numbers owners : List ℕ) → IsWhole g → AreNumbered g (g.states * g.letters) numbers owners → (p l place r : ℕ) → p < g.states → l < g.letters
-    → place ≡ p * g.letters + l → r ≡ get_or numbers place r → r < length owners
-number-read g numbers owners whole named p l place r hp hl e f =
+number-read : (g : Graph) (numbers owners : List ℕ) → AreNumbered g (g.states * g.letters) numbers owners → (p l place r : ℕ) → p < g.states → l < g.letters
+    → place ≡ p * g.letters + l → r ≡ get_or numbers place r → (r ≡ get_or numbers (p * g.letters + l) 0) × (r < length owners)
+number-read g numbers owners named p l place r hp hl e f =
     let lt : p * g.letters + l < g.states * g.letters = omega (arith, mul-add-lt p g.letters l g.states hp hl, mul_comm g.letters g.states) in
-    let read : r ≡ get_or numbers place 0 = get_or_read numbers place r (omega (arith, named.size)) f 0 in
-    omega (arith, read, ap (λ z. get_or numbers z 0) e, (named.owned (p * g.letters + l) lt).within)
+    let same : r ≡ get_or numbers (p * g.letters + l) 0 = get_or_read numbers place r (omega (arith, e, lt, named.size)) f 0 ∙ ap (λ z. get_or numbers z 0) e in
+    (same, subst (λ (z : ℕ). z < length owners) (sym same) (named.owned (p * g.letters + l) lt).within)
+
+-- the move of a pair with a number, where `n` and `k` are the numbers of states and letters as the program has them
+pub record IsPairMove (g : Graph) (owners all targets : List ℕ) (n r i : ℕ) : Type 0 where
+  pub row : r < length owners
+  pub number : i < length targets
+  pub small : get_or targets i 0 < n
+  pub target : (n + r) * n + get_or targets i 0 ≡ get_or all i 0
+  pub inside : (n + r) * n + get_or targets i 0 < (g.states + length owners) * g.states
+
+pub pair-read : (g : Graph) (marks : List Bool) (numbers owners : List ℕ) (x l i n k r : ℕ) (targets : List ℕ) → IsWhole g → AreNumbered g (g.states * g.letters) numbers owners → n ≡ g.states → k ≡ g.letters
+    → x / n < n → l < g.letters → i < length (halves g marks numbers owners x l) → r ≡ get_or numbers (x / n * k + l) r → targets ≡ edges_of g (x % n) l
+    → IsPairMove g owners (halves g marks numbers owners x l) targets n r i
+pair-read g marks numbers owners x l i n k r targets whole named e f lt hl h read t =
+    let row = edges_of g (x % g.states) l in
+    let low : x / g.states < g.states = subst (λ (z : ℕ). x / z < z) e lt in
+    let place : x / n * k + l ≡ x / g.states * g.letters + l = ap (λ (z : ℕ). x / z * k + l) e ∙ ap (λ (z : ℕ). x / g.states * z + l) f in
+    let its = number-read g numbers owners named (x / g.states) l (x / n * k + l) r low hl place read in
+    let moved = pair-moved g marks numbers owners x l i low h in
+    let same : targets ≡ row = t ∙ ap (λ (z : ℕ). edges_of g (x % z) l) e in
+    let u : get_or targets i 0 ≡ get_or row i 0 = ap (λ (z : List ℕ). get_or z i 0) same in
+    let inner : get_or row i 0 < g.states = whole.targets (x % g.states) l (get_or row i 0) (Has-get_or row i 0 moved.0) in
+    let small : get_or targets i 0 < g.states = subst (λ (z : ℕ). z < g.states) (sym u) inner in
+    let inside : (g.states + r) * g.states + get_or targets i 0 < (g.states + length owners) * g.states =
+    omega (arith, mul-add-lt (g.states + r) g.states (get_or targets i 0) (g.states + length owners) (omega (arith, its.1)) small) in
+    record {
+      row = its.1;
+      number = subst (λ (z : List ℕ). i < length z) (sym same) moved.0;
+      small = subst (λ (z : ℕ). get_or targets i 0 < z) (sym e) small;
+      target = ap (λ (z : ℕ). (z + r) * z + get_or targets i 0) e ∙ (ap (λ (z : ℕ). (g.states + r) * g.states + z) u ∙ (ap (λ (z : ℕ). (g.states + z) * g.states + get_or row i 0) its.0 ∙ sym moved.1));
+      inside = subst (λ (z : ℕ). (z + r) * z + get_or targets i 0 < (g.states + length owners) * g.states) (sym e) inside;
+    }
 
 -- one more place of a row
 

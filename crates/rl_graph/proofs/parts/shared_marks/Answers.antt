@@ -26,3 +26,12 @@ loop-number-preserved c =
             subst (AreSharedUpTo numbers (n + 1)) (sym e) (shared-kept numbers n met shared i.0 (sym read ∙ w.if-index.false) i.1)
       ],
     )
+
+pub index-requires : goal.index-requires
+index-requires c = omega (arith, c.loop-number.invariant.0.size, c.requires c.loop-number.number-index 0 (omega arith), c.loop-number.met.ok.0)
+
+pub index_mut-requires : goal.index_mut-requires
+index_mut-requires c = omega (arith, c.loop-number.invariant.1.size, c.requires c.loop-number.number-index 0 (omega arith), c.loop-number.shared.ok.0)
+
+pub index_mut-requires-in-loop-number : goal.index_mut-requires-in-loop-number
+index_mut-requires-in-loop-number c = omega (arith, c.loop-number.invariant.0.size, c.requires c.loop-number.number-index 0 (omega arith), c.loop-number.met.ok.0)
