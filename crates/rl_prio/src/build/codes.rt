@@ -115,11 +115,7 @@ fn add_shown(words: &Words, codes: &[u32], list: &mut Vec<Shown>) -> Result<(), 
 ///
 /// # Errors
 /// [`OutOfMemory`] where there was no memory for it.
-fn shown_before(
-    alloc: Global,
-    words: &Words,
-    codes: &[u32],
-) -> Result<Vec<Shown>, OutOfMemory>
+fn shown_before(alloc: Global, words: &Words, codes: &[u32]) -> Result<Vec<Shown>, OutOfMemory>
     requires all { (c : ℕ) → has words.now.all c ≡ is_word false c }
     requires ascii { (c : ℕ) → has words.now.ascii c ≡ is_word true c }
     ensures { IfOk result
@@ -135,11 +131,7 @@ fn shown_before(
 ///
 /// # Errors
 /// [`OutOfMemory`] where there was no memory for it.
-fn shown_next(
-    alloc: Global,
-    words: &Words,
-    codes: &[u32],
-) -> Result<Vec<Shown>, OutOfMemory>
+fn shown_next(alloc: Global, words: &Words, codes: &[u32]) -> Result<Vec<Shown>, OutOfMemory>
     requires all { (c : ℕ) → has words.now.all c ≡ is_word false c }
     requires ascii { (c : ℕ) → has words.now.ascii c ≡ is_word true c }
     ensures { IfOk result
