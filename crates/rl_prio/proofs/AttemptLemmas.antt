@@ -6,24 +6,18 @@ use Rattle.std.proofs.lemmas.List.Folds.{length-flat_map-take}
 use Rattle.std.proofs.lemmas.Grind.{flat_map-append}
 use Rattle.std.specs.List.{flat_map, list_all}
 use Rattle.rl_syntax.specs.declared.limits.TheConstants.{MOST_MOVES}
-use Rattle.rl_prio.specs.internal.Attempts.{onward, ends_replaced, is_test, AreReplaced}
+use Rattle.rl_prio.specs.internal.Attempts.{onward, ends_replaced, is_test, AreReplaced, AreShort}
 use Rattle.rl_prio.specs.declared.build.attempts.Attempt.{Attempt}
 use Rattle.rl_prio.specs.declared.build.attempts.Attempt.TheVariants.{Test, End}
 
 -- one attempt more
-pub onward_more : (l further : List Attempt) (i : ℕ) (a : Attempt) → i < length l → a ≡ get_or l i a
-    → ends_replaced (take (i + 1) l) further ≡ ends_replaced (take i l) further ++ onward further a
-onward_more l further i a lt is =
-    ap (flat_map (onward further)) (take_more l i a lt)
-    ∙ flat_map-append (onward further) (take i l) (get_or l i a ∷ [])
-    ∙ ap (λ x. ends_replaced (take i l) further ++ x) (append-nil (onward further (get_or l i a)) ∙ ap (onward further) (sym is))
-
--- the attempts up to one and those in its place are no more than all
-pub onward_front : (l further : List Attempt) (i : ℕ) (a : Attempt) → i < length l → a ≡ get_or l i a
-    → length (ends_replaced (take i l) further) + length (onward further a) ≤ length (ends_replaced l further)
-onward_front l further i a lt is =
-    let h = length-flat_map-take (onward further) l i a lt in
-    subst (λ x. length (ends_replaced (take i l) further) + length (onward further x) ≤ length (ends_replaced l further)) (sym is) h
+pub onward_more : (l further list new : List Attempt) (i : ℕ) (d : Attempt) → i < length l → list ≡ ends_replaced (take i l) further
+    → new ≡ list ++ onward further (get_or l i d) → new ≡ ends_replaced (take (i + 1) l) further
+onward_more l further list new i d lt so_far is =
+    is ∙ ap (λ x. x ++ onward further (get_or l i d)) so_far
+    ∙ ap (λ x. ends_replaced (take i l) further ++ x) (sym (append-nil (onward further (get_or l i d))))
+    ∙ sym (flat_map-append (onward further) (take i l) (get_or l i d ∷ []))
+    ∙ ap (flat_map (onward further)) (sym (take_more l i d lt))
 
 -- too many up to one attempt are too many in all
 pub onward_many : (l further list : List Attempt) (i : ℕ) (d : Attempt) → i < length l → list ≡ ends_replaced (take i l) further
@@ -62,3 +56,11 @@ replaced_more further from place old mid new h last le = record {
     | inr late ↦ last.outside k (inr late) ∙ h.outside k (inr (omega arith))
   ];
 }
+
+-- and these are short
+pub short_more : (further : List Attempt) (from place : ℕ) (mid new : List (List Attempt)) → AreShort from place mid
+    → AreReplaced further place (place + 1) mid new → AreShort place (place + 1) new → AreShort from (place + 1) new
+short_more further from place mid new h last short k after before = elim (cases_lt k place) [
+  | inl early ↦ subst (λ l. length l ≤ MOST_MOVES) (sym (last.outside k (inl early))) (h k after early)
+  | inr late ↦ short k late before
+]

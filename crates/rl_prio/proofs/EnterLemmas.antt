@@ -1,14 +1,16 @@
 -- Lemmas on the lists of a tree as the program makes them: part by part, with the guards of an item as a set.
-use Rattle.std.proofs.Common.{◌≡◌, ℕ, ◌+◌, ◌-◌, ◌<◌, ◌≤◌, ◌⊎◌, inl, inr, Bool, true, false, List, [], ◌∷◌, ◌++◌, length, map, get_or, refl, sym, ap, ap₂, subst, ◌∙◌, append_assoc, arith, length-append}
+use Rattle.std.proofs.Common.{◌≡◌, ℕ, ◌+◌, ◌-◌, ◌<◌, ◌≤◌, ◌⊎◌, inl, inr, Bool, true, false, List, [], ◌∷◌, ◌++◌, length, map, get_or, refl, sym, ap, ap₂, subst, ◌∙◌, append_assoc, arith, length-append, Result, Ok, Err, IfOk, IfErr, OnOk}
 use Rattle.std.proofs.lemmas.Bool.{cases_lt}
 use Rattle.std.proofs.lemmas.List.{append-nil, length-map, map-append, ext_get_or, get_or-append_right, get_or_append_left, get_or-map}
 use Rattle.rl_syntax.specs.declared.anchors.Guard.{Guard}
-use Rattle.rl_syntax.specs.Tree.{Tree, guard, both, either, many, places}
+use Rattle.rl_syntax.specs.Tree.{Tree, empty, one, guard, both, either, many, places}
 use Rattle.rl_syntax.specs.Run.{one_more}
 use Rattle.rl_syntax.specs.declared.limits.TheConstants.{MOST_MOVES}
 use Rattle.rl_prio.specs.Items.{Item, test_at, pass, guarded, all_guarded, replaced, first}
 use Rattle.rl_prio.specs.internal.GuardSets.{no_guards, only, guard_set}
 use Rattle.rl_prio.specs.internal.Attempts.{attempt, attempts, behind, ends_replaced, followed, lists_of, widest, width_of, AreReplaced, AreEntered, AreShort, IsTooWide}
+use Rattle.rl_prio.specs.declared.build.attempts.ListError.{ListError}
+use Rattle.rl_prio.specs.declared.build.attempts.ListError.TheVariants.{TooLong}
 use Rattle.rl_prio.specs.declared.build.attempts.Attempt.{Attempt}
 use Rattle.rl_prio.specs.declared.build.attempts.Attempt.TheVariants.{Test, End}
 use Rattle.rl_prio.proofs.GuardLemmas.{guard_set-append, joined-none, only-joined}
@@ -123,6 +125,9 @@ wide_part ls m old zs lists k is from to over =
 
 -- ---- the lists of a tree from those of its parts
 
+pub entered-short : (t : Tree) (old new : List (List Attempt)) (list : List Attempt) → AreEntered t old new list → length list ≤ MOST_MOVES
+entered-short t old new list h = omega (arith, h.short, ap length h.entering, length-attempts (first t (length old)))
+
 module _ (e : Tree) (old mid : List (List Attempt)) (l1 : List Attempt) (h : AreEntered e old mid l1) where
   size_after : length mid ≡ length old + places e
   size_after =
@@ -130,6 +135,12 @@ module _ (e : Tree) (old mid : List (List Attempt)) (l1 : List Attempt) (h : Are
 
   size_lists : length mid ≡ length old + length (lists_of e (length old))
   size_lists = omega (arith, size_after, length-lists_of e (length old))
+
+  pub in_order : (i j : ℕ) → i ≡ length old → j ≡ length mid → i ≤ j
+  in_order i j p q = omega (arith, size_after)
+
+  pub in_lists : (i : ℕ) → i ≡ length old → i ≤ length mid
+  in_lists i p = omega (arith, size_after)
 
   module _ (f : Tree) (mid2 : List (List Attempt)) (l2 : List Attempt) (k : AreEntered f mid mid2 l2) where
     further_is : l2 ≡ attempts (first f (length old + places e))
@@ -199,6 +210,32 @@ module _ (e : Tree) (old mid : List (List Attempt)) (l1 : List Attempt) (h : Are
         ap₂ (λ x y. x ++ y) h.entering further_is ∙ sym (map-append attempt (first e b) (first f (b + places e))) in
         omega (arith, ap length all, length-attempts (first (either e f) b))
 
+    -- the same of what a call returns; its arguments are the lists and their numbers
+    pub both-made : (new : List (List Attempt)) (s1 s2 : List Attempt) (i j : ℕ) (r : Result (List Attempt) ListError) → s1 ≡ l1 → s2 ≡ l2 → i ≡ length old → j ≡ length mid
+        → IfOk r (λ l. l ≡ ends_replaced s1 s2) → IfOk r (λ l. length l ≤ MOST_MOVES) → OnOk r (AreReplaced s2 i j mid2 new) → OnOk r (AreShort i j new) → IfOk r (λ l. AreEntered (both e f) old new l)
+    both-made new s1 s2 i j (Err x) p q ie je is short made shorts = tt
+    both-made new s1 s2 i j (Ok l) p q ie je is short made shorts =
+        entered-both new l (is ∙ ap₂ ends_replaced p q) short
+        (subst (λ x. AreReplaced x (length old) (length mid) mid2 new) q (subst (λ x. AreReplaced s2 x (length mid) mid2 new) ie (subst (λ x. AreReplaced s2 i x mid2 new) je made)))
+        (subst (λ x. AreShort x (length mid) new) ie (subst (λ x. AreShort i x new) je shorts))
+
+    pub both-wide : (s1 s2 : List Attempt) (i j : ℕ) (r : Result (List Attempt) ListError) → s1 ≡ l1 → s2 ≡ l2 → i ≡ length old → j ≡ length mid
+        → IfErr r (λ x. x ≡ TooLong → IsTooWide s1 s2 i j mid2) → IfErr r (λ x. x ≡ TooLong → MOST_MOVES < width_of (both e f) (length old))
+    both-wide s1 s2 i j (Ok l) p q ie je wide = tt
+    both-wide s1 s2 i j (Err x) p q ie je wide = λ is.
+        wide-both (subst (λ l. IsTooWide l l2 (length old) (length mid) mid2) p (subst (λ l. IsTooWide s1 l (length old) (length mid) mid2) q
+        (subst (λ k. IsTooWide s1 s2 k (length mid) mid2) ie (subst (λ k. IsTooWide s1 s2 i k mid2) je (wide is)))))
+
+    pub either-made : (s2 : List Attempt) (r : Result (List Attempt) ListError) → s2 ≡ l2
+        → IfOk r (λ l. l ≡ l1 ++ s2) → IfOk r (λ l. length l1 ≤ MOST_MOVES → length l ≤ MOST_MOVES) → IfOk r (λ l. AreEntered (either e f) old mid2 l)
+    either-made s2 (Err x) q is short = tt
+    either-made s2 (Ok l) q is short = entered-either l (is ∙ ap (λ x. l1 ++ x) q) (short (entered-short e old mid l1 h))
+
+    pub either-wide : (s2 : List Attempt) (r : Result (List Attempt) ListError) → s2 ≡ l2
+        → IfErr r (λ x. x ≡ TooLong → MOST_MOVES < length (l1 ++ s2)) → IfErr r (λ x. x ≡ TooLong → MOST_MOVES < width_of (either e f) (length old))
+    either-wide s2 (Ok l) q wide = tt
+    either-wide s2 (Err x) q wide = λ is. wide-either (subst (λ l. MOST_MOVES < length (l1 ++ l)) q (wide is))
+
   pub wide-both_right : (f : Tree) → MOST_MOVES < width_of f (length mid) → MOST_MOVES < width_of (both e f) (length old)
   wide-both_right f over = omega (arith, subst (λ b. MOST_MOVES < width_of f b) size_after over, width-both_right e f (length old))
 
@@ -245,6 +282,20 @@ module _ (e : Tree) (old mid : List (List Attempt)) (l1 : List Attempt) (h : Are
         let wide : MOST_MOVES < widest (followed ls m) = wide_part ls m old [] mid w.0 part_is w.1 (omega (arith, w.2, size_lists)) over in
         omega (arith, wide)
 
+    pub many-made : (new : List (List Attempt)) (i : ℕ) (r : Result (List Attempt) ListError) → i ≡ length old
+        → IfOk r (λ l. l ≡ one_more greedy (End no_guards) l1) → IfOk r (λ l. length l ≤ MOST_MOVES) → OnOk r (AreReplaced (one_more greedy (End no_guards) l1) i (length mid) mid new)
+        → OnOk r (AreShort i (length mid) new) → IfOk r (λ l. AreEntered (many e greedy) old new l)
+    many-made new i (Err x) ie is short made shorts = tt
+    many-made new i (Ok l) ie is short made shorts =
+        entered-many new l is short (subst (λ k. AreReplaced (one_more greedy (End no_guards) l1) k (length mid) mid new) ie made) (subst (λ k. AreShort k (length mid) new) ie shorts)
+
+    pub many-wide : (i : ℕ) (r : Result (List Attempt) ListError) → i ≡ length old
+        → IfErr r (λ x. x ≡ TooLong → (MOST_MOVES < length (one_more greedy (End no_guards) l1)) ⊎ IsTooWide [] (one_more greedy (End no_guards) l1) i (length mid) mid)
+        → IfErr r (λ x. x ≡ TooLong → MOST_MOVES < width_of (many e greedy) (length old))
+    many-wide i (Ok l) ie wide = tt
+    many-wide i (Err x) ie wide = λ is.
+        wide-many (subst (λ k. (MOST_MOVES < length (one_more greedy (End no_guards) l1)) ⊎ IsTooWide [] (one_more greedy (End no_guards) l1) k (length mid) mid) ie (wide is))
+
 pub wide-both_left : (e f : Tree) (b : ℕ) → MOST_MOVES < width_of e b → MOST_MOVES < width_of (both e f) b
 wide-both_left e f b over = omega (arith, width-both_left e f b)
 
@@ -254,17 +305,15 @@ wide-either_left e f b over = omega (arith, width-either_left e f b)
 pub wide-many_body : (e : Tree) (greedy : Bool) (b : ℕ) → MOST_MOVES < width_of e b → MOST_MOVES < width_of (many e greedy) b
 wide-many_body e greedy b over = omega (arith, width-many e greedy b)
 
+pub entered-empty : (old : List (List Attempt)) (list : List Attempt) → list ≡ End no_guards ∷ [] → AreEntered empty old old list
+entered-empty old list is = record { entering = is; lists = sym (append-nil old); short = omega arith }
+
+pub entered-one : (s : ℕ → Bool) (old new : List (List Attempt)) (list : List Attempt) → list ≡ Test no_guards (length old) ∷ [] → new ≡ old ++ (End no_guards ∷ []) ∷ [] → AreEntered (one s) old new list
+entered-one s old new list is more = record { entering = is; lists = more; short = omega arith }
+
 pub entered-guard : (g : Guard) (old : List (List Attempt)) (list : List Attempt) → list ≡ End (only g) ∷ [] → AreEntered (guard g) old old list
 entered-guard g old list is = record {
   entering = is ∙ ap (λ x. End x ∷ []) (sym (only-joined g));
   lists = sym (append-nil old);
   short = omega arith;
 }
-
--- what holds of lists and places holds of equal ones
-pub moved_to : (P : List Attempt → List Attempt → ℕ → ℕ → Type 0) {s1 l1 s2 l2 : List Attempt} {i a j b : ℕ} → s1 ≡ l1 → s2 ≡ l2 → i ≡ a → j ≡ b → P s1 s2 i j → P l1 l2 a b
-moved_to P {s1 = s1} {l1 = l1} {s2 = s2} {l2 = l2} {i = i} {a = a} {j = j} {b = b} p q r s h =
-    subst (λ x. P l1 l2 a x) s (subst (λ x. P l1 l2 x j) r (subst (λ x. P l1 x i j) q (subst (λ x. P x s2 i j) p h)))
-
-pub entered-short : (t : Tree) (old new : List (List Attempt)) (list : List Attempt) → AreEntered t old new list → length list ≤ MOST_MOVES
-entered-short t old new list h = omega (arith, h.short, ap length h.entering, length-attempts (first t (length old)))

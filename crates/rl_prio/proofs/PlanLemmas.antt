@@ -1,8 +1,8 @@
 -- Lemmas on plans: the attempts of a state, what is shown before it, and where attempts go.
-use Rattle.std.proofs.Common.{◌≡◌, ℕ, zero, suc, ◌+◌, ◌*◌, ◌^◌, ◌-◌, ◌/◌, ◌%◌, ◌<◌, ◌≤◌, Bool, true, false, ◌&&◌, nat_lt, List, [], ◌∷◌, ◌++◌, length, map, get_or, All, refl, sym, ap, subst, ◌∙◌, append_assoc, length-append, inl, inr, arith, None}
-use Rattle.std.specs.List.{list_all, range_with_len}
+use Rattle.std.proofs.Common.{◌≡◌, ℕ, zero, suc, ◌+◌, ◌*◌, ◌^◌, ◌-◌, ◌/◌, ◌%◌, ◌<◌, ◌≤◌, Bool, true, false, ◌&&◌, nat_lt, List, [], ◌∷◌, ◌++◌, length, map, get_or, All, take, refl, sym, ap, ap₂, subst, ◌∙◌, append_assoc, length-append, inl, inr, arith, None}
+use Rattle.std.specs.List.{list_all, flat_map, range_with_len}
 use Rattle.std.proofs.lemmas.Bool.{cond-true, cond-false, lt-ltb, le-ltb, cases_lt}
-use Rattle.std.proofs.lemmas.List.{get_or_default, get_or_append_left, get_or-append-add}
+use Rattle.std.proofs.lemmas.List.{get_or_default, get_or_append_left, get_or-append-add, map_more, flat_map_more, take_more}
 use Rattle.std.proofs.lemmas.List.FromFn.{length-map-range_with_len, get_or-map-range_with_len, map-range_with_len_more}
 use Rattle.std.proofs.lemmas.Nat.{mul-add-lt, mul-le}
 use Rattle.std.proofs.Math.Nat.{div-lt_iff_lt-mul}
@@ -178,6 +178,22 @@ closed r = record { rows = r.rows ++ r.open_row ∷ []; open_row = [] }
 
 abbrev only : List (List ℕ) → Rows
 only rows = record { rows = rows; open_row = [] }
+
+-- where one attempt more goes
+pub target_more : (f : Attempt → ℕ) (old now new : Rows) (l : List Attempt) (i : ℕ) (d : Attempt) (target : ℕ) → i < length l → now ≡ put (map f (take i l)) old → target ≡ f (get_or l i d)
+    → new ≡ put (target ∷ []) now → new ≡ put (map f (take (i + 1) l)) old
+target_more f old now new l i d target lt so_far goes is =
+    is ∙ ap₂ (λ x r. put (x ∷ []) r) goes so_far
+    ∙ ap (λ row. let r : Rows = record old { open_row = row } in r)
+    (append_assoc old.open_row (map f (take i l)) (f (get_or l i d) ∷ []) ∙ ap (λ row. old.open_row ++ row) (sym (map_more f l i d lt)))
+
+-- the moves of one attempt more
+pub moves_more : (f : Attempt → List ℕ) (old now new : Rows) (l : List Attempt) (i : ℕ) (d : Attempt) → i < length l → now ≡ put (flat_map f (take i l)) old → new ≡ put (f (get_or l i d)) now
+    → new ≡ put (flat_map f (take (i + 1) l)) old
+moves_more f old now new l i d lt so_far is =
+    is ∙ ap (put (f (get_or l i d))) so_far
+    ∙ ap (λ row. let r : Rows = record old { open_row = row } in r)
+    (flat_map_more f old.open_row (take i l) (get_or l i d) ∙ ap (λ m. old.open_row ++ flat_map f m) (sym (take_more l i d lt)))
 
 -- the row of one letter more
 pub letter_more : (f : ℕ → List ℕ) (old now moved new : Rows) (n : ℕ) → now ≡ only (old.rows ++ map f (range_with_len 0 n)) → moved ≡ put (f n) now → new ≡ closed moved

@@ -7,10 +7,9 @@ ghost use Rattle.rl_prio.specs.internal.Attempts.{guards_of, is_unguarded, is_te
 use crate::build::guards::Guards;
 use rl_lists::{Items, OutOfMemory};
 use rl_syntax::MOST_MOVES;
-use std::alloc::Global;
+use std::alloc::{AllocFailed, Global};
 
 /// Why there is no list.
-#[derive(Clone, Copy, Debug, PartialEq, Eq)]
 pub(crate) enum ListError {
     /// It would have more than [`MOST_MOVES`] items.
     TooLong,
@@ -25,6 +24,17 @@ impl From<OutOfMemory> for ListError {
     ghost from_gives = { λ _ e. e ≡ error.OutOfMemory };
 
     fn from(_: OutOfMemory) -> Self {
+        ListError::OutOfMemory
+    }
+}
+
+impl<T: Drop> From<AllocFailed<T>> for ListError {
+    ghost use Rattle.std.specs.Prelude.{◌≡◌};
+    ghost use Rattle.rl_prio.specs.declared.build.attempts.ListError.TheVariants as error;
+
+    ghost from_gives = { λ _ e. e ≡ error.OutOfMemory };
+
+    fn from(_: AllocFailed<T>) -> Self {
         ListError::OutOfMemory
     }
 }
@@ -113,11 +123,13 @@ fn with_room(alloc: Global, count: usize) -> Result<AttemptList, OutOfMemory>
 /// The list of one attempt.
 ///
 /// # Errors
-/// [`OutOfMemory`] where there was no memory for it.
-pub(crate) fn single(alloc: Global, attempt: Attempt) -> Result<AttemptList, OutOfMemory>
-    ensures { IfOk result (λ l. l ≡ attempt ∷ []) }
+/// [`ListError::OutOfMemory`] where there was no memory for it.
+pub(crate) fn single(alloc: Global, attempt: Attempt) -> Result<AttemptList, ListError>
+    ensures list { IfOk result (λ l. l ≡ attempt ∷ []) }
+    ensures memory { IfErr result (λ e. e ≡ ListError.OutOfMemory) }
 {
-    Items::from_slice(alloc, &[attempt])
+    let list = Items::from_slice(alloc, &[attempt])?;
+    Ok(list)
 }
 
 /// Appends an attempt.
@@ -183,7 +195,6 @@ fn put_onward(
 /// # Errors
 /// [`ListError::TooLong`] exactly where there would be more than [`MOST_MOVES`], [`ListError::OutOfMemory`] where there was
 /// no memory for them.
-#[tactic(auto, using(crate::proofs::AttemptLemmas::onward_front, crate::proofs::AttemptLemmas::onward_more))]
 pub(crate) fn with_ends_replaced(
     alloc: Global,
     attempts: &[Attempt],

@@ -115,11 +115,7 @@ fn add_shown(words: &Words, codes: &[u32], list: &mut Vec<Shown>) -> Result<(), 
 ///
 /// # Errors
 /// [`OutOfMemory`] where there was no memory for it.
-pub(crate) fn shown_before(
-    alloc: Global,
-    words: &Words,
-    codes: &[u32],
-) -> Result<Vec<Shown>, OutOfMemory>
+fn shown_before(alloc: Global, words: &Words, codes: &[u32]) -> Result<Vec<Shown>, OutOfMemory>
     requires all { (c : ℕ) → has words.now.all c ≡ is_word false c }
     requires ascii { (c : ℕ) → has words.now.ascii c ≡ is_word true c }
     ensures { IfOk result
@@ -135,11 +131,7 @@ pub(crate) fn shown_before(
 ///
 /// # Errors
 /// [`OutOfMemory`] where there was no memory for it.
-pub(crate) fn shown_next(
-    alloc: Global,
-    words: &Words,
-    codes: &[u32],
-) -> Result<Vec<Shown>, OutOfMemory>
+fn shown_next(alloc: Global, words: &Words, codes: &[u32]) -> Result<Vec<Shown>, OutOfMemory>
     requires all { (c : ℕ) → has words.now.all c ≡ is_word false c }
     requires ascii { (c : ℕ) → has words.now.ascii c ≡ is_word true c }
     ensures { IfOk result
@@ -149,4 +141,25 @@ pub(crate) fn shown_next(
     add_shown(words, codes, &mut list)?;
     list.push(Shown::nothing())?;
     Ok(list)
+}
+
+/// What is shown before the start and by each kind, and what is shown by each code and by the end letter.
+///
+/// # Errors
+/// [`OutOfMemory`] where there was no memory for it.
+pub(crate) fn shown_around(
+    alloc: Global,
+    kinds: &Letters,
+    codes: &[u32],
+) -> Result<(Vec<Shown>, Vec<Shown>), OutOfMemory>
+    ensures before { IfOk result
+        (λ both. both.0.items ≡ shown None ∷ map (λ c. shown (Some c)) kinds.now.samples) }
+    ensures next { IfOk result
+        (λ both. both.1.items ≡ map (λ c. shown (Some c)) codes.now ++ shown None ∷ []) }
+{
+    let kind_codes = samples(alloc, kinds)?;
+    let words = Words::new(alloc)?;
+    let before = shown_before(alloc, &words, &kind_codes)?;
+    let next = shown_next(alloc, &words, codes)?;
+    Ok((before, next))
 }

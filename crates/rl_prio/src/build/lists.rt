@@ -11,21 +11,23 @@ use crate::build::attempts::{
     Attempt, AttemptList, ListError, put_behind, replace_ends, single, with_ends_replaced,
 };
 use crate::build::guards::Guards;
-use rl_lists::OutOfMemory;
 use rl_syntax::Re;
 use std::alloc::Global;
 
-/// Puts the list of an end behind the last list.
+/// Adds the list of a place that is a tree of its own, and gives that of entering it.
 ///
 /// # Errors
-/// [`OutOfMemory`] where there was no memory for it.
-fn put_end(alloc: Global, lists: &mut Vec<AttemptList>) -> Result<(), OutOfMemory>
-    ensures { OnOk result
+/// [`ListError::OutOfMemory`] where there was no memory for them.
+fn enter_place(alloc: Global, lists: &mut Vec<AttemptList>) -> Result<AttemptList, ListError>
+    ensures list { IfOk result (λ l. l ≡ Attempt.Test no_guards (length lists.old.items) ∷ []) }
+    ensures lists { OnOk result
         (lists.new.items ≡ lists.old.items ++ (Attempt.End no_guards ∷ []) ∷ []) }
+    ensures memory { IfErr result (λ e. e ≡ ListError.OutOfMemory) }
 {
-    let list = single(alloc, Attempt::End(Guards::none()))?;
-    lists.push(list)?;
-    Ok(())
+    let place = lists.len();
+    let end = single(alloc, Attempt::End(Guards::none()))?;
+    lists.push(end)?;
+    single(alloc, Attempt::Test(Guards::none(), place))
 }
 
 /// The attempts of the one list and then those of the other.
@@ -134,32 +136,25 @@ pub(crate) fn enter(
         → MOST_MOVES < width_of (tree_of tree.now) (length lists.old.items)) }
 {
     match tree {
-        Re::Empty => Ok(single(alloc, Attempt::End(Guards::none()))?),
-        Re::One(_) => {
-            let place = lists.len();
-            put_end(alloc, lists)?;
-            Ok(single(alloc, Attempt::Test(Guards::none(), place))?)
-        }
-        Re::Guard(guard) => Ok(single(alloc, Attempt::End(Guards::only(*guard)))?),
+        Re::Empty => single(alloc, Attempt::End(Guards::none())),
+        Re::One(_) => enter_place(alloc, lists),
+        Re::Guard(guard) => single(alloc, Attempt::End(Guards::only(*guard))),
         Re::Both(first, second) => {
             let from = lists.len();
             let list = enter(alloc, first, lists)?;
             let to = lists.len();
             let further = enter(alloc, second, lists)?;
-            let all = in_turn(alloc, lists, from, to, list.as_slice(), further.as_slice())?;
-            Ok(all)
+            in_turn(alloc, lists, from, to, list.as_slice(), further.as_slice())
         }
         Re::Either(first, second) => {
             let list = enter(alloc, first, lists)?;
             let others = enter(alloc, second, lists)?;
-            let all = alternatives(list, others.as_slice())?;
-            Ok(all)
+            alternatives(list, others.as_slice())
         }
         Re::Many(body, greedy) => {
             let from = lists.len();
             let list = enter(alloc, body, lists)?;
-            let all = repeated(alloc, lists, from, list, *greedy)?;
-            Ok(all)
+            repeated(alloc, lists, from, list, *greedy)
         }
     }
 }

@@ -7,12 +7,12 @@ ghost use Rattle.rl_ranges.specs.Codes.{has};
 ghost use Rattle.rl_ranges.specs.Letters.{letter_at};
 ghost use Rattle.rl_ranges.specs.declared.letters.TheConstants.{MOST_LETTERS};
 ghost use Rattle.rl_prio.specs.internal.GuardSets.{shown};
-ghost use Rattle.rl_prio.specs.internal.Attempts.{width_of};
+ghost use Rattle.rl_prio.specs.internal.Attempts.{width_of, AreEntered};
 ghost use Rattle.rl_prio.specs.internal.Plans.{plan_letters, plan_kinds, plan_places, plan_states, holds_at, test_goes, may_end, end_goes, target_of, move_of, moves_of, attempts_at, before_at, row_of, each_letter, rows_of_state, IsPlaced, IsSound, AreRows, IsPlan};
 
 use crate::build::attempts::{Attempt, AttemptList, ListError, are_unguarded};
-use crate::build::codes::{add_members, kinds_of, samples, shown_before, shown_next};
-use crate::build::guards::{Guards, Shown, Words};
+use crate::build::codes::{add_members, kinds_of, samples, shown_around};
+use crate::build::guards::{Guards, Shown};
 use crate::build::lists::enter;
 use crate::rows::RowTable;
 use rl_lists::{Items, OutOfMemory};
@@ -55,14 +55,32 @@ impl Plan {
     {
         let mut after = Vec::new(alloc);
         let first = enter(alloc, tree, &mut after)?;
-        let letter_codes = samples(alloc, letters)?;
-        let kind_codes = samples(alloc, kinds)?;
-        let kinds_of = kinds_of(alloc, kinds, &letter_codes)?;
+        let plan = Plan::with_lists(alloc, tree, letters, kinds, ending, first, after)?;
+        Ok(plan)
+    }
+
+    /// The plan whose item lists are made.
+    ///
+    /// # Errors
+    /// [`OutOfMemory`] where there was no memory for the plan.
+    fn with_lists(
+        alloc: Global,
+        tree: &Re,
+        letters: &Letters,
+        kinds: &Letters,
+        ending: Ending,
+        first: AttemptList,
+        after: Vec<AttemptList>,
+    ) -> Result<Plan, OutOfMemory>
+        requires codes { All (λ c. c < kinds.now.codes) letters.now.samples }
+        requires entered { AreEntered (tree_of tree.now) [] after.items first }
+        ensures { IfOk result (λ p. IsPlan p (tree_of tree.now) letters.now kinds.now ending) }
+    {
+        let codes = samples(alloc, letters)?;
+        let kinds_of = kinds_of(alloc, kinds, &codes)?;
         let mut members = Vec::new(alloc);
-        add_members(alloc, tree, &letter_codes, &mut members)?;
-        let words = Words::new(alloc)?;
-        let before = shown_before(alloc, &words, &kind_codes)?;
-        let next = shown_next(alloc, &words, &letter_codes)?;
+        add_members(alloc, tree, &codes, &mut members)?;
+        let (before, next) = shown_around(alloc, kinds, &codes)?;
         Ok(Plan {
             first,
             after,
