@@ -79,6 +79,10 @@ pub none-at : {T : Type 0} (o : Option T) (P : Type 0) → is_some o ≡ false �
 none-at None P e h = h
 none-at (Some x) P e h = absurd (true≢false e)
 
+pub some-at : {T : Type 0} (o : Option T) (P : Type 0) → is_some o ≡ true → IfNone o P
+some-at None P e = absurd (true≢false (sym e))
+some-at (Some x) P e = tt
+
 -- a found set on a walk with the same sets
 pub number-set : (old w : Walk) (f : Found) (at n : ℕ) → w.sets ≡ old.sets → n ≡ number_at f at → set_at w n ≡ found_set old f at
 number-set old w f at n same e = ap (λ (l : List (List ℕ)). get_or l n []) same ∙ ap (set_at old) e

@@ -7,7 +7,7 @@ use Rattle.std.proofs.lemmas.List.{get_or-set_same, get_or-set_other, get_or_pas
 use Rattle.std.proofs.lemmas.List.Elements.{All-push}
 use Rattle.std.proofs.lemmas.List.Folds.{list_any_at}
 use Rattle.std.proofs.lemmas.List.Quantifiers.{position-Some}
-use Rattle.std.proofs.lemmas.Option.{slice_get-map, slice_get-get_or, slice_get_within, get_or_from_slice_get}
+use Rattle.std.proofs.lemmas.Option.{slice_get-map, slice_get-get_or, slice_get_read, slice_get_within, get_or_from_slice_get}
 use Rattle.indexmap.specs.IndexSet.{insert_key}
 use Rattle.rl_lanes.specs.Rows.{row_eq, row_eq_decides}
 use Rattle.rl_sets.specs.declared.error.SetsError.{SetsError}
@@ -18,7 +18,7 @@ use Rattle.rl_sets.specs.Live.{image}
 use Rattle.rl_sets.specs.Rests.{IsLife}
 use Rattle.rl_sets.specs.Rows.{members_of, IsTableOn}
 use Rattle.rl_prio.specs.Automaton.{letters_count, Automaton}
-use Rattle.rl_sets.specs.Walk.{set_at, image_place, Walk, IsSetOf, IsMadeFor, IsListed, AreRows}
+use Rattle.rl_sets.specs.Walk.{set_at, image_place, Walk, IsSetOf, IsMadeFor, IsListed, IsFull, AreRows}
 use Rattle.rl_sets.specs.Live.{holds}
 use Rattle.rl_sets.proofs.RowLemmas.{same_rows, holds-members}
 
@@ -152,6 +152,16 @@ pub IsMadeFor-added : (old new : Walk) (a : Automaton) (set : List ℕ) (r : Res
 IsMadeFor-added old new a set (Ok n) made is listed same few f g = IsMadeFor-listed old new a set n made is listed few f g
 IsMadeFor-added old new a set (Err e) made is listed same few f g = IsMadeFor-same old new a made same f g
 
+-- a set that is listed, or that no room is left for, in equal lists
+pub IsListed-same : (old mid new last : List (List ℕ)) (set members : List ℕ) (n : ℕ) → IsListed mid new members n → mid ≡ old → last ≡ new → members ≡ set → IsListed old last set n
+IsListed-same old mid new last set members n listed before after same =
+    subst (λ (s : List ℕ). IsListed old last s n) same
+    (subst (λ (l : List (List ℕ)). IsListed old l members n) (sym after) (subst (λ (l : List (List ℕ)). IsListed l new members n) before listed))
+
+pub IsFull-same : (old mid : List (List ℕ)) (limit before_limit : ℕ) (set members : List ℕ) → IsFull mid before_limit members → mid ≡ old → before_limit ≡ limit → members ≡ set → IsFull old limit set
+IsFull-same old mid limit before_limit set members full before limits same =
+    subst (λ (s : List ℕ). IsFull old limit s) same (subst (λ (n : ℕ). IsFull old n members) limits (subst (λ (l : List (List ℕ)). IsFull l before_limit members) before full))
+
 -- ---- tables
 get_set_same : {X : Type 0} (xs : List X) (i : ℕ) (v : X) (o : Option X) → slice_get (set xs i v) i ≡ o → (o ≡ Some v) ⊎ (o ≡ None)
 get_set_same [] i v o e = inr (sym e)
@@ -190,6 +200,18 @@ IsMadeFor-table old new a letter table made on e f g =
           | inr none ↦ cc
         ]
     by l t at (inr other) = made.tables l t (sym (get_set_other old.kept.tables letter l (Some table) other) ∙ at)
+
+pub get_set_here : {X : Type 0} (xs : List X) (i : ℕ) (v : X) → i < length xs → slice_get (set xs i v) i ≡ Some v
+get_set_here xs i v lt = slice_get-get_or (set xs i v) i v (omega (arith, length-set xs i v)) ∙ ap Some (get_or-set_same xs i v v lt)
+
+-- the table of a letter that is read from a walk's fields, of which `v` is the view
+pub table_read : (v now : Walk) (a : Automaton) (letter : ℕ) (o : Option (List (List Bool))) (table : List (List Bool)) → v ≡ now → IsMadeFor now a
+    → (t : List (List Bool)) × (slice_get now.kept.tables letter ≡ Some (Some t)) → o ≡ get_or v.kept.tables letter o → o ≡ Some table → IsTableOn a letter table
+table_read v now a letter o table same made there read is =
+    let tables = v.kept.tables in
+    let at : slice_get tables letter ≡ Some (Some there.0) = subst (λ (w : Walk). slice_get w.kept.tables letter ≡ Some (Some there.0)) (sym same) there.1 in
+    let found : slice_get tables letter ≡ Some (Some table) = slice_get_read tables (length tables) letter o refl (slice_get_within tables letter (Some there.0) at) read ∙ ap Some is in
+    made.tables letter table (subst (λ (w : Walk). slice_get w.kept.tables letter ≡ Some (Some table)) same found)
 
 pub there_is : {X : Type 0} (o : Option X) → is_some o ≡ true → (x : X) × (o ≡ Some x)
 there_is None e = absurd (false≢true e)

@@ -7,7 +7,7 @@ use rl_lists::{OutOfMemory, Word};
 use std::alloc::Global;
 
 /// What is known of the rests that a set refuses.
-#[derive(Clone, Copy, Debug, PartialEq, Eq)]
+#[derive(Clone, Copy)]
 pub enum Life {
     /// Nothing.
     Unknown,
@@ -18,7 +18,7 @@ pub enum Life {
 }
 
 /// A refused rest, by its first letter and the number of an earlier route for what follows.
-#[derive(Clone, Copy, Debug, PartialEq, Eq)]
+#[derive(Clone, Copy)]
 pub enum Route {
     /// The end letter alone.
     End,

@@ -3,8 +3,12 @@ use Rattle.rl_sets.specs.Live.{image}
 use Rattle.rl_sets.specs.Rows.{members_of}
 use Rattle.rl_sets.specs.Walk.{Walk, set_at}
 use Rattle.rl_sets.proofs.RowLemmas.{image-alike}
-use Rattle.rl_sets.proofs.WalkLemmas.{row_at}
+use Rattle.rl_sets.proofs.WalkLemmas.{row_at, row_wide}
 use Rattle.rl_sets.proofs.walk.SetWalk.image_before.Goals as goal
+
+pub move_alike-requires-clause-set_in : goal.move_alike-requires-clause-set_in
+move_alike-requires-clause-set_in c =
+    row_wide c.self.inside.states c.self.inside.limit c.self.inside.rows.keys c.index-2.result.now c.args.set c.self.invariant c.index-2.ensures ∙ ap (λ (w : Walk). w.kept.states) c.self.view_is ∙ c.requires.made.states
 
 pub returns-then-move_alike : goal.returns-then-move_alike
 returns-then-move_alike c =
