@@ -105,7 +105,9 @@ fn regions_of(alloc: Global, a: &Prio, b: &Prio, limit: u32) -> Result<Compared,
     ensures { IfOk result (λ r. (u : Universe) (s t : Tree) → StandTogether u s t a.now b.now → AreRegions u s t limit r) }
 {
     let mut search = Search::new(alloc, a, b, limit)?;
-    texts_by(alloc, a, b, &mut search, limit)
+    let texts = texts_by(alloc, a, b, &mut search, limit);
+    drop(search.into_first());
+    texts
 }
 
 /// The texts of the regions of two trees, each as fullmatch, by their first set pairs in breadth-first order, `limit` at
