@@ -152,7 +152,11 @@ impl Baseline {
     {
         let second = beside(alloc, &self.automaton, other, self.universe)?;
         let kept = self.walk.take();
-        let (found, walk) = search_on(alloc, &self.automaton, &second, kept, limit)?;
+        let Ok((found, walk)) = search_on(alloc, &self.automaton, &second, kept, limit) else {
+            drop(second);
+            return Err(SameError::OutOfMemory);
+        };
+        drop(second);
         self.walk = Some(walk);
         Ok(found)
     }

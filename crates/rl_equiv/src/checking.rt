@@ -165,7 +165,11 @@ pub fn check(alloc: Global, a: &Re, b: &Re, u: Universe, r: &Relation) -> Result
     ensures same { IfOk result (λ ok. IsTrue ok → SameLanguage u (tree_of a.now) (tree_of b.now)) }
 {
     match Joint::new(alloc, a, b, u) {
-        Ok(joint) => is_closed(alloc, &joint.first, &joint.second, r.as_slice()),
+        Ok(joint) => {
+            let closed = is_closed(alloc, &joint.first, &joint.second, r.as_slice());
+            drop(joint);
+            closed
+        }
         Err(SameError::OutOfMemory) => Err(OutOfMemory),
         Err(_) => Ok(false),
     }

@@ -133,6 +133,10 @@ pub fn regions(
     ensures told { IfOk result (AreTold u (matched (tree_of a.now) AtEnd) (matched (tree_of b.now) AtEnd)) }
 {
     let joint = Joint::new(alloc, a, b, u)?;
-    let texts = regions_of(alloc, &joint.first, &joint.second, limit)?;
+    let Ok(texts) = regions_of(alloc, &joint.first, &joint.second, limit) else {
+        drop(joint);
+        return Err(SameError::OutOfMemory);
+    };
+    drop(joint);
     Ok(texts)
 }
