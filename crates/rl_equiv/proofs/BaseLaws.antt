@@ -66,6 +66,14 @@ module _ (xs ys : List (ℕ → Bool)) (f : (c d : ℕ) → alike xs c d ≡ ali
 abbrev pub OverAny : Universe → Tree → Automaton → Automaton → Type 0
 OverAny u t a b = (sets : List (ℕ → Bool)) → IsLetters a.table sets (code_count u) → ((c d : ℕ) → alike sets c d ≡ true → alike (all_sets t) c d ≡ true) → StandsOver b t AtEnd sets
 
+-- what the error of the first automaton tells of both trees
+pub first-passed : (u : Universe) (s t : Tree) (sets : List (ℕ → Bool)) → sets ≡ joint_sets s t → AreSmall s t → (e : PrioError) → (e ≡ Letters → MOST_LETTERS < length (classes sets (code_count u)))
+    → (e ≡ Moves → (length (classes sets (code_count u)) ≤ MOST_LETTERS) × (MOST_MOVES < longest s)) → IsPassed u s t (same_error e)
+first-passed u s t sets same small Letters letters moves = (small, subst (λ (l : List (ℕ → Bool)). MOST_LETTERS < length (classes l (code_count u))) same (letters refl))
+first-passed u s t sets same small Moves letters moves =
+    (small, subst (λ (l : List (ℕ → Bool)). length (classes l (code_count u)) ≤ MOST_LETTERS) same (moves refl).0, inl (moves refl).1)
+first-passed u s t sets same small OutOfMemory letters moves = tt
+
 -- what the error of the second automaton tells of both trees
 pub second-passed : (u : Universe) (s t : Tree) → AreSmall s t → length (joint_letters u s t) ≤ MOST_LETTERS → (e : PrioError) → (e ≡ Moves → MOST_MOVES < longest t) → (e ≡ Letters → ⊥) → IsPassed u s t (same_error e)
 second-passed u s t small few Letters moves none = absurd (none refl)

@@ -153,6 +153,11 @@ expanding-done a b old cur place letter e x whole capped =
     subst (λ (n : ℕ). AreCapped old.limit (reached_in cur) (with_all_reached whole (reached_by (word_at old place) 0 (map (pair_on a b (pair_at old place)) (below n))))) e (x.reached whole capped)
 
 -- a key that was read
+-- what was found is still there where the set pairs are the same
+pub still-found : (s t : State) (place : ℕ) → pairs_in t ≡ pairs_in s → place < length s.keys → place < length t.keys
+still-found s t place same lt =
+    subst (λ (n : ℕ). place < n) (sym (length-map s.keys (pair_of s.first s.second)) ∙ ap length (sym same) ∙ length-map t.keys (pair_of t.first t.second)) lt
+
 pub key-read : (s : State) (place : ℕ) (key : Key) → slice_get s.keys place ≡ Some key → key_at s place ≡ key
 key-read s place key e = get_or_from_slice_get s.keys place key no_key e
 

@@ -95,8 +95,15 @@ pub(crate) fn search_on(
 {
     let walk = kept_side(alloc, a, kept)?;
     let mut search = Search::go_on(alloc, a, b, walk, limit)?;
-    let found = search.run(alloc, a, b)?;
-    Ok((found, search.first))
+    let found = search.run(alloc, a, b);
+    let walk = search.into_first();
+    match found {
+        Ok(found) => Ok((found, walk)),
+        Err(OutOfMemory) => {
+            drop(walk);
+            Err(OutOfMemory)
+        }
+    }
 }
 
 impl Baseline {
@@ -113,6 +120,7 @@ impl Baseline {
         ensures passed { IfErr result (IsPassedBy u (tree_of tree)) }
     {
         if tree.nodes() > MOST_NODES {
+            drop(tree);
             return Err(SameError::Size);
         }
         let automaton = Prio::build(alloc, &tree, Ending::AtEnd, u)?;
@@ -144,7 +152,11 @@ impl Baseline {
     {
         let second = beside(alloc, &self.automaton, other, self.universe)?;
         let kept = self.walk.take();
-        let (found, walk) = search_on(alloc, &self.automaton, &second, kept, limit)?;
+        let Ok((found, walk)) = search_on(alloc, &self.automaton, &second, kept, limit) else {
+            drop(second);
+            return Err(SameError::OutOfMemory);
+        };
+        drop(second);
         self.walk = Some(walk);
         Ok(found)
     }

@@ -82,7 +82,9 @@ fn keeps_beside(
     ensures { IfOk result (λ ok. IsTrue ok ↔ IsKept (pairs_of a.now b.now) index.now pair.now) }
 {
     let mut second = walk_from(alloc, b, &pair.second)?;
-    keeps_sets(a, b, index, first, &mut second)
+    let kept = keeps_sets(a, b, index, first, &mut second);
+    drop(second);
+    kept
 }
 
 /// Whether a set pair is proper, shows no difference and has its next ones in the index.
@@ -100,7 +102,9 @@ fn keeps(
         return Ok(false);
     }
     let mut first = walk_from(alloc, a, &pair.first)?;
-    keeps_beside(alloc, a, b, index, &mut first, pair)
+    let kept = keeps_beside(alloc, a, b, index, &mut first, pair);
+    drop(first);
+    kept
 }
 
 /// Whether the pair of the sets of both starts is in the index.
@@ -142,7 +146,9 @@ fn is_closed(alloc: Global, a: &Prio, b: &Prio, relation: &[SetPair]) -> Result<
     ensures { IfOk result (λ ok. IsTrue ok ↔ IsClosed (pairs_of a.now b.now) relation.now) }
 {
     let index = Index::of(alloc, relation)?;
-    is_closed_in(alloc, a, b, &index, relation)
+    let closed = is_closed_in(alloc, a, b, &index, relation);
+    drop(index);
+    closed
 }
 
 /// Whether two trees, each as fullmatch, are within the limits of their sizes, letters and moves, and a relation of their set
@@ -159,7 +165,11 @@ pub fn check(alloc: Global, a: &Re, b: &Re, u: Universe, r: &Relation) -> Result
     ensures same { IfOk result (λ ok. IsTrue ok → SameLanguage u (tree_of a.now) (tree_of b.now)) }
 {
     match Joint::new(alloc, a, b, u) {
-        Ok(joint) => is_closed(alloc, &joint.first, &joint.second, r.as_slice()),
+        Ok(joint) => {
+            let closed = is_closed(alloc, &joint.first, &joint.second, r.as_slice());
+            drop(joint);
+            closed
+        }
         Err(SameError::OutOfMemory) => Err(OutOfMemory),
         Err(_) => Ok(false),
     }

@@ -28,7 +28,8 @@ fn sameness(alloc: Global, a: &Prio, b: &Prio, limit: u32) -> Result<Sameness, O
     ensures answer { IfOk result (IsAnswer (pairs_of a.now b.now) limit) }
     ensures apart { IfOk result (TellsApart a.now b.now) }
 {
-    let (sameness, _walk) = search_on(alloc, a, b, None, limit)?;
+    let (sameness, walk) = search_on(alloc, a, b, None, limit)?;
+    drop(walk);
     Ok(sameness)
 }
 

@@ -43,7 +43,10 @@ impl Index {
     {
         let mut index = Index::new(alloc);
         for pair in relation {
-            index.add(pair)?;
+            let Ok(()) = index.add(pair) else {
+                drop(index);
+                return Err(OutOfMemory);
+            };
         }
         Ok(index)
     }

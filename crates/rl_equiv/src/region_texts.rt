@@ -105,7 +105,9 @@ fn regions_of(alloc: Global, a: &Prio, b: &Prio, limit: u32) -> Result<Compared,
     ensures { IfOk result (λ r. (u : Universe) (s t : Tree) → StandTogether u s t a.now b.now → AreRegions u s t limit r) }
 {
     let mut search = Search::new(alloc, a, b, limit)?;
-    texts_by(alloc, a, b, &mut search, limit)
+    let texts = texts_by(alloc, a, b, &mut search, limit);
+    drop(search.into_first());
+    texts
 }
 
 /// The texts of the regions of two trees, each as fullmatch, by their first set pairs in breadth-first order, `limit` at
@@ -131,6 +133,10 @@ pub fn regions(
     ensures told { IfOk result (AreTold u (matched (tree_of a.now) AtEnd) (matched (tree_of b.now) AtEnd)) }
 {
     let joint = Joint::new(alloc, a, b, u)?;
-    let texts = regions_of(alloc, &joint.first, &joint.second, limit)?;
+    let Ok(texts) = regions_of(alloc, &joint.first, &joint.second, limit) else {
+        drop(joint);
+        return Err(SameError::OutOfMemory);
+    };
+    drop(joint);
     Ok(texts)
 }

@@ -78,15 +78,16 @@ fn first_found(
     ensures keys { IfOk result (λ r. r.0.keys ≡ record { first = start; second = other_start } ∷ []) }
     ensures ways { IfOk result (λ r. r.1.items ≡ no_way ∷ []) }
 {
+    let ways = vec![in alloc;
+        Way {
+            parent: 0,
+            letter: 0,
+        },
+    ]?;
     let mut keys = IndexSet::new(alloc);
     keys.insert(Key {
         first: start,
         second: other_start,
-    })?;
-    let mut ways = Vec::new(alloc);
-    ways.push(Way {
-        parent: 0,
-        letter: 0,
     })?;
     Ok((keys, ways))
 }
@@ -122,7 +123,10 @@ impl Search {
         ensures one { IfOk result (λ s. pairs_in (state_of s) ≡ first_pair ∷ []) }
     {
         let (first, start) = start_side(alloc, a, walk)?;
-        let (second, other_start) = fresh_side(alloc, b)?;
+        let Ok((second, other_start)) = fresh_side(alloc, b) else {
+            drop(first);
+            return Err(OutOfMemory);
+        };
         Search::begun(alloc, first, start, second, other_start, limit)
     }
 
@@ -143,7 +147,11 @@ impl Search {
           ways = no_way ∷ [];
         }) }
     {
-        let (keys, ways) = first_found(alloc, start, other_start)?;
+        let Ok((keys, ways)) = first_found(alloc, start, other_start) else {
+            drop(first);
+            drop(second);
+            return Err(OutOfMemory);
+        };
         Ok(Search {
             limit,
             first,
@@ -151,6 +159,15 @@ impl Search {
             keys,
             ways,
         })
+    }
+
+    /// The walk over the sets of the first automaton, with what the search has made.
+    pub(crate) fn into_first(self) -> SetWalk
+        ensures { result ≡ self.first }
+    {
+        let Search { first, second, .. } = self;
+        drop(second);
+        first
     }
 
     /// Which sets of the set pair at a place the end letter leads to the accepting state.

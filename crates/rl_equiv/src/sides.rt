@@ -66,7 +66,10 @@ pub(crate) fn begin_side(alloc: Global, a: &Prio) -> Result<SetWalk, OutOfMemory
     ensures { IfOk result (IsSide a.now MOST_SET_PAIRS 0) }
 {
     let mut walk = SetWalk::new(alloc, a, MOST_SETS)?;
-    put_ends(alloc, &mut walk, a)?;
+    let Ok(()) = put_ends(alloc, &mut walk, a) else {
+        drop(walk);
+        return Err(OutOfMemory);
+    };
     Ok(walk)
 }
 
@@ -82,7 +85,11 @@ pub(crate) fn kept_side(
 {
     match kept {
         Some(walk) if walk.len() <= MOST_KEPT => Ok(walk),
-        _ => begin_side(alloc, a),
+        Some(walk) => {
+            drop(walk);
+            begin_side(alloc, a)
+        }
+        None => begin_side(alloc, a),
     }
 }
 
@@ -98,7 +105,10 @@ pub(crate) fn start_side(
     ensures inside { IfOk result (λ r. r.1 < length r.0.sets) }
     ensures start { IfOk result (λ r. set_at r.0 r.1 ≡ 0 ∷ []) }
 {
-    let start = put_one(alloc, &mut walk, a, 0)?;
+    let Ok(start) = put_one(alloc, &mut walk, a, 0) else {
+        drop(walk);
+        return Err(OutOfMemory);
+    };
     Ok((walk, start))
 }
 

@@ -31,11 +31,14 @@ pub(crate) fn walk_from(alloc: Global, a: &Prio, set: &Members) -> Result<SetWal
     ensures set { IfOk result (λ w. set_at w 0 ≡ set_of a.now set.now) }
 {
     let _states = a.states();
-    let mut walk = SetWalk::new(alloc, a, MOST_SETS)?;
     let members = Vec::from_slice(alloc, set.as_slice())?;
+    let mut walk = SetWalk::new(alloc, a, MOST_SETS)?;
     match walk.intern(a, &members) {
         Ok(_) => Ok(walk),
-        Err(SetsError::OutOfMemory) => Err(OutOfMemory),
+        Err(SetsError::OutOfMemory) => {
+            drop(walk);
+            Err(OutOfMemory)
+        }
         Err(SetsError::Sets) => unreachable!(),
     }
 }

@@ -8,4 +8,4 @@ walk_from-requires c = second-proper c.args.a.now c.args.b.now c.args.pair.now c
 pub returns : goal.returns
 returns c =
     sets-kept c.args.a.now c.args.b.now c.args.index.now c.args.pair.now c.requires.proper c.args.first.now c.in_ok-second.second
-    c.requires.set c.in_ok-second.ensures.set c.keeps_sets.result c.keeps_sets.ensures
+    c.requires.set c.in_ok-second.ensures.set c.keeps_sets-kept.result c.keeps_sets-kept.ensures

@@ -27,11 +27,6 @@ returns-in_err-second-clause-passed c =
     let p = err_from_is_err_and c.from_residual.result c.from_residual.ensures.1 in
     rw (p.1, p.2, sym c.self.view_is) (c.in_err-second.ensures.passed (tree_of c.self.inside.tree) c.self.invariant.0 tells)
 
-pub returns-in_err-found-clause-passed : goal.returns-in_err-found-clause-passed
-returns-in_err-found-clause-passed c =
-    let p = err_from_is_err_and c.from_residual-in_err-found.result c.from_residual-in_err-found.ensures.1 in
-    rw (p.1, p.2) tt
-
 pub returns-clause-within : goal.returns-clause-within
 returns-clause-within c =
     let tells = subst (λ (x : Base). TellsNoMore (tree_of x.tree) (tree_of c.args.other.now)) (sym c.self.view_is) c.requires.letters in
@@ -40,13 +35,13 @@ returns-clause-within c =
 pub returns-clause-answer : goal.returns-clause-answer
 returns-clause-answer c =
     let tells = subst (λ (x : Base). TellsNoMore (tree_of x.tree) (tree_of c.args.other.now)) (sym c.self.view_is) c.requires.letters in
-    subst (λ (x : Base). IsAnswer (set_pairs x.universe (tree_of x.tree) (tree_of c.args.other.now)) c.args.limit c.in_ok-found.found) c.self.view_is
+    subst (λ (x : Base). IsAnswer (set_pairs x.universe (tree_of x.tree) (tree_of c.args.other.now)) c.args.limit c.in-Ok.found) c.self.view_is
     (answer-told c.self.inside.universe (tree_of c.self.inside.tree) (tree_of c.args.other.now) c.self.inside.automaton c.in_ok-second.second (c.in_ok-second.ensures.stand (tree_of c.self.inside.tree) c.self.invariant.0 tells)
-    c.args.limit c.in_ok-found.found c.in_ok-found.ensures.answer c.in_ok-found.ensures.apart).0
+    c.args.limit c.in-Ok.found c.in-Ok.ensures.answer c.in-Ok.ensures.apart).0
 
 pub returns-clause-told : goal.returns-clause-told
 returns-clause-told c =
     let tells = subst (λ (x : Base). TellsNoMore (tree_of x.tree) (tree_of c.args.other.now)) (sym c.self.view_is) c.requires.letters in
-    subst (λ (x : Base). IsTold x.universe (tree_of x.tree) (tree_of c.args.other.now) c.in_ok-found.found) c.self.view_is
+    subst (λ (x : Base). IsTold x.universe (tree_of x.tree) (tree_of c.args.other.now) c.in-Ok.found) c.self.view_is
     (answer-told c.self.inside.universe (tree_of c.self.inside.tree) (tree_of c.args.other.now) c.self.inside.automaton c.in_ok-second.second (c.in_ok-second.ensures.stand (tree_of c.self.inside.tree) c.self.invariant.0 tells)
-    c.args.limit c.in_ok-found.found c.in_ok-found.ensures.answer c.in_ok-found.ensures.apart).1
+    c.args.limit c.in-Ok.found c.in-Ok.ensures.answer c.in-Ok.ensures.apart).1

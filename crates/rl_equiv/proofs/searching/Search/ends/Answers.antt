@@ -1,4 +1,5 @@
-use Rattle.std.proofs.Common.{refl}
+use Rattle.std.proofs.Common.{◌<◌, length, refl, subst}
+use Rattle.rl_equiv.specs.declared.searching.Key.{Key}
 use Rattle.rl_equiv.specs.internal.Searching.{state_of}
 use Rattle.rl_equiv.proofs.SearchLaws.{key-read, ends-read, search-again, pairs-again}
 use Rattle.rl_equiv.proofs.searching.Search.ends.Goals as goal
@@ -21,3 +22,13 @@ returns-clause-limit c = refl
 
 pub returns-clause-ways : goal.returns-clause-ways
 returns-clause-ways c = refl
+
+pub ends_at-requires-clause-set_in : goal.ends_at-requires-clause-set_in
+ends_at-requires-clause-set_in c =
+    let s = state_of c.args.self.now in
+    subst (λ (k : Key). k.first < length s.first.sets) (key-read s c.args.place c.index-key.result.now c.index-key.ensures) (c.requires.search.first_in c.args.place c.requires.place_in)
+
+pub ends_at-requires-2-clause-set_in : goal.ends_at-requires-2-clause-set_in
+ends_at-requires-2-clause-set_in c =
+    let s = state_of c.args.self.now in
+    subst (λ (k : Key). k.second < length s.second.sets) (key-read s c.args.place c.index-key.result.now c.index-key.ensures) (c.requires.search.second_in c.args.place c.requires.place_in)

@@ -1,5 +1,6 @@
 use Rattle.std.proofs.Common.{◌∙◌, length, ap, sym, arith}
 use Rattle.rl_equiv.specs.internal.Searching.{state_of, is_apart}
+use Rattle.rl_equiv.proofs.SearchLaws.{still-found}
 use Rattle.rl_equiv.proofs.SeenLaws.{seen-start, seen-more-at, calm-more, apart-last, stop-parts, calm-from}
 use Rattle.rl_equiv.proofs.searching.Search.look.Goals as goal
 
@@ -30,3 +31,7 @@ loop-seen-preserved c = (
       c.in_ok-ends.ensures.limit c.in_ok-ends.ensures.pairs c.in_ok-ends.ensures.ways c.in_ok-ends.ensures.ends c.in_ok-expand.ensures.onward c.in_ok-expand.ensures.reached c.in_ok-push.ensures.items,
   calm-more c.args.all c.loop-seen.seen.items c.push.new.self.items c.in_ok-ends.ends c.loop-seen.invariant.1 (calm-from c.args.all (is_apart c.in_ok-ends.ends) (sym c.stops.ensures ∙ c.if-stops.false)) c.in_ok-push.ensures.items,
 )
+
+pub expand-requires-clause-place_in : goal.expand-requires-clause-place_in
+expand-requires-clause-place_in c =
+    still-found (state_of c.loop-seen.self) (state_of c.ends.new.self) c.len-place.result c.in_ok-ends.ensures.pairs (omega (arith, c.len.ensures, c.len-place.ensures, c.len-in-loop-seen.ensures.len, c.loop-seen-test.true))

@@ -1,4 +1,4 @@
-use Rattle.std.proofs.Common.{◌≡◌, ◌∙◌, ◌<◌, ◌-◌, suc, length, refl, ap, sym, arith}
+use Rattle.std.proofs.Common.{◌≡◌, ◌∙◌, ◌<◌, ◌-◌, ℕ, suc, length, refl, ap, sym, subst, arith}
 use Rattle.std.proofs.lemmas.List.{get_or_default}
 use Rattle.rl_equiv.specs.internal.Searching.{state_of, is_apart, no_ends}
 use Rattle.rl_equiv.proofs.SeenLaws.{seen-differs, seen-apart, seen-passed, seen-all}
@@ -48,3 +48,13 @@ returns-clause-answer c =
     let same = get_or_default seen place no_ends c.index-last.result.now lt ∙ sym c.index-last.ensures in
     seen-all c.args.a.now c.args.b.now c.args.self.now.limit s seen r (state_of c.args.self.now) refl (c.in_ok-seen.ensures.apart refl) place count (ap is_apart same ∙ c.if-last.false)
     c.requires.readers (omega (arith, c.len.ensures.len, c.if-len-self.false, r.limit_is)) c.in_ok-relation.relation c.in_ok-relation.ensures
+
+pub text_to-requires-clause-earlier : goal.text_to-requires-clause-earlier
+text_to-requires-clause-earlier c = λ k some k_in.
+    let r = c.in_ok-seen.ensures.seen.search in
+    (r.ways k some (subst (λ (n : ℕ). k < n) r.paired k_in)).earlier
+
+pub text_to-requires-clause-small : goal.text_to-requires-clause-small
+text_to-requires-clause-small c = λ k some k_in.
+    let r = c.in_ok-seen.ensures.seen.search in
+    (r.ways k some (subst (λ (n : ℕ). k < n) r.paired k_in)).small
