@@ -1,7 +1,7 @@
 -- Walks over the states of a graph that a move leads to: no other state lies on a cycle, or in one part with a second state.
-use Rattle.std.proofs.Common.{◌≡◌, ℕ, ◌+◌, ◌*◌, ◌/◌, ◌%◌, ◌<◌, ◌≤◌, true, not, cond, List, [], ◌∷◌, get_or, map, eqb, bit_and, sym, ◌∙◌, ap, subst, arith}
+use Rattle.std.proofs.Common.{◌≡◌, ℕ, ◌+◌, ◌*◌, ◌/◌, ◌%◌, ◌<◌, ◌≤◌, ◌⊎◌, inl, inr, true, not, cond, List, [], ◌∷◌, get_or, map, eqb, bit_and, sym, ◌∙◌, ap, subst, arith}
 use Rattle.std.specs.Int.{bit_at}
-use Rattle.std.proofs.lemmas.Bool.{and_parts, and_from, not_from_false, ne_eqb}
+use Rattle.std.proofs.lemmas.Bool.{cases_lt, and_parts, and_from, not_from_false, ne_eqb}
 use Rattle.std.proofs.lemmas.Nat.{div-mul-add, mod-mul-add}
 use Rattle.std.proofs.lemmas.Nat.Bits.{bit_at_and, bit_at-zero}
 use Rattle.rl_graph.specs.Paths.{Has, paths}
@@ -10,8 +10,8 @@ use Rattle.rl_graph.specs.Product.{pair_moves}
 use Rattle.rl_graph.specs.Parts.{PartTable, IsParts, number_of}
 use Rattle.rl_graph.proofs.Sums.{total-there, has-map, has-flat_map}
 use Rattle.rl_graph.proofs.PathLaws.{nil-same, move-path}
-use Rattle.rl_graph.proofs.MarkedLaws.{there-if, has-if}
-use Rattle.rl_degree.specs.internal.Entries.{HasLetter, AreEntries}
+use Rattle.rl_graph.proofs.MarkedLaws.{there-if, has-if, move-in}
+use Rattle.rl_degree.specs.internal.Entries.{HasLetter, KeepsLetters, AreEntries, AreEntriesUpTo}
 use Rattle.rl_degree.specs.internal.FallingPairs.{falls, falling_moves, shares, is_walked, IsParted}
 
 -- a graph and a part of its moves: those of each state that a move of the graph leads to, and maybe others
@@ -114,3 +114,26 @@ falling-parted g levels entries p whole are h =
         let b = there-if (falls levels g.states x) m (pair_moves (edges_of g) g.states x l) j in
         let both = and_from (falls levels g.states x) (shares entries g.states x) b.0 (pair-shares g entries whole are y k x a.1) in
         has-if (is_walked levels entries g.states x) m (pair_moves (edges_of g) g.states x l) both b.1
+
+-- the bits of one more letter of a state, where those of the letters before it are set
+pub own-more : (g : Graph) (state end : ℕ) (old new : List ℕ) → KeepsLetters old new → ((k m : ℕ) → k < end → Has m (edges_of g state k) → HasLetter old m k) → ((m : ℕ) → Has m (edges_of g state end) → HasLetter new m end)
+    → (k m : ℕ) → k < end + 1 → Has m (edges_of g state k) → HasLetter new m k
+own-more g state end old new kept own here k m lt has = by (cases_lt k end)
+  where
+    by : (k < end) ⊎ (end ≤ k) → HasLetter new m k
+    by (inl low) = kept m k (own k m low has)
+    by (inr high) =
+        let e : k ≡ end = omega arith in
+        subst (HasLetter new m) (sym e) (here m (subst (λ (z : ℕ). Has m (edges_of g state z)) e has))
+
+-- the bits of one more state
+pub entries-more : (g : Graph) (state end : ℕ) (entries : List ℕ) → g.letters ≤ end → AreEntriesUpTo g state entries → ((k m : ℕ) → k < end → Has m (edges_of g state k) → HasLetter entries m k)
+    → AreEntriesUpTo g (state + 1) entries
+entries-more g state end entries all so_far own = record { size = so_far.size; entered = λ q l m lt has. by q l m lt has (cases_lt q state) }
+  where
+    by : (q l m : ℕ) → q < state + 1 → Has m (edges_of g q l) → (q < state) ⊎ (state ≤ q) → HasLetter entries m l
+    by q l m lt has (inl low) = so_far.entered q l m low has
+    by q l m lt has (inr high) =
+        let e : q ≡ state = omega arith in
+        let here = subst (λ (z : ℕ). Has m (edges_of g z l)) e has in
+        own l m (omega (arith, (move-in g state l m here).1, all)) here
