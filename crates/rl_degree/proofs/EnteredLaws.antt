@@ -1,7 +1,7 @@
 -- Walks over the states of a graph that a move leads to: no other state lies on a cycle, or in one part with a second state.
-use Rattle.std.proofs.Common.{◌≡◌, ℕ, ◌+◌, ◌*◌, ◌/◌, ◌%◌, ◌<◌, ◌≤◌, true, not, cond, List, [], ◌∷◌, get_or, map, eqb, bit_and, sym, ◌∙◌, ap, subst, arith}
+use Rattle.std.proofs.Common.{◌≡◌, ℕ, ◌+◌, ◌*◌, ◌/◌, ◌%◌, ◌<◌, ◌≤◌, ◌⊎◌, inl, inr, true, not, cond, List, [], ◌∷◌, length, get_or, map, eqb, bit_and, set, sym, ◌∙◌, ap, subst, arith, get_or-set_same, get_or-set_other}
 use Rattle.std.specs.Int.{bit_at}
-use Rattle.std.proofs.lemmas.Bool.{and_parts, and_from, not_from_false, ne_eqb}
+use Rattle.std.proofs.lemmas.Bool.{cases_eq, cases_lt, and_parts, and_from, not_from_false, ne_eqb}
 use Rattle.std.proofs.lemmas.Nat.{div-mul-add, mod-mul-add}
 use Rattle.std.proofs.lemmas.Nat.Bits.{bit_at_and, bit_at-zero}
 use Rattle.rl_graph.specs.Paths.{Has, paths}
@@ -10,8 +10,8 @@ use Rattle.rl_graph.specs.Product.{pair_moves}
 use Rattle.rl_graph.specs.Parts.{PartTable, IsParts, number_of}
 use Rattle.rl_graph.proofs.Sums.{total-there, has-map, has-flat_map}
 use Rattle.rl_graph.proofs.PathLaws.{nil-same, move-path}
-use Rattle.rl_graph.proofs.MarkedLaws.{there-if, has-if}
-use Rattle.rl_degree.specs.internal.Entries.{HasLetter, AreEntries}
+use Rattle.rl_graph.proofs.MarkedLaws.{there-if, has-if, move-in}
+use Rattle.rl_degree.specs.internal.Entries.{HasLetter, KeepsLetters, AreEntries, AreEntriesUpTo}
 use Rattle.rl_degree.specs.internal.FallingPairs.{falls, falling_moves, shares, is_walked, IsParted}
 
 -- a graph and a part of its moves: those of each state that a move of the graph leads to, and maybe others
@@ -114,3 +114,48 @@ falling-parted g levels entries p whole are h =
         let b = there-if (falls levels g.states x) m (pair_moves (edges_of g) g.states x l) j in
         let both = and_from (falls levels g.states x) (shares entries g.states x) b.0 (pair-shares g entries whole are y k x a.1) in
         has-if (is_walked levels entries g.states x) m (pair_moves (edges_of g) g.states x l) both b.1
+
+-- one more bit of a word keeps the others
+pub letter-set : (entries : List ℕ) (t word q l : ℕ) → t < length entries → ((k : ℕ) → bit_at (get_or entries t 0) k ≡ 1 → bit_at word k ≡ 1) → HasLetter entries q l → HasLetter (set entries t word) q l
+letter-set entries t word q l lt kept h = by (cases_eq q t)
+  where
+    by : (q ≡ t) ⊎ (q ≡ t → ⊥) → HasLetter (set entries t word) q l
+    by (inr n) = subst (λ (z : ℕ). bit_at z (l % 64) ≡ 1) (sym (get_or-set_other entries t q word 0 n)) h
+    by (inl e) =
+        subst (λ (z : ℕ). HasLetter (set entries t word) z l) (sym e)
+        (subst (λ (z : ℕ). bit_at z (l % 64) ≡ 1) (sym (get_or-set_same entries t word 0 lt)) (kept (l % 64) (subst (λ (z : ℕ). HasLetter entries z l) e h)))
+
+-- the bits of one more target
+pub targets-more : (entries targets : List ℕ) (end word l : ℕ) → get_or targets end 0 < length entries → ((k : ℕ) → bit_at (get_or entries (get_or targets end 0) 0) k ≡ 1 → bit_at word k ≡ 1) → bit_at word (l % 64) ≡ 1
+    → ((i : ℕ) → i < end → HasLetter entries (get_or targets i 0) l) → (i : ℕ) → i < end + 1 → HasLetter (set entries (get_or targets end 0) word) (get_or targets i 0) l
+targets-more entries targets end word l lt kept here old i below = by (cases_lt i end)
+  where
+    by : (i < end) ⊎ (end ≤ i) → HasLetter (set entries (get_or targets end 0) word) (get_or targets i 0) l
+    by (inl low) = letter-set entries (get_or targets end 0) word (get_or targets i 0) l lt kept (old i low)
+    by (inr high) =
+        let e : i ≡ end = omega arith in
+        subst (λ (z : ℕ). HasLetter (set entries (get_or targets end 0) word) (get_or targets z 0) l) (sym e)
+        (subst (λ (z : ℕ). bit_at z (l % 64) ≡ 1) (sym (get_or-set_same entries (get_or targets end 0) word 0 lt)) here)
+
+-- the bits of one more letter of a state, where those of the letters before it are set
+pub own-more : (g : Graph) (state end : ℕ) (old new : List ℕ) → KeepsLetters old new → ((k m : ℕ) → k < end → Has m (edges_of g state k) → HasLetter old m k) → ((m : ℕ) → Has m (edges_of g state end) → HasLetter new m end)
+    → (k m : ℕ) → k < end + 1 → Has m (edges_of g state k) → HasLetter new m k
+own-more g state end old new kept own here k m lt has = by (cases_lt k end)
+  where
+    by : (k < end) ⊎ (end ≤ k) → HasLetter new m k
+    by (inl low) = kept m k (own k m low has)
+    by (inr high) =
+        let e : k ≡ end = omega arith in
+        subst (HasLetter new m) (sym e) (here m (subst (λ (z : ℕ). Has m (edges_of g state z)) e has))
+
+-- the bits of one more state
+pub entries-more : (g : Graph) (state end : ℕ) (entries : List ℕ) → g.letters ≤ end → AreEntriesUpTo g state entries → ((k m : ℕ) → k < end → Has m (edges_of g state k) → HasLetter entries m k)
+    → AreEntriesUpTo g (state + 1) entries
+entries-more g state end entries all so_far own = record { size = so_far.size; entered = λ q l m lt has. by q l m lt has (cases_lt q state) }
+  where
+    by : (q l m : ℕ) → q < state + 1 → Has m (edges_of g q l) → (q < state) ⊎ (state ≤ q) → HasLetter entries m l
+    by q l m lt has (inl low) = so_far.entered q l m low has
+    by q l m lt has (inr high) =
+        let e : q ≡ state = omega arith in
+        let here = subst (λ (z : ℕ). Has m (edges_of g z l)) e has in
+        own l m (omega (arith, (move-in g state l m here).1, all)) here

@@ -146,6 +146,9 @@ best-kept next n p bests b c q parts none hq le best = record {
           rest = ap (λ (z : Best). z.rank + 1) (best-left bests b (number_of p c.to) (omega arith)) ∙ f.rest;
         })
 
+pub bests-none : (next : ℕ → ℕ → List ℕ) (n : ℕ) (p : PartTable) (bests : List Best) → bests ≡ [] → AreBests next n p 0 bests
+bests-none next n p bests e = record { size = ap length e; right = λ q hq h. absurd (omega arith) }
+
 pub bests-more : (next : ℕ → ℕ → List ℕ) (n : ℕ) (p : PartTable) (k : ℕ) (bests : List Best) (b : Best) → IsParts next n p → HasNoTwin next → AreBests next n p k bests → ((q : ℕ) → q < n → number_of p q ≡ k → IsBest next n p bests q b)
     → AreBests next n p (k + 1) (bests ++ b ∷ [])
 bests-more next n p k bests b parts none are here = record {

@@ -1,7 +1,7 @@
 -- Splits and the search for their words.
-use Rattle.std.proofs.Common.{◌≡◌, ℕ, ◌+◌, ◌*◌, ◌/◌, ◌%◌, ◌<◌, ◌≤◌, ◌⊎◌, inl, inr, Bool, true, List, [], ◌∷◌, ◌++◌, length, get_or, set, ltb, IsTrue, ◌↔◌, Option, Some, None, IfSome, IfNone, is_some, lt-ltb, refl, sym, ◌∙◌, ap, ap₂, subst, arith, div-add-mod'}
+use Rattle.std.proofs.Common.{◌≡◌, ℕ, ◌+◌, ◌*◌, ◌/◌, ◌%◌, ◌<◌, ◌≤◌, ◌⊎◌, inl, inr, Bool, true, List, [], ◌∷◌, ◌++◌, length, get_or, set, replicate, ltb, IsTrue, ◌↔◌, Option, Some, None, IfSome, IfNone, is_some, lt-ltb, refl, sym, ◌∙◌, ap, ap₂, subst, arith, div-add-mod'}
 use Rattle.std.proofs.lemmas.Bool.{cases_lt, cases_eq, both_ways, ltb-true, and_parts, and_from}
-use Rattle.std.proofs.lemmas.List.{get_or-set_same, get_or-set_other, length-set}
+use Rattle.std.proofs.lemmas.List.{get_or-set_same, get_or-set_other, length-set, get_or-replicate, get_or_past, length-replicate}
 use Rattle.std.proofs.lemmas.Nat.{mul-add-lt, div-mul-add, mod-mul-add}
 use Rattle.rl_graph.specs.Paths.{paths, Reaches, OnCycle, IsBounded}
 use Rattle.rl_graph.specs.Graph.{Graph, edges_of, IsWhole}
@@ -345,6 +345,23 @@ module _ (g : Graph) (t : PairTable) (whole : IsWhole g) (table : IsTable g t) w
   pub search-tells : (r q : ℕ) (o : Option (List ℕ)) (b : Bool) → b ≡ is_some o → IfSome o (λ w. HasSplit (edges_of g) r q) → IfNone o (HasSplit (edges_of g) r q → ⊥) → IsTrue b ↔ HasSplit (edges_of g) r q
   search-tells r q (Some w) b e s o = (λ h. s, λ h. e)
   search-tells r q None b e s o = (λ h. absurd (both_ways b e h), λ h. absurd (o h))
+
+-- no mark
+pub marks-none : (g : Graph) (t : PairTable) (marks : List (Option Bool)) → marks ≡ replicate (t.inner.states * t.inner.states) None → AreMarks g t marks
+marks-none g t marks e = record {
+  size = ap length e ∙ length-replicate n None;
+  right = λ k b at. absurd (unknown k b (sym (ap (λ (l : List (Option Bool)). get_or l k None) e) ∙ at) (cases_lt k n));
+}
+  where
+    n : ℕ
+    n = t.inner.states * t.inner.states
+
+    none-some : (b : Bool) → None ≡ Some b → ⊥
+    none-some b e = cc
+
+    unknown : (k : ℕ) (b : Bool) → get_or (replicate n None) k None ≡ Some b → (k < n) ⊎ (n ≤ k) → ⊥
+    unknown k b at (inl lt) = none-some b (sym (get_or-replicate n k None None lt) ∙ at)
+    unknown k b at (inr past) = none-some b (sym (get_or_past (replicate n None) k None (omega (arith, length-replicate {A = Option Bool} n None, past))) ∙ at)
 
 -- one more mark
 pub marks-set : (g : Graph) (t : PairTable) (marks : List (Option Bool)) (k : ℕ) (b : Bool) → AreMarks g t marks → k < length marks → IsMark g t k b → AreMarks g t (set marks k (Some b))

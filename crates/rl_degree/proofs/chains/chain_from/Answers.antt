@@ -1,4 +1,4 @@
-use Rattle.std.proofs.Common.{◌≡◌, ◌∷◌, ◌++◌, [], List, All, length, sym, ap, subst, arith}
+use Rattle.std.proofs.Common.{ℕ, ◌≡◌, ◌∷◌, ◌++◌, [], List, All, length, sym, ap, subst, arith}
 use Rattle.std.proofs.lemmas.List.{length_push, append-nil}
 use Rattle.std.proofs.lemmas.List.Elements.{All-push}
 use Rattle.rl_graph.specs.Graph.{edges_of}
@@ -45,3 +45,37 @@ loop-best-preserved c =
 pub returns-clause-chain : goal.returns-clause-chain
 returns-clause-chain c =
     subst (ChainFrom (edges_of c.args.g.now) c.args.start) (append-nil (links_of c.loop-best.links)) (c.loop-best.invariant.chain [] tt)
+
+pub loop-best-init : goal.loop-best-init
+loop-best-init c =
+    let g = c.args.g.now in
+    let none = c.new-links.ensures in
+    let e : best_at c.args.bests.now c.of.result ≡ best_at c.args.bests.now (number_of c.args.table.now.components c.args.start) = ap (best_at c.args.bests.now) c.of.ensures in
+    record {
+      state_in = c.requires.start_in;
+      best = e;
+      chain = λ ms h. subst (λ (l : List Split). ChainFrom (edges_of g) c.args.start (links_of l ++ ms)) (sym none) h;
+      long = omega (arith, ap length none, ap (λ (z : Best). z.rank) e);
+      states = subst (All (IsSplitIn g.states)) (sym none) (λ k d lt. absurd (omega arith));
+    }
+
+pub split_word-requires-clause-from_in : goal.split_word-requires-clause-from_in
+split_word-requires-clause-from_in c =
+    let t = c.args.table.now in
+    let i = c.loop-best.invariant in
+    let f = first-there (edges_of c.args.g.now) c.args.g.now.states t.components c.args.bests.now c.loop-best.state c.loop-best.best c.requires.bests c.requires.table.components i.state_in i.best c.loop-best-test.true in
+    f.from_in
+
+pub split_word-requires-clause-to_in : goal.split_word-requires-clause-to_in
+split_word-requires-clause-to_in c =
+    let t = c.args.table.now in
+    let i = c.loop-best.invariant in
+    let f = first-there (edges_of c.args.g.now) c.args.g.now.states t.components c.args.bests.now c.loop-best.state c.loop-best.best c.requires.bests c.requires.table.components i.state_in i.best c.loop-best-test.true in
+    f.to_in
+
+pub loop-best-smaller : goal.loop-best-smaller
+loop-best-smaller c =
+    let t = c.args.table.now in
+    let i = c.loop-best.invariant in
+    let f = first-there (edges_of c.args.g.now) c.args.g.now.states t.components c.args.bests.now c.loop-best.state c.loop-best.best c.requires.bests c.requires.table.components i.state_in i.best c.loop-best-test.true in
+    omega (arith, f.rest, ap (λ (k : ℕ). (best_at c.args.bests.now k).rank) c.of-in-Some.ensures)

@@ -1,7 +1,7 @@
-use Rattle.std.proofs.Common.{◌<◌, ◌*◌, sym, ◌∙◌, arith}
+use Rattle.std.proofs.Common.{ℕ, ◌≡◌, ◌<◌, ◌*◌, sym, subst, ◌∙◌, arith}
 use Rattle.rl_graph.specs.Parts.{number_of}
-use Rattle.rl_degree.specs.internal.Pairs.{lists_of, IsPut}
-use Rattle.rl_degree.proofs.PairLaws.{placed-more, placed-passed}
+use Rattle.rl_degree.specs.internal.Pairs.{lists_of, IsPut, IsPlacedUpTo}
+use Rattle.rl_degree.proofs.PairLaws.{placed-bare, placed-more, placed-passed}
 use Rattle.rl_degree.proofs.pairs.placed_pairs.Goals as goal
 use Rattle.rl_degree.proofs.pairs.placed_pairs.Goals.{then-wanted+in_ok-put, else-wanted}
 
@@ -20,3 +20,21 @@ loop-pair-preserved c =
       | else-wanted w ↦
           rw w.placed-is (placed-passed components parts n x p (sym c.wanted.ensures ∙ w.if-wanted.false) c.loop-pair.invariant)
     ]
+
+pub loop-pair-init : goal.loop-pair-init
+loop-pair-init c = placed-bare c.args.levels.now c.args.parts.now c.args.count (lists_of c.in_ok-placed.placed) c.in_ok-placed.ensures
+
+pub put-requires-clause-part_in : goal.put-requires-clause-part_in
+put-requires-clause-part_in c = omega (arith, c.requires.parts_below c.loop-pair.pair (omega arith), c.of.ensures, c.loop-pair.invariant.numbered)
+
+pub put-requires-clause-pair_in : goal.put-requires-clause-pair_in
+put-requires-clause-pair_in c = omega (arith, c.loop-pair.invariant.size)
+
+pub put-requires-clause-lists : goal.put-requires-clause-lists
+put-requires-clause-lists c = c.loop-pair.invariant.lists
+
+pub returns : goal.returns
+returns c =
+    let n = c.args.count in
+    let e : c.loop-pair.pair ≡ n * n = omega arith in
+    subst (λ (z : ℕ). IsPlacedUpTo c.args.levels.now c.args.parts.now n z (lists_of c.loop-pair.placed)) e c.loop-pair.invariant

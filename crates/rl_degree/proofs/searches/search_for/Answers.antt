@@ -127,3 +127,16 @@ returns-clause-none c =
     let s = stand_of c.loop-found.search in
     λ split. search-none g c.args.table.now c.states-states.ensures.whole c.requires.table c.requires.no_twin c.args.pair c.of-part.result s i.asked i.searching c.in_default.ensures.none
     (subst (λ (z : ℕ). HasSplit (edges_of g) z s.to) (sym i.from) (subst (λ (z : ℕ). HasSplit (edges_of g) c.args.from z) (sym i.to) split))
+
+pub index-requires : goal.index-requires
+index-requires c = omega (arith, c.requires.pair.within, c.requires.table.placed.size, c.args.table.now.placed.places.ok.0)
+
+pub members_of-pairs-requires : goal.members_of-pairs-requires
+members_of-pairs-requires c = omega (arith, c.of-part.ensures, c.requires.table.parts.below c.args.pair c.requires.pair.within, c.requires.table.placed.numbered)
+
+pub follow-requires-clause-part_in : goal.follow-requires-clause-part_in
+follow-requires-clause-part_in c = omega (arith, c.of-part.ensures, c.requires.table.parts.below c.args.pair c.requires.pair.within)
+
+pub follow-requires-clause-searching : goal.follow-requires-clause-searching
+follow-requires-clause-searching c =
+    subst (IsSearching (field_of c.args.g.now c.args.table.now c.of-part.result)) c.in-Some.ensures.found c.loop-found.invariant.searching

@@ -1,6 +1,6 @@
-use Rattle.std.proofs.Common.{inl, refl, ◌∙◌}
-use Rattle.rl_degree.specs.internal.Rows.{field_of, stand_of}
-use Rattle.rl_degree.proofs.RowLaws.{further-more, followed-more}
+use Rattle.std.proofs.Common.{◌≡◌, ℕ, inl, refl, ◌∙◌, subst, arith}
+use Rattle.rl_degree.specs.internal.Rows.{field_of, stand_of, IsFollowedUpTo}
+use Rattle.rl_degree.proofs.RowLaws.{further-self, further-more, followed-more}
 use Rattle.rl_degree.proofs.rows.Search.follow.Goals as goal
 
 pub loop-letter-preserved : goal.loop-letter-preserved
@@ -19,3 +19,20 @@ loop-letter-preserved c =
 
 pub pair_at-pair-requires-clause-place_in : goal.pair_at-pair-requires-clause-place_in
 pair_at-pair-requires-clause-place_in c = (c.requires.searching.found c.args.found.now (inl refl)).place_in
+
+pub pair_at-pair-requires-clause-part_in : goal.pair_at-pair-requires-clause-part_in
+pair_at-pair-requires-clause-part_in c = omega (arith, c.requires.table.placed.numbered, c.requires.part_in)
+
+pub loop-letter-init : goal.loop-letter-init
+loop-letter-init c =
+    record {
+      further = further-self (field_of c.args.g.now c.args.table.now c.args.part) c.args.found.now (stand_of c.args.self.now) c.requires.searching;
+      followed = λ l h. absurd (omega arith);
+      wide = refl;
+    }
+
+pub returns-clause-followed : goal.returns-clause-followed
+returns-clause-followed c =
+    let g = c.args.g.now in
+    let e : c.loop-letter.letter ≡ g.letters = omega (arith, c.letters-letter-end.ensures) in
+    subst (λ (z : ℕ). IsFollowedUpTo (field_of g c.args.table.now c.args.part) c.args.found.now z (stand_of c.loop-letter.self)) e c.loop-letter.invariant.followed
