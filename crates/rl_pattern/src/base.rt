@@ -75,12 +75,7 @@ pub(crate) fn put_item(base: &mut Base, item: SyntaxNode) -> Result<(), OutOfMem
 }
 
 /// A node for one code, as an atom from a place up to here.
-pub(crate) fn put_leaf(
-    base: &mut Base,
-    from: u32,
-    upto: u32,
-    leaf: Leaf,
-) -> Result<(), OutOfMemory>
+pub(crate) fn put_leaf(base: &mut Base, from: u32, upto: u32, leaf: Leaf) -> Result<(), OutOfMemory>
     ensures { OnOk result (base_of base.new ≡ m.put_leaf (base_of base.old) from upto leaf) }
 {
     let flags = base.top.flags;

@@ -67,6 +67,24 @@ fn may_end(alloc: Global, base: &mut Base, lex: Lex, k: u32) -> Result<bool, Out
     }
 }
 
+/// The whole pattern where the codes end at `k` in the middle of this.
+fn finish_lex(
+    alloc: Global,
+    base: &mut Base,
+    lex: Lex,
+    k: u32,
+) -> Result<Option<Whole>, OutOfMemory>
+    requires room { k < 2 ^ 32 - 1 }
+    requires fits { FitsAt (lex_of lex) k }
+    ensures { IfOk result (λ found. option_map whole_of found ≡ m.finish_lex k (base_of base.old) (lex_of lex)) }
+{
+    if may_end(alloc, base, lex, k)? && base.below.is_empty() {
+        Ok(Some(whole(alloc, base, k)?))
+    } else {
+        Ok(None)
+    }
+}
+
 /// The whole pattern where the codes end at `k`.
 pub(crate) fn finish(alloc: Global, state: State, k: u32) -> Result<Option<Whole>, OutOfMemory>
     requires room { k < 2 ^ 32 - 1 }
@@ -74,11 +92,7 @@ pub(crate) fn finish(alloc: Global, state: State, k: u32) -> Result<Option<Whole
     ensures { IfOk result (λ found. option_map whole_of found ≡ m.finish_at k (state_of state)) }
 {
     let State { mut base, lex } = state;
-    if may_end(alloc, &mut base, lex, k)? && base.below.is_empty() {
-        Ok(Some(whole(alloc, &mut base, k)?))
-    } else {
-        Ok(None)
-    }
+    finish_lex(alloc, &mut base, lex, k)
 }
 
 /// The state before the first code.

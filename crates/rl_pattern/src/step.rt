@@ -1,7 +1,7 @@
 //! The reader of patterns, one code at a time.
 
-ghost use Rattle.std.specs.Prelude.{◌≡◌, ℕ, ◌<◌, ◌^◌, ◌-◌, ◌+◌, suc, [], ◌∷◌, ◌++◌, length, IfOk, OnOk, option_map, Some, ◌==◌};
-ghost use Rattle.rl_pattern.specs.internal.Views.{node_of, base_of, lex_of, state_of, state_with, FitsAt};
+ghost use Rattle.std.specs.Prelude.{◌≡◌, ℕ, ◌<◌, ◌^◌, ◌-◌, ◌+◌, suc, [], ◌∷◌, ◌++◌, length, IfOk, Some};
+ghost use Rattle.rl_pattern.specs.internal.Views.{node_of, base_of, lex_of, state_with, FitsAt};
 ghost use Rattle.rl_pattern.specs.Codes.{sign, counts};
 ghost use Rattle.rl_pattern.specs.internal.Machine as m;
 ghost use Rattle.rl_pattern.specs.Tree as t;
@@ -16,7 +16,7 @@ use crate::escape::{escape_first, escape_next, escape_rest};
 use crate::head::{behind_paren, head_step};
 use crate::lex::{Answer, EscapeClass, GroupStart, InEscape, InHead, InSet, Set, TokenClass};
 use crate::set::set_step;
-use crate::state::{Base, Lex, State};
+use crate::state::{Base, Lex};
 use crate::tree::{Assertion, Count, Escaped, Greed, Kind, Leaf, SyntaxNode};
 use rl_lists::{Items, OutOfMemory};
 use rl_syntax::Span;
@@ -45,12 +45,7 @@ fn code_between(base: &mut Base, i: u32, code: u32) -> Result<Option<Lex>, OutOf
 }
 
 /// A code that may be passed over.
-fn pass_or_put(
-    base: &mut Base,
-    i: u32,
-    code: u32,
-    lex: Lex,
-) -> Result<Option<Lex>, OutOfMemory>
+fn pass_or_put(base: &mut Base, i: u32, code: u32, lex: Lex) -> Result<Option<Lex>, OutOfMemory>
     requires { i < 2 ^ 32 - 1 }
     ensures { IfOk result (λ found. state_with (base_of base.new) found ≡ m.pass_or_put (base_of base.old) i code (lex_of lex)) }
 {
@@ -71,7 +66,10 @@ fn put_mark(
     ensures { IfOk result (λ found. state_with (base_of base.new) found ≡ Some (m.at (m.put_item (base_of base.old) (t.mark (t.span from upto) (base_of base.old).top.flags mark)) m.between)) }
 {
     let flags = base.top.flags;
-    put_item(base, SyntaxNode::Assertion(Span { from, upto }, flags, mark))?;
+    put_item(
+        base,
+        SyntaxNode::Assertion(Span { from, upto }, flags, mark),
+    )?;
     Ok(Some(Lex::Between))
 }
 
@@ -388,7 +386,7 @@ fn set_opens(
 }
 
 /// What the reader is in the middle of with the code at `i`, in text or not, if a pattern goes on so.
-fn next_lex(
+pub(crate) fn step(
     alloc: Global,
     text: bool,
     i: u32,
@@ -425,24 +423,5 @@ fn next_lex(
         Lex::InHead(from, head) => in_head_step(alloc, text, i, base, from, head, code),
         Lex::SetOpen(from) => set_opens(alloc, text, i, base, from, code),
         Lex::InClass(from, inverse, set) => class_step(text, i, base, from, inverse, set, code),
-    }
-}
-
-/// The state with the code at `i`, in text or not, if a pattern goes on so.
-pub(crate) fn step(
-    alloc: Global,
-    text: bool,
-    i: u32,
-    state: State,
-    code: u32,
-) -> Result<Option<State>, OutOfMemory>
-    requires room { i < 2 ^ 32 - 1 }
-    requires fits { FitsAt (state_of state).lex i }
-    ensures { IfOk result (λ found. option_map state_of found ≡ m.step_at text i (state_of state) code) }
-{
-    let State { mut base, lex } = state;
-    match next_lex(alloc, text, i, &mut base, lex, code)? {
-        None => Ok(None),
-        Some(lex) => Ok(Some(State { base, lex })),
     }
 }
