@@ -10,7 +10,7 @@ use Rattle.rl_pattern.specs.Viable.{Begins, Viable, TooDeepAt}
 use Rattle.rl_pattern.specs.declared.tree.Whole.{Whole as ProgramWhole}
 use Rattle.rl_pattern.specs.declared.read.ReadError.{ReadError}
 use Rattle.rl_pattern.specs.declared.read.ReadError.TheVariants.{Syntax, TooDeep, OutOfMemory}
-use Rattle.rl_pattern.specs.internal.Views.{FitsAt, state_of, whole_of}
+use Rattle.rl_pattern.specs.internal.Views.{FitsAt, whole_of}
 use Rattle.rl_pattern.specs.Answers.{Shallow}
 use Rattle.rl_pattern.specs.internal.Answering.{Went, Ended, Answered, is_code, opens_none, at_paren, is_too_deep, Standing}
 use Rattle.rl_pattern.specs.internal.Machine.{InHead, paren, quest, after_p, after_less, group_name, group_name_goes, reference_name, reference_name_goes, asks, asks_digits, asks_name_goes, letters_on, letters_dash, letters_off, Lex, between, line, comment, in_braces, counted, at_slash, in_escape, in_head, set_open, in_class, State, behind_paren, step_at, run, finish_at, start}

@@ -9,7 +9,7 @@ use Rattle.rl_pattern.specs.Tree as t
 use Rattle.rl_pattern.specs.Codes.{code_of}
 use Rattle.rl_pattern.specs.Grammar.{Spells}
 use Rattle.rl_pattern.specs.Viable.{Begins, Viable, TooDeepAt}
-use Rattle.rl_pattern.specs.internal.Views.{state_of, whole_of}
+use Rattle.rl_pattern.specs.internal.Views.{whole_of}
 use Rattle.rl_pattern.specs.internal.Machine.{State, Lex, between, line, comment, in_braces, counted, at_slash, in_escape, in_head, set_open, in_class, behind_paren, run, start}
 use Rattle.rl_pattern.specs.Answers.{Shallow}
 
