@@ -7,11 +7,10 @@ use Rattle.rl_pattern.specs.declared.flags.Flags.{Flags}
 use Rattle.rl_pattern.specs.Tree.{Whole}
 use Rattle.rl_pattern.specs.Grammar.{Spells}
 use Rattle.rl_pattern.specs.Viable.{Begins, Viable, TooDeepAt}
-use Rattle.rl_pattern.specs.declared.state.State.{State as ProgramState}
 use Rattle.rl_pattern.specs.declared.tree.Whole.{Whole as ProgramWhole}
 use Rattle.rl_pattern.specs.declared.read.ReadError.{ReadError}
 use Rattle.rl_pattern.specs.declared.read.ReadError.TheVariants.{Syntax, TooDeep, OutOfMemory}
-use Rattle.rl_pattern.specs.internal.Views.{FitsAt, state_of, whole_of}
+use Rattle.rl_pattern.specs.internal.Views.{FitsAt, whole_of}
 use Rattle.rl_pattern.specs.Answers.{Shallow}
 use Rattle.rl_pattern.specs.internal.Answering.{Went, Ended, Answered, is_code, opens_none, at_paren, is_too_deep, Standing}
 use Rattle.rl_pattern.specs.internal.Machine.{InHead, paren, quest, after_p, after_less, group_name, group_name_goes, reference_name, reference_name_goes, asks, asks_digits, asks_name_goes, letters_on, letters_dash, letters_off, Lex, between, line, comment, in_braces, counted, at_slash, in_escape, in_head, set_open, in_class, State, behind_paren, step_at, run, finish_at, start}
@@ -179,13 +178,13 @@ module _ (call : Flags) (text : Bool) (w : List ℕ) where
       (v, unread_spells_none call text w (run_then_finish call text w s runs ∙ e), none_deeper (length w) v h.shallow)
 
   -- the answers of one code and of the end
-  pub went_on : (i c : ℕ) (s : State) (r : ProgramState) → Standing call text w i s → slice_get w i ≡ Some c → Went w i (step_at text i s c) (Ok r) → Standing call text w (suc i) (state_of r)
-  went_on i c s r h at_c z = stand_step i c s (state_of r) h at_c z.0 z.1
+  pub went_on : (i c : ℕ) (s r : State) → Standing call text w i s → slice_get w i ≡ Some c → (step_at text i s c ≡ Some r) × (is_too_deep r w i ≡ false) → Standing call text w (suc i) r
+  went_on i c s r h at_c z = stand_step i c s r h at_c z.0 z.1
 
-  pub went_wrong : (i c : ℕ) (s : State) (e : ReadError) → Standing call text w i s → slice_get w i ≡ Some c → Went w i (step_at text i s c) (Err e) → Answered call text w (Err e)
-  went_wrong i c s (Syntax n) h at_c z = subst (λ m. Answered call text w (Err (Syntax m))) (sym z.1) (stand_dead i c s h at_c z.0)
-  went_wrong i c s (TooDeep n) h at_c z = subst (λ m. Answered call text w (Err (TooDeep m))) (sym z.3) (stand_deep i c s z.0 h at_c z.1 z.2)
-  went_wrong i c s OutOfMemory h at_c z = tt
+  pub went_wrong : (i c : ℕ) (s r : State) (e : ReadError) → Standing call text w i s → slice_get w i ≡ Some c → Went w i (step_at text i s c) r (Err e) → Answered call text w (Err e)
+  went_wrong i c s r (Syntax n) h at_c z = subst (λ m. Answered call text w (Err (Syntax m))) (sym z.1) (stand_dead i c s h at_c z.0)
+  went_wrong i c s r (TooDeep n) h at_c z = subst (λ m. Answered call text w (Err (TooDeep m))) (sym z.2) (stand_deep i c s r h at_c z.0 z.1)
+  went_wrong i c s r OutOfMemory h at_c z = tt
 
   pub ended_right : (i : ℕ) (s : State) (r : Result ProgramWhole ReadError) → i ≡ length w → Standing call text w i s → Ended i (finish_at i s) r → Answered call text w r
   ended_right i s (Ok p) e h z = stand_end s (whole_of p) (subst (λ k. Standing call text w k s) e h) (subst (λ k. finish_at k s ≡ Some (whole_of p)) e z)

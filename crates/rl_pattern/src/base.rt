@@ -1,17 +1,18 @@
 //! What the reader has read, with one thing more.
 
-ghost use Rattle.std.specs.Prelude.{◌≡◌, ℕ, ◌+◌, ◌-◌, ◌<◌, ◌≤◌, ◌^◌, List, [], ◌∷◌, ◌++◌, length, map, reverse, IfOk, option_map, Option, None, suc};
-ghost use Rattle.rl_pattern.specs.internal.Views.{node_of, branch_of, last_of, frame_of, base_of, lex_of, state_of};
+ghost use Rattle.std.specs.Prelude.{◌≡◌, ℕ, ◌+◌, ◌-◌, ◌<◌, ◌^◌, [], ◌∷◌, ◌++◌, length, map, reverse, IfOk, OnOk, suc};
+ghost use Rattle.rl_pattern.specs.internal.Views.{node_of, branch_of, last_of, frame_of, base_of, state_with};
 ghost use Rattle.rl_pattern.specs.Tree as t;
 ghost use Rattle.rl_pattern.specs.Codes.{inside, splits, joined};
 ghost use Rattle.rl_pattern.specs.internal.Machine as m;
 
 use crate::flags::{Flags, joined, scoped_flags};
-use crate::state::{Base, Frame, Last, Lex, State};
+use crate::state::{Base, Frame, Last, Lex};
 use crate::tree::{Branch, Count, Escaped, Front, Greed, Kind, Leaf, SyntaxNode};
 use rl_lists::{Items, OutOfMemory};
 use rl_syntax::Span;
 use std::alloc::Global;
+use std::mem;
 
 /// What a branch of these items is: one item is the branch.
 fn branch_body(place: Span, items: Items<SyntaxNode>) -> SyntaxNode
@@ -38,7 +39,7 @@ pub(crate) fn branch(place: Span, items: Items<SyntaxNode>) -> Branch
 }
 
 /// A body of these branches: one branch is the body.
-fn whole_body(place: Span, branches: Items<Branch>) -> SyntaxNode
+pub(crate) fn whole_body(place: Span, branches: Items<Branch>) -> SyntaxNode
     ensures { node_of result ≡ t.whole_body place (map branch_of branches) }
 {
     if 1 < branches.len() {
@@ -51,115 +52,65 @@ fn whole_body(place: Span, branches: Items<Branch>) -> SyntaxNode
     }
 }
 
-/// A body with one item more.
-fn with_item(mut body: Frame, item: SyntaxNode) -> Result<Frame, OutOfMemory>
-    ensures { IfOk result (λ found. frame_of found ≡ record (frame_of body) { items = map node_of body.items ++ node_of item ∷ [] }) }
+/// The last atom among the items, and another one in its place.
+fn with_last(base: &mut Base, last: Last) -> Result<(), OutOfMemory>
+    ensures { OnOk result (base_of base.new ≡ m.put_last (base_of base.old) (m.settled (base_of base.old).top.items (base_of base.old).last) (last_of last)) }
 {
-    body.items.push(item)?;
-    Ok(body)
-}
-
-/// A body with its last atom among the items.
-fn settled(body: Frame, last: Last) -> Result<Frame, OutOfMemory>
-    ensures { IfOk result (λ found. frame_of found ≡ record (frame_of body) { items = m.settled (map node_of body.items) (last_of last) }) }
-{
-    match last {
-        Last::NothingYet => Ok(body),
-        Last::AnAtom(_, atom) => with_item(body, atom),
+    match mem::replace(&mut base.last, last) {
+        Last::NothingYet => Ok(()),
+        Last::AnAtom(_, atom) => {
+            base.top.items.push(atom)?;
+            Ok(())
+        }
     }
 }
 
-/// The base with its last atom among the items, and another one in its place.
-fn with_last(base: Base, last: Last) -> Result<Base, OutOfMemory>
-    ensures { IfOk result (λ found. base_of found ≡ m.put_last (base_of base) (m.settled (base_of base).top.items (base_of base).last) (last_of last)) }
+/// An item that takes no quantifier.
+pub(crate) fn put_item(base: &mut Base, item: SyntaxNode) -> Result<(), OutOfMemory>
+    ensures { OnOk result (base_of base.new ≡ m.put_item (base_of base.old) (node_of item)) }
 {
-    let Base {
-        top,
-        last: before,
-        below,
-        fronts,
-    } = base;
-    let top = settled(top, before)?;
-    Ok(Base {
-        top,
-        last,
-        below,
-        fronts,
-    })
+    with_last(base, Last::NothingYet)?;
+    base.top.items.push(item)?;
+    Ok(())
 }
 
-/// An atom from a place up to here.
-pub(crate) fn put(base: Base, from: u32, atom: SyntaxNode) -> Result<Base, OutOfMemory>
-    ensures { IfOk result (λ found. base_of found ≡ m.put (base_of base) from (node_of atom)) }
+/// A node for one code, as an atom from a place up to here.
+pub(crate) fn put_leaf(base: &mut Base, from: u32, upto: u32, leaf: Leaf) -> Result<(), OutOfMemory>
+    ensures { OnOk result (base_of base.new ≡ m.put_leaf (base_of base.old) from upto leaf) }
 {
+    let flags = base.top.flags;
+    let atom = SyntaxNode::Leaf(Span { from, upto }, flags, leaf);
     with_last(base, Last::AnAtom(from, atom))
 }
 
-/// A body with its last atom among the items, and one item more.
-fn settled_with(body: Frame, last: Last, item: SyntaxNode) -> Result<Frame, OutOfMemory>
-    ensures { IfOk result (λ found. frame_of found ≡ record (frame_of body) { items = m.settled (map node_of body.items) (last_of last) ++ node_of item ∷ [] }) }
-{
-    with_item(settled(body, last)?, item)
-}
-
-/// An item that takes no quantifier.
-pub(crate) fn put_item(base: Base, item: SyntaxNode) -> Result<Base, OutOfMemory>
-    ensures { IfOk result (λ found. base_of found ≡ m.put_item (base_of base) (node_of item)) }
-{
-    let Base {
-        top,
-        last,
-        below,
-        fronts,
-    } = base;
-    let top = settled_with(top, last, item)?;
-    Ok(Base {
-        top,
-        last: Last::NothingYet,
-        below,
-        fronts,
-    })
-}
-
-/// A node for one code.
-pub(crate) fn put_leaf(base: Base, from: u32, upto: u32, leaf: Leaf) -> Result<Base, OutOfMemory>
-    ensures { IfOk result (λ found. base_of found ≡ m.put_leaf (base_of base) from upto leaf) }
-{
-    let flags = base.top.flags;
-    put(
-        base,
-        from,
-        SyntaxNode::Leaf(Span { from, upto }, flags, leaf),
-    )
-}
-
 /// A literal.
-pub(crate) fn put_code(base: Base, i: u32, code: u32) -> Result<Base, OutOfMemory>
+pub(crate) fn put_code(base: &mut Base, i: u32, code: u32) -> Result<(), OutOfMemory>
     requires { i < 2 ^ 32 - 1 }
-    ensures { IfOk result (λ found. base_of found ≡ m.put_code (base_of base) i code) }
+    ensures { OnOk result (base_of base.new ≡ m.put_code (base_of base.old) i code) }
 {
     put_leaf(base, i, i + 1, Leaf::Glyph(Escaped::Code(code)))
 }
 
 /// Codes from `from` on, each a literal.
-fn put_codes(mut base: Base, from: u32, codes: &[u32]) -> Result<Base, OutOfMemory>
+fn put_codes(base: &mut Base, from: u32, codes: &[u32]) -> Result<(), OutOfMemory>
     requires { from + length codes.now < 2 ^ 32 }
-    ensures { IfOk result (λ found. base_of found ≡ m.put_codes (base_of base) from codes.now) }
+    ensures { OnOk result (base_of base.new ≡ m.put_codes (base_of base.old) from codes.now) }
 {
     let mut place = from;
     for code in codes {
-        base = put_code(base, place, *code)?;
+        put_code(base, place, *code)?;
         place += 1;
     }
-    Ok(base)
+    Ok(())
 }
 
 /// A brace at `from` and the text after it, which are no count.
-pub(crate) fn no_count(base: Base, from: u32, text: &[u32]) -> Result<Base, OutOfMemory>
+pub(crate) fn no_count(base: &mut Base, from: u32, text: &[u32]) -> Result<(), OutOfMemory>
     requires { suc from + length text.now < 2 ^ 32 }
-    ensures { IfOk result (λ found. base_of found ≡ m.no_count (base_of base) from text.now) }
+    ensures { OnOk result (base_of base.new ≡ m.no_count (base_of base.old) from text.now) }
 {
-    put_codes(put_code(base, from, '{' as u32)?, from + 1, text)
+    put_code(base, from, '{' as u32)?;
+    put_codes(base, from + 1, text)
 }
 
 /// The node of an atom with a quantifier.
@@ -184,48 +135,27 @@ fn repeat_of(
 /// The atom with a quantifier.
 pub(crate) fn put_repeat(
     alloc: Global,
-    base: Base,
+    base: &mut Base,
     from: u32,
     atom: SyntaxNode,
     mark: Span,
     count: Count,
     greed: Greed,
-) -> Result<Base, OutOfMemory>
-    ensures { IfOk result (λ found. base_of found ≡ m.put_repeat (base_of base) from (node_of atom) mark.from mark.upto count greed) }
+) -> Result<(), OutOfMemory>
+    ensures { OnOk result (base_of base.new ≡ m.put_repeat (base_of base.old) from (node_of atom) mark.from mark.upto count greed) }
 {
     let item = repeat_of(alloc, from, atom, mark, count, greed)?;
     put_item(base, item)
 }
 
 /// A quantifier from `from` for the last atom.
-pub(crate) fn count_last(base: Base, from: u32, count: Count) -> Option<State>
-    ensures { option_map state_of result ≡ m.count_last (base_of base) from count (base_of base).last }
+pub(crate) fn count_last(base: &mut Base, from: u32, count: Count) -> Option<Lex>
+    ensures { state_with (base_of base.new) result ≡ m.count_last (base_of base.old) from count (base_of base.old).last }
 {
-    let Base {
-        top,
-        last,
-        below,
-        fronts,
-    } = base;
-    match last {
+    match mem::replace(&mut base.last, Last::NothingYet) {
         Last::NothingYet => None,
-        Last::AnAtom(place, atom) => Some(State {
-            base: Base {
-                top,
-                last: Last::NothingYet,
-                below,
-                fronts,
-            },
-            lex: Lex::Counted(place, atom, from, count),
-        }),
+        Last::AnAtom(place, atom) => Some(Lex::Counted(place, atom, from, count)),
     }
-}
-
-/// No pattern goes on with what was read.
-pub(crate) fn stopped(_: Base) -> Option<State>
-    ensures { option_map state_of result ≡ None }
-{
-    None
 }
 
 /// Whether a `|` may follow these branches.
@@ -239,70 +169,28 @@ fn splits(kind: &Kind, branches: &Items<Branch>) -> bool
     }
 }
 
-/// The branches of a body with the open one, up to `upto`. Its last atom is among its items.
-fn all_branches(
-    mut branches: Items<Branch>,
-    from: u32,
-    upto: u32,
-    items: Items<SyntaxNode>,
-) -> Result<Items<Branch>, OutOfMemory>
-    ensures { IfOk result (λ all. map branch_of all ≡ map branch_of branches ++ t.branch (t.span from upto) (map node_of items) ∷ []) }
+/// The open branch, up to `upto`, with its last atom, among those before it.
+pub(crate) fn end_branch(alloc: Global, base: &mut Base, upto: u32) -> Result<(), OutOfMemory>
+    ensures { OnOk result (base_of base.new ≡ m.next_branch (base_of base.old) base.old.top.from (m.all_branches (base_of base.old) upto)) }
 {
-    branches.push(branch(Span { from, upto }, items))?;
-    Ok(branches)
-}
-
-/// A body with its open branch, up to `i`, after those before it, and the next one open.
-fn next_branch(alloc: Global, body: Frame, last: Last, i: u32) -> Result<Frame, OutOfMemory>
-    requires { i < 2 ^ 32 - 1 }
-    ensures { IfOk result (λ found. frame_of found ≡ record (frame_of body) { from = suc i; branches = map branch_of body.branches ++ t.branch (t.span body.from i) (m.settled (map node_of body.items) (last_of last)) ∷ []; items = [] }) }
-{
-    let Frame {
-        flags,
-        kind,
-        opened,
-        start,
-        from,
-        branches,
-        items,
-    } = settled(body, last)?;
-    let branches = all_branches(branches, from, i, items)?;
-    Ok(Frame {
-        flags,
-        kind,
-        opened,
-        start,
-        from: i + 1,
-        branches,
-        items: Items::new(alloc),
-    })
+    with_last(base, Last::NothingYet)?;
+    let items = mem::replace(&mut base.top.items, Items::new(alloc));
+    let from = base.top.from;
+    base.top.branches.push(branch(Span { from, upto }, items))?;
+    Ok(())
 }
 
 /// A `|` at `i`.
-pub(crate) fn split(alloc: Global, base: Base, i: u32) -> Result<Option<State>, OutOfMemory>
+pub(crate) fn split(alloc: Global, base: &mut Base, i: u32) -> Result<Option<Lex>, OutOfMemory>
     requires { i < 2 ^ 32 - 1 }
-    ensures { IfOk result (λ found. option_map state_of found ≡ m.split (base_of base) i) }
+    ensures { IfOk result (λ found. state_with (base_of base.new) found ≡ m.split (base_of base.old) i) }
 {
-    let Base {
-        top,
-        last,
-        below,
-        fronts,
-    } = base;
-    let top = next_branch(alloc, top, last, i)?;
-    let base = Base {
-        top,
-        last: Last::NothingYet,
-        below,
-        fronts,
-    };
+    end_branch(alloc, base, i)?;
+    base.top.from = i + 1;
     if splits(&base.top.kind, &base.top.branches) {
-        Ok(Some(State {
-            base,
-            lex: Lex::Between,
-        }))
+        Ok(Some(Lex::Between))
     } else {
-        Ok(stopped(base))
+        Ok(None)
     }
 }
 
@@ -332,102 +220,71 @@ pub(crate) fn empty_body(alloc: Global, flags: Flags, kind: Kind, opened: u32, s
     }
 }
 
-/// Open bodies, and one more with its last atom among the items.
-fn with_below(mut below: Vec<Frame>, body: Frame, last: Last) -> Result<Vec<Frame>, OutOfMemory>
-    ensures { IfOk result (λ all. map frame_of (reverse all.items) ≡ record (frame_of body) { items = m.settled (map node_of body.items) (last_of last) } ∷ map frame_of (reverse below.items)) }
+/// Open bodies, and one more.
+fn put_below(below: &mut Vec<Frame>, body: Frame) -> Result<(), OutOfMemory>
+    ensures { OnOk result (map frame_of (reverse below.new.items) ≡ frame_of body ∷ map frame_of (reverse below.old.items)) }
 {
-    below.push(settled(body, last)?)?;
-    Ok(below)
+    below.push(body)?;
+    Ok(())
 }
 
 /// A group with its parenthesis at `opened` and its body from `start` on.
 pub(crate) fn open_group(
     alloc: Global,
-    base: Base,
+    base: &mut Base,
     opened: u32,
     start: u32,
     kind: Kind,
-) -> Result<Base, OutOfMemory>
-    ensures { IfOk result (λ found. base_of found ≡ m.open_group (base_of base) opened start kind) }
+) -> Result<(), OutOfMemory>
+    ensures { OnOk result (base_of base.new ≡ m.open_group (base_of base.old) opened start kind) }
 {
-    let Base {
-        top,
-        last,
-        below,
-        fronts,
-    } = base;
-    let flags = inside(&kind, top.flags);
-    let below = with_below(below, top, last)?;
-    Ok(Base {
-        top: empty_body(alloc, flags, kind, opened, start),
-        last: Last::NothingYet,
-        below,
-        fronts,
-    })
+    with_last(base, Last::NothingYet)?;
+    let flags = inside(&kind, base.top.flags);
+    let body = empty_body(alloc, flags, kind, opened, start);
+    put_below(&mut base.below, mem::replace(&mut base.top, body))
 }
 
-/// What a body is, up to `upto`, and the body's kind.
-pub(crate) fn body_up_to(
-    body: Frame,
-    last: Last,
-    upto: u32,
-) -> Result<(SyntaxNode, Kind), OutOfMemory>
-    ensures { IfOk result (λ found. (node_of found.0 ≡ t.whole_body (t.span body.start upto) (map branch_of body.branches ++ t.branch (t.span body.from upto) (m.settled (map node_of body.items) (last_of last)) ∷ [])) × (found.1 ≡ body.kind)) }
+/// The group of an open body, which the `)` at `i` closes, as the last atom. Its last branch is among its branches.
+fn closed(alloc: Global, body: Frame, i: u32) -> Result<Last, OutOfMemory>
+    requires { i < 2 ^ 32 - 1 }
+    ensures { IfOk result (λ atom. last_of atom ≡ m.an_atom body.opened (t.group (t.span body.opened (suc i)) body.kind (t.whole_body (t.span body.start i) (map branch_of body.branches)))) }
 {
     let Frame {
         flags: _,
         kind,
-        opened: _,
+        opened,
         start,
-        from,
+        from: _,
         branches,
-        items,
-    } = settled(body, last)?;
-    let branches = all_branches(branches, from, upto, items)?;
-    Ok((whole_body(Span { from: start, upto }, branches), kind))
-}
-
-/// The group of an open body, which the `)` at `i` closes, as the last atom.
-fn closed(alloc: Global, body: Frame, last: Last, i: u32) -> Result<Last, OutOfMemory>
-    requires { i < 2 ^ 32 - 1 }
-    ensures { IfOk result (λ atom. last_of atom ≡ m.an_atom body.opened (t.group (t.span body.opened (suc i)) body.kind (t.whole_body (t.span body.start i) (map branch_of body.branches ++ t.branch (t.span body.from i) (m.settled (map node_of body.items) (last_of last)) ∷ [])))) }
-{
-    let from = body.opened;
-    let (body, kind) = body_up_to(body, last, i)?;
-    let body = Box::new(alloc, body)?;
-    let span = Span { from, upto: i + 1 };
-    Ok(Last::AnAtom(from, SyntaxNode::Group(span, kind, body)))
+        items: _,
+    } = body;
+    let whole = whole_body(
+        Span {
+            from: start,
+            upto: i,
+        },
+        branches,
+    );
+    let whole = Box::new(alloc, whole)?;
+    let span = Span {
+        from: opened,
+        upto: i + 1,
+    };
+    Ok(Last::AnAtom(opened, SyntaxNode::Group(span, kind, whole)))
 }
 
 /// The `)` at `i`.
-pub(crate) fn close(alloc: Global, base: Base, i: u32) -> Result<Option<State>, OutOfMemory>
+pub(crate) fn close(alloc: Global, base: &mut Base, i: u32) -> Result<Option<Lex>, OutOfMemory>
     requires { i < 2 ^ 32 - 1 }
-    ensures { IfOk result (λ found. option_map state_of found ≡ m.close (base_of base) i (base_of base).below) }
+    ensures { IfOk result (λ found. state_with (base_of base.new) found ≡ m.close (base_of base.old) i (base_of base.old).below) }
 {
-    let Base {
-        top,
-        last,
-        mut below,
-        fronts,
-    } = base;
-    match below.pop() {
-        None => Ok(stopped(Base {
-            top,
-            last,
-            below,
-            fronts,
-        })),
+    end_branch(alloc, base, i)?;
+    match base.below.pop() {
+        None => Ok(None),
         Some(outer) => {
-            let last = closed(alloc, top, last, i)?;
-            Ok(Some(State {
-                base: Base {
-                    top: outer,
-                    last,
-                    below,
-                    fronts,
-                },
-                lex: Lex::Between,
-            }))
+            let body = mem::replace(&mut base.top, outer);
+            base.last = closed(alloc, body, i)?;
+            Ok(Some(Lex::Between))
         }
     }
 }
@@ -447,45 +304,24 @@ fn at_front(base: &Base, from: u32) -> bool
         && (from == 0 || !base.fronts.is_empty())
 }
 
-/// A body that begins at `start` under more flags.
-fn begun_at(mut body: Frame, letters: Flags, start: u32) -> Frame
-    ensures { frame_of result ≡ record (frame_of body) { flags = joined body.flags letters; start = start; from = start } }
-{
-    body.flags = joined(body.flags, letters);
-    body.start = start;
-    body.from = start;
-    body
-}
-
 /// A flag group.
 pub(crate) fn put_front(
-    base: Base,
+    base: &mut Base,
     from: u32,
     upto: u32,
     letters: Flags,
-) -> Result<Option<State>, OutOfMemory>
-    ensures { IfOk result (λ found. option_map state_of found ≡ m.put_front (base_of base) from upto letters) }
+) -> Result<Option<Lex>, OutOfMemory>
+    ensures { IfOk result (λ found. state_with (base_of base.new) found ≡ m.put_front (base_of base.old) from upto letters) }
 {
-    if !at_front(&base, from) {
-        return Ok(stopped(base));
+    if !at_front(base, from) {
+        return Ok(None);
     }
-    let Base {
-        top,
-        last,
-        below,
-        mut fronts,
-    } = base;
-    fronts.push(Front {
+    base.fronts.push(Front {
         place: Span { from, upto },
         letters,
     })?;
-    Ok(Some(State {
-        base: Base {
-            top: begun_at(top, letters, upto),
-            last,
-            below,
-            fronts,
-        },
-        lex: Lex::Between,
-    }))
+    base.top.flags = joined(base.top.flags, letters);
+    base.top.start = upto;
+    base.top.from = upto;
+    Ok(Some(Lex::Between))
 }

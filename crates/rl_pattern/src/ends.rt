@@ -1,86 +1,87 @@
 //! The reader before the first code, and at the end of the codes.
 
-ghost use Rattle.std.specs.Prelude.{◌≡◌, ℕ, ◌+◌, ◌-◌, ◌<◌, ◌^◌, suc, length, List, map, IfOk, option_map, None};
-ghost use Rattle.rl_pattern.specs.internal.Views.{node_of, branch_of, base_of, lex_of, state_of, whole_of, FitsAt};
-ghost use Rattle.rl_pattern.specs.Tree as t;
+ghost use Rattle.std.specs.Prelude.{◌≡◌, ℕ, ◌-◌, ◌<◌, ◌^◌, [], IfOk, option_map, Some, None, if◌then◌else◌};
+ghost use Rattle.rl_pattern.specs.internal.Views.{base_of, lex_of, state_of, whole_of, FitsAt};
 ghost use Rattle.rl_pattern.specs.internal.Machine as m;
 
-use crate::base::{body_up_to, empty_body, no_count, put_leaf, put_repeat};
+use crate::base::{empty_body, end_branch, no_count, put_leaf, put_repeat, whole_body};
 use crate::escape::escape_rest;
 use crate::flags::{Flags, no_flags};
 use crate::state::{Base, Last, Lex, State};
-use crate::tree::{Count, Escaped, Greed, Kind, Leaf, SyntaxNode, Whole};
+use crate::tree::{Greed, Kind, Leaf, Whole};
 use rl_lists::{Items, OutOfMemory};
 use rl_syntax::Span;
 use std::alloc::Global;
+use std::mem;
 
-/// What was read is no whole pattern.
-fn not_whole(_: Base) -> Option<Whole>
-    ensures { option_map whole_of result ≡ None }
+/// The whole pattern where the codes end at `k` between items, with no group open.
+fn whole(alloc: Global, base: &mut Base, k: u32) -> Result<Whole, OutOfMemory>
+    ensures { IfOk result (λ found. Some (whole_of found) ≡ m.finish_below k (base_of base.old) []) }
 {
-    None
-}
-
-/// The whole pattern where the codes end at `k` between items.
-fn finish_base(base: Base, k: u32) -> Result<Option<Whole>, OutOfMemory>
-    ensures { IfOk result (λ found. option_map whole_of found ≡ m.finish k (base_of base)) }
-{
-    if !base.below.is_empty() {
-        return Ok(not_whole(base));
-    }
-    let Base {
-        top,
-        last,
-        below: _,
-        fronts,
-    } = base;
+    end_branch(alloc, base, k)?;
     let place = Span {
-        from: top.start,
+        from: base.top.start,
         upto: k,
     };
-    let (body, _) = body_up_to(top, last, k)?;
-    Ok(Some(Whole {
+    let branches = mem::replace(&mut base.top.branches, Items::new(alloc));
+    let fronts = mem::replace(&mut base.fronts, Items::new(alloc));
+    Ok(Whole {
         fronts,
         place,
-        body,
-    }))
+        body: whole_body(place, branches),
+    })
 }
 
-/// The whole pattern where the codes end at `k` after a brace at `from` and text.
-fn finish_braces(base: Base, from: u32, text: &[u32], k: u32) -> Result<Option<Whole>, OutOfMemory>
-    requires { suc from + length text.now < 2 ^ 32 }
-    ensures { IfOk result (λ found. option_map whole_of found ≡ m.finish k (m.no_count (base_of base) from text.now)) }
+/// Whether the codes may end at `k` in the middle of this, which is put among what was read where they may.
+fn may_end(alloc: Global, base: &mut Base, lex: Lex, k: u32) -> Result<bool, OutOfMemory>
+    requires room { k < 2 ^ 32 - 1 }
+    requires fits { FitsAt (lex_of lex) k }
+    ensures { IfOk result (λ may. (if may then m.finish k (base_of base.new) else None) ≡ m.finish_lex k (base_of base.old) (lex_of lex)) }
 {
-    finish_base(no_count(base, from, text)?, k)
+    match lex {
+        Lex::Between | Lex::Line => Ok(true),
+        Lex::InBraces(from, text) => {
+            no_count(base, from, text.as_slice())?;
+            Ok(true)
+        }
+        Lex::Counted(from, atom, mark, count) => {
+            let mark = Span {
+                from: mark,
+                upto: k,
+            };
+            put_repeat(alloc, base, from, atom, mark, count, Greed::Greedy)?;
+            Ok(true)
+        }
+        Lex::InEscape(from, within) => match escape_rest(within) {
+            None => Ok(false),
+            Some(escaped) => {
+                put_leaf(base, from, k, Leaf::Glyph(escaped))?;
+                Ok(true)
+            }
+        },
+        Lex::Comment
+        | Lex::AtSlash(_)
+        | Lex::InHead(_, _)
+        | Lex::SetOpen(_)
+        | Lex::InClass(_, _, _) => Ok(false),
+    }
 }
 
-/// The whole pattern where the codes end at `mark.upto` after the quantifier at `mark` for the atom from `from`.
-fn finish_counted(
+/// The whole pattern where the codes end at `k` in the middle of this.
+fn finish_lex(
     alloc: Global,
-    base: Base,
-    from: u32,
-    atom: SyntaxNode,
-    mark: Span,
-    count: Count,
-) -> Result<Option<Whole>, OutOfMemory>
-    ensures { IfOk result (λ found. option_map whole_of found ≡ m.finish mark.upto (m.put_repeat (base_of base) from (node_of atom) mark.from mark.upto count t.greedy)) }
-{
-    let base = put_repeat(alloc, base, from, atom, mark, count, Greed::Greedy)?;
-    finish_base(base, mark.upto)
-}
-
-/// The whole pattern where the codes end at `k` after an escape from `from`, if it may end there.
-fn finish_escape(
-    base: Base,
-    from: u32,
-    rest: Option<Escaped>,
+    base: &mut Base,
+    lex: Lex,
     k: u32,
 ) -> Result<Option<Whole>, OutOfMemory>
-    ensures { IfOk result (λ found. option_map whole_of found ≡ m.finish_escape k (base_of base) from rest) }
+    requires room { k < 2 ^ 32 - 1 }
+    requires fits { FitsAt (lex_of lex) k }
+    ensures { IfOk result (λ found. option_map whole_of found ≡ m.finish_lex k (base_of base.old) (lex_of lex)) }
 {
-    match rest {
-        None => Ok(not_whole(base)),
-        Some(escaped) => { finish_base(put_leaf(base, from, k, Leaf::Glyph(escaped))?, k) }
+    if may_end(alloc, base, lex, k)? && base.below.is_empty() {
+        Ok(Some(whole(alloc, base, k)?))
+    } else {
+        Ok(None)
     }
 }
 
@@ -90,24 +91,8 @@ pub(crate) fn finish(alloc: Global, state: State, k: u32) -> Result<Option<Whole
     requires fits { FitsAt (state_of state).lex k }
     ensures { IfOk result (λ found. option_map whole_of found ≡ m.finish_at k (state_of state)) }
 {
-    let State { base, lex } = state;
-    match lex {
-        Lex::Between | Lex::Line => finish_base(base, k),
-        Lex::InBraces(from, text) => finish_braces(base, from, text.as_slice(), k),
-        Lex::Counted(from, atom, mark, count) => {
-            let mark = Span {
-                from: mark,
-                upto: k,
-            };
-            finish_counted(alloc, base, from, atom, mark, count)
-        }
-        Lex::InEscape(from, within) => finish_escape(base, from, escape_rest(within), k),
-        Lex::Comment
-        | Lex::AtSlash(_)
-        | Lex::InHead(_, _)
-        | Lex::SetOpen(_)
-        | Lex::InClass(_, _, _) => Ok(not_whole(base)),
-    }
+    let State { mut base, lex } = state;
+    finish_lex(alloc, &mut base, lex, k)
 }
 
 /// The state before the first code.

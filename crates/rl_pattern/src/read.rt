@@ -15,6 +15,7 @@ use crate::step::step;
 use crate::tree::Whole;
 use rl_lists::OutOfMemory;
 use std::alloc::Global;
+use std::mem;
 
 /// Why codes give no tree.
 #[derive(Clone, Copy)]
@@ -84,33 +85,30 @@ fn is_too_deep(state: &State, codes: &[u32], place: u32) -> bool
         && !opens_none(codes, place as usize)
 }
 
-/// The state behind the code at `place`, unless a group opens too deep there.
-fn unless_too_deep(next: State, codes: &[u32], place: u32) -> Result<State, ReadError>
-    ensures { Went codes.now place (Some (state_of next)) result }
-{
-    if is_too_deep(&next, codes, place) {
-        Err(ReadError::TooDeep(place))
-    } else {
-        Ok(next)
-    }
-}
-
-/// The state with the code at `place`.
+/// Takes the code at `place`, unless no pattern goes on so or a group opens too deep there.
 fn one_code(
     alloc: Global,
     codes: &[u32],
     text: bool,
     place: u32,
-    state: State,
+    state: &mut State,
     code: u32,
-) -> Result<State, ReadError>
+) -> Result<(), ReadError>
     requires room { place < 2 ^ 32 - 1 }
-    requires fits { FitsAt (state_of state).lex place }
-    ensures { Went codes.now place (step_at text place (state_of state) code) result }
+    requires fits { FitsAt (state_of state.old).lex place }
+    ensures { Went codes.now place (step_at text place (state_of state.old) code) (state_of state.new) result }
 {
-    match step(alloc, text, place, state, code)? {
+    let lex = mem::replace(&mut state.lex, Lex::Between);
+    match step(alloc, text, place, &mut state.base, lex, code)? {
         None => Err(ReadError::Syntax(place)),
-        Some(next) => unless_too_deep(next, codes, place),
+        Some(lex) => {
+            state.lex = lex;
+            if is_too_deep(state, codes, place) {
+                Err(ReadError::TooDeep(place))
+            } else {
+                Ok(())
+            }
+        }
     }
 }
 
@@ -143,7 +141,7 @@ pub(crate) fn read(
     let mut state = start(alloc, flags);
     let mut place = 0;
     for code in codes {
-        state = one_code(alloc, codes, text, place, state, *code)?;
+        one_code(alloc, codes, text, place, &mut state, *code)?;
         place += 1;
     }
     at_end(alloc, state, place)

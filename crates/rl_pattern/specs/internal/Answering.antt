@@ -5,12 +5,11 @@ use Rattle.rl_pattern.specs.declared.limits.TheConstants.{MOST_OPEN_GROUPS}
 use Rattle.rl_pattern.specs.declared.tree.Whole.{Whole}
 use Rattle.rl_pattern.specs.declared.read.ReadError.{ReadError}
 use Rattle.rl_pattern.specs.declared.read.ReadError.TheVariants.{Syntax, TooDeep, OutOfMemory}
-use Rattle.rl_pattern.specs.declared.state.State.{State as ProgramState}
 use Rattle.rl_pattern.specs.Tree as t
 use Rattle.rl_pattern.specs.Codes.{code_of}
 use Rattle.rl_pattern.specs.Grammar.{Spells}
 use Rattle.rl_pattern.specs.Viable.{Begins, Viable, TooDeepAt}
-use Rattle.rl_pattern.specs.internal.Views.{state_of, whole_of}
+use Rattle.rl_pattern.specs.internal.Views.{whole_of}
 use Rattle.rl_pattern.specs.internal.Machine.{State, Lex, between, line, comment, in_braces, counted, at_slash, in_escape, in_head, set_open, in_class, behind_paren, run, start}
 use Rattle.rl_pattern.specs.Answers.{Shallow}
 
@@ -53,12 +52,12 @@ pub record Standing (call : Flags) (text : Bool) (w : List ℕ) (i : ℕ) (s : S
   pub runs : run text 0 (Some (start call)) (take i w) ≡ Some s
   pub shallow : (q : ℕ) → q < i → ¬ TooDeepAt call text w q
 
--- the program's answer to the code at i, by the machine's
-abbrev pub Went : List ℕ → ℕ → Option State → Result ProgramState ReadError → Type 0
-Went w i o (Ok r) = (o ≡ Some (state_of r)) × (is_too_deep (state_of r) w i ≡ false)
-Went w i o (Err (Syntax n)) = (o ≡ None) × (n ≡ i)
-Went w i o (Err (TooDeep n)) = (r : State) × (o ≡ Some r) × (is_too_deep r w i ≡ true) × (n ≡ i)
-Went w i o (Err OutOfMemory) = Unit {0}
+-- the program's answer to the code at i, by the machine's, and the state that it leaves
+abbrev pub Went : List ℕ → ℕ → Option State → State → Result (Unit {0}) ReadError → Type 0
+Went w i o r (Ok x) = (o ≡ Some r) × (is_too_deep r w i ≡ false)
+Went w i o r (Err (Syntax n)) = (o ≡ None) × (n ≡ i)
+Went w i o r (Err (TooDeep n)) = (o ≡ Some r) × (is_too_deep r w i ≡ true) × (n ≡ i)
+Went w i o r (Err OutOfMemory) = Unit {0}
 
 -- the program's answer at the end, by the machine's
 abbrev pub Ended : ℕ → Option t.Whole → Result Whole ReadError → Type 0

@@ -66,6 +66,11 @@ lex_of (InClass a v s) = m.in_class a v s
 abbrev pub state_of : State → m.State
 state_of s = record { base = base_of s.base; lex = lex_of s.lex }
 
+-- the machine's state, where it goes on: what was read, and what the program is in the middle of then
+abbrev pub state_with : m.Base → Option Lex → Option m.State
+state_with b None = None
+state_with b (Some x) = Some (m.at b (lex_of x))
+
 -- the text of a brace goes up to here
 abbrev pub FitsAt : m.Lex → ℕ → Type 0
 FitsAt (m.in_braces a t) i = i ≡ suc a + length t

@@ -18,7 +18,7 @@ one_more b new t i p l e =
 
 pub loop-code-preserved : goal.loop-code-preserved
 loop-code-preserved c = record {
-  codes = one_more (base_of c.loop-code.base) (base_of c.in_ok-base.base) c.args.codes.now c.loop-code.code-index c.loop-code.place c.loop-code-test.true c.in_ok-base.ensures ∙ c.loop-code.invariant.codes;
+  codes = one_more (base_of c.loop-code.base) (base_of c.put_code.new.base) c.args.codes.now c.loop-code.code-index c.loop-code.place c.loop-code-test.true c.in_ok-put_code.ensures ∙ c.loop-code.invariant.codes;
   place = omega (arith, c.loop-code.invariant.place);
 }
 
