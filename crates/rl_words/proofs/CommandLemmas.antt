@@ -1,7 +1,10 @@
 -- The command is one of which `clap` says exactly which words it takes, and what they give.
-use Rattle.std.proofs.Common.{◌≡◌, [], ◌∷◌, true, false, refl, inl, inr, arith}
+use Rattle.std.proofs.Common.{◌≡◌, ◌∙◌, ℕ, ◌+◌, ◌<◌, List, [], ◌∷◌, Bor, true, false, length, get_or, take, ap, refl, sym, inl, inr, arith}
 use Rattle.std.proofs.lemmas.Bool.Decides.{nat_tests}
-use Rattle.clap.specs.Walk.{is_empty}
+use Rattle.std.specs.List.{fold}
+use Rattle.std.proofs.lemmas.List.Folds.{fold-map}
+use Rattle.std.proofs.lemmas.List.Sums.{fold_more}
+use Rattle.clap.specs.Walk.{Text, is_empty, texts}
 use Rattle.clap.specs.Simple.{is_simple}
 use Rattle.clap.specs.Kinds.{HasKind, Kinds}
 use Rattle.clap.specs.Values.{kind_of}
@@ -24,3 +27,12 @@ pub not_empty : (faults : Kinds) (e : Error) → HasKind faults e → (kind_of e
 not_empty faults e (inl memory) lacks = lacks memory
 not_empty [] e (inr among) lacks = absurd among
 not_empty (fault ∷ faults) e (inr among) lacks = grind (arith, nat_tests)
+
+-- a fold over the texts so far, and one more
+pub texts_more : {A : Type 0} (f : A → Text → A) (start now next : A) (names : List (Bor Text)) (i : ℕ) (d : Bor Text) → i < length names
+    → now ≡ fold f start (texts (take i names)) → next ≡ f now (get_or names i d).now → next ≡ fold f start (texts (take (i + 1) names))
+texts_more {A} f start now next names i d h so_far more =
+    let text = λ (name : Bor Text). name.now in
+    let step = λ (a : A) (name : Bor Text). f a name.now in
+    more ∙ ap (λ a. f a (get_or names i d).now) (so_far ∙ fold-map f text start (take i names))
+    ∙ sym (fold_more step start names i d h) ∙ sym (fold-map f text start (take (i + 1) names))

@@ -1,3 +1,4 @@
+pub mod ActionLemmas
 pub mod CommandLemmas
 pub mod DoubtfulWords
 pub mod GivenLemmas

@@ -26,6 +26,10 @@ abbrev pub bare_app : App
 bare_app = on_top (λ s. record s { disable_help_flag = true })
     (on_top (λ s. record s { no_binary_name = true }) (new_app (codes "relint")))
 
+-- the command with options of one value
+abbrev pub with_options : App → List Text → App
+with_options app names = fold (λ app name. with_rule app (option_rule name)) app names
+
 -- the command with its arguments and its seven options
 unfoldable pub relint_app : App
 relint_app = fold (λ app name. with_rule app (option_rule name)) (with_rule (with_rule bare_app action_rule) args_rule)

@@ -1,5 +1,5 @@
 //! ACTION with its arguments.
-ghost use Rattle.std.specs.Prelude.{◌≡◌, ◌&&◌, ◌∷◌, [], map, not, IfOk, IfSome, option_map};
+ghost use Rattle.std.specs.Prelude.{◌≡◌, ◌≢◌, ◌&&◌, ◌∷◌, [], map, not, IfOk, IfSome, option_map};
 ghost use Rattle.std.specs.List.{list_all};
 ghost use Rattle.clap.specs.Walk.{is_empty, texts};
 ghost use Rattle.rl_words.specs.Call.{HasActionRanges, asked};
@@ -43,7 +43,8 @@ fn are_paths(paths: &[&str]) -> bool
 }
 
 fn check_of<'a>(alloc: Global, paths: &[&'a str]) -> Result<Option<Action<'a>>, OutOfMemory>
-    ensures { IfOk result (λ a. option_map asked a ≡ asked_with name.Check (texts paths.now)) }
+    ensures value { IfOk result (λ a. option_map asked a ≡ asked_with name.Check (texts paths.now)) }
+    ensures ranges { IfOk result (λ a. IfSome a (λ action. HasActionRanges (asked action))) }
 {
     if !are_paths(paths) {
         return Ok(None);
@@ -64,12 +65,59 @@ fn sample_of<'a>(seed: &str, count: &str) -> Option<Action<'a>>
 
 // FILE isn't empty.
 fn verify_of<'a>(pattern: &'a str, file: &'a str) -> Option<Action<'a>>
-    ensures { option_map asked result ≡ asked_with name.Verify (pattern.entry.now ∷ file.entry.now ∷ []) }
+    ensures value { option_map asked result ≡ asked_with name.Verify (pattern.entry.now ∷ file.entry.now ∷ []) }
+    ensures ranges { IfSome result (λ action. HasActionRanges (asked action)) }
 {
     if file.is_empty() {
         return None;
     }
     Some(Action::Verify { pattern, file })
+}
+
+// The action of this name with one argument.
+fn asked_of_one<'a>(action: ActionName, argument: &'a str) -> Option<Action<'a>>
+    requires { action ≢ name.Check }
+    ensures value { option_map asked result ≡ asked_with action (argument.entry.now ∷ []) }
+    ensures ranges { IfSome result (λ action. HasActionRanges (asked action)) }
+{
+    match action {
+        ActionName::Class => Some(Action::Class { pattern: argument }),
+        ActionName::Prove => Some(Action::Prove { pattern: argument }),
+        _ => None,
+    }
+}
+
+// The action of this name with two arguments.
+fn asked_of_two<'a>(action: ActionName, first: &'a str, second: &'a str) -> Option<Action<'a>>
+    requires { action ≢ name.Check }
+    ensures value { option_map asked result
+        ≡ asked_with action (first.entry.now ∷ second.entry.now ∷ []) }
+    ensures ranges { IfSome result (λ action. HasActionRanges (asked action)) }
+{
+    match action {
+        ActionName::Cost => Some(Action::Cost {
+            pattern: first,
+            text: second,
+        }),
+        ActionName::Sample => sample_of(first, second),
+        ActionName::Verify => verify_of(first, second),
+        ActionName::Compare => Some(Action::Compare { first, second }),
+        _ => None,
+    }
+}
+
+// The action of this name, which takes no paths, with these arguments.
+fn asked_without_paths<'a>(action: ActionName, args: &[&'a str]) -> Option<Action<'a>>
+    requires { action ≢ name.Check }
+    ensures value { option_map asked result ≡ asked_with action (texts args.now) }
+    ensures ranges { IfSome result (λ action. HasActionRanges (asked action)) }
+{
+    match args {
+        [] => None,
+        [only] => asked_of_one(action, only),
+        [first, second] => asked_of_two(action, first, second),
+        _ => None,
+    }
 }
 
 /// The action of this name with these arguments, or `None` where it doesn't take them.
@@ -83,35 +131,6 @@ pub(crate) fn asked_with<'a>(
 {
     match name {
         ActionName::Check => check_of(alloc, args),
-        ActionName::Class => match args {
-            [pattern] => Ok(Some(Action::Class { pattern: *pattern })),
-            _ => Ok(None),
-        },
-        ActionName::Cost => match args {
-            [pattern, text] => Ok(Some(Action::Cost {
-                pattern: *pattern,
-                text: *text,
-            })),
-            _ => Ok(None),
-        },
-        ActionName::Sample => match args {
-            [seed, count] => Ok(sample_of(seed, count)),
-            _ => Ok(None),
-        },
-        ActionName::Prove => match args {
-            [pattern] => Ok(Some(Action::Prove { pattern: *pattern })),
-            _ => Ok(None),
-        },
-        ActionName::Verify => match args {
-            [pattern, file] => Ok(verify_of(pattern, file)),
-            _ => Ok(None),
-        },
-        ActionName::Compare => match args {
-            [first, second] => Ok(Some(Action::Compare {
-                first: *first,
-                second: *second,
-            })),
-            _ => Ok(None),
-        },
+        _ => Ok(asked_without_paths(name, args)),
     }
 }

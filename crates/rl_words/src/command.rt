@@ -5,12 +5,22 @@ ghost use Rattle.clap.specs.Walk.{all_of, first_of, rows_of, rule_of, texts};
 ghost use Rattle.clap.specs.Simple.{app_of, with_rule};
 ghost use Rattle.clap.specs.Matches.{found_of};
 ghost use Rattle.rl_words.specs.Command.{action_rule, args_rule, bare_app, option_rule};
-ghost use Rattle.rl_words.specs.Command.{relint_app, rows_given};
+ghost use Rattle.rl_words.specs.Command.{relint_app, rows_given, with_options};
 
 use crate::WordsError;
 use clap::error::ErrorKind;
 use clap::{Arg, ArgAction, ArgMatches, Command};
 use std::alloc::{AllocError, Global};
+
+const OPTIONS: [&str; 7] = [
+    "mode",
+    "format",
+    "max-degree",
+    "max-pairs",
+    "settings",
+    "report",
+    "baseline",
+];
 
 // The argument ACTION.
 fn action_argument<'a>(alloc: Global) -> Arg<'a>
@@ -45,45 +55,37 @@ fn bare_command<'a>(alloc: Global) -> Command<'a>
         .disable_help_flag(true)
 }
 
-// The command with ACTION.
-fn with_action<'a>(alloc: Global, command: Command<'a>) -> Result<Command<'a>, AllocError>
-    ensures { IfOk result (λ c. app_of c ≡ with_rule (app_of command.entry) action_rule) }
-{
-    command.arg(action_argument(alloc))
-}
-
-// The command with ARGS.
-fn with_args<'a>(alloc: Global, command: Command<'a>) -> Result<Command<'a>, AllocError>
-    ensures { IfOk result (λ c. app_of c ≡ with_rule (app_of command.entry) args_rule) }
-{
-    command.arg(args_argument(alloc))
-}
-
-// The command with one more option.
-fn with_option<'a>(
-    alloc: Global,
-    command: Command<'a>,
-    name: &'a str,
-) -> Result<Command<'a>, AllocError>
+// The command with one more argument.
+fn with_argument<'a>(command: Command<'a>, argument: Arg<'a>) -> Result<Command<'a>, AllocError>
+    requires { argument.global ≡ false }
     ensures { IfOk result (λ c. app_of c
-        ≡ with_rule (app_of command.entry) (option_rule name.entry.now)) }
+        ≡ with_rule (app_of command.entry) (rule_of argument.entry)) }
 {
-    command.arg(option_argument(alloc, name))
+    command.arg(argument)
+}
+
+// The command with more options.
+fn with_options<'a>(
+    alloc: Global,
+    mut command: Command<'a>,
+    names: &[&'static str],
+) -> Result<Command<'a>, AllocError>
+    ensures { IfOk result (λ c. app_of c ≡ with_options (app_of command.entry) (texts names.now)) }
+{
+    for name in names {
+        command = with_argument(command, option_argument(alloc, *name))?;
+    }
+    Ok(command)
 }
 
 // The command with its arguments and its seven options.
 fn relint_command<'a>(alloc: Global) -> Result<Command<'a>, AllocError>
     ensures { IfOk result (λ c. app_of c ≡ relint_app) }
 {
-    let action = with_action(alloc, bare_command(alloc))?;
-    let args = with_args(alloc, action)?;
-    let mode = with_option(alloc, args, "mode")?;
-    let format = with_option(alloc, mode, "format")?;
-    let max_degree = with_option(alloc, format, "max-degree")?;
-    let max_pairs = with_option(alloc, max_degree, "max-pairs")?;
-    let settings = with_option(alloc, max_pairs, "settings")?;
-    let report = with_option(alloc, settings, "report")?;
-    with_option(alloc, report, "baseline")
+    let action = with_argument(bare_command(alloc), action_argument(alloc))?;
+    let args = with_argument(action, args_argument(alloc))?;
+    let options: [&str; 7] = OPTIONS;
+    with_options(alloc, args, options.as_slice())
 }
 
 /// What the words give under the command.

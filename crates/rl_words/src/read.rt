@@ -35,17 +35,21 @@ fn action_given<'a>(
     }
 }
 
-// The call, or `None` where the arguments or an option's value are refused.
-fn call_given<'a>(alloc: Global, matches: &ArgMatches<'a>) -> Result<Option<Words<'a>>, OutOfMemory>
-    ensures value { IfOk result (λ w. option_map said w
-        ≡ call_given (rows_of (found_of matches.now))) }
-    ensures ranges { IfOk result (λ w. IfSome w (λ words. HasRanges (said words))) }
+// The call. It is invalid where the arguments or an option's value are refused.
+fn call_given<'a>(alloc: Global, matches: &ArgMatches<'a>) -> Result<Words<'a>, WordsError>
+    ensures ok { IfOk result (λ w. call_given (rows_of (found_of matches.now)) ≡ Some (said w)) }
+    ensures ranges { IfOk result (λ w. HasRanges (said w)) }
+    ensures invalid { IsErrOf result WordsError.Invalid
+        → call_given (rows_of (found_of matches.now)) ≡ None }
 {
-    let action = action_given(alloc, matches)?;
     let options = options_given(matches);
-    match (action, options) {
-        (Some(action), Some(options)) => Ok(Some(Words { action, options })),
-        _ => Ok(None),
+    match action_given(alloc, matches) {
+        Ok(Some(action)) => match options {
+            Some(options) => Ok(Words { action, options }),
+            None => Err(WordsError::Invalid),
+        },
+        Ok(None) => Err(WordsError::Invalid),
+        Err(OutOfMemory) => Err(WordsError::OutOfMemory),
     }
 }
 
@@ -62,9 +66,5 @@ pub fn read_words<'a>(alloc: Global, words: &'a Vec<String>) -> Result<Words<'a>
         → given_by (map string_bytes words.entry.now.items) ≡ None }
 {
     let matches = matches_given(alloc, words.as_slice())?;
-    match call_given(alloc, &matches) {
-        Ok(Some(words)) => Ok(words),
-        Ok(None) => Err(WordsError::Invalid),
-        Err(OutOfMemory) => Err(WordsError::OutOfMemory),
-    }
+    call_given(alloc, &matches)
 }

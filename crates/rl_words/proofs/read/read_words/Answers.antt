@@ -1,7 +1,6 @@
-use Rattle.std.proofs.Common.{◌∙◌, Err, ap, map, option_map, sym}
+use Rattle.std.proofs.Common.{◌∙◌, Err, ap, map, sym}
 use Rattle.std.specs.String.{string_bytes}
-use Rattle.std.proofs.lemmas.Result.{err_from_is_err_and}
-use Rattle.rl_words.specs.Call.{said}
+use Rattle.std.proofs.lemmas.Result.{IfOk-weaker, err_from_is_err_and}
 use Rattle.rl_words.specs.Command.{rows_given}
 use Rattle.rl_words.proofs.GivenLemmas.{given_none, given_rows, same_error}
 use Rattle.rl_words.proofs.read.read_words.Goals as goal
@@ -13,12 +12,12 @@ returns-in_err-matches-clause-invalid c = λ invalid.
     let is_invalid = sym p.2 ∙ same_error c.from_residual.result _ _ p.1 invalid in
     given_none _ (same ∙ c.in_err-matches.ensures.invalid (ap Err is_invalid))
 
-pub returns-in-Ok-Some-clause-ok : goal.returns-in-Ok-Some-clause-ok
-returns-in-Ok-Some-clause-ok c =
+pub returns-clause-ok : goal.returns-clause-ok
+returns-clause-ok c =
     let same = ap (λ words. rows_given (map string_bytes words)) (sym c.as_slice.ensures.value) in
-    given_rows _ _ _ (same ∙ c.in_ok-matches.ensures.ok) (ap (option_map said) (sym c.in-Ok-Some.field-0-is) ∙ c.in-Ok-Some.ensures.value)
+    IfOk-weaker c.call_given.result _ _ (λ w e. given_rows _ _ _ (same ∙ c.in_ok-matches.ensures.ok) (sym e)) c.call_given.ensures.ok
 
-pub returns-in-Ok-None-clause-invalid : goal.returns-in-Ok-None-clause-invalid
-returns-in-Ok-None-clause-invalid c = λ invalid.
+pub returns-clause-invalid : goal.returns-clause-invalid
+returns-clause-invalid c = λ invalid.
     let same = ap (λ words. rows_given (map string_bytes words)) (sym c.as_slice.ensures.value) in
-    given_rows _ _ _ (same ∙ c.in_ok-matches.ensures.ok) (ap (option_map said) (sym c.in-Ok-None.field-0-is) ∙ c.in-Ok-None.ensures.value)
+    given_rows _ _ _ (same ∙ c.in_ok-matches.ensures.ok) (sym (c.call_given.ensures.invalid invalid))
