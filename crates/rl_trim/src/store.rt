@@ -51,8 +51,13 @@ fn begin(alloc: Global, a: &Prio) -> Result<SetWalk, SetsError>
     let _states = a.states();
     let start = vec![in alloc; 0]?;
     let mut walk = SetWalk::new(alloc, a, MOST_SETS)?;
-    walk.intern(a, &start)?;
-    Ok(walk)
+    match walk.intern(a, &start) {
+        Ok(_) => Ok(walk),
+        Err(error) => {
+            drop(walk);
+            Err(error)
+        }
+    }
 }
 
 /// Appends the image of a set on a letter unless it is there, and keeps how it was found.
@@ -156,6 +161,7 @@ impl Store {
         if self.patience > 0 || self.walk.len() > MOST_REACHED {
             return Ok(self);
         }
+        drop(self);
         Store::closed(alloc, a, MOST_REACHED, usize::MAX)
     }
 
@@ -168,11 +174,16 @@ impl Store {
         ensures { IfOk result (IsStore a.now) }
     {
         let mut walk = begin(alloc, a)?;
-        let reached = reach(alloc, a, &mut walk, most)?;
-        Ok(Store {
-            walk,
-            reached,
-            patience,
-        })
+        match reach(alloc, a, &mut walk, most) {
+            Ok(reached) => Ok(Store {
+                walk,
+                reached,
+                patience,
+            }),
+            Err(error) => {
+                drop(walk);
+                Err(error)
+            }
+        }
     }
 }

@@ -126,8 +126,13 @@ fn judge_on(
     ensures store { IfOk result (λ r. IsStore a.now r.1) }
 {
     let mut store = store.refreshed(alloc, a)?;
-    let found = trial_on(alloc, &mut store, a, keep, limit)?;
-    Ok((found, store))
+    match trial_on(alloc, &mut store, a, keep, limit) {
+        Ok(found) => Ok((found, store)),
+        Err(error) => {
+            drop(store);
+            Err(error)
+        }
+    }
 }
 
 /// The same over sets of its own.
@@ -188,7 +193,10 @@ impl Trimmer {
             Ok(automaton) => {
                 // Reading the number of states shows that it is a whole automaton.
                 let _states = automaton.states();
-                let store = close(alloc, &automaton)?;
+                let Ok(store) = close(alloc, &automaton) else {
+                    drop(automaton);
+                    return Err(OutOfMemory);
+                };
                 Ok(Trimmer { automaton, store })
             }
             Err(PrioError::OutOfMemory) => Err(OutOfMemory),
@@ -216,7 +224,7 @@ impl Trimmer {
         let kept = self.store.take();
         match judge_if_room(alloc, kept, &self.automaton, keep, limit)? {
             Some((found, store)) => {
-                self.store = Some(store);
+                drop(self.store.replace(store));
                 Ok(Some(found))
             }
             None => Ok(None),
