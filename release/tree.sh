@@ -43,7 +43,7 @@ tree_rows() {
 }
 
 # tree_sum: a SHA-256 over the lines of crates.txt and every file of the crates that the program is built from, by sorted path.
-# What can't change the program is left out: the crates of tests, rows and benchmarks, and the folders out/ and must-fail/ of each crate.
+# What can't change the program is left out: the crates of tests and rows, and the folders out/ and must-fail/ of each crate.
 tree_sum() (
     cd "$top" || exit
     folders=$(tree_rows names | sed 's|^|crates/|') && [ -n "$folders" ] || exit 1
