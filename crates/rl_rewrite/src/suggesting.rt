@@ -2,10 +2,12 @@
 
 ghost use Rattle.std.specs.Prelude.{◌≡◌, ◌≤◌, ℕ, List, length, Some, Ok, IfOk, IfErr, OnOk};
 ghost use Rattle.rl_ranges.specs.Text.{IsText};
-ghost use Rattle.rl_syntax.specs.Pattern.{universe_of, pattern_tree};
+ghost use Rattle.rl_syntax.specs.Pattern.{body_of, universe_of, pattern_tree};
 ghost use Rattle.rl_syntax.specs.declared.re.Mode.TheVariants.{Fullmatch};
 ghost use Rattle.rl_syntax.specs.declared.verdict.Limit.{Limit as AnyLimit};
+ghost use Rattle.rl_pattern.specs.Cut.{left};
 ghost use Rattle.rl_pattern.specs.Parsed.{IsParsed};
+ghost use Rattle.rl_pattern.specs.Suggested.{among, no_span, merged_in};
 ghost use Rattle.rl_rewrite.specs.Verdicts.{PassesLimit};
 ghost use Rattle.rl_pattern.specs.Placed.{ArePlaced};
 ghost use Rattle.rl_rewrite.specs.RightSuggestion.{IsRightSuggestion};
@@ -20,7 +22,7 @@ use crate::trying::tries_of;
 use rl_lists::OutOfMemory;
 use rl_pattern::Flags;
 use rl_ranges::Codes;
-use rl_syntax::{Limit, Pattern, Spans, Suggestion};
+use rl_syntax::{Limit, Pattern, Span, Spans, Suggestion};
 use std::alloc::Global;
 
 /// Why there is no suggestion.
@@ -41,6 +43,16 @@ impl From<OutOfMemory> for SuggestError {
     fn from(_: OutOfMemory) -> Self {
         SuggestError::OutOfMemory
     }
+}
+
+/// The marks of the quantifiers that are taken out of a body without the branches of these spans.
+fn merged_of(alloc: Global, p: &Pattern, dropped: &[Span]) -> Result<Spans, OutOfMemory>
+    ensures { IfOk result (λ all. all ≡ merged_in (left (among dropped.now) no_span (body_of p.now))) }
+{
+    let left = left_part(alloc, p.body(), dropped)?;
+    let merged = with_merged(alloc, &left, Place::Elsewhere, Spans::new(alloc));
+    drop(left);
+    merged
 }
 
 /// The right suggestion for a pattern, whose codes these are under the flags.
@@ -67,8 +79,7 @@ pub fn suggest(
 {
     let base = baseline_of(alloc, p)?;
     let tries = tries_of(alloc, p, base, limit)?;
-    let left = left_part(alloc, p.body(), tries.dropped.as_slice())?;
-    let merged = with_merged(alloc, &left, Place::Elsewhere, Spans::new(alloc))?;
+    let merged = merged_of(alloc, p, tries.dropped.as_slice())?;
     let text = text_of(
         alloc,
         p.body(),

@@ -22,6 +22,7 @@ use rl_lists::OutOfMemory;
 use rl_syntax::{Pattern, Span, Spans};
 use rl_trim::{Judgement, Trimmer};
 use std::alloc::Global;
+use std::mem::replace;
 
 /// Of so many branches or more each is tried on one automaton first. It is for speed alone: one automaton more pays where there
 /// are some trials.
@@ -63,7 +64,11 @@ fn trimmer_of(
         return Ok(None);
     }
     let tree = tree_without(alloc, p, dropped)?;
-    let trimmer = Trimmer::new(alloc, &tree, p.universe())?;
+    let Ok(trimmer) = Trimmer::new(alloc, &tree, p.universe()) else {
+        drop(tree);
+        return Err(OutOfMemory);
+    };
+    drop(tree);
     Ok(Some(trimmer))
 }
 
@@ -209,8 +214,12 @@ fn trial_of(
     }
     let kept = tries.base.take();
     let mut base = base_of(alloc, p, tries.dropped.as_slice(), kept)?;
-    let trial = compare_branch(alloc, p, branch, tries.dropped.as_slice(), &mut base, limit)?;
-    tries.base = Some(base);
+    let Ok(trial) = compare_branch(alloc, p, branch, tries.dropped.as_slice(), &mut base, limit)
+    else {
+        drop(base);
+        return Err(OutOfMemory);
+    };
+    drop(tries.base.replace(base));
     Ok(trial)
 }
 
@@ -246,7 +255,7 @@ fn try_branch(
     match trial_of(alloc, p, branch, tries, trimmer, limit)? {
         Trial::Equal => {
             tries.dropped = more;
-            tries.base = None;
+            drop(tries.base.take());
             Ok(())
         }
         Trial::Apart => Ok(()),
@@ -286,7 +295,8 @@ fn try_next(
     if tries.dropped.len() == before {
         return Ok(());
     }
-    *trimmer = trimmer_of(alloc, p, tries.dropped.as_slice(), trimmer.is_some())?;
+    let next = trimmer_of(alloc, p, tries.dropped.as_slice(), trimmer.is_some())?;
+    drop(replace(trimmer, next));
     Ok(())
 }
 
@@ -329,7 +339,11 @@ fn try_all(alloc: Global, p: &Pattern, tries: &mut Tries, limit: u32) -> Result<
     let branches = with_branches(alloc, p.body(), Spans::new(alloc))?;
     let is_quick = branches.len() >= QUICK_FROM;
     let mut trimmer = trimmer_of(alloc, p, tries.dropped.as_slice(), is_quick)?;
-    try_each(alloc, p, branches.as_slice(), tries, &mut trimmer, limit)?;
+    let Ok(()) = try_each(alloc, p, branches.as_slice(), tries, &mut trimmer, limit) else {
+        drop(trimmer);
+        return Err(OutOfMemory);
+    };
+    drop(trimmer);
     Ok(())
 }
 
@@ -354,11 +368,17 @@ fn try_branches(
         passed: Spans::new(alloc),
         base: Some(base),
     };
-    try_all(alloc, p, &mut tries, limit)?;
-    Ok(Tried {
-        dropped: tries.dropped,
-        passed: tries.passed,
-    })
+    let Ok(()) = try_all(alloc, p, &mut tries, limit) else {
+        drop(tries);
+        return Err(OutOfMemory);
+    };
+    let Tries {
+        dropped,
+        passed,
+        base,
+    } = tries;
+    drop(base);
+    Ok(Tried { dropped, passed })
 }
 
 /// What trials of all branches of a body give, where its tree is the first one to compare with; none is tried where the body
@@ -379,6 +399,7 @@ pub(crate) fn tries_of(
     ensures tried { IfOk result (λ all. guard_in (body_of p.now) ≡ false → AreTried (universe_of p.now) limit (body_of p.now) (branches_in (body_of p.now)) all.dropped all.passed) }
 {
     if holds_guard(p.body()) {
+        drop(base);
         return Ok(Tried {
             dropped: Spans::new(alloc),
             passed: Spans::new(alloc),

@@ -10,4 +10,4 @@ returns c =
     let body = body_of c.args.p.now in
     let all : c.as_slice-2.result.now ≡ branches_in body =
     c.as_slice-2.ensures ∙ c.in_ok-branches.ensures ∙ ap (λ f. f ++ branches_in (pat_of c.body.result.now)) c.new.ensures ∙ ap branches_in c.body.ensures.same in
-    subst (λ bs. AreTried (universe_of c.args.p.now) c.args.limit body bs c.try_each.new.tries.dropped c.try_each.new.tries.passed) all c.in_ok-try_each.ensures
+    subst (λ bs. AreTried (universe_of c.args.p.now) c.args.limit body bs c.try_each.new.tries.dropped c.try_each.new.tries.passed) all c.in-Ok.ensures
