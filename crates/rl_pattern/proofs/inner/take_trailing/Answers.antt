@@ -16,9 +16,9 @@ loop-last-preserved c =
       last = c.last_trail-last-in-loop-last.ensures ∙ ap (λ ps. trail_at (reverse (map node_of ps))) c.as_slice-in-loop-last.ensures.value;
       rest = trailing_off node_of c.loop-last.items.items c.pop.new.self.items c.pop.result c.loop-last.last c.loop-last.invariant.last trail c.pop.ensures.items ∙ c.loop-last.invariant.rest;
       run =
-        ap (λ r. both_trails r (trailing_run (reverse (map node_of c.pop.new.self.items)))) c.both_trails-run.ensures
-        ∙ run_more node_of c.loop-last.items.items c.pop.new.self.items c.pop.result c.loop-last.run c.loop-last.last (c.pop.ensures.variant.1 full) c.loop-last.invariant.last trail c.pop.ensures.items
-        ∙ c.loop-last.invariant.run;
+          ap (λ r. both_trails r (trailing_run (reverse (map node_of c.pop.new.self.items)))) c.both_trails-run.ensures
+          ∙ run_more node_of c.loop-last.items.items c.pop.new.self.items c.pop.result c.loop-last.run c.loop-last.last (c.pop.ensures.variant.1 full) c.loop-last.invariant.last trail c.pop.ensures.items
+          ∙ c.loop-last.invariant.run;
     }
 
 pub returns-clause-rest : goal.returns-clause-rest
