@@ -1,8 +1,8 @@
 -- What the sets of the parts of a leaf hold is what the leaf holds.
-use Rattle.std.proofs.Common.{◌≡◌, ℕ, zero, suc, ◌<◌, ◌-◌, ◌==◌, min, nat_lt, nat_le, Bool, true, false, not, ◌&&◌, ◌||◌, cond, List, [], ◌∷◌, length, drop, ◌+◌, inl, inr, refl, sym, ap, ap₂, ◌∙◌, arith}
+use Rattle.std.proofs.Common.{◌≡◌, ℕ, zero, suc, ◌<◌, ◌-◌, ◌==◌, min, nat_lt, nat_le, Bool, true, false, not, ◌&&◌, ◌||◌, cond, List, [], ◌∷◌, length, drop, ◌+◌, inl, inr, Result, Ok, Err, refl, sym, ap, ap₂, ◌∙◌, arith}
 use Rattle.std.proofs.lemmas.Bool.{and_parts, and_from, or_cases, or_left, or_right, lt-ltb, ltb-true, cases_eq, true≢false}
 use Rattle.std.proofs.lemmas.Bool.Decides.{nat_tests}
-use Rattle.std.specs.Prelude.{slice_index_or}
+use Rattle.std.specs.Prelude.{slice_index_or, IfOk}
 use Rattle.std.proofs.lemmas.List.{at_drop_more}
 use Rattle.rl_ranges.proofs.SetLemmas.{has-nil, or-false, or_assoc}
 use Rattle.rl_ranges.specs.Codes.{has, is_between, IsInside}
@@ -17,6 +17,18 @@ use Rattle.rl_pattern.specs.Tree.{Named, Span, Escaped, Member, Leaf}
 use Rattle.rl_pattern.specs.Codes.{no_flags}
 use Rattle.rl_pattern.specs.Shape.{is_text, some_below, closed_holds, within, leaf_codes, code_member, kind_member, members_hold}
 use Rattle.rl_pattern.specs.internal.LeafSets.{closing_in, kind_in, escaped_in, code_in, codes_in, class_in, classes_in, members_in, some_member}
+
+-- what a call answers, by what it is known to be
+pub answered : {A E : Type 0} (r : Result A E) (P Q : A → Type 0) → ((a : A) → P a → Q a) → IfOk r P → IfOk r Q
+answered (Ok a) P Q f h = f a h
+answered (Err e) P Q f h = tt
+
+pub answered_both : {A E : Type 0} (r : Result A E) (P Q R : A → Type 0) → ((a : A) → P a → Q a → R a) → IfOk r P → IfOk r Q → IfOk r R
+answered_both (Ok a) P Q R f h k = f a h k
+answered_both (Err e) P Q R f h k = tt
+
+pub codes_same : {E : Type 0} (r : Result (List (ℕ × ℕ)) E) (p q : ℕ → Bool) → ((x : ℕ) → p x ≡ q x) → IfOk r (λ s. (x : ℕ) → has s x ≡ p x) → IfOk r (λ s. (x : ℕ) → has s x ≡ q x)
+codes_same r p q same h = answered r (λ s. (x : ℕ) → has s x ≡ p x) (λ s. (x : ℕ) → has s x ≡ q x) (λ s g x. g x ∙ same x) h
 
 -- a range cut off at the universe's end
 pub between_some : (u : Universe) (first last code n upto : ℕ) → n ≡ code_count u → upto ≡ min last (n - 1) → is_between first upto code ≡ within u (is_between first last) code

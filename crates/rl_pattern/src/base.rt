@@ -278,6 +278,9 @@ pub(crate) fn close(alloc: Global, base: &mut Base, i: u32) -> Result<Option<Lex
     requires { i < 2 ^ 32 - 1 }
     ensures { IfOk result (λ found. state_with (base_of base.new) found ≡ m.close (base_of base.old) i (base_of base.old).below) }
 {
+    if base.below.is_empty() {
+        return Ok(None);
+    }
     end_branch(alloc, base, i)?;
     match base.below.pop() {
         None => Ok(None),

@@ -32,8 +32,7 @@ fn codes_between(
 {
     let last = last.min(universe.count() - 1);
     if first <= last {
-        let set = CodeSet::range(alloc, first, last)?;
-        Ok(set)
+        CodeSet::range(alloc, first, last)
     } else {
         Ok(no_codes(alloc))
     }
@@ -47,8 +46,7 @@ fn closed(universe: Universe, flags: Flags, set: CodeSet) -> Result<CodeSet, Out
     ensures inside { IfOk result (IsInside universe) }
 {
     if flags.ignore_case {
-        let closed = set.case_closed(flags.ascii, universe)?;
-        Ok(closed)
+        set.case_closed(flags.ascii, universe)
     } else {
         Ok(set)
     }
@@ -67,8 +65,7 @@ fn kind_set(
 {
     let class = CodeSet::named(alloc, kind, flags.ascii, universe)?;
     if inverse {
-        let others = class.complement(universe)?;
-        Ok(others)
+        class.complement(universe)
     } else {
         Ok(class)
     }
@@ -88,13 +85,9 @@ fn escaped_set(
     match escaped {
         Escaped::Code(code) => {
             let set = codes_between(alloc, universe, code, code)?;
-            let closed = closed(universe, flags, set)?;
-            Ok(closed)
+            closed(universe, flags, set)
         }
-        Escaped::Kind(kind, inverse) => {
-            let set = kind_set(alloc, universe, flags, kind, inverse)?;
-            Ok(set)
-        }
+        Escaped::Kind(kind, inverse) => { kind_set(alloc, universe, flags, kind, inverse) }
         Escaped::TooLarge | Escaped::ByName | Escaped::Reference => Ok(no_codes(alloc)),
     }
 }
@@ -107,18 +100,12 @@ fn member_codes(alloc: Global, universe: Universe, member: Member) -> Result<Cod
 {
     match member {
         Member::One(_, side) => match side {
-            Escaped::Code(code) => {
-                let set = codes_between(alloc, universe, code, code)?;
-                Ok(set)
-            }
+            Escaped::Code(code) => { codes_between(alloc, universe, code, code) }
             Escaped::Kind(_, _) | Escaped::TooLarge | Escaped::ByName | Escaped::Reference => {
                 Ok(no_codes(alloc))
             }
         },
-        Member::Range(_, first, last) => {
-            let set = range_codes(alloc, universe, first, last)?;
-            Ok(set)
-        }
+        Member::Range(_, first, last) => { range_codes(alloc, universe, first, last) }
     }
 }
 
@@ -135,10 +122,7 @@ fn range_codes(
 {
     match first {
         Escaped::Code(first) => match last {
-            Escaped::Code(last) => {
-                let set = codes_between(alloc, universe, first, last)?;
-                Ok(set)
-            }
+            Escaped::Code(last) => { codes_between(alloc, universe, first, last) }
             Escaped::Kind(_, _) | Escaped::TooLarge | Escaped::ByName | Escaped::Reference => {
                 Ok(no_codes(alloc))
             }
@@ -166,8 +150,7 @@ fn with_kind(
         Member::One(_, side) => match side {
             Escaped::Kind(kind, inverse) => {
                 let more = kind_set(alloc, universe, flags, kind, inverse)?;
-                let both = set.union(&more)?;
-                Ok(both)
+                set.union(&more)
             }
             Escaped::Code(_) | Escaped::TooLarge | Escaped::ByName | Escaped::Reference => Ok(set),
         },
@@ -218,8 +201,7 @@ fn members_set(
     let codes = all_codes(alloc, universe, members)?;
     let codes = closed(universe, flags, codes)?;
     let kinds = all_kinds(alloc, universe, flags, members)?;
-    let both = codes.union(&kinds)?;
-    Ok(both)
+    codes.union(&kinds)
 }
 
 /// The codes that `.` doesn't hold.
@@ -230,8 +212,7 @@ fn left_out(alloc: Global, universe: Universe, flags: Flags) -> Result<CodeSet, 
     if flags.dot_all {
         Ok(no_codes(alloc))
     } else {
-        let set = codes_between(alloc, universe, 10, 10)?;
-        Ok(set)
+        codes_between(alloc, universe, 10, 10)
     }
 }
 
@@ -250,18 +231,13 @@ pub(crate) fn leaf_set(
     match leaf {
         Leaf::Any => {
             let others = left_out(alloc, universe, flags)?;
-            let set = others.complement(universe)?;
-            Ok(set)
+            others.complement(universe)
         }
-        Leaf::Glyph(escaped) => {
-            let set = escaped_set(alloc, universe, flags, *escaped)?;
-            Ok(set)
-        }
+        Leaf::Glyph(escaped) => { escaped_set(alloc, universe, flags, *escaped) }
         Leaf::Members(inverse, members) => {
             let set = members_set(alloc, universe, flags, members.as_slice())?;
             if *inverse {
-                let others = set.complement(universe)?;
-                Ok(others)
+                set.complement(universe)
             } else {
                 Ok(set)
             }
