@@ -5,6 +5,7 @@ mod Finding
 mod TermFacts
 mod Filters
 mod Numbers
+mod Stepping
 mod Tabled
 mod NoAliases
 mod NoName

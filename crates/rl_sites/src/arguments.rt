@@ -10,7 +10,7 @@ use crate::brackets::{closes, jump_size, opens};
 use crate::significant::{SignificantToken, is_op, is_word, name_at, op_at, rest_from, word_at};
 
 /// A form of arguments that is looked for.
-#[derive(Clone, Copy, Debug)]
+#[derive(Clone, Copy)]
 pub enum Form {
     /// It begins with `*`.
     Starred,
@@ -40,7 +40,6 @@ fn ends_argument(source: &[u8], in_lambda: bool, token: SignificantToken) -> boo
 }
 
 /// How many tokens the argument in front has.
-#[tactic(auto, using(crate::proofs::Walking::walks))]
 pub fn argument_size(source: &[u8], rest: &[SignificantToken], sizes: &[usize]) -> usize
     requires { IsTable source.now rest.now sizes.now }
     ensures value { result ≡ argument_size source.now 0 false rest.now }

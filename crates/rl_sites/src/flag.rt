@@ -1,7 +1,7 @@
 // The module's flags.
 
 /// What one of the sixteen names of the module's flags sets.
-#[derive(Clone, Copy, Debug, PartialEq, Eq)]
+#[derive(Clone, Copy)]
 pub enum Flag {
     /// `A` and `ASCII`
     Ascii,

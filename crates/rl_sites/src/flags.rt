@@ -13,7 +13,6 @@ use crate::terms::{flags_by, no_flags};
 use crate::{Call, SiteFlags};
 
 /// Whether an argument begins with `*`.
-#[tactic(auto, using(crate::proofs::Filters::filters))]
 fn any_starred(source: &[u8], arguments: &[SignificantToken], sizes: &[usize]) -> bool
     requires { IsTable source.now arguments.now sizes.now }
     ensures { result ≡ list_any (is_starred source.now) (arguments_of source.now arguments.now) }

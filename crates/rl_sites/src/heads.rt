@@ -8,10 +8,10 @@ ghost use Rattle.rl_sites.specs.internal.Meanings.{IsMeant};
 
 use crate::Call;
 use crate::names::{Names, call_aliased, call_named, is_module};
-use crate::significant::{SignificantToken, op_at};
+use crate::significant::{SignificantToken, op_at, token_at};
 
 /// The head of a call: what is called, and how many tokens there are up to the opening bracket, that one included.
-#[derive(Clone, Copy, Debug)]
+#[derive(Clone, Copy)]
 pub struct Head {
     pub call: Call,
     pub size: usize,
@@ -22,8 +22,8 @@ fn begins_module(source: &[u8], names: &Names<'_>, rest: &[SignificantToken]) ->
     requires { IsMeant source.now names.now.aliases.items names.now.meanings.entries }
     ensures { result ≡ stands 0 (is_module source.now names.now.aliases.items) rest.now }
 {
-    match rest.get(0) {
-        Some(token) => is_module(source, names, *token),
+    match token_at(rest, 0) {
+        Some(token) => is_module(source, names, token),
         None => false,
     }
 }
@@ -32,8 +32,8 @@ fn begins_module(source: &[u8], names: &Names<'_>, rest: &[SignificantToken]) ->
 fn named_at(source: &[u8], rest: &[SignificantToken], at: usize) -> Option<Call>
     ensures { result ≡ call_by (call_named source.now) (slice_get rest.now at) }
 {
-    match rest.get(at) {
-        Some(token) => call_named(source, *token),
+    match token_at(rest, at) {
+        Some(token) => call_named(source, token),
         None => None,
     }
 }
@@ -43,8 +43,8 @@ fn begins_alias(source: &[u8], names: &Names<'_>, rest: &[SignificantToken]) -> 
     requires { IsMeant source.now names.now.aliases.items names.now.meanings.entries }
     ensures { result ≡ call_by (call_aliased source.now names.now.aliases.items) (slice_get rest.now 0) }
 {
-    match rest.get(0) {
-        Some(token) => call_aliased(source, names, *token),
+    match token_at(rest, 0) {
+        Some(token) => call_aliased(source, names, token),
         None => None,
     }
 }

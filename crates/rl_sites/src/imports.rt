@@ -11,14 +11,14 @@ use rl_lists::OutOfMemory;
 use std::alloc::Global;
 
 /// A name that an import gives to the module `re`, or to the member of it that a token names.
-#[derive(Clone, Copy, Debug)]
+#[derive(Clone, Copy)]
 pub struct Alias {
     pub name: SignificantToken,
     pub member: Option<SignificantToken>,
 }
 
 /// The two kinds of import.
-#[derive(Clone, Copy, Debug)]
+#[derive(Clone, Copy)]
 pub enum Import {
     /// `import`, whose items are modules.
     Module,
@@ -148,7 +148,6 @@ fn push_item(
 }
 
 /// Appends the aliases of the items in front.
-#[tactic(auto, using(crate::proofs::Items::items))]
 fn push_items(
     aliases: &mut Vec<Alias>,
     source: &[u8],
@@ -224,9 +223,10 @@ fn push_statement(
     ensures { OnOk result (aliases.new.items ≡ aliases.old.items ++ (if begins then import_here source.now rest.now else [])) }
 {
     if begins {
-        push_import(aliases, source, rest)?;
+        push_import(aliases, source, rest)
+    } else {
+        Ok(())
     }
-    Ok(())
 }
 
 /// The aliases of a source.

@@ -1,8 +1,8 @@
 // What names stand for: the module, its nine calls that take a pattern first, and its flags.
-ghost use Rattle.std.specs.Prelude.{◌≡◌, ℕ, List, None, IfOk, OnOk};
+ghost use Rattle.std.specs.Prelude.{◌≡◌, ◌||◌, ℕ, List, None, IfOk, OnOk, bytes_eq};
 ghost use Rattle.rl_sites.specs.Names.{is_module, call_named, flag_named, call_aliased, flag_aliased};
 ghost use Rattle.rl_sites.specs.Significant.{word_of};
-ghost use Rattle.rl_sites.specs.internal.Meanings.{call_rank, flag_rank, earlier, nothing, joined, own_meaning, meaning_with, meaning_of, meaning_in, IsMeant, call_of, flag_of};
+ghost use Rattle.rl_sites.specs.internal.Meanings.{call_rank, flag_rank, earlier, joined, own_meaning, meaning_with, meaning_of, meaning_in, IsMeant, call_of, flag_of};
 
 use crate::Call;
 use crate::flag::Flag;
@@ -22,32 +22,46 @@ pub struct Names<'a> {
     pub meanings: IndexMap<&'a [u8], Meaning>,
 }
 
+/// Whether the word is this name.
+fn is_same(word: &[u8], name: &[u8]) -> bool
+    ensures { result ≡ bytes_eq word.now name.now }
+{
+    word == name
+}
+
 /// The call with this name.
 #[tactic(auto, unfolding(crate::specs::internal::Meanings::call_of))]
 fn call_of(word: &[u8]) -> Option<Call>
     ensures { result ≡ call_of word.now }
 {
-    if word == b"compile".as_slice() {
+    if is_same(word, b"compile") {
         Some(Call::Compile)
-    } else if word == b"match".as_slice() {
+    } else if is_same(word, b"match") {
         Some(Call::Match)
-    } else if word == b"search".as_slice() {
+    } else if is_same(word, b"search") {
         Some(Call::Search)
-    } else if word == b"fullmatch".as_slice() {
+    } else if is_same(word, b"fullmatch") {
         Some(Call::Fullmatch)
-    } else if word == b"findall".as_slice() {
+    } else if is_same(word, b"findall") {
         Some(Call::Findall)
-    } else if word == b"finditer".as_slice() {
+    } else if is_same(word, b"finditer") {
         Some(Call::Finditer)
-    } else if word == b"split".as_slice() {
+    } else if is_same(word, b"split") {
         Some(Call::Split)
-    } else if word == b"sub".as_slice() {
+    } else if is_same(word, b"sub") {
         Some(Call::Sub)
-    } else if word == b"subn".as_slice() {
+    } else if is_same(word, b"subn") {
         Some(Call::Subn)
     } else {
         None
     }
+}
+
+/// Whether the word is one of two names.
+fn is_either(word: &[u8], first: &[u8], second: &[u8]) -> bool
+    ensures { result ≡ (bytes_eq word.now first.now || bytes_eq word.now second.now) }
+{
+    is_same(word, first) || is_same(word, second)
 }
 
 /// The flag with this name.
@@ -55,21 +69,21 @@ fn call_of(word: &[u8]) -> Option<Call>
 fn flag_of(word: &[u8]) -> Option<Flag>
     ensures { result ≡ flag_of word.now }
 {
-    if word == b"A".as_slice() || word == b"ASCII".as_slice() {
+    if is_either(word, b"A", b"ASCII") {
         Some(Flag::Ascii)
-    } else if word == b"I".as_slice() || word == b"IGNORECASE".as_slice() {
+    } else if is_either(word, b"I", b"IGNORECASE") {
         Some(Flag::IgnoreCase)
-    } else if word == b"L".as_slice() || word == b"LOCALE".as_slice() {
+    } else if is_either(word, b"L", b"LOCALE") {
         Some(Flag::Locale)
-    } else if word == b"M".as_slice() || word == b"MULTILINE".as_slice() {
+    } else if is_either(word, b"M", b"MULTILINE") {
         Some(Flag::Multiline)
-    } else if word == b"S".as_slice() || word == b"DOTALL".as_slice() {
+    } else if is_either(word, b"S", b"DOTALL") {
         Some(Flag::DotAll)
-    } else if word == b"U".as_slice() || word == b"UNICODE".as_slice() {
+    } else if is_either(word, b"U", b"UNICODE") {
         Some(Flag::Unicode)
-    } else if word == b"X".as_slice() || word == b"VERBOSE".as_slice() {
+    } else if is_either(word, b"X", b"VERBOSE") {
         Some(Flag::Verbose)
-    } else if word == b"DEBUG".as_slice() || word == b"NOFLAG".as_slice() {
+    } else if is_either(word, b"DEBUG", b"NOFLAG") {
         Some(Flag::Nothing)
     } else {
         None
@@ -126,17 +140,6 @@ fn earlier_flag(first: Option<Flag>, second: Option<Flag>) -> Option<Flag>
     }
 }
 
-/// The name stands for nothing.
-fn nothing() -> Meaning
-    ensures { result ≡ nothing }
-{
-    Meaning {
-        of_module: false,
-        call: None,
-        flag: None,
-    }
-}
-
 fn joined(first: Meaning, second: Meaning) -> Meaning
     ensures { result ≡ joined first second }
 {
@@ -171,7 +174,11 @@ fn meaning_in(meanings: &IndexMap<&[u8], Meaning>, name: &[u8]) -> Meaning
 {
     match meanings.get(&name) {
         Some(meaning) => *meaning,
-        None => nothing(),
+        None => Meaning {
+            of_module: false,
+            call: None,
+            flag: None,
+        },
     }
 }
 

@@ -255,8 +255,23 @@ fn from_first_call<'a>(
     rest
 }
 
+/// The sites among the tokens, by what the names of their source stand for.
+fn sites_named(
+    alloc: Global,
+    source: &[u8],
+    names: &Names<'_>,
+    tokens: &[SignificantToken],
+) -> Result<SiteList, OutOfMemory>
+    requires meant { IsMeant source.now names.now.aliases.items names.now.meanings.entries }
+    requires numbered { IsNumbered tokens.now }
+    ensures { IfOk result (λ sites. sites ≡ sites_from source.now names.now.aliases.items false tokens.now) }
+{
+    let calls = from_first_call(source, names, tokens);
+    let sizes = sizes_of(alloc, source, calls)?;
+    sites_among(alloc, source, names, calls, sizes.as_slice())
+}
+
 /// The sites among the tokens, by the aliases of their source. A source that makes none has no sites.
-#[tactic(auto, using(crate::proofs::NoAliases::no_sites))]
 fn sites_by(
     alloc: Global,
     source: &[u8],
@@ -270,9 +285,20 @@ fn sites_by(
         return Ok(SiteList::new(alloc));
     }
     let names = names_of(alloc, source, aliases)?;
-    let calls = from_first_call(source, &names, tokens);
-    let sizes = sizes_of(alloc, source, calls)?;
-    sites_among(alloc, source, &names, calls, sizes.as_slice())
+    sites_named(alloc, source, &names, tokens)
+}
+
+/// The sites among the tokens of a source.
+fn sites_in(
+    alloc: Global,
+    source: &[u8],
+    tokens: &[SignificantToken],
+) -> Result<SiteList, OutOfMemory>
+    requires { IsNumbered tokens.now }
+    ensures { IfOk result (λ sites. sites ≡ sites_from source.now (aliases_of source.now tokens.now) false tokens.now) }
+{
+    let aliases = aliases_of(alloc, source, tokens)?;
+    sites_by(alloc, source, aliases, tokens)
 }
 
 /// The sites of a source with these tokens, which are its own: each call of the module `re` by an alias that its
@@ -291,6 +317,5 @@ pub fn sites(alloc: Global, source: &[u8], tokens: &TokenList) -> Result<SiteLis
     ensures order { IfOk result AreInOrder }
 {
     let significant = significant_tokens(alloc, tokens.as_slice())?;
-    let aliases = aliases_of(alloc, source, significant.as_slice())?;
-    sites_by(alloc, source, aliases, significant.as_slice())
+    sites_in(alloc, source, significant.as_slice())
 }

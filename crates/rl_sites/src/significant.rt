@@ -1,5 +1,5 @@
 // The significant tokens of a source, and tests of them.
-ghost use Rattle.std.specs.Prelude.{◌≡◌, ◌<◌, ◌≤◌, length, drop, IfOk, IsTrue};
+ghost use Rattle.std.specs.Prelude.{◌≡◌, ◌<◌, ◌≤◌, length, drop, slice_get, IfOk, IfSome, IsTrue};
 ghost use Rattle.rl_pylex.specs.Source.{same_kind};
 ghost use Rattle.rl_sites.specs.Significant.{is_name, is_literal, word_of, is_word, is_op, significant_from, stands};
 ghost use Rattle.rl_sites.specs.internal.Parts.{is_zero};
@@ -9,7 +9,7 @@ use rl_pylex::{Token, TokenKind, text_of};
 use std::alloc::Global;
 
 /// A significant token, which is no comment, and its number among all tokens.
-#[derive(Clone, Copy, Debug, PartialEq, Eq)]
+#[derive(Clone, Copy)]
 pub struct SignificantToken {
     pub number: u32,
     pub inner: Token,
@@ -77,13 +77,24 @@ pub fn rest_from(tokens: &[SignificantToken], at: usize) -> &[SignificantToken]
     &tokens[at..]
 }
 
+/// The token at a place, if there is one.
+pub fn token_at(tokens: &[SignificantToken], at: usize) -> Option<SignificantToken>
+    ensures value { result ≡ slice_get tokens.now at }
+    ensures within { IfSome result (λ token. at < length tokens.now) }
+{
+    match tokens.get(at) {
+        Some(token) => Some(*token),
+        None => None,
+    }
+}
+
 /// Whether a name with this text stands at a place.
 pub fn word_at(source: &[u8], word: &[u8], tokens: &[SignificantToken], at: usize) -> bool
     ensures value { result ≡ stands at (is_word source.now word.now) tokens.now }
     ensures within { IsTrue result → at < length tokens.now }
 {
-    match tokens.get(at) {
-        Some(token) => is_word(source, word, *token),
+    match token_at(tokens, at) {
+        Some(token) => is_word(source, word, token),
         None => false,
     }
 }
@@ -93,8 +104,8 @@ pub fn op_at(source: &[u8], op: &[u8], tokens: &[SignificantToken], at: usize) -
     ensures value { result ≡ stands at (is_op source.now op.now) tokens.now }
     ensures within { IsTrue result → at < length tokens.now }
 {
-    match tokens.get(at) {
-        Some(token) => is_op(source, op, *token),
+    match token_at(tokens, at) {
+        Some(token) => is_op(source, op, token),
         None => false,
     }
 }
@@ -104,8 +115,8 @@ pub fn name_at(tokens: &[SignificantToken], at: usize) -> bool
     ensures value { result ≡ stands at is_name tokens.now }
     ensures within { IsTrue result → at < length tokens.now }
 {
-    match tokens.get(at) {
-        Some(token) => is_name(*token),
+    match token_at(tokens, at) {
+        Some(token) => is_name(token),
         None => false,
     }
 }

@@ -1,8 +1,22 @@
 -- One token more, and its brackets where it opens some.
-use Rattle.std.proofs.Common.{◌≡◌, ◌+◌, ◌∙◌, sym, arith, length, ap, refl, Bool}
-use Rattle.rl_sites.specs.internal.Walks.{argument_size}
-use Rattle.rl_sites.proofs.Walking.{size_goes, step_size, step_table}
+use Rattle.std.proofs.Common.{◌≡◌, ◌+◌, ◌∙◌, sym, arith, length, ap, refl, subst, Bool, List}
+use Rattle.rl_sites.specs.declared.significant.SignificantToken.{SignificantToken}
+use Rattle.rl_sites.specs.internal.Walks.{IsTable, argument_size}
+use Rattle.rl_sites.proofs.Tables.{table_drop}
+use Rattle.rl_sites.proofs.Walking.{size_ends, size_goes, step_size, step_table}
 use Rattle.rl_sites.proofs.arguments.argument_size.Goals as goal
+
+pub returns-then-ends_argument-clause-value : goal.returns-then-ends_argument-clause-value
+returns-then-ends_argument-clause-value c =
+    let ends : argument_size c.args.source.now 0 c.loop-left.in_lambda c.loop-left.left.now ≡ 0 =
+    size_ends c.args.source.now c.loop-left.in_lambda c.loop-left.left.now _ _ c.in-len1-up.len_at_least refl
+    (sym c.ends_argument.ensures ∙ c.if-ends_argument.true) in
+    omega (arith, ends)
+
+pub jump_size-inner-requires : goal.jump_size-inner-requires
+jump_size-inner-requires c =
+    subst (λ (xs : List SignificantToken). IsTable c.args.source.now xs c.args.sizes.now) (sym c.rest_from-after.ensures)
+    (table_drop c.args.source.now c.loop-left.left.now c.args.sizes.now 1 c.loop-left.invariant.table)
 
 pub loop-left-preserved : goal.loop-left-preserved
 loop-left-preserved c =
