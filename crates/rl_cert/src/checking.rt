@@ -165,7 +165,11 @@ fn checked_over(
 {
     let _states = a.states();
     match pairs(alloc, a, max_pairs) {
-        Ok(g) => shown(alloc, u, a, &g, c),
+        Ok(g) => {
+            let holds = shown(alloc, u, a, &g, c);
+            drop(g);
+            holds
+        }
         Err(PairsError::Sets) => Ok(false),
         Err(PairsError::Pairs) => Ok(false),
         Err(PairsError::OutOfMemory) => Err(OutOfMemory),
@@ -187,7 +191,11 @@ fn checked_small(
     ensures { IfOk result (λ yes. IsTrue yes ↔ Holds (question_of l.now u max_pairs) c.now) }
 {
     match Prio::build(alloc, &l.tree, l.ending, u) {
-        Ok(a) => checked_over(alloc, l, u, &a, max_pairs, c),
+        Ok(a) => {
+            let holds = checked_over(alloc, l, u, &a, max_pairs, c);
+            drop(a);
+            holds
+        }
         Err(PrioError::Letters) => Ok(false),
         Err(PrioError::Moves) => Ok(false),
         Err(PrioError::OutOfMemory) => Err(OutOfMemory),

@@ -103,8 +103,8 @@ fn exponential(
     ensures told { (limit : Limit) → result ≡ Err (CertError.Undecided limit) → ⊥ }
     ensures too_large { result ≡ Err CertError.TooLarge → IsLarge a.now g.now }
 {
-    let family = twin_family(alloc, a, g, twin)?;
     let anchors = one_anchor(alloc, twin.state)?;
+    let family = twin_family(alloc, a, g, twin)?;
     Ok(Certificate {
         verdict: Verdict::Expo(family),
         anchors,
@@ -212,9 +212,9 @@ fn graded(
     ensures too_large { result ≡ Err CertError.TooLarge → IsLarge a.now g.now }
 {
     let splits = chain.links.as_slice();
-    let family = chain_family(alloc, a, g, splits, cycle)?;
     let anchors = anchors_of(alloc, splits, cycle.state)?;
     let ranks = Items::from_slice(alloc, chain.ranks.as_slice())?;
+    let family = chain_family(alloc, a, g, splits, cycle)?;
     let doubles = doubles_of(alloc, g.graph())?;
     let triples = match triples_of(alloc, g.graph(), ranks.as_slice()) {
         Ok(triples) => triples,
@@ -249,10 +249,15 @@ fn polynomial(
     let chain = degree_over(alloc, g.graph(), components)?;
     match &chain.cycle {
         None => {
+            drop(chain);
             let certificate = flat(alloc, a, g)?;
             Ok(certificate)
         }
-        Some(cycle) => graded(alloc, a, g, &chain, cycle),
+        Some(cycle) => {
+            let certificate = graded(alloc, a, g, &chain, cycle);
+            drop(chain);
+            certificate
+        }
     }
 }
 
@@ -271,7 +276,12 @@ fn made_by(
     ensures too_large { result ≡ Err CertError.TooLarge → IsLarge a.now g.now }
 {
     match twin_over(alloc, g.graph(), &components)? {
-        Some(twin) => exponential(alloc, a, g, &twin),
+        Some(twin) => {
+            drop(components);
+            let certificate = exponential(alloc, a, g, &twin);
+            drop(twin);
+            certificate
+        }
         None => polynomial(alloc, a, g, components),
     }
 }
@@ -310,7 +320,11 @@ fn made_over(
 {
     let _states = a.states();
     match pairs(alloc, a, max_pairs) {
-        Ok(g) => made(alloc, a, &g),
+        Ok(g) => {
+            let certificate = made(alloc, a, &g);
+            drop(g);
+            certificate
+        }
         Err(PairsError::Sets) => Err(CertError::Undecided(Limit::Sets)),
         Err(PairsError::Pairs) => Err(CertError::Undecided(Limit::Pairs)),
         Err(PairsError::OutOfMemory) => Err(CertError::OutOfMemory),
@@ -335,7 +349,11 @@ fn made_small(
     ensures too_large { IfErr result (λ e. e ≡ CertError.TooLarge → IsTooLarge (question_of l.now u max_pairs)) }
 {
     match Prio::build(alloc, &l.tree, l.ending, u) {
-        Ok(a) => made_over(alloc, l, u, &a, max_pairs),
+        Ok(a) => {
+            let certificate = made_over(alloc, l, u, &a, max_pairs);
+            drop(a);
+            certificate
+        }
         Err(PrioError::Letters) => Err(CertError::Undecided(Limit::Letters)),
         Err(PrioError::Moves) => Err(CertError::Undecided(Limit::Moves)),
         Err(PrioError::OutOfMemory) => Err(CertError::OutOfMemory),

@@ -9,7 +9,7 @@ returns-in-Ok c =
     let g = c.in-Ok.g in
     let q = question_of c.args.l.now c.args.u c.args.max_pairs in
     result-decides q c.args.c.now c.args.a.now (moves_in g) (pair_in g) g.graph.states _ c.requires.stands c.requires.codes c.states-states.ensures.automaton c.requires.small c.requires.within.0 c.requires.within.1
-    c.in-Ok.ensures.graph c.in-Ok.ensures.numbered c.in-Ok.ensures.few_pairs c.in-Ok.ensures.few_sets c.shown.ensures
+    c.in-Ok.ensures.graph c.in-Ok.ensures.numbered c.in-Ok.ensures.few_pairs c.in-Ok.ensures.few_sets c.shown-holds.ensures
 
 pub returns-in-Err-Sets : goal.returns-in-Err-Sets
 returns-in-Err-Sets c =

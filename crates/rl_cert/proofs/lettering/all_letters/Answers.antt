@@ -14,10 +14,10 @@ letters_of-requires c =
 
 pub loop-text-preserved : goal.loop-text-preserved
 loop-text-preserved c = record {
-  same = map-more (letters_in c.args.a.now) c.args.texts.now c.loop-text.text-index c.text-item.result c.in_ok-letters_of.field-0 _ _ c.loop-text-test.true c.text-item.is
-      c.loop-text.invariant.same (c.in_ok-letters_of.ensures.same ∙ ap (letters_in c.args.a.now) c.as_slice.ensures) c.in_ok-push.ensures.pushed;
-  inside = All-same (All (λ (x : ℕ). x < letters_count c.args.a.now)) _ _ c.in_ok-push.ensures.pushed
-      (All-push (All (λ (x : ℕ). x < letters_count c.args.a.now)) _ c.in_ok-letters_of.field-0 c.loop-text.invariant.inside c.in_ok-letters_of.ensures.inside);
+  same = map-more (letters_in c.args.a.now) c.args.texts.now c.loop-text.text-index c.text-item.result c.in-Ok.word _ _ c.loop-text-test.true c.text-item.is
+      c.loop-text.invariant.same (c.in-Ok.ensures.same ∙ ap (letters_in c.args.a.now) c.as_slice.ensures) c.in-Ok-push.ensures.pushed;
+  inside = All-same (All (λ (x : ℕ). x < letters_count c.args.a.now)) _ _ c.in-Ok-push.ensures.pushed
+      (All-push (All (λ (x : ℕ). x < letters_count c.args.a.now)) _ c.in-Ok.word c.loop-text.invariant.inside c.in-Ok.ensures.inside);
 }
 
 pub returns-clause-same : goal.returns-clause-same

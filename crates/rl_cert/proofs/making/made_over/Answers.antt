@@ -19,22 +19,22 @@ returns-in-Err-Pairs-clause-undecided c =
 pub returns-in-Ok-clause-holds : goal.returns-in-Ok-clause-holds
 returns-in-Ok-clause-holds c =
     let q = question_of c.args.l.now c.args.u c.args.max_pairs in
-    ok-holds q _ (made-holds q c.args.a.now c.in-Ok.g _ c.requires.stands c.requires.codes c.states-states.ensures.automaton c.requires.small c.requires.within.0 c.requires.within.1 c.in-Ok.ensures.graph c.in-Ok.ensures.numbered c.in-Ok.ensures.few_pairs c.in-Ok.ensures.few_sets c.made.ensures.made)
+    ok-holds q _ (made-holds q c.args.a.now c.in-Ok.g _ c.requires.stands c.requires.codes c.states-states.ensures.automaton c.requires.small c.requires.within.0 c.requires.within.1 c.in-Ok.ensures.graph c.in-Ok.ensures.numbered c.in-Ok.ensures.few_pairs c.in-Ok.ensures.few_sets c.made-certificate.ensures.made)
 
 pub returns-in-Ok-clause-told : goal.returns-in-Ok-clause-told
 returns-in-Ok-clause-told c =
     let q = question_of c.args.l.now c.args.u c.args.max_pairs in
-    ok-told q _ (made-holds q c.args.a.now c.in-Ok.g _ c.requires.stands c.requires.codes c.states-states.ensures.automaton c.requires.small c.requires.within.0 c.requires.within.1 c.in-Ok.ensures.graph c.in-Ok.ensures.numbered c.in-Ok.ensures.few_pairs c.in-Ok.ensures.few_sets c.made.ensures.made)
+    ok-told q _ (made-holds q c.args.a.now c.in-Ok.g _ c.requires.stands c.requires.codes c.states-states.ensures.automaton c.requires.small c.requires.within.0 c.requires.within.1 c.in-Ok.ensures.graph c.in-Ok.ensures.numbered c.in-Ok.ensures.few_pairs c.in-Ok.ensures.few_sets c.made-certificate.ensures.made)
 
 pub returns-in-Ok-clause-fits : goal.returns-in-Ok-clause-fits
 returns-in-Ok-clause-fits c =
     let q = question_of c.args.l.now c.args.u c.args.max_pairs in
-    ok-fits q _ (made-holds q c.args.a.now c.in-Ok.g _ c.requires.stands c.requires.codes c.states-states.ensures.automaton c.requires.small c.requires.within.0 c.requires.within.1 c.in-Ok.ensures.graph c.in-Ok.ensures.numbered c.in-Ok.ensures.few_pairs c.in-Ok.ensures.few_sets c.made.ensures.made)
+    ok-fits q _ (made-holds q c.args.a.now c.in-Ok.g _ c.requires.stands c.requires.codes c.states-states.ensures.automaton c.requires.small c.requires.within.0 c.requires.within.1 c.in-Ok.ensures.graph c.in-Ok.ensures.numbered c.in-Ok.ensures.few_pairs c.in-Ok.ensures.few_sets c.made-certificate.ensures.made)
 
 pub returns-in-Ok-clause-undecided : goal.returns-in-Ok-clause-undecided
-returns-in-Ok-clause-undecided c = made-told (question_of c.args.l.now c.args.u c.args.max_pairs) _ c.made.ensures.told
+returns-in-Ok-clause-undecided c = made-told (question_of c.args.l.now c.args.u c.args.max_pairs) _ c.made-certificate.ensures.told
 
 pub returns-in-Ok-clause-too_large : goal.returns-in-Ok-clause-too_large
 returns-in-Ok-clause-too_large c =
     let q = question_of c.args.l.now c.args.u c.args.max_pairs in
-    made-large q c.args.a.now c.in-Ok.g _ c.requires.stands c.requires.codes c.states-states.ensures.automaton c.requires.small c.requires.within.0 c.requires.within.1 c.in-Ok.ensures.graph c.in-Ok.ensures.numbered c.in-Ok.ensures.few_pairs c.in-Ok.ensures.few_sets c.made.ensures.too_large
+    made-large q c.args.a.now c.in-Ok.g _ c.requires.stands c.requires.codes c.states-states.ensures.automaton c.requires.small c.requires.within.0 c.requires.within.1 c.in-Ok.ensures.graph c.in-Ok.ensures.numbered c.in-Ok.ensures.few_pairs c.in-Ok.ensures.few_sets c.made-certificate.ensures.too_large
