@@ -4,6 +4,7 @@ pub mod SameShows
 pub mod ChainWays
 pub mod TooLargeLaws
 pub mod AcceptLaws
+pub mod TextLaws
 pub mod WayLaws
 pub mod LevelLaws
 pub mod CheckLaws

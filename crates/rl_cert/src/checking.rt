@@ -1,15 +1,19 @@
 //! Whether a certificate holds.
 
-ghost use Rattle.std.specs.Prelude.{◌≡◌, ℕ, ◌+◌, ◌<◌, ◌≤◌, ◌↔◌, All, IsTrue, IfOk};
+ghost use Rattle.std.specs.Prelude.{◌≡◌, ℕ, ◌+◌, ◌<◌, ◌≤◌, ◌↔◌, All, IsTrue, IfOk, length};
 ghost use Rattle.rl_graph.specs.Graph.{edges_of};
 ghost use Rattle.rl_degree.specs.Chains.{HasNoCycle};
 ghost use Rattle.rl_syntax.specs.Tree.{tree_of, size, IsOver};
-ghost use Rattle.rl_syntax.specs.declared.limits.TheConstants.{MOST_PAIRS};
+ghost use Rattle.rl_syntax.specs.declared.limits.TheConstants.{MOST_PAIRS, MOST_MOVES};
+ghost use Rattle.rl_ranges.specs.declared.letters.TheConstants.{MOST_LETTERS};
 ghost use Rattle.rl_ranges.specs.Text.{code_count};
 ghost use Rattle.rl_prio.specs.Automaton.{letters_count};
+ghost use Rattle.rl_prio.specs.Items.{longest};
+ghost use Rattle.rl_prio.specs.Letters.{letters};
+ghost use Rattle.rl_prio.specs.StandsFor.{StandsFor};
 ghost use Rattle.rl_pairs.specs.PairTable.{moves_in, pair_in};
 ghost use Rattle.rl_pairs.specs.RightVerdict.{Question, RightVerdict};
-ghost use Rattle.rl_cert.specs.Ways.{IsTwinWay};
+ghost use Rattle.rl_cert.specs.Ways.{IsWay, IsTwinWay};
 ghost use Rattle.rl_cert.specs.Holds.{Holds, Shows, ShowsDegree, words_of, question_of};
 
 use crate::certificate::Certificate;
@@ -38,6 +42,27 @@ fn is_flat(g: &Multigraph) -> Result<bool, OutOfMemory>
     Ok(true)
 }
 
+/// Whether a certificate's anchors are on the way of its family.
+fn shows_way(
+    alloc: Global,
+    a: &Prio,
+    g: &PairGraph,
+    c: &Certificate,
+    f: &Family,
+) -> Result<bool, OutOfMemory>
+    requires some { 0 < g.now.graph.states }
+    requires letters { letters_count a.now ≤ g.now.graph.letters }
+    requires heads { All (All (λ c. c < a.now.table.codes)) f.now.heads }
+    requires pumps { All (All (λ c. c < a.now.table.codes)) f.now.pumps }
+    ensures { IfOk result (λ yes. IsTrue yes ↔ IsWay a.now (moves_in g.now) (pair_in g.now) g.now.graph.states 0 c.now.anchors
+        (words_of a.now f.now.heads) (words_of a.now f.now.pumps)) }
+{
+    let heads = all_letters(alloc, a, f.heads.as_slice())?;
+    let pumps = all_letters(alloc, a, f.pumps.as_slice())?;
+    let anchors = c.anchors.as_slice();
+    is_way(alloc, a, g, anchors, heads.as_slice(), pumps.as_slice())
+}
+
 /// Whether a certificate shows its family and its numbers, for a degree of at least 1.
 fn shows_degree(
     alloc: Global,
@@ -53,10 +78,7 @@ fn shows_degree(
     requires pumps { All (All (λ c. c < a.now.table.codes)) f.now.pumps }
     ensures { IfOk result (λ yes. IsTrue yes ↔ ShowsDegree a.now (moves_in g.now) (pair_in g.now) g.now.graph.states power c.now f.now) }
 {
-    let heads = all_letters(alloc, a, f.heads.as_slice())?;
-    let pumps = all_letters(alloc, a, f.pumps.as_slice())?;
-    let anchors = c.anchors.as_slice();
-    let way = is_way(alloc, a, g, anchors, heads.as_slice(), pumps.as_slice())?;
+    let way = shows_way(alloc, a, g, c, f)?;
     if !way {
         return Ok(false);
     }
@@ -124,6 +146,36 @@ fn shown(
     }
 }
 
+/// Whether a certificate holds for a tree that an automaton stands for.
+fn checked_over(
+    alloc: Global,
+    l: &Lowered,
+    u: Universe,
+    a: &Prio,
+    max_pairs: u32,
+    c: &Certificate,
+) -> Result<bool, OutOfMemory>
+    requires some { 1 ≤ max_pairs }
+    requires few { max_pairs ≤ MOST_PAIRS }
+    requires small { size (tree_of l.now.tree) ≤ MOST_NODES }
+    requires stands { StandsFor a.now (tree_of l.now.tree) l.now.ending }
+    requires codes { a.now.table.codes ≡ code_count u }
+    requires within { (length (letters (tree_of l.now.tree) (code_count u)) ≤ MOST_LETTERS) × (longest (tree_of l.now.tree) ≤ MOST_MOVES) }
+    ensures { IfOk result (λ yes. IsTrue yes ↔ Holds (question_of l.now u max_pairs) c.now) }
+{
+    let _states = a.states();
+    match pairs(alloc, a, max_pairs) {
+        Ok(g) => {
+            let holds = shown(alloc, u, a, &g, c);
+            drop(g);
+            holds
+        }
+        Err(PairsError::Sets) => Ok(false),
+        Err(PairsError::Pairs) => Ok(false),
+        Err(PairsError::OutOfMemory) => Err(OutOfMemory),
+    }
+}
+
 /// Whether a certificate holds for a tree within the limit of its size.
 fn checked_small(
     alloc: Global,
@@ -138,18 +190,15 @@ fn checked_small(
     requires small { size (tree_of l.now.tree) ≤ MOST_NODES }
     ensures { IfOk result (λ yes. IsTrue yes ↔ Holds (question_of l.now u max_pairs) c.now) }
 {
-    let a = match Prio::build(alloc, &l.tree, l.ending, u) {
-        Ok(a) => a,
-        Err(PrioError::Letters) => return Ok(false),
-        Err(PrioError::Moves) => return Ok(false),
-        Err(PrioError::OutOfMemory) => return Err(OutOfMemory),
-    };
-    let _states = a.states();
-    match pairs(alloc, &a, max_pairs) {
-        Ok(g) => shown(alloc, u, &a, &g, c),
-        Err(PairsError::Sets) => Ok(false),
-        Err(PairsError::Pairs) => Ok(false),
-        Err(PairsError::OutOfMemory) => Err(OutOfMemory),
+    match Prio::build(alloc, &l.tree, l.ending, u) {
+        Ok(a) => {
+            let holds = checked_over(alloc, l, u, &a, max_pairs, c);
+            drop(a);
+            holds
+        }
+        Err(PrioError::Letters) => Ok(false),
+        Err(PrioError::Moves) => Ok(false),
+        Err(PrioError::OutOfMemory) => Err(OutOfMemory),
     }
 }
 

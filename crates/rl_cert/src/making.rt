@@ -8,12 +8,18 @@ ghost use Rattle.rl_degree.specs.Chains.{links_of, HasNoCycle};
 ghost use Rattle.rl_pairs.specs.PairTable.{moves_in, pair_in};
 ghost use Rattle.rl_growth.specs.Questions.{StandsForSome, IsLed};
 ghost use Rattle.rl_growth.specs.Routes.{state_after, IsRoute, IsLongest};
-ghost use Rattle.rl_growth.specs.FamilyWords.{IsChainWords};
+ghost use Rattle.rl_growth.specs.FamilyWords.{IsChainWords, IsTwinWords};
 ghost use Rattle.rl_pairs.specs.Families.{Spells};
 ghost use Rattle.rl_cert.specs.Ways.{chain_anchors};
 ghost use Rattle.rl_cert.specs.internal.Made.{IsMade, IsLarge};
 ghost use Rattle.rl_syntax.specs.Tree.{tree_of, size, IsOver};
+ghost use Rattle.rl_syntax.specs.declared.limits.TheConstants.{MOST_MOVES};
 ghost use Rattle.rl_syntax.specs.declared.verdict.Limit.{Limit};
+ghost use Rattle.rl_ranges.specs.Text.{code_count};
+ghost use Rattle.rl_ranges.specs.declared.letters.TheConstants.{MOST_LETTERS};
+ghost use Rattle.rl_prio.specs.Items.{longest};
+ghost use Rattle.rl_prio.specs.Letters.{letters};
+ghost use Rattle.rl_prio.specs.StandsFor.{StandsFor};
 ghost use Rattle.rl_syntax.specs.declared.limits.TheConstants.{MOST_PAIRS};
 ghost use Rattle.rl_pairs.specs.RightVerdict.{IsNamed};
 ghost use Rattle.rl_cert.specs.Form.{IsTold};
@@ -54,26 +60,51 @@ impl From<OutOfMemory> for CertError {
     }
 }
 
+/// The family of a twin.
+fn twin_family(
+    alloc: Global,
+    a: &Prio,
+    g: &PairGraph,
+    twin: &TwinPaths,
+) -> Result<Family, OutOfMemory>
+    requires stands { StandsForSome a.now }
+    requires led { IsLed a.now g.now }
+    requires state_in { twin.now.state < g.now.graph.states }
+    requires twin { IsTwin (moves_in g.now) twin.now.state twin.now.word twin.now.first twin.now.second }
+    ensures { IfOk result (λ f. (heads pumps : List (List ℕ))
+        × IsTwinWords a.now (moves_in g.now) (pair_in g.now) twin.now.state heads pumps × Spells a.now f heads pumps) }
+{
+    let words = twin_words(alloc, g, twin)?;
+    let family = family_of(alloc, a, &words)?;
+    Ok(family)
+}
+
+/// The anchor on the loop of a state, alone in a list.
+fn one_anchor(alloc: Global, state: u32) -> Result<Anchors, OutOfMemory>
+    ensures { IfOk result (λ l. l ≡ chain_anchors [] state) }
+{
+    let mut anchors = Items::new(alloc);
+    anchors.push(Anchor { r: state, q: state })?;
+    Ok(anchors)
+}
+
 /// The certificate of a graph of live pairs that has a twin: one anchor, what leads to it, and the twin's word.
 fn exponential(
     alloc: Global,
     a: &Prio,
     g: &PairGraph,
     twin: &TwinPaths,
-) -> Result<Certificate, OutOfMemory>
+) -> Result<Certificate, CertError>
     requires stands { StandsForSome a.now }
     requires led { IsLed a.now g.now }
     requires state_in { twin.now.state < g.now.graph.states }
     requires twin { IsTwin (moves_in g.now) twin.now.state twin.now.word twin.now.first twin.now.second }
-    ensures { IfOk result (IsMade a.now g.now) }
+    ensures made { IfOk result (IsMade a.now g.now) }
+    ensures told { (limit : Limit) → result ≡ Err (CertError.Undecided limit) → ⊥ }
+    ensures too_large { result ≡ Err CertError.TooLarge → IsLarge a.now g.now }
 {
-    let words = twin_words(alloc, g, twin)?;
-    let family = family_of(alloc, a, &words)?;
-    let mut anchors = Items::new(alloc);
-    anchors.push(Anchor {
-        r: twin.state,
-        q: twin.state,
-    })?;
+    let anchors = one_anchor(alloc, twin.state)?;
+    let family = twin_family(alloc, a, g, twin)?;
     Ok(Certificate {
         verdict: Verdict::Expo(family),
         anchors,
@@ -181,9 +212,9 @@ fn graded(
     ensures too_large { result ≡ Err CertError.TooLarge → IsLarge a.now g.now }
 {
     let splits = chain.links.as_slice();
-    let family = chain_family(alloc, a, g, splits, cycle)?;
     let anchors = anchors_of(alloc, splits, cycle.state)?;
     let ranks = Items::from_slice(alloc, chain.ranks.as_slice())?;
+    let family = chain_family(alloc, a, g, splits, cycle)?;
     let doubles = doubles_of(alloc, g.graph())?;
     let triples = match triples_of(alloc, g.graph(), ranks.as_slice()) {
         Ok(triples) => triples,
@@ -218,10 +249,40 @@ fn polynomial(
     let chain = degree_over(alloc, g.graph(), components)?;
     match &chain.cycle {
         None => {
+            drop(chain);
             let certificate = flat(alloc, a, g)?;
             Ok(certificate)
         }
-        Some(cycle) => graded(alloc, a, g, &chain, cycle),
+        Some(cycle) => {
+            let certificate = graded(alloc, a, g, &chain, cycle);
+            drop(chain);
+            certificate
+        }
+    }
+}
+
+/// The certificate of a graph of live pairs, over its components.
+fn made_by(
+    alloc: Global,
+    a: &Prio,
+    g: &PairGraph,
+    components: Components,
+) -> Result<Certificate, CertError>
+    requires stands { StandsForSome a.now }
+    requires led { IsLed a.now g.now }
+    requires parts { IsParts (moves_in g.now) g.now.graph.states components }
+    ensures made { IfOk result (IsMade a.now g.now) }
+    ensures told { (limit : Limit) → result ≡ Err (CertError.Undecided limit) → ⊥ }
+    ensures too_large { result ≡ Err CertError.TooLarge → IsLarge a.now g.now }
+{
+    match twin_over(alloc, g.graph(), &components)? {
+        Some(twin) => {
+            drop(components);
+            let certificate = exponential(alloc, a, g, &twin);
+            drop(twin);
+            certificate
+        }
+        None => polynomial(alloc, a, g, components),
     }
 }
 
@@ -233,14 +294,40 @@ fn made(alloc: Global, a: &Prio, g: &PairGraph) -> Result<Certificate, CertError
     ensures told { (limit : Limit) → result ≡ Err (CertError.Undecided limit) → ⊥ }
     ensures too_large { result ≡ Err CertError.TooLarge → IsLarge a.now g.now }
 {
-    let graph = g.graph();
-    let components = graph.components()?;
-    match twin_over(alloc, graph, &components)? {
-        Some(twin) => {
-            let certificate = exponential(alloc, a, g, &twin)?;
-            Ok(certificate)
+    let components = g.graph().components()?;
+    made_by(alloc, a, g, components)
+}
+
+/// The certificate for a tree that an automaton stands for.
+fn made_over(
+    alloc: Global,
+    l: &Lowered,
+    u: Universe,
+    a: &Prio,
+    max_pairs: u32,
+) -> Result<Certificate, CertError>
+    requires some { 1 ≤ max_pairs }
+    requires few { max_pairs ≤ MOST_PAIRS }
+    requires small { size (tree_of l.now.tree) ≤ MOST_NODES }
+    requires stands { StandsFor a.now (tree_of l.now.tree) l.now.ending }
+    requires codes { a.now.table.codes ≡ code_count u }
+    requires within { (length (letters (tree_of l.now.tree) (code_count u)) ≤ MOST_LETTERS) × (longest (tree_of l.now.tree) ≤ MOST_MOVES) }
+    ensures holds { IfOk result (Holds (question_of l.now u max_pairs)) }
+    ensures told { IfOk result (λ c. IsTold c.verdict) }
+    ensures fits { IfOk result (λ c. IsTooLarge (question_of l.now u max_pairs) → ⊥) }
+    ensures undecided { IfErr result (λ e. (limit : Limit) → e ≡ CertError.Undecided limit → IsNamed (question_of l.now u max_pairs) limit) }
+    ensures too_large { IfErr result (λ e. e ≡ CertError.TooLarge → IsTooLarge (question_of l.now u max_pairs)) }
+{
+    let _states = a.states();
+    match pairs(alloc, a, max_pairs) {
+        Ok(g) => {
+            let certificate = made(alloc, a, &g);
+            drop(g);
+            certificate
         }
-        None => polynomial(alloc, a, g, components),
+        Err(PairsError::Sets) => Err(CertError::Undecided(Limit::Sets)),
+        Err(PairsError::Pairs) => Err(CertError::Undecided(Limit::Pairs)),
+        Err(PairsError::OutOfMemory) => Err(CertError::OutOfMemory),
     }
 }
 
@@ -261,18 +348,15 @@ fn made_small(
     ensures undecided { IfErr result (λ e. (limit : Limit) → e ≡ CertError.Undecided limit → IsNamed (question_of l.now u max_pairs) limit) }
     ensures too_large { IfErr result (λ e. e ≡ CertError.TooLarge → IsTooLarge (question_of l.now u max_pairs)) }
 {
-    let a = match Prio::build(alloc, &l.tree, l.ending, u) {
-        Ok(a) => a,
-        Err(PrioError::Letters) => return Err(CertError::Undecided(Limit::Letters)),
-        Err(PrioError::Moves) => return Err(CertError::Undecided(Limit::Moves)),
-        Err(PrioError::OutOfMemory) => return Err(CertError::OutOfMemory),
-    };
-    let _states = a.states();
-    match pairs(alloc, &a, max_pairs) {
-        Ok(g) => made(alloc, &a, &g),
-        Err(PairsError::Sets) => Err(CertError::Undecided(Limit::Sets)),
-        Err(PairsError::Pairs) => Err(CertError::Undecided(Limit::Pairs)),
-        Err(PairsError::OutOfMemory) => Err(CertError::OutOfMemory),
+    match Prio::build(alloc, &l.tree, l.ending, u) {
+        Ok(a) => {
+            let certificate = made_over(alloc, l, u, &a, max_pairs);
+            drop(a);
+            certificate
+        }
+        Err(PrioError::Letters) => Err(CertError::Undecided(Limit::Letters)),
+        Err(PrioError::Moves) => Err(CertError::Undecided(Limit::Moves)),
+        Err(PrioError::OutOfMemory) => Err(CertError::OutOfMemory),
     }
 }
 

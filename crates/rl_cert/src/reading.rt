@@ -409,6 +409,7 @@ pub fn read(alloc: Global, bytes: &Bytes) -> Result<Certificate, ReadError>
         return Err(ReadError::Refused);
     }
     let value = value_of(alloc, bytes.as_slice())?;
-    let certificate = certificate_of(alloc, &value)?;
-    Ok(certificate)
+    let certificate = certificate_of(alloc, &value);
+    drop(value);
+    certificate
 }

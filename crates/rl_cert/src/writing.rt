@@ -1,7 +1,7 @@
 //! Certificates written.
 
-ghost use Rattle.std.specs.Prelude.{◌≡◌, false, map, IfOk, OnOk};
-ghost use Rattle.serde_json.specs.Data.{put, no_members, object};
+ghost use Rattle.std.specs.Prelude.{◌≡◌, codes, false, map, IfOk, OnOk};
+ghost use Rattle.serde_json.specs.Data.{put, no_members, object, string};
 ghost use Rattle.serde_json.specs.View.{members_view, view};
 ghost use Rattle.rl_cert.specs.internal.FormParts.{pairs_put, family_put, ranks_put};
 ghost use Rattle.rl_cert.specs.Form.{row_data, rows_data, anchor_row, double_row, triple_row, common_members, form_members, form_text, IsTold};
@@ -119,11 +119,32 @@ fn common(alloc: Global, c: &Certificate, f: &Family) -> Result<Members, OutOfMe
     ensures { IfOk result (λ m. members_view m.entries ≡ common_members c.now f.now) }
 {
     let mut members = Map::new(alloc);
-    put_pairs(&mut members, alloc, c)?;
-    put_family(&mut members, alloc, f)?;
-    put_ranks(&mut members, alloc, c)?;
-    put(&mut members, alloc, "version", Value::from(1u32))?;
+    let Ok(()) = put_pairs(&mut members, alloc, c) else {
+        drop(members);
+        return Err(OutOfMemory);
+    };
+    let Ok(()) = put_family(&mut members, alloc, f) else {
+        drop(members);
+        return Err(OutOfMemory);
+    };
+    let Ok(()) = put_ranks(&mut members, alloc, c) else {
+        drop(members);
+        return Err(OutOfMemory);
+    };
+    let Ok(()) = put(&mut members, alloc, "version", Value::from(1u32)) else {
+        drop(members);
+        return Err(OutOfMemory);
+    };
     Ok(members)
+}
+
+/// Puts the kind of a certificate.
+fn put_kind(members: &mut Members, alloc: Global, kind: &str) -> Result<(), OutOfMemory>
+    ensures { OnOk result (members_view members.new.entries ≡ put (codes "kind") (string kind.now) (members_view members.old.entries)) }
+{
+    let value = Value::try_from_str(alloc, kind)?;
+    put(members, alloc, "kind", value)?;
+    Ok(())
 }
 
 /// The object of a certificate.
@@ -134,15 +155,22 @@ fn object_of(alloc: Global, c: &Certificate) -> Result<Value, OutOfMemory>
     match &c.verdict {
         Verdict::Degree(degree, family) => {
             let mut members = common(alloc, c, family)?;
-            put(&mut members, alloc, "degree", Value::from(*degree))?;
-            let kind = Value::try_from_str(alloc, "degree")?;
-            put(&mut members, alloc, "kind", kind)?;
+            let Ok(()) = put(&mut members, alloc, "degree", Value::from(*degree)) else {
+                drop(members);
+                return Err(OutOfMemory);
+            };
+            let Ok(()) = put_kind(&mut members, alloc, "degree") else {
+                drop(members);
+                return Err(OutOfMemory);
+            };
             Ok(Value::Object(members))
         }
         Verdict::Expo(family) => {
             let mut members = common(alloc, c, family)?;
-            let kind = Value::try_from_str(alloc, "exponential")?;
-            put(&mut members, alloc, "kind", kind)?;
+            let Ok(()) = put_kind(&mut members, alloc, "exponential") else {
+                drop(members);
+                return Err(OutOfMemory);
+            };
             Ok(Value::Object(members))
         }
         Verdict::Undecided(_) => unreachable!(),

@@ -1,8 +1,8 @@
 use Rattle.rl_growth.proofs.LongestLaws.{longest_of}
 use Rattle.rl_cert.proofs.making.polynomial.Goals as goal
 
-pub graded-requires-clause-longest : goal.graded-requires-clause-longest
-graded-requires-clause-longest c =
+pub graded-certificate-requires-clause-longest : goal.graded-certificate-requires-clause-longest
+graded-certificate-requires-clause-longest c =
     longest_of c.args.a.now c.args.g.now c.graph.result.now c.in_ok-chain.chain c.graph.ensures c.requires.led c.in_ok-chain.ensures.links c.in_ok-chain.ensures.states c.in_ok-chain.ensures.longest c.in_ok-chain.ensures.ranks c.in_ok-chain.ensures.no_cycle
 
 pub flat-requires : goal.flat-requires

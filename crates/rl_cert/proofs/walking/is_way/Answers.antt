@@ -56,3 +56,6 @@ returns c =
     (λ yes. IsTrue yes ↔ IsWay a (moves_in g) (pair_in g) g.graph.states 0 c.args.anchors.now c.args.heads.now c.args.pumps.now)
     (way-decided a (moves_in g) (pair_in g) g.graph.states c.args.anchors.now c.args.heads.now c.args.pumps.now f c.loop-place.from c.loop-place.place i
     c.as_slice-head-2.result.now c.as_slice-pump-2.result.now c.as_slice-last.result.now at last eh ep el c.loop-place.invariant.there c.loop-place.invariant.back) c.end_holds.ensures
+
+pub loop-place-init : goal.loop-place-init
+loop-place-init c = record { inside = c.requires.some; there = λ w. w; back = λ w. w }
