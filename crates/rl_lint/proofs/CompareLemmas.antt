@@ -1,5 +1,5 @@
 -- Two patterns compared.
-use Rattle.std.proofs.Common.{◌≡◌, ℕ, ◌≤◌, Bool, false, List, Option, Some, None, Result, Ok, Err, IfOk, inl, inr, refl, arith}
+use Rattle.std.proofs.Common.{◌≡◌, ℕ, ◌≤◌, Bool, false, List, Option, Some, None, Result, Ok, Err, IfOk, inl, inr, refl, subst, arith}
 use Rattle.std.specs.Prelude.{IfSome}
 use Rattle.rl_ranges.specs.Text.{IsText}
 use Rattle.rl_ranges.specs.declared.universe.Universe.TheVariants.{Str}
@@ -44,12 +44,12 @@ module _ (s : Tree) (e : MatchEnd) (t : Tree) (f : MatchEnd) where
       inr (c, found.within, found.regions, found.told, ends)
   writes-regions (Err failed) c found ends = tt
 
-  pub names-passed : {E : Type 0} (result : Result Plan E) (limit : CompareError) (line : Text)
-      → IsComparePassed Str (matched_tree Str s e) (matched_tree Str t f) limit → passed_line limit ≡ Some line
+  pub names-passed : {E : Type 0} (result : Result Plan E) (found limit : CompareError) (line : Text)
+      → found ≡ limit → IsComparePassed Str (matched_tree Str s e) (matched_tree Str t f) found → passed_line limit ≡ Some line
       → IfOk result (λ plan. ending_of plan ≡ writes line false false) → IfOk result (λ plan. CompareEnds s e t f (ending_of plan))
-  names-passed (Ok plan) limit line passed named ends =
-      inl (limit, line, passed, named, ends)
-  names-passed (Err failed) limit line passed named ends = tt
+  names-passed (Ok plan) found limit line is passed named ends =
+      inl (limit, line, subst (IsComparePassed Str (matched_tree Str s e) (matched_tree Str t f)) is passed, named, ends)
+  names-passed (Err failed) found limit line is passed named ends = tt
 
 -- the texts of regions are such
 text_of : (test : List ℕ → Bool) (more : Bool) (o : Option (List ℕ)) → IsOfRegion Str test more o → IfSome o (IsText Str)

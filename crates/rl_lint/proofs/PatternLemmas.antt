@@ -1,5 +1,5 @@
 -- The endings that a pattern argument comes first in.
-use Rattle.std.proofs.Common.{◌≡◌, ℕ, List, Result, Ok, Err, IfOk}
+use Rattle.std.proofs.Common.{◌≡◌, ◌∙◌, ℕ, List, Option, Some, Result, Ok, Err, IfOk, ap, sym}
 use Rattle.rl_syntax.specs.Pattern.{pattern_ending, pattern_tree}
 use Rattle.rl_syntax.specs.Tree.{Tree}
 use Rattle.rl_syntax.specs.declared.pattern.Pattern.{Pattern}
@@ -15,6 +15,12 @@ use Rattle.rl_lint.specs.declared.pattern_argument.PatternArgument.TheVariants.{
 use Rattle.rl_lint.specs.declared.plan.Message.{Message}
 use Rattle.rl_lint.specs.declared.plan.Plan.{Plan}
 use Rattle.rl_lint.specs.internal.Parsed.{IsArgument}
+
+-- the message that was made is the one that is asked for
+pub message-asked : {E : Type 0} (result : Result Message E) (asked : Option Text) (text : Text) → asked ≡ Some text → IfOk result (λ message. message_text message ≡ text)
+    → IfOk result (λ message. asked ≡ Some (message_text message))
+message-asked (Ok message) asked text is made = is ∙ ap Some (sym made)
+message-asked (Err error) asked text is made = tt
 
 module _ (pattern : List ℕ) (mode : Mode) (Next : Tree → MatchEnd → Ending → Type 0) where
   pub ends-refused : (message : Message) → IsArgument pattern (Refused message) → ParsesThen pattern mode Next (refuses (message_text message))

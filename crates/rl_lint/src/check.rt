@@ -94,13 +94,20 @@ pub fn check_plan<T: Tree>(
         FileRead::Taken(keys) => keys,
     };
     let mut checker = Checker::new(alloc, settings);
-    walk(alloc, paths, tree, &mut checker)?;
+    let Ok(()) = walk(alloc, paths, tree, &mut checker) else {
+        drop(checker);
+        drop(keys);
+        return Err(OutOfMemory);
+    };
     let failed = checker.has_unread();
     let visible = visible_entries(alloc, checker.into_entries(), keys)?;
-    let text = report_in(alloc, &visible, &settings)?;
+    let finding = status_of(&visible.entries, &settings) == 1;
+    let text = report_in(alloc, &visible, &settings);
+    drop(visible);
+    let text = text?;
     Ok(Plan::Writes {
         text,
-        finding: status_of(&visible.entries, &settings) == 1,
+        finding,
         failed,
     })
 }

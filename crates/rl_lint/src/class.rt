@@ -59,7 +59,11 @@ fn verdict_on(
     ensures { IfOk result (RightVerdict (text_question max_pairs (pattern_tree pattern.now mode) (pattern_ending pattern.now mode))) }
 {
     match lower(alloc, pattern, mode) {
-        Ok(lowered) => classify(alloc, &lowered, Universe::Str, max_pairs),
+        Ok(lowered) => {
+            let verdict = classify(alloc, &lowered, Universe::Str, max_pairs);
+            drop(lowered);
+            verdict
+        }
         Err(LowerError::TooLarge) => Ok(Verdict::Undecided(Limit::Size)),
         Err(LowerError::OutOfMemory) => Err(OutOfMemory),
     }
@@ -83,10 +87,12 @@ fn pattern_plan(
         (pattern_tree pattern.now mode) (pattern_ending pattern.now mode) (ending_of plan)) }
 {
     let verdict = verdict_on(alloc, pattern, mode, max_pairs)?;
-    let text = class_text(alloc, &verdict, max_pairs)?;
+    let finding = is_finding(&verdict, max_degree);
+    let text = class_text(alloc, &verdict, max_pairs);
+    drop(verdict);
     Ok(Plan::Writes {
-        text,
-        finding: is_finding(&verdict, max_degree),
+        text: text?,
+        finding,
         failed: false,
     })
 }
@@ -109,8 +115,10 @@ pub fn class_plan(
 {
     match parse_argument(alloc, pattern)? {
         PatternArgument::Refused(message) => Ok(Plan::Refuses(message)),
-        PatternArgument::Parsed(pattern) => pattern_plan(
-            alloc, &pattern, mode, max_degree, max_pairs,
-        ),
+        PatternArgument::Parsed(pattern) => {
+            let plan = pattern_plan(alloc, &pattern, mode, max_degree, max_pairs);
+            drop(pattern);
+            plan
+        }
     }
 }

@@ -57,8 +57,13 @@ fn compared(
         (matched_tree Str (pattern_tree second.now mode) (pattern_ending second.now mode))) }
 {
     let first = lowered(alloc, first, mode)?;
-    let second = lowered(alloc, second, mode)?;
-    compare(alloc, first, second, Universe::Str, MOST_SET_PAIRS)
+    match lowered(alloc, second, mode) {
+        Ok(second) => compare(alloc, first, second, Universe::Str, MOST_SET_PAIRS),
+        Err(error) => {
+            drop(first);
+            Err(error)
+        }
+    }
 }
 
 /// To write the line on a limit that is passed, which is none on pairs and no finding.
@@ -109,7 +114,11 @@ fn patterns_plan(
         (pattern_tree second.now mode) (pattern_ending second.now mode) (ending_of plan)) }
 {
     match compared(alloc, first, second, mode) {
-        Ok(compared) => compared_plan(alloc, &compared),
+        Ok(compared) => {
+            let plan = compared_plan(alloc, &compared);
+            drop(compared);
+            plan
+        }
         Err(CompareError::Size) => limit_plan(alloc, Limit::Size),
         Err(CompareError::Letters) => limit_plan(alloc, Limit::Letters),
         Err(CompareError::Moves) => limit_plan(alloc, Limit::Moves),
@@ -133,7 +142,11 @@ fn second_plan(
 {
     match parse_argument(alloc, second)? {
         PatternArgument::Refused(message) => Ok(Plan::Refuses(message)),
-        PatternArgument::Parsed(second) => patterns_plan(alloc, first, &second, mode),
+        PatternArgument::Parsed(second) => {
+            let plan = patterns_plan(alloc, first, &second, mode);
+            drop(second);
+            plan
+        }
     }
 }
 
@@ -151,6 +164,10 @@ pub fn compare_plan(
 {
     match parse_argument(alloc, first)? {
         PatternArgument::Refused(message) => Ok(Plan::Refuses(message)),
-        PatternArgument::Parsed(first) => second_plan(alloc, &first, second, mode),
+        PatternArgument::Parsed(first) => {
+            let plan = second_plan(alloc, &first, second, mode);
+            drop(first);
+            plan
+        }
     }
 }

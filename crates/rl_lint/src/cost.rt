@@ -54,6 +54,10 @@ pub fn cost_plan(alloc: Global, pattern: &str, text: &str, mode: Mode) -> Result
 {
     match parse_argument(alloc, pattern)? {
         PatternArgument::Refused(message) => Ok(Plan::Refuses(message)),
-        PatternArgument::Parsed(pattern) => pattern_plan(alloc, &pattern, text, mode),
+        PatternArgument::Parsed(pattern) => {
+            let plan = pattern_plan(alloc, &pattern, text, mode);
+            drop(pattern);
+            plan
+        }
     }
 }

@@ -44,7 +44,11 @@ fn lowered_line(alloc: Global, lowered: &Lowered, text: &Codes) -> Result<Bytes,
         ≡ cost_line (tree_of lowered.now.tree) lowered.now.ending text.now) }
 {
     match Prio::build(alloc, &lowered.tree, lowered.ending, Universe::Str) {
-        Ok(automaton) => counted_line(alloc, &automaton, text),
+        Ok(automaton) => {
+            let line = counted_line(alloc, &automaton, text);
+            drop(automaton);
+            line
+        }
         Err(PrioError::Letters) => undecided_line(alloc, 0, Limit::Letters),
         Err(PrioError::Moves) => undecided_line(alloc, 0, Limit::Moves),
         Err(PrioError::OutOfMemory) => Err(OutOfMemory),
@@ -67,7 +71,11 @@ pub fn cost_line(
         ≡ cost_line (pattern_tree pattern.now mode) (pattern_ending pattern.now mode) text.now) }
 {
     match lower(alloc, pattern, mode) {
-        Ok(lowered) => lowered_line(alloc, &lowered, text),
+        Ok(lowered) => {
+            let line = lowered_line(alloc, &lowered, text);
+            drop(lowered);
+            line
+        }
         Err(LowerError::TooLarge) => undecided_line(alloc, 0, Limit::Size),
         Err(LowerError::OutOfMemory) => Err(OutOfMemory),
     }

@@ -28,7 +28,10 @@ fn unknown_entries(
 ) -> Result<Entries, OutOfMemory>
     ensures { IfOk result (λ unknown. unknown ≡ unknown_entries keys.now entries) }
 {
-    let positions = unknown(alloc, &entries, keys)?;
+    let Ok(positions) = unknown(alloc, &entries, keys) else {
+        drop(entries);
+        return Err(OutOfMemory);
+    };
     let mut moved = entries.into_vec();
     for (place, position) in positions.as_slice().iter().enumerate() {
         moved.swap(place, *position as usize);
@@ -58,7 +61,9 @@ pub fn visible_entries(
         }),
         Some(keys) => {
             let all = entries.len();
-            let entries = unknown_entries(alloc, entries, &keys)?;
+            let unknown = unknown_entries(alloc, entries, &keys);
+            drop(keys);
+            let entries = unknown?;
             let hidden = all - entries.len();
             Ok(Visible {
                 entries,

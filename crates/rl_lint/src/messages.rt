@@ -2,8 +2,10 @@
 ghost use Rattle.std.specs.Prelude.{◌≡◌, ℕ, IfOk, codes, if◌then◌else◌};
 ghost use Rattle.std.specs.String.{string_bytes};
 ghost use Rattle.rl_machine.specs.Counts.{Counts};
+ghost use Rattle.rl_lint.specs.internal.Plans.{message_text};
 ghost use Rattle.rl_lint.specs.Messages.{refused_at, steps_line, undecided_line};
 
+use crate::plan::Message;
 use rl_lists::{Bytes, OutOfMemory};
 use rl_machine::{Counted, Steps};
 use rl_report::verdict_line;
@@ -14,11 +16,11 @@ use std::alloc::Global;
 ///
 /// # Errors
 /// [`OutOfMemory`].
-pub fn refused_at(alloc: Global, cause: &str, place: u32) -> Result<String, OutOfMemory>
-    ensures { IfOk result (λ text. string_bytes text ≡ refused_at cause.now place) }
+pub fn refused_at(alloc: Global, cause: &str, place: u32) -> Result<Message, OutOfMemory>
+    ensures { IfOk result (λ message. message_text message ≡ refused_at cause.now place) }
 {
     let text = format!(in alloc; "relint: refused {cause} at {place}\n")?;
-    Ok(text)
+    Ok(Message::Made(text))
 }
 
 /// The line on a limit that is passed, where so many live pairs are looked at.

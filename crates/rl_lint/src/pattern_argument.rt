@@ -42,12 +42,9 @@ fn refusal(alloc: Global, error: PatError) -> Result<Message, OutOfMemory>
     ensures { IfOk result (λ message. refusal error ≡ Some (message_text message)) }
 {
     match error {
-        PatError::Syntax(place) => Ok(Message::Made(refused_at(alloc, "syntax", place)?)),
-        PatError::TooDeep(place) => Ok(Message::Made(refused_at(alloc, "too-deep", place)?)),
-        PatError::Outside(place, feature) => {
-            let cause = feature_name(feature);
-            Ok(Message::Made(refused_at(alloc, cause, place)?))
-        }
+        PatError::Syntax(place) => refused_at(alloc, "syntax", place),
+        PatError::TooDeep(place) => refused_at(alloc, "too-deep", place),
+        PatError::Outside(place, feature) => refused_at(alloc, feature_name(feature), place),
         PatError::TooLong => Ok(Message::Fixed("relint: refused too-long\n")),
         PatError::OutOfMemory => Err(OutOfMemory),
     }
@@ -61,7 +58,9 @@ pub fn parse_argument(alloc: Global, word: &str) -> Result<PatternArgument, OutO
     ensures { IfOk result (IsArgument (chars word.now)) }
 {
     let codes = codes_of(alloc, word)?;
-    match parse(alloc, &codes, NO_FLAGS, Universe::Str) {
+    let parsed = parse(alloc, &codes, NO_FLAGS, Universe::Str);
+    drop(codes);
+    match parsed {
         Ok(pattern) => Ok(PatternArgument::Parsed(pattern)),
         Err(error) => Ok(PatternArgument::Refused(refusal(alloc, error)?)),
     }

@@ -85,7 +85,9 @@ fn action_plan<T: Tree>(
     let max_pairs = settings.max_pairs;
     match action {
         Action::Check { paths } => {
-            check_plan(alloc, paths.as_slice(), settings, options.baseline, tree)
+            let plan = check_plan(alloc, paths.as_slice(), settings, options.baseline, tree);
+            drop(paths);
+            plan
         }
         Action::Class { pattern } => {
             class_plan(alloc, pattern, mode, settings.max_degree, max_pairs)

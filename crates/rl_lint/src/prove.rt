@@ -34,7 +34,11 @@ fn certificate_of(
     ensures not_made { IfErr result (IsNotMade (text_question max_pairs (pattern_tree pattern.now mode) (pattern_ending pattern.now mode))) }
 {
     match lower(alloc, pattern, mode) {
-        Ok(lowered) => make(alloc, &lowered, Universe::Str, max_pairs),
+        Ok(lowered) => {
+            let made = make(alloc, &lowered, Universe::Str, max_pairs);
+            drop(lowered);
+            made
+        }
         Err(LowerError::TooLarge) => Err(CertError::Undecided(Limit::Size)),
         Err(LowerError::OutOfMemory) => Err(CertError::OutOfMemory),
     }
@@ -68,7 +72,11 @@ fn pattern_plan(
         (ending_of plan)) }
 {
     match certificate_of(alloc, pattern, mode, max_pairs) {
-        Ok(certificate) => Ok(text_plan(write(alloc, &certificate)?)),
+        Ok(certificate) => {
+            let text = write(alloc, &certificate);
+            drop(certificate);
+            Ok(text_plan(text?))
+        }
         Err(CertError::Undecided(limit)) => {
             Ok(text_plan(undecided_line(alloc, max_pairs, limit)?))
         }
@@ -96,6 +104,10 @@ pub fn prove_plan(
 {
     match parse_argument(alloc, pattern)? {
         PatternArgument::Refused(message) => Ok(Plan::Refuses(message)),
-        PatternArgument::Parsed(pattern) => pattern_plan(alloc, &pattern, mode, max_pairs),
+        PatternArgument::Parsed(pattern) => {
+            let plan = pattern_plan(alloc, &pattern, mode, max_pairs);
+            drop(pattern);
+            plan
+        }
     }
 }

@@ -13,7 +13,7 @@ use rl_syntax::{MOST_SET_PAIRS, Universe};
 use std::alloc::Global;
 
 /// How the texts that two patterns match are related.
-#[derive(Clone, Copy, Debug, PartialEq, Eq)]
+#[derive(Clone, Copy)]
 pub enum Relation {
     /// Each has a text of its own, and they share one.
     Overlapping,
@@ -82,11 +82,13 @@ fn push_text(alloc: Global, out: &mut Vec<u8>, name: &str, text: &Codes) -> Resu
     requires { IsText Str text.now }
     ensures { OnOk result (out.new.items ≡ out.old.items ++ region_line name.now (Some text.now)) }
 {
-    let literal = quote(alloc, text, Universe::Str)?;
     out.extend_from_slice(b"  ")?;
     out.extend_from_slice(name.as_bytes())?;
     out.push(b' ')?;
-    out.extend_from_slice(literal.as_slice())?;
+    let literal = quote(alloc, text, Universe::Str)?;
+    let appended = out.extend_from_slice(literal.as_slice());
+    drop(literal);
+    appended?;
     out.push(b'\n')?;
     Ok(())
 }
@@ -120,9 +122,7 @@ pub fn compared_text(
     requires texts { AreTexts compared.now }
     ensures { IfOk result (λ text. text ≡ compared_text compared.now) }
 {
-    let name = relation.name(alloc)?;
-    let mut out = Vec::new(alloc);
-    out.extend_from_slice(name.as_bytes())?;
+    let mut out = relation.name(alloc)?.into_bytes();
     out.push(b'\n')?;
     push_region(alloc, &mut out, "first", &compared.first)?;
     push_region(alloc, &mut out, "second", &compared.second)?;

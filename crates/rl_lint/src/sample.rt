@@ -32,10 +32,13 @@ pub fn sample_plan(
     let source = sample_source(alloc, seed, count)?;
     let path = Name::from_text(alloc, "sample.py")?;
     let entries = judge(alloc, &path, source.as_slice(), settings)?;
-    let text = summary_line(alloc, &entries, settings.max_degree)?;
+    let finding = status_of(&entries, settings) == 1;
+    let text = summary_line(alloc, &entries, settings.max_degree);
+    drop(entries);
+    let text = text?;
     Ok(Plan::Writes {
         text,
-        finding: status_of(&entries, settings) == 1,
+        finding,
         failed: false,
     })
 }

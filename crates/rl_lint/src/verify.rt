@@ -75,7 +75,11 @@ fn holds(
         certificate.now) }
 {
     match lower(alloc, pattern, mode) {
-        Ok(lowered) => check(alloc, &lowered, Universe::Str, max_pairs, certificate),
+        Ok(lowered) => {
+            let held = check(alloc, &lowered, Universe::Str, max_pairs, certificate);
+            drop(lowered);
+            held
+        }
         Err(LowerError::TooLarge) => Ok(false),
         Err(LowerError::OutOfMemory) => Err(OutOfMemory),
     }
@@ -155,7 +159,9 @@ fn file_plan<T: Tree>(
         ))),
         FileRead::Refused => Ok(Plan::Refuses(Message::Fixed("relint: certificate refused\n"))),
         FileRead::Taken(certificate) => {
-            certificate_plan(alloc, pattern, mode, max_pairs, &certificate)
+            let plan = certificate_plan(alloc, pattern, mode, max_pairs, &certificate);
+            drop(certificate);
+            plan
         }
     }
 }
@@ -182,7 +188,9 @@ pub fn verify_plan<T: Tree>(
     match parse_argument(alloc, pattern)? {
         PatternArgument::Refused(message) => Ok(Plan::Refuses(message)),
         PatternArgument::Parsed(pattern) => {
-            file_plan(alloc, &pattern, file, mode, max_pairs, tree)
+            let plan = file_plan(alloc, &pattern, file, mode, max_pairs, tree);
+            drop(pattern);
+            plan
         }
     }
 }

@@ -21,8 +21,8 @@ returns-clause-ending g c =
     let mid = moment_of g.T.Tree.told g.T.Tree.fault_count c.read_baseline.new.tree in
     let new = moment_of g.T.Tree.told g.T.Tree.fault_count c.walk.new.tree in
     let checked = c.walk.new.visitor in
-    let walked = walked-first mid new paths (HasChecked c.new-checker.result) (HasChecked checked) c.new-checker.ensures.told c.in_ok-walk.ensures.walked in
+    let walked = walked-first mid new paths (HasChecked c.new-checker.result) (HasChecked checked) c.new-checker.ensures.told c.in-Ok.ensures.walked in
     let report = reports-walk c.args.settings c.in-Taken.keys paths mid new checked c.in_ok-visible.visible.entries c.in_ok-visible.visible.hidden c.in_ok-text.text
-    (nat_eq c.status_of.result 1) walked (c.in_ok-walk.ensures.config ∙ c.new-checker.ensures.settings) (c.in_ok-visible.ensures.entries ∙ ap (visible_entries c.in-Taken.keys) c.into_entries.ensures) (c.in_ok-visible.ensures.hidden ∙ ap (hidden_count c.in-Taken.keys) c.into_entries.ensures) c.in_ok-text.ensures (is-finding _ _ c.status_of.ensures) in
+    (nat_eq c.status_of-finding.result 1) walked (c.in-Ok.ensures.config ∙ c.new-checker.ensures.settings) (c.in_ok-visible.ensures.entries ∙ ap (visible_entries c.in-Taken.keys) c.into_entries.ensures) (c.in_ok-visible.ensures.hidden ∙ ap (hidden_count c.in-Taken.keys) c.into_entries.ensures) c.in_ok-text.ensures (is-finding _ _ c.status_of-finding.ensures) in
     check-taken c.args.settings paths (option_map (λ p. p.now) c.args.baseline) _ mid new c.in_ok-read_baseline.field-0 c.in-Taken.keys _ c.in_ok-read_baseline.ensures.read c.in-Taken.is
-    (subst (λ f. ReportsWalk c.args.settings paths c.in-Taken.keys mid new (writes c.in_ok-text.text (nat_eq c.status_of.result 1) f)) (sym c.has_unread-failed.ensures) report)
+    (subst (λ f. ReportsWalk c.args.settings paths c.in-Taken.keys mid new (writes c.in_ok-text.text (nat_eq c.status_of-finding.result 1) f)) (sym c.has_unread-failed.ensures) report)

@@ -14,4 +14,4 @@ returns-in-Refused c =
 pub returns-in-Parsed : goal.returns-in-Parsed
 returns-in-Parsed c =
     let read = subst (λ w. IsArgument (chars c.args.first.now) w) c.in-Parsed.is c.in_ok-message.ensures in
-    ends-parsed _ _ (λ s e. ParsesThen (chars c.args.second.now) c.args.mode (CompareEnds s e)) _ c.in-Parsed.first read c.second_plan.ensures
+    ends-parsed _ _ (λ s e. ParsesThen (chars c.args.second.now) c.args.mode (CompareEnds s e)) _ c.in-Parsed.first read c.second_plan-plan.ensures

@@ -14,4 +14,4 @@ returns-in-Refused c =
 pub returns-in-Parsed : goal.returns-in-Parsed
 returns-in-Parsed c =
     let read = subst (λ w. IsArgument (chars c.args.second.now) w) c.in-Parsed.is c.in_ok-message.ensures in
-    ends-parsed _ _ (CompareEnds (pattern_tree c.args.first.now c.args.mode) (pattern_ending c.args.first.now c.args.mode)) _ c.in-Parsed.second read c.patterns_plan.ensures
+    ends-parsed _ _ (CompareEnds (pattern_tree c.args.first.now c.args.mode) (pattern_ending c.args.first.now c.args.mode)) _ c.in-Parsed.second read c.patterns_plan-plan.ensures

@@ -12,7 +12,7 @@ swap-requires-clause-i_in_bounds c =
     let ps = c.as_slice-position-items.result.now in
     let all = c.into_vec-moved.result.items in
     let rises : Rises 0 ps (length all) =
-    rises-of c.args.keys.now ps c.args.entries all (c.as_slice-position-items.ensures ∙ c.in_ok-positions.ensures) c.into_vec-moved.ensures in
+    rises-of c.args.keys.now ps c.args.entries all (c.as_slice-position-items.ensures ∙ c.in-Ok.ensures) c.into_vec-moved.ensures in
     omega (arith, c.loop-place-test.true, c.loop-place.auto.place-end, few ps (length all) rises, c.loop-place.invariant.len, c.loop-place.moved.ok.0, c.loop-place.moved.ok.1)
 
 pub swap-requires-clause-j_in_bounds : goal.swap-requires-clause-j_in_bounds
@@ -20,7 +20,7 @@ swap-requires-clause-j_in_bounds c =
     let ps = c.as_slice-position-items.result.now in
     let all = c.into_vec-moved.result.items in
     let rises : Rises 0 ps (length all) =
-    rises-of c.args.keys.now ps c.args.entries all (c.as_slice-position-items.ensures ∙ c.in_ok-positions.ensures) c.into_vec-moved.ensures in
+    rises-of c.args.keys.now ps c.args.entries all (c.as_slice-position-items.ensures ∙ c.in-Ok.ensures) c.into_vec-moved.ensures in
     omega (arith, below 0 ps (length all) c.loop-place.place rises (omega (arith, c.loop-place-test.true)), c.loop-place.invariant.len, c.loop-place.moved.ok.0, c.loop-place.moved.ok.1)
 
 pub loop-place-preserved : goal.loop-place-preserved
@@ -28,7 +28,7 @@ loop-place-preserved c =
     let ps = c.as_slice-position-items.result.now in
     let all = c.into_vec-moved.result.items in
     let rises : Rises 0 ps (length all) =
-    rises-of c.args.keys.now ps c.args.entries all (c.as_slice-position-items.ensures ∙ c.in_ok-positions.ensures) c.into_vec-moved.ensures in
+    rises-of c.args.keys.now ps c.args.entries all (c.as_slice-position-items.ensures ∙ c.in-Ok.ensures) c.into_vec-moved.ensures in
     moved-more ps all c.loop-place.moved.items _ c.loop-place.place rises (omega (arith, c.loop-place-test.true)) c.loop-place.invariant c.swap.ensures.by_index
     (omega (arith, c.swap.ensures.len, c.swap.new.self.ok.0, c.swap.new.self.ok.1, c.loop-place.moved.ok.0, c.loop-place.moved.ok.1))
 
@@ -37,7 +37,7 @@ returns c =
     let keys = c.args.keys.now in
     let ps = c.as_slice-position-items.result.now in
     let all = c.into_vec-moved.result.items in
-    let are : ps ≡ unknown_positions keys c.args.entries = c.as_slice-position-items.ensures ∙ c.in_ok-positions.ensures in
+    let are : ps ≡ unknown_positions keys c.args.entries = c.as_slice-position-items.ensures ∙ c.in-Ok.ensures in
     let rises : Rises 0 ps (length all) = rises-of keys ps c.args.entries all are c.into_vec-moved.ensures in
     let many : c.len.result ≡ length ps = c.len.ensures ∙ ap length (sym c.as_slice-position-items.ensures) in
     c.from_vec.ensures ∙ c.truncate.ensures.items ∙ ap (λ n. take n c.loop-place.moved.items) many

@@ -4,7 +4,7 @@ use Rattle.rl_lint.proofs.plan.action_plan.Goals as goal
 
 pub returns-in-Check-clause-ending : goal.returns-in-Check-clause-ending
 returns-in-Check-clause-ending g c =
-    check-ends _ _ c.args.options.now _ _ _ _ _ c.in-Check.is c.as_slice.ensures c.check_plan.ensures.ending
+    check-ends _ _ c.args.options.now _ _ _ _ _ c.in-Check.is c.as_slice.ensures c.check_plan-plan.ensures.ending
 
 pub returns-in-Cost-clause-ending : goal.returns-in-Cost-clause-ending
 returns-in-Cost-clause-ending g c =

@@ -14,4 +14,4 @@ returns-in-Refused c =
 pub returns-in-Parsed : goal.returns-in-Parsed
 returns-in-Parsed c =
     let read = subst (λ w. IsArgument (chars c.args.pattern.now) w) c.in-Parsed.is c.in_ok-message.ensures in
-    ends-parsed _ _ (λ t at. ProveEnds (text_question _ t at)) _ c.in-Parsed.pattern read c.pattern_plan.ensures
+    ends-parsed _ _ (λ t at. ProveEnds (text_question _ t at)) _ c.in-Parsed.pattern read c.pattern_plan-plan.ensures

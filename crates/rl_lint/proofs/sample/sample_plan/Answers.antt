@@ -17,6 +17,6 @@ returns c =
     record {
       entries = entries;
       right = subst (λ p. AreRight p source s entries) c.in_ok-path.ensures (subst (λ t. AreRight c.in_ok-path.path t s entries) (c.as_slice.ensures ∙ c.in_ok-source.ensures) c.in_ok-entries.ensures.right);
-      ends = ap (λ t. writes t (nat_eq c.status_of.result 1) false) c.in_ok-text.ensures
-          ∙ ap (λ f. writes (last_line s.max_degree None entries) f false) (is-finding finding _ c.status_of.ensures);
+      ends = ap (λ t. writes t (nat_eq c.status_of-finding.result 1) false) c.in_ok-text.ensures
+          ∙ ap (λ f. writes (last_line s.max_degree None entries) f false) (is-finding finding _ c.status_of-finding.ensures);
     }

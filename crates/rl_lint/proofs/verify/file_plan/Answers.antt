@@ -28,6 +28,6 @@ returns-in-Taken-clause-verifies g c =
     let q = text_question c.args.max_pairs (pattern_tree c.args.pattern.now c.args.mode) (pattern_ending c.args.pattern.now c.args.mode) in
     let mid = moment_of g.T.Tree.told g.T.Tree.fault_count c.read_certificate.new.tree in
     reads-taken (codes "certificate") first_bytes IsForm (λ x mid last end. (last ≡ mid) × CertificateEnds q x end) c.args.file.now
-    (moment_of g.T.Tree.told g.T.Tree.fault_count c.args.tree.now) c.certificate_plan.result mid mid c.in_ok-read_certificate.field-0 c.in-Taken.certificate
+    (moment_of g.T.Tree.told g.T.Tree.fault_count c.args.tree.now) c.certificate_plan-plan.result mid mid c.in_ok-read_certificate.field-0 c.in-Taken.certificate
     c.in_ok-read_certificate.ensures.read c.in-Taken.is
-    (asked-nothing (CertificateEnds q c.in-Taken.certificate) mid mid c.certificate_plan.result refl c.certificate_plan.ensures)
+    (asked-nothing (CertificateEnds q c.in-Taken.certificate) mid mid c.certificate_plan-plan.result refl c.certificate_plan-plan.ensures)

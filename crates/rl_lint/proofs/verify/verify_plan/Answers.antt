@@ -14,4 +14,4 @@ pub returns-in-Parsed-clause-verifies : goal.returns-in-Parsed-clause-verifies
 returns-in-Parsed-clause-verifies g c =
     let read = subst (λ w. IsArgument (chars c.args.pattern.now) w) c.in-Parsed.is c.in_ok-message.ensures in
     verifies-parsed _ _ _ _
-    (moment_of g.T.Tree.told g.T.Tree.fault_count c.args.tree.now) (moment_of g.T.Tree.told g.T.Tree.fault_count c.file_plan.new.tree) _ c.in-Parsed.pattern read c.file_plan.ensures.verifies
+    (moment_of g.T.Tree.told g.T.Tree.fault_count c.args.tree.now) (moment_of g.T.Tree.told g.T.Tree.fault_count c.file_plan-plan.new.tree) _ c.in-Parsed.pattern read c.file_plan-plan.ensures.verifies
