@@ -21,8 +21,14 @@ pub(crate) fn start(alloc: Global, a: &Prio) -> Result<SetWalk, PairsError>
     ensures errors { (limit : ℕ) → IfErr result (IsRightError a.now limit) }
 {
     let mut walk = SetWalk::new(alloc, a, MOST_COUNTED_SETS)?;
-    walk.intern(a, &Vec::new(alloc))?;
-    Ok(walk)
+    let none = Vec::new(alloc);
+    match walk.intern(a, &none) {
+        Ok(_) => Ok(walk),
+        Err(error) => {
+            drop(walk);
+            Err(PairsError::from(error))
+        }
+    }
 }
 
 /// The number of the image of a set on a letter.

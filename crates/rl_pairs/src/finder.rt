@@ -8,9 +8,9 @@ ghost use Rattle.rl_sets.specs.Walk.{set_at};
 ghost use Rattle.rl_pairs.specs.LivePairs.{next_pairs};
 ghost use Rattle.rl_pairs.specs.internal.Errors.{IsRightError};
 ghost use Rattle.rl_pairs.specs.internal.Counting.{IsCounted, IsCounting, IsOnward, IsNumberOf, Stands};
-ghost use Rattle.rl_pairs.specs.internal.Finding.{found_of, with_row, first_key, key_at, pair_of, pair_at, lead_at, width, next_of, IsFound, Stays, IsMoved, IsNoted, IsFurther, set_for};
+ghost use Rattle.rl_pairs.specs.internal.Finding.{found_of, with_row, first_key, key_at, pair_of, pair_at, lead_at, width, next_of, IsFound, Stays, IsMoved, IsNoted, IsFurther, IsWhole, set_for};
 
-use crate::counting::{image_of, joined_with, rest_of};
+use crate::counting::{close, image_of, joined_with, rest_of};
 use crate::error::PairsError;
 use indexmap::IndexSet;
 use rl_graph::RowList;
@@ -40,6 +40,15 @@ fn begun_with<T: Drop>(alloc: Global, room: usize, item: T) -> Result<Vec<T>, Ou
     Ok(list)
 }
 
+/// The key of the first pair, with room for more.
+fn first_keys(alloc: Global) -> Result<IndexSet<Key>, OutOfMemory>
+    ensures { IfOk result (λ keys. keys.keys ≡ first_key ∷ []) }
+{
+    let mut keys = IndexSet::with_capacity(alloc, FIRST_ROOM)?;
+    keys.insert(Key { state: 0, set: 0 })?;
+    Ok(keys)
+}
+
 /// The pairs that are found, in the order in which they were found, with a lead and a rest for each, and the targets of the
 /// moves that were looked at, a row for each pair and letter.
 #[derive(Drop)]
@@ -61,11 +70,17 @@ impl Finder {
     pub(crate) fn new(alloc: Global, a: &Prio, limit: u32) -> Result<Finder, OutOfMemory>
         ensures { IfOk result (λ f. found_of f ≡ record { limit = limit; keys = first_key ∷ []; leads = [] ∷ []; rests = (letters_count a.now ∷ []) ∷ []; rows = [] }) }
     {
-        let mut keys = IndexSet::with_capacity(alloc, FIRST_ROOM)?;
-        keys.insert(Key { state: 0, set: 0 })?;
-        let leads = begun_with(alloc, FIRST_ROOM, Items::new(alloc))?;
         let end = begun_with(alloc, 1, a.letters().count())?;
         let rests = begun_with(alloc, FIRST_ROOM, Items::from_vec(end))?;
+        let Ok(leads) = begun_with(alloc, FIRST_ROOM, Items::new(alloc)) else {
+            drop(rests);
+            return Err(OutOfMemory);
+        };
+        let Ok(keys) = first_keys(alloc) else {
+            drop(leads);
+            drop(rests);
+            return Err(OutOfMemory);
+        };
         Ok(Finder {
             limit,
             keys,
@@ -92,9 +107,9 @@ impl Finder {
         requires { (k : ℕ) → k < length (found_of self.old).keys → key_at (found_of self.old) k ≢ key }
         ensures { OnOk result (found_of self.new ≡ record { limit = (found_of self.old).limit; keys = (found_of self.old).keys ++ key ∷ []; leads = (found_of self.old).leads ++ lead ∷ []; rests = (found_of self.old).rests ++ rest ∷ []; rows = (found_of self.old).rows }) }
     {
-        self.keys.insert(key)?;
         self.leads.push(lead)?;
         self.rests.push(rest)?;
+        self.keys.insert(key)?;
         Ok(())
     }
 
@@ -163,9 +178,13 @@ impl Finder {
         };
         let number = self.keys.len();
         if number == self.limit as usize {
+            drop(rest);
             return Err(PairsError::Pairs);
         }
-        let lead = self.longer_lead(from, letter)?;
+        let Ok(lead) = self.longer_lead(from, letter) else {
+            drop(rest);
+            return Err(PairsError::OutOfMemory);
+        };
         self.add(key, lead, rest)?;
         row.push(number as u32)?;
         Ok(())
@@ -282,12 +301,12 @@ impl Finder {
         Ok(())
     }
 
-    /// Finds all live pairs.
+    /// Finds all live pairs, and makes the images of all sets of the walk.
     pub(crate) fn find(&mut self, a: &Prio, walk: &mut SetWalk) -> Result<(), PairsError>
         requires counting { IsCounting a.now walk.old }
         requires found { IsFound a.now walk.old (found_of self.old) }
         requires moved { IsMoved a.now walk.old (found_of self.old) 0 }
-        ensures further { OnOk result (IsFurther a.now walk.old walk.new (found_of self.old) (found_of self.new) (length (found_of self.new).keys * width a.now)) }
+        ensures whole { OnOk result (IsWhole a.now walk.new (found_of self.new) (found_of self.old).limit) }
         ensures errors { IfErr result (IsRightError a.now (found_of self.old).limit) }
     {
         let mut row = Vec::new(*self.leads.allocator());
@@ -296,6 +315,7 @@ impl Finder {
             self.expand(a, walk, &mut row, place)?;
             place += 1;
         }
+        close(walk, a)?;
         Ok(())
     }
 }

@@ -15,7 +15,7 @@ ghost use Rattle.rl_pairs.specs.internal.Errors.{IsRightError};
 ghost use Rattle.rl_pairs.specs.internal.Finding.{found_of, pair_of, IsWhole};
 ghost use Rattle.rl_syntax.specs.declared.limits.TheConstants.{MOST_COUNTED_SETS};
 
-use crate::counting::{close, start};
+use crate::counting::start;
 use crate::error::PairsError;
 use crate::finder::{Finder, Key};
 use crate::pair::Pair;
@@ -113,15 +113,19 @@ fn built(
     requires targets { All (All (λ k. k < length (found_of finder).keys)) (found_of finder).rows }
     ensures { IfOk result (IsBuilt walk.now (found_of finder) letters) }
 {
-    let pairs = listed(alloc, walk, &finder.keys)?;
+    let Ok(pairs) = listed(alloc, walk, &finder.keys) else {
+        drop(finder);
+        return Err(OutOfMemory);
+    };
     let states = finder.count();
     let Finder {
         limit: _,
-        keys: _,
+        keys,
         leads,
         rests,
         rows,
     } = finder;
+    drop(keys);
     let graph = Multigraph::from_rows(states, letters, rows);
     Ok(PairGraph {
         graph,
@@ -145,9 +149,13 @@ fn find_all(
 {
     let _states = a.states();
     let mut finder = Finder::new(alloc, a, max_pairs)?;
-    finder.find(a, walk)?;
-    close(walk, a)?;
-    Ok(finder)
+    match finder.find(a, walk) {
+        Ok(()) => Ok(finder),
+        Err(error) => {
+            drop(finder);
+            Err(error)
+        }
+    }
 }
 
 /// The graph of the live pairs of an automaton: the product of the automaton with the powerset construction of earlier tries,
@@ -176,7 +184,15 @@ pub fn pairs(alloc: Global, a: &Prio, max_pairs: u32) -> Result<PairGraph, Pairs
         return Err(PairsError::OutOfMemory);
     };
     let mut walk = start(alloc, a)?;
-    let finder = find_all(alloc, a, &mut walk, max_pairs)?;
-    let graph = built(alloc, letters, &walk, finder)?;
-    Ok(graph)
+    match find_all(alloc, a, &mut walk, max_pairs) {
+        Ok(finder) => {
+            let graph = built(alloc, letters, &walk, finder);
+            drop(walk);
+            Ok(graph?)
+        }
+        Err(error) => {
+            drop(walk);
+            Err(error)
+        }
+    }
 }

@@ -15,21 +15,17 @@ returns-in_err-walk-clause-too_many_sets c =
     let p = err_from_is_err_and c.from_residual.result c.from_residual.ensures.1 in
     rw (p.1, p.2) (right-sets c.args.a.now c.args.max_pairs c.in_err-walk.field-0.0 (c.in_err-walk.ensures.errors c.args.max_pairs))
 
-pub returns-in_err-finder-clause-too_many_pairs : goal.returns-in_err-finder-clause-too_many_pairs
-returns-in_err-finder-clause-too_many_pairs c =
-    let p = err_from_is_err_and c.from_residual-in_err-finder.result c.from_residual-in_err-finder.ensures.1 in
-    rw (p.1, p.2) (right-pairs c.args.a.now c.args.max_pairs c.in_err-finder.field-0.0 c.in_err-finder.ensures.errors)
+pub returns-in-Err-clause-too_many_pairs : goal.returns-in-Err-clause-too_many_pairs
+returns-in-Err-clause-too_many_pairs c = right-pairs c.args.a.now c.args.max_pairs c.in-Err.error c.in-Err.ensures.errors
 
-pub returns-in_err-finder-clause-too_many_sets : goal.returns-in_err-finder-clause-too_many_sets
-returns-in_err-finder-clause-too_many_sets c =
-    let p = err_from_is_err_and c.from_residual-in_err-finder.result c.from_residual-in_err-finder.ensures.1 in
-    rw (p.1, p.2) (right-sets c.args.a.now c.args.max_pairs c.in_err-finder.field-0.0 c.in_err-finder.ensures.errors)
+pub returns-in-Err-clause-too_many_sets : goal.returns-in-Err-clause-too_many_sets
+returns-in-Err-clause-too_many_sets c = right-sets c.args.a.now c.args.max_pairs c.in-Err.error c.in-Err.ensures.errors
 
-pub built-requires : goal.built-requires
-built-requires c =
+pub built-graph-requires : goal.built-graph-requires
+built-graph-requires c =
     let a = c.args.a.now in
-    let y = c.in_ok-finder.ensures.whole in
-    let f = found_of c.in_ok-finder.finder in
+    let y = c.in-Ok.ensures.whole in
+    let f = found_of c.in-Ok.finder in
     let wide : c.in-Some.letters ≡ width a = omega (arith, c.in-Some.ensures.1, c.count.ensures, ap (λ (t : LetterTable). length t.samples) c.letters.ensures) in
     record {
       few = y.found.few;
@@ -40,11 +36,11 @@ built-requires c =
       targets = all-targets (length f.keys) f.rows y.found.targets;
     }
 
-pub returns : goal.returns
-returns c =
+pub returns-in_ok-graph-in-Ok : goal.returns-in_ok-graph-in-Ok
+returns-in_ok-graph-in-Ok c =
     let a = c.args.a.now in
     let wide : c.in-Some.letters ≡ width a = omega (arith, c.in-Some.ensures.1, c.count.ensures, ap (λ (t : LetterTable). length t.samples) c.letters.ensures) in
-    let r = answer a c.find_all.new.walk (found_of c.in_ok-finder.finder) c.in_ok-graph.graph c.in-Some.letters c.args.max_pairs wide c.in_ok-finder.ensures.whole c.in_ok-graph.ensures in
+    let r = answer a c.find_all.new.walk (found_of c.in-Ok.finder) c.in_ok-graph-in-Ok.field-0 c.in-Some.letters c.args.max_pairs wide c.in-Ok.ensures.whole c.in_ok-graph-in-Ok.ensures in
     record {
       graph = r.graph;
       numbered = r.numbered;

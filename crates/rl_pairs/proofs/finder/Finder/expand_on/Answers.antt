@@ -8,6 +8,14 @@ use Rattle.rl_pairs.proofs.RowLaws.{next-last}
 use Rattle.rl_pairs.proofs.ExpandLaws.{pair-image, move-pairs, key-read, number-read, trying-start, trying-counted, trying-reached, trying-found, trying-more, letter-done}
 use Rattle.rl_pairs.proofs.finder.Finder.expand_on.Goals as goal
 
+pub moves-targets-requires : goal.moves-targets-requires
+moves-targets-requires c =
+    let e = key-read (found_of c.args.self.now) c.args.from c.index-pair.result.now c.index-pair.ensures in
+    record {
+      state_in = subst (λ (k : Key). k.state < c.args.a.now.states) (sym e) (c.requires.found.states c.args.from c.requires.from_in);
+      letter_in = c.requires.letter_in;
+    }
+
 pub image_of-requires : goal.image_of-requires
 image_of-requires c =
     let f = found_of c.args.self.now in
@@ -119,3 +127,6 @@ returns-clause-row c =
     let place : length g.rows ≡ c.args.from * width a + c.args.letter = ap length c.loop-k.invariant.rows ∙ c.requires.moved.long in
     let here = next-last (width a) g.rows c.args.from c.args.letter c.loop-k.row.items (omega (arith, c.requires.letter_in)) place in
     sym here ∙ ap (λ (h : Found). next_of a h c.args.from c.args.letter) (sym (c.in_ok-end_row.ensures ∙ ap (with_row g) c.as_slice.ensures.value))
+
+pub returns-in_err-end_row-clause-errors : goal.returns-in_err-end_row-clause-errors
+returns-in_err-end_row-clause-errors c = let p = err_from_is_err_and c.from_residual-in_err-end_row.result c.from_residual-in_err-end_row.ensures.1 in rw (p.1, p.2) tt

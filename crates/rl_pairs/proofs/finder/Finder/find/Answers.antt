@@ -1,8 +1,9 @@
-use Rattle.std.proofs.Common.{◌≡◌, ℕ, ◌*◌, length, subst, arith}
+use Rattle.std.proofs.Common.{◌≡◌, ℕ, ◌*◌, length, refl, subst, arith}
 use Rattle.std.proofs.lemmas.Result.{err_from_is_err_and}
 use Rattle.rl_pairs.specs.internal.Errors.{IsRightError}
 use Rattle.rl_pairs.specs.internal.Finding.{found_of, width, IsFurther}
 use Rattle.rl_pairs.proofs.ExpandLaws.{further-start, next-pair}
+use Rattle.rl_pairs.proofs.WholeLaws.{whole-found}
 use Rattle.rl_pairs.proofs.finder.Finder.find.Goals as goal
 
 pub loop-place-init : goal.loop-place-init
@@ -41,8 +42,16 @@ loop-place-smaller c =
     let y = c.in_ok-expand.ensures.further in
     omega (arith, y.stays.limit, c.loop-place.invariant.further.found.few, c.count.ensures.count, c.loop-place-test.true)
 
-pub returns-clause-further : goal.returns-clause-further
-returns-clause-further c =
+pub returns-in_err-close-clause-errors : goal.returns-in_err-close-clause-errors
+returns-in_err-close-clause-errors c =
+    let p = err_from_is_err_and c.from_residual-in_err-close.result c.from_residual-in_err-close.ensures.1 in
+    rw (p.1, p.2) (c.in_err-close.ensures.errors c.args.self.now.limit)
+
+pub returns-clause-whole : goal.returns-clause-whole
+returns-clause-whole c =
+    let a = c.args.a.now in
+    let f = found_of c.args.self.now in
+    let g = found_of c.loop-place.self in
     let i = c.loop-place.invariant in
-    let e : c.loop-place.place ≡ length (found_of c.loop-place.self).keys = omega (arith, c.count.ensures.count, c.loop-place-test.false, i.within) in
-    subst (λ (n : ℕ). IsFurther c.args.a.now c.args.walk.now c.loop-place.walk (found_of c.args.self.now) (found_of c.loop-place.self) (n * width c.args.a.now)) e i.further
+    let e : c.loop-place.place ≡ length g.keys = omega (arith, c.count.ensures.count, c.loop-place-test.false, i.within) in
+    whole-found a c.args.walk.now c.loop-place.walk c.close.new.walk f g c.args.self.now.limit (subst (λ (n : ℕ). IsFurther a c.args.walk.now c.loop-place.walk f g (n * width a)) e i.further) c.in_ok-close.ensures.onward c.in_ok-close.ensures.closed refl

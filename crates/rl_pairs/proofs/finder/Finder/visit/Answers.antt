@@ -36,7 +36,7 @@ returns c =
     let o = c.in_ok-rest.ensures.onward in
     let refused : IsRefusedRest a (set_at v c.args.key.set) c.in-Some-2.rest = subst (λ (o : Option (List ℕ)). IfSome o (IsRefusedRest a (set_at v c.args.key.set))) c.in-Some-2.is c.in_ok-rest.ensures.rest in
     let room : length f.keys < f.limit = room_left (length f.keys) f.limit c.requires.found.few (λ e. c.if-number-self.false (c.len-number.ensures.len ∙ e)) in
-    let x = visited-new a v c.rest_of.new.walk f (found_of c.add.new.self) c.args.row.now.items c.push-2.new.self.items c.args.from c.args.letter c.len-number.result c.args.key c.in_ok-lead.lead c.in-Some-2.rest c.requires.found o.keeps
+    let x = visited-new a v c.rest_of.new.walk f (found_of c.add.new.self) c.args.row.now.items c.push-2.new.self.items c.args.from c.args.letter c.len-number.result c.args.key c.in-Ok.lead c.in-Some-2.rest c.requires.found o.keeps
     (record { place = c.requires.place; from_in = c.requires.from_in; letter_in = c.requires.letter_in; set_in = c.requires.set_in; state_in = c.requires.state_in; moved = c.requires.reached; refused = refused; absent = c.in_default.ensures.none; room = room })
-    c.in_ok-lead.ensures c.in_ok-add.ensures c.len-number.ensures.len c.in_ok-push-2.ensures.items in
+    c.in-Ok.ensures c.in_ok-add.ensures c.len-number.ensures.len c.in_ok-push-2.ensures.items in
     record { onward = o; found = x.found; stays = x.stays; rows = x.rows; noted = x.noted; errors = tt }
