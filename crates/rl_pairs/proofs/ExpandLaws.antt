@@ -213,18 +213,8 @@ further-trans a u v w f g h c d x y = record {
   moved = y.moved;
 }
 
-pub further-letter : (a : Automaton) (u v w : Walk) (f g h : Found) (from letter : ℕ) → IsFurther a u v f g (from * width a + letter) → IsFurther a v w g h (from * width a + suc letter) → IsFurther a u w f h (from * width a + (letter + 1))
-further-letter a u v w f g h from letter x y =
-    let e : suc letter ≡ letter + 1 = omega arith in
-    subst (λ (n : ℕ). IsFurther a u w f h (from * width a + n)) e (further-trans a u v w f g h (from * width a + letter) (from * width a + suc letter) x y)
-
 pub last-letter : (a : Automaton) (w : Walk) (f : Found) (from letter end : ℕ) → letter ≡ end → IsMoved a w f (from * width a + letter) → IsMoved a w f (from * width a + end)
 last-letter a w f from letter end e m = subst (λ (n : ℕ). IsMoved a w f (from * width a + n)) e m
-
-pub further-pair : (a : Automaton) (u v w : Walk) (f g h : Found) (from letter end : ℕ) → end ≡ letters_count a → IsFurther a u v f g (from * width a + letter) → IsFurther a v w g h (from * width a + suc end) → IsFurther a u w f h (suc from * width a)
-further-pair a u v w f g h from letter end e x y =
-    let all : from * width a + suc end ≡ suc from * width a = omega (arith, suc-mul from (width a)) in
-    subst (IsFurther a u w f h) all (further-trans a u v w f g h (from * width a + letter) (from * width a + suc end) x y)
 
 -- ---- the pairs one after another
 

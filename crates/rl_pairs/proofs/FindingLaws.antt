@@ -284,14 +284,6 @@ visited-old a w f row new key j i h e =
       noted = noted-old a w f row key j i h.0 h.1;
     })
 
-pub visited-dead : (a : Automaton) (v w : Walk) (f : Found) (row : List ℕ) (key : Key) → IsFound a v (with_row f row) → Keeps v w → (IsLive a (set_at v key.set) → ⊥) → IsVisited a w f f (pair_of v key) row row
-visited-dead a v w f row key i k dead = record {
-  found = found-keeps a v w (with_row f row) k i;
-  stays = Stays-refl f;
-  rows = refl;
-  noted = inl (dead, refl);
-}
-
 pub visited-new : (a : Automaton) (v w : Walk) (f g : Found) (row new : List ℕ) (from letter n : ℕ) (key : Key) (lead rest : List ℕ) → IsFound a v (with_row f row) → Keeps v w → IsNew a v f from letter key rest
     → lead ≡ lead_at f from ++ letter ∷ [] → g ≡ pushed f key lead rest → n ≡ length f.keys → new ≡ row ++ n ∷ [] → IsVisited a w f g (pair_of v key) row new
 visited-new a v w f g row new from letter n key lead rest i k fresh d e m r =
