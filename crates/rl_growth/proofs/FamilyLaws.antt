@@ -128,13 +128,6 @@ chain_letters a next at n splits alone heads pumps stands g words =
 
 -- lists that were put together item by item
 
-pub pushed-two : (old one two : List (List ℕ)) (x y u v : List ℕ) → old ≡ [] → one ≡ old ++ x ∷ [] → two ≡ one ++ y ∷ [] → x ≡ u → y ≡ v → two ≡ u ∷ (v ∷ [])
-pushed-two old one two x y u v a b c d e =
-    c ∙ ap₂ (λ (h : List (List ℕ)) (w : List ℕ). h ++ w ∷ []) (b ∙ ap₂ (λ (h : List (List ℕ)) (w : List ℕ). h ++ w ∷ []) a d) e
-
-pub pushed-one : (old one : List (List ℕ)) (x u : List ℕ) → old ≡ [] → one ≡ old ++ x ∷ [] → x ≡ u → one ≡ u ∷ []
-pushed-one old one x u a b d = b ∙ ap₂ (λ (h : List (List ℕ)) (w : List ℕ). h ++ w ∷ []) a d
-
 pub twin-pushed : (a : Automaton) (next : ℕ → ℕ → List ℕ) (at : ℕ → Pair) (n : ℕ) (lead rest : ℕ → List ℕ) (q : ℕ) (y p r : List ℕ) (heads pumps : List (List ℕ)) → q < n → IsTwin next q y p r
     → heads ≡ lead q ∷ (take (length (rest q) - 1) (rest q) ∷ []) → pumps ≡ y ∷ [] → IsLedGraph a next at n lead rest → IsTwinWords a next at q heads pumps
 twin-pushed a next at n lead rest q y p r heads pumps lt twin same_heads same_pumps led =

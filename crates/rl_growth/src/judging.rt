@@ -38,8 +38,9 @@ fn exponential(
     ensures class { IfOk result (IsClassOf (moves_in g.now)) }
 {
     let words = twin_words(alloc, g, twin)?;
-    let family = family_of(alloc, a, &words)?;
-    Ok(Verdict::Expo(family))
+    let family = family_of(alloc, a, &words);
+    drop(words);
+    Ok(Verdict::Expo(family?))
 }
 
 /// The family of no pump and one empty head.
@@ -72,12 +73,20 @@ fn polynomial(
 {
     let chain = degree_over(alloc, g.graph(), components)?;
     match &chain.cycle {
-        None => Ok(Verdict::Degree(0, flat(alloc)?)),
+        None => {
+            drop(chain);
+            Ok(Verdict::Degree(0, flat(alloc)?))
+        }
         Some(cycle) => {
-            let words = chain_words(alloc, g, chain.links.as_slice(), cycle)?;
-            let family = family_of(alloc, a, &words)?;
+            let Ok(words) = chain_words(alloc, g, chain.links.as_slice(), cycle) else {
+                drop(chain);
+                return Err(OutOfMemory);
+            };
             let power = chain.links.len() as u32 + 1;
-            Ok(Verdict::Degree(power, family))
+            drop(chain);
+            let family = family_of(alloc, a, &words);
+            drop(words);
+            Ok(Verdict::Degree(power, family?))
         }
     }
 }
@@ -91,8 +100,17 @@ fn judged(alloc: Global, a: &Prio, g: &PairGraph) -> Result<Verdict, OutOfMemory
 {
     let graph = g.graph();
     let components = graph.components()?;
-    match twin_over(alloc, graph, &components)? {
-        Some(twin) => exponential(alloc, a, g, &twin),
+    let Ok(twin) = twin_over(alloc, graph, &components) else {
+        drop(components);
+        return Err(OutOfMemory);
+    };
+    match twin {
+        Some(twin) => {
+            drop(components);
+            let verdict = exponential(alloc, a, g, &twin);
+            drop(twin);
+            verdict
+        }
         None => polynomial(alloc, a, g, components),
     }
 }
@@ -119,10 +137,24 @@ fn judged_small(
     };
     let _states = a.states();
     match pairs(alloc, &a, max_pairs) {
-        Ok(g) => judged(alloc, &a, &g),
-        Err(PairsError::Sets) => Ok(Verdict::Undecided(Limit::Sets)),
-        Err(PairsError::Pairs) => Ok(Verdict::Undecided(Limit::Pairs)),
-        Err(PairsError::OutOfMemory) => Err(OutOfMemory),
+        Ok(g) => {
+            let verdict = judged(alloc, &a, &g);
+            drop(g);
+            drop(a);
+            verdict
+        }
+        Err(PairsError::Sets) => {
+            drop(a);
+            Ok(Verdict::Undecided(Limit::Sets))
+        }
+        Err(PairsError::Pairs) => {
+            drop(a);
+            Ok(Verdict::Undecided(Limit::Pairs))
+        }
+        Err(PairsError::OutOfMemory) => {
+            drop(a);
+            Err(OutOfMemory)
+        }
     }
 }
 

@@ -77,10 +77,12 @@ pub fn twin_words(
     requires rests { (i : ℕ) → i < g.now.graph.states → 0 < length (rest_in g.now i) }
     ensures { IfOk result (λ w. (a : Automaton) → IsLed a g.now → IsTwinWords a (moves_in g.now) (pair_in g.now) twin.now.state w.heads w.pumps) }
 {
+    let lead = copy(alloc, g.lead(twin.state))?;
     let mut words = FamilyWords::new(alloc);
-    words.push(copy(alloc, g.lead(twin.state))?, copy(alloc, &twin.word)?)?;
-    let last = last_head(alloc, g, twin.state)?;
-    words.heads.push(last)?;
+    let Ok(()) = put_cycle(alloc, g, &mut words, lead, twin.state, &twin.word) else {
+        drop(words);
+        return Err(OutOfMemory);
+    };
     Ok(words)
 }
 
