@@ -14,3 +14,4 @@ pub mod EmptyParts
 pub mod KeptParts
 pub mod NoGuards
 pub mod JudgedOne
+pub mod Rounds
