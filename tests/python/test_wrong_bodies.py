@@ -1,4 +1,4 @@
-"""Wrong bodies, those that the gate tries and those of tools/wrong-bodies: each can be applied, and the tool knows its crates."""
+"""Wrong bodies, those of the gate and those of tools/wrong-bodies: each can be applied, and the tool knows its crates."""
 from __future__ import annotations
 
 import unittest
