@@ -108,7 +108,8 @@ fn words_of_zeros_are_passed_over(rt: HostRuntime) -> Result<(), OutOfMemory> {
     Ok(())
 }
 
-/// Whether a place of a row of a table holds true. The rows 0, 4, 8 and so on hold all places, so the three behind are within them.
+/// Whether a place of a row of a table holds true. Each fourth row, from the first one on, holds all places, so the three behind it
+/// are within it.
 fn is_marked(row: usize, i: usize) -> bool {
     is_nth(i, row % 4 + 1)
 }
