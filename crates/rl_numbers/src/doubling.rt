@@ -13,7 +13,7 @@ use rl_lists::OutOfMemory;
 use std::alloc::Global;
 
 /// Two states.
-#[derive(Clone, Copy, Debug, PartialEq, Eq, Hash)]
+#[derive(Clone, Copy, PartialEq, Eq, Hash)]
 pub(crate) struct Pair {
     pub p: u32,
     pub q: u32,
@@ -38,13 +38,17 @@ fn index_of(alloc: Global, doubles: &[Double]) -> Result<Option<Index>, OutOfMem
     let mut index = Index::new(alloc);
     for double in doubles {
         if number_of(&index, double.p, double.q).is_some() {
+            drop(index);
             return Ok(None);
         }
         let pair = Pair {
             p: double.p,
             q: double.q,
         };
-        index.insert(pair, double.number)?;
+        let Ok(_) = index.insert(pair, double.number) else {
+            drop(index);
+            return Err(OutOfMemory);
+        };
     }
     Ok(Some(index))
 }
@@ -211,6 +215,10 @@ pub fn doubles_hold(alloc: Global, g: &Multigraph, doubles: &[Double]) -> Result
 {
     match index_of(alloc, doubles)? {
         None => Ok(false),
-        Some(index) => Ok(all_hold(g, &index, doubles)),
+        Some(index) => {
+            let hold = all_hold(g, &index, doubles);
+            drop(index);
+            Ok(hold)
+        }
     }
 }

@@ -109,7 +109,9 @@ fn add_level_on(
         return add_few_on(inner, g, ranks, state, letter);
     }
     let marks = marks_of(alloc, ranks, row, ranks[state as usize])?;
-    add_marked_on(inner, g, ranks, &marks, state, letter)
+    let added = add_marked_on(inner, g, ranks, &marks, state, letter);
+    drop(marks);
+    added
 }
 
 /// Adds the moves on its rank of a state.
@@ -148,7 +150,10 @@ pub fn level_graph(alloc: Global, g: &Multigraph, ranks: &[u32]) -> Result<Multi
 {
     let mut inner = Multigraph::new(alloc, g.states(), g.letters())?;
     for state in 0..g.states() {
-        add_level_from(alloc, &mut inner, g, ranks, state)?;
+        let Ok(()) = add_level_from(alloc, &mut inner, g, ranks, state) else {
+            drop(inner);
+            return Err(OutOfMemory);
+        };
     }
     Ok(inner)
 }

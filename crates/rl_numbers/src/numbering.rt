@@ -35,7 +35,7 @@ use std::alloc::Global;
 const MOST_TRIPLES: usize = 1_000_000;
 
 /// Why there is no list of triples.
-#[derive(Clone, Copy, Debug, PartialEq, Eq)]
+#[derive(Clone, Copy)]
 pub enum TriplesError {
     /// The least list has more than 1,000,000.
     TooMany,
@@ -73,9 +73,14 @@ fn doubles_by(alloc: Global, g: &Multigraph, starts: &[u64]) -> Result<Doubles, 
 {
     let states = g.states();
     let keys = doubles_from(alloc, g, starts)?;
-    let parts = product_parts(alloc, g)?;
-    let doubles = listed_doubles(alloc, states, &keys, &parts)?;
-    Ok(doubles)
+    let Ok(parts) = product_parts(alloc, g) else {
+        drop(keys);
+        return Err(OutOfMemory);
+    };
+    let doubles = listed_doubles(alloc, states, &keys, &parts);
+    drop(parts);
+    drop(keys);
+    doubles
 }
 
 /// The doubles of a graph without a twin.
@@ -90,8 +95,9 @@ pub fn doubles_of(alloc: Global, g: &Multigraph) -> Result<Doubles, OutOfMemory>
     let states = g.states();
     let _letters = g.letters();
     let starts = diagonal(alloc, states)?;
-    let doubles = doubles_by(alloc, g, &starts)?;
-    Ok(doubles)
+    let doubles = doubles_by(alloc, g, &starts);
+    drop(starts);
+    doubles
 }
 
 /// The moves on its rank.
@@ -128,8 +134,9 @@ fn first_triples(alloc: Global, g: &Multigraph, ranks: &[u32]) -> Result<Vec<u64
         × AreStartsUpTo g.now.states (slice_index ranks.now) (cycle_of components) g.now.states 0 v.items) }
 {
     let components = g.components()?;
-    let starts = starts_of(alloc, g.states(), ranks, &components)?;
-    Ok(starts)
+    let starts = starts_of(alloc, g.states(), ranks, &components);
+    drop(components);
+    starts
 }
 
 /// The triples that are reached, each with the number of its part.
@@ -140,10 +147,14 @@ fn triples_from(alloc: Global, level: &Level, starts: &[u64]) -> Result<Triples,
 {
     let states = level.graph().states();
     let keys = keys_of(alloc, level, starts)?;
-    let among = Among { level, keys: &keys };
-    let parts = parts_of(alloc, &among)?;
-    let triples = listed(alloc, states, &keys, &parts)?;
-    Ok(triples)
+    let Ok(parts) = parts_of(alloc, &Among { level, keys: &keys }) else {
+        drop(keys);
+        return Err(TriplesError::OutOfMemory);
+    };
+    let triples = listed(alloc, states, &keys, &parts);
+    drop(parts);
+    drop(keys);
+    Ok(triples?)
 }
 
 /// The triples of a graph without a split between states of one rank.
@@ -162,6 +173,12 @@ pub fn triples_of(alloc: Global, g: &Multigraph, ranks: &[u32]) -> Result<Triple
     // Reading the numbers shows that it is a whole graph.
     let _read = (g.states(), g.letters());
     let starts = first_triples(alloc, g, ranks)?;
-    let level = level(alloc, g, ranks)?;
-    triples_from(alloc, &level, &starts)
+    let Ok(level) = level(alloc, g, ranks) else {
+        drop(starts);
+        return Err(TriplesError::OutOfMemory);
+    };
+    let triples = triples_from(alloc, &level, &starts);
+    drop(level);
+    drop(starts);
+    triples
 }

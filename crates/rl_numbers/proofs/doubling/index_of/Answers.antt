@@ -20,6 +20,6 @@ loop-double-preserved c =
     let d : Double = get_or l i no_double in
     let none : number_in c.loop-double.index d.p d.q ≡ None = sym c.number_of.ensures ∙ none_of c.number_of.result (sym c.is_some.ensures ∙ c.if-is_some.false) in
     record {
-      index = index-more c.loop-double.index c.insert.new.self l i c.loop-double-test.true none c.loop-double.invariant.index c.in_ok-insert.ensures.updates.0;
+      index = index-more c.loop-double.index c.insert.new.self l i c.loop-double-test.true none c.loop-double.invariant.index c.in-Ok.ensures.updates.0;
       once = once-more c.loop-double.index c.loop-double.index l i c.loop-double-test.true (sym (c.loop-double.invariant.index d.p d.q) ∙ none) c.loop-double.invariant.once;
     }

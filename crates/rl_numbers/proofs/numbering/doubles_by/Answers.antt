@@ -1,16 +1,18 @@
 use Rattle.std.proofs.Common.{◌≡◌, ℕ, subst}
+use Rattle.std.proofs.lemmas.Result.{IfOk-weaker}
 use Rattle.rl_numbers.specs.internal.Diagonal.{doubles_in}
+use Rattle.rl_numbers.specs.internal.ReachedDoubles.{AreReachedDoubles}
 use Rattle.rl_numbers.proofs.numbering.doubles_by.Goals as goal
 
-pub listed_doubles-requires-clause-inside : goal.listed_doubles-requires-clause-inside
-listed_doubles-requires-clause-inside c = rw c.states-states.ensures.number c.in_ok-keys.ensures.inside
+pub listed_doubles-doubles-requires-clause-inside : goal.listed_doubles-doubles-requires-clause-inside
+listed_doubles-doubles-requires-clause-inside c = rw c.states-states.ensures.number c.in_ok-keys.ensures.inside
 
 pub returns : goal.returns
-returns c = record {
+returns c = IfOk-weaker c.listed_doubles-doubles.result (λ l. l ≡ doubles_in c.in-Ok.parts c.states-states.result c.in_ok-keys.keys.keys) (AreReachedDoubles c.args.g.now c.args.starts.now) (λ l same. record {
   keys = c.in_ok-keys.keys.keys;
-  parts = c.in_ok-parts.parts;
+  parts = c.in-Ok.parts;
   reach = c.in_ok-keys.ensures.reach;
   inside = c.in_ok-keys.ensures.inside;
-  are_parts = c.in_ok-parts.ensures;
-  same = subst (λ (n : ℕ). c.in_ok-doubles.doubles ≡ doubles_in c.in_ok-parts.parts n c.in_ok-keys.keys.keys) c.states-states.ensures.number c.in_ok-doubles.ensures;
-}
+  are_parts = c.in-Ok.ensures;
+  same = subst (λ (n : ℕ). l ≡ doubles_in c.in-Ok.parts n c.in_ok-keys.keys.keys) c.states-states.ensures.number same;
+}) c.listed_doubles-doubles.ensures

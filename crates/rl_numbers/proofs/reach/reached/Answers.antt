@@ -1,5 +1,4 @@
 use Rattle.std.proofs.Common.{ℕ, sym, subst, arith}
-use Rattle.std.proofs.lemmas.Result.{err_from_is_err_and}
 use Rattle.rl_graph.proofs.Sums.{at-get_or}
 use Rattle.rl_numbers.specs.internal.Spreading.{IsFinding}
 use Rattle.rl_numbers.proofs.ReachLaws.{search-start, search-inside, search-more, search-over, search-end}
@@ -19,17 +18,16 @@ spread-requires-clause-from_in g c =
     search-inside (g.M.NextStates.next c.args.m.now) (g.M.NextStates.size c.args.m.now) c.args.limit c.loop-place.place c.index-from.result.now c.args.starts.now c.loop-place.keys.keys c.loop-place.invariant.search
     (omega (arith, c.len.ensures.len, c.loop-place-test.true)) (sym (at-get_or c.loop-place.keys.keys c.loop-place.place c.index-from.result.now 0 c.index-from.ensures))
 
-pub returns-in_err-spread-clause-too_many : goal.returns-in_err-spread-clause-too_many
-returns-in_err-spread-clause-too_many g c =
-    let p = err_from_is_err_and c.from_residual-in_err-spread.result c.from_residual-in_err-spread.ensures.1 in
-    rw (p.1, p.2) (λ e. search-over (g.M.NextStates.next c.args.m.now) (g.M.NextStates.size c.args.m.now) c.args.limit c.loop-place.place c.index-from.result.now c.args.starts.now c.loop-place.keys.keys c.loop-place.invariant.search
-    (omega (arith, c.len.ensures.len, c.loop-place-test.true)) (sym (at-get_or c.loop-place.keys.keys c.loop-place.place c.index-from.result.now 0 c.index-from.ensures)) (c.in_err-spread.ensures.too_many e))
+pub returns-in-Err-clause-too_many : goal.returns-in-Err-clause-too_many
+returns-in-Err-clause-too_many g c e =
+    search-over (g.M.NextStates.next c.args.m.now) (g.M.NextStates.size c.args.m.now) c.args.limit c.loop-place.place c.index-from.result.now c.args.starts.now c.loop-place.keys.keys c.loop-place.invariant.search
+    (omega (arith, c.len.ensures.len, c.loop-place-test.true)) (sym (at-get_or c.loop-place.keys.keys c.loop-place.place c.index-from.result.now 0 c.index-from.ensures)) (c.in-Err.ensures.too_many e)
 
 pub loop-place-preserved : goal.loop-place-preserved
 loop-place-preserved g c = record {
-  few = c.in_ok-spread.ensures.few;
+  few = c.in-Ok.ensures.few;
   search = search-more (g.M.NextStates.next c.args.m.now) (g.M.NextStates.size c.args.m.now) c.args.limit c.loop-place.place c.index-from.result.now c.args.starts.now c.loop-place.keys.keys c.spread.new.keys.keys c.loop-place.invariant.search
-      (omega (arith, c.len.ensures.len, c.loop-place-test.true)) (sym (at-get_or c.loop-place.keys.keys c.loop-place.place c.index-from.result.now 0 c.index-from.ensures)) c.in_ok-spread.ensures.spreads;
+      (omega (arith, c.len.ensures.len, c.loop-place-test.true)) (sym (at-get_or c.loop-place.keys.keys c.loop-place.place c.index-from.result.now 0 c.index-from.ensures)) c.in-Ok.ensures.spreads;
 }
 
 pub returns-clause-reach : goal.returns-clause-reach
