@@ -8,7 +8,7 @@ use Rattle.rl_graph.specs.Paths.{Has, IsBounded}
 use Rattle.rl_graph.proofs.Sums.{has-map}
 use Rattle.rl_numbers.specs.Triples.{triple_moves, lift_of, place_or, among_moves}
 
-place-in : (keys : List ℕ) (i key : ℕ) → i < length keys → place_or keys i key < length keys
+pub place-in : (keys : List ℕ) (i key : ℕ) → i < length keys → place_or keys i key < length keys
 place-in keys i key lt = by (position (eqb key) keys) refl
   where
     by : (o : Option ℕ) → position (eqb key) keys ≡ o → unwrap_or o i < length keys

@@ -8,11 +8,16 @@ use Rattle.rl_graph.proofs.Sums.{has-map, has-flat_map}
 use Rattle.rl_graph.proofs.ProductLaws.{pairs_of, length-pairs, at-place, bounded-pairs}
 use Rattle.rl_numbers.specs.Triples.{triple_moves, IsLow}
 
-small-square : (a b : ℕ) → a ≤ 65536 → b ≤ 65536 → a * b ≤ 4294967296
+pub small-square : (a b : ℕ) → a ≤ 65536 → b ≤ 65536 → a * b ≤ 4294967296
 small-square a b h k = let x : a * b ≤ 65536 * 65536 = mul-le-mul h k in x
 
-small-cube : (a b : ℕ) → a ≤ 4294967296 → b ≤ 65536 → a * b ≤ 281474976710656
+pub small-cube : (a b : ℕ) → a ≤ 4294967296 → b ≤ 65536 → a * b ≤ 281474976710656
 small-cube a b h k = let x : a * b ≤ 4294967296 * 65536 = mul-le-mul h k in x
+
+-- where there is a triple, there is a state
+pub some-states : (n t : ℕ) → t < n * n * n → 0 < n
+some-states zero t lt = absurd (omega (arith, lt))
+some-states (suc n) t lt = omega arith
 
 -- a triple has few moves
 pub triples-few : (g : Graph) (t l : ℕ) → IsLow g → length (triple_moves (edges_of g) g.states t l) ≤ 281474976710656
