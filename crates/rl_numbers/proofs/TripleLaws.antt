@@ -19,6 +19,16 @@ pub some-states : (n t : ℕ) → t < n * n * n → 0 < n
 some-states zero t lt = absurd (omega (arith, lt))
 some-states (suc n) t lt = omega arith
 
+-- the states of a triple are states
+pub first-below : (n m t : ℕ) → m ≡ n → t < n * n * n → t / m / m < n
+first-below n m t e lt = subst (λ (k : ℕ). t / k / k < n) (sym e) (div_below (t / n) n n (some-states n t lt) (div_below t n (n * n) (some-states n t lt) lt))
+
+pub middle-below : (n m t : ℕ) → m ≡ n → t < n * n * n → t / m % m < n
+middle-below n m t e lt = subst (λ (k : ℕ). t / k % k < n) (sym e) (mod_below (t / n) n (some-states n t lt))
+
+pub last-below : (n m t : ℕ) → m ≡ n → t < n * n * n → t % m < n
+last-below n m t e lt = subst (λ (k : ℕ). t % k < n) (sym e) (mod_below t n (some-states n t lt))
+
 -- a triple has few moves
 pub triples-few : (g : Graph) (t l : ℕ) → IsLow g → length (triple_moves (edges_of g) g.states t l) ≤ 281474976710656
 triples-few g t l low =

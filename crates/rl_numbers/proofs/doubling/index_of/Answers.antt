@@ -1,6 +1,7 @@
-use Rattle.std.proofs.Common.{◌≡◌, ◌∙◌, sym, get_or, None}
+use Rattle.std.proofs.Common.{◌≡◌, ◌∙◌, List, sym, subst, get_or, None}
+use Rattle.std.proofs.lemmas.List.{take_all}
 use Rattle.rl_numbers.specs.declared.double.Double.{Double}
-use Rattle.rl_numbers.specs.Doubled.{number_in}
+use Rattle.rl_numbers.specs.Doubled.{OnceEach, number_in, IsIndex}
 use Rattle.rl_numbers.proofs.IndexLaws.{none_of, some_of}
 use Rattle.rl_numbers.proofs.DoubleLaws.{no_double, not-once, index-more, once-more}
 use Rattle.rl_numbers.proofs.doubling.index_of.Goals as goal
@@ -23,3 +24,9 @@ loop-double-preserved c =
       index = index-more c.loop-double.index c.insert.new.self l i c.loop-double-test.true none c.loop-double.invariant.index c.in-Ok.ensures.updates.0;
       once = once-more c.loop-double.index c.loop-double.index l i c.loop-double-test.true (sym (c.loop-double.invariant.index d.p d.q) ∙ none) c.loop-double.invariant.once;
     }
+
+pub returns-clause-numbers : goal.returns-clause-numbers
+returns-clause-numbers c = subst (λ (l : List Double). IsIndex l c.loop-double.index) (take_all c.loop-double.double-index c.args.doubles.now c.loop-double-test.false) c.loop-double.invariant.index
+
+pub returns-clause-once : goal.returns-clause-once
+returns-clause-once c = subst OnceEach (take_all c.loop-double.double-index c.args.doubles.now c.loop-double-test.false) c.loop-double.invariant.once

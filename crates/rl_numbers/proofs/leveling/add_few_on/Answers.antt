@@ -65,3 +65,15 @@ returns-clause-so_far c =
 pub add-requires-clause-room : goal.add-requires-clause-room
 add-requires-clause-room c =
     omega (arith, c.loop-place.invariant.filling.few, c.loop-place-test.true, c.edges-row.ensures.short)
+
+pub edges-row-requires-clause-from_in : goal.edges-row-requires-clause-from_in
+edges-row-requires-clause-from_in c = c.requires.state_in
+
+pub edges-row-requires-clause-letter_in : goal.edges-row-requires-clause-letter_in
+edges-row-requires-clause-letter_in c = c.requires.letter_in
+
+pub add-requires-clause-from_in : goal.add-requires-clause-from_in
+add-requires-clause-from_in c = omega (arith, c.requires.state_in, c.loop-place.invariant.so_far.same_states)
+
+pub add-requires-clause-letter_in : goal.add-requires-clause-letter_in
+add-requires-clause-letter_in c = omega (arith, c.requires.letter_in, c.loop-place.invariant.so_far.same_letters)

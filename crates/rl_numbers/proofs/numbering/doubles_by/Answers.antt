@@ -1,4 +1,4 @@
-use Rattle.std.proofs.Common.{◌≡◌, ℕ, subst}
+use Rattle.std.proofs.Common.{◌≡◌, ℕ, subst, arith}
 use Rattle.std.proofs.lemmas.Result.{IfOk-weaker}
 use Rattle.rl_numbers.specs.internal.Diagonal.{doubles_in}
 use Rattle.rl_numbers.specs.internal.ReachedDoubles.{AreReachedDoubles}
@@ -16,3 +16,9 @@ returns c = IfOk-weaker c.listed_doubles-doubles.result (λ l. l ≡ doubles_in 
   are_parts = c.in-Ok.ensures;
   same = subst (λ (n : ℕ). l ≡ doubles_in c.in-Ok.parts n c.in_ok-keys.keys.keys) c.states-states.ensures.number same;
 }) c.listed_doubles-doubles.ensures
+
+pub doubles_from-requires : goal.doubles_from-requires
+doubles_from-requires c = c.requires.starts
+
+pub listed_doubles-doubles-requires-clause-few : goal.listed_doubles-doubles-requires-clause-few
+listed_doubles-doubles-requires-clause-few c = omega (arith, c.requires.few_states, c.states-states.ensures.number)

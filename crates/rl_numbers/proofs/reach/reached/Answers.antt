@@ -33,3 +33,21 @@ loop-place-preserved g c = record {
 pub returns-clause-reach : goal.returns-clause-reach
 returns-clause-reach g c =
     search-end (g.M.NextStates.next c.args.m.now) (g.M.NextStates.size c.args.m.now) c.args.limit c.loop-place.place c.args.starts.now c.loop-place.keys.keys (omega (arith, c.len.ensures.len, c.loop-place-test.false)) c.loop-place.invariant.search
+
+pub spread-requires-clause-few : goal.spread-requires-clause-few
+spread-requires-clause-few g c = c.loop-place.invariant.few
+
+pub returns-clause-few : goal.returns-clause-few
+returns-clause-few g c = c.loop-place.invariant.few
+
+pub returns-clause-inside : goal.returns-clause-inside
+returns-clause-inside g c = c.loop-place.invariant.search.finding.inside
+
+pub started-requires : goal.started-requires
+started-requires g c = rw c.states.ensures.number c.requires
+
+pub loop-place-smaller : goal.loop-place-smaller
+loop-place-smaller g c = omega (arith, c.len.ensures.len, c.loop-place-test.true, c.loop-place.invariant.few)
+
+pub index-from-requires : goal.index-from-requires
+index-from-requires g c = omega (arith, c.len.ensures.len, c.loop-place-test.true)
