@@ -1,5 +1,7 @@
-use Rattle.std.proofs.Common.{sym, arith}
-use Rattle.rl_graph.proofs.Sums.{at-get_or}
+use Rattle.std.proofs.Common.{◌∙◌, ◌*◌, ◌<◌, ℕ, get_or, sym, subst, ap, arith}
+use Rattle.std.proofs.lemmas.List.{take_all}
+use Rattle.rl_graph.proofs.Sums.{Each-has, Has-get_or, at-get_or}
+use Rattle.rl_numbers.specs.internal.Diagonal.{doubles_in}
 use Rattle.rl_numbers.proofs.DoubleList.{doubles-more}
 use Rattle.rl_numbers.proofs.diagonal.listed_doubles.Goals as goal
 
@@ -7,3 +9,15 @@ pub loop-i-preserved : goal.loop-i-preserved
 loop-i-preserved c =
     doubles-more c.args.parts.now c.args.states c.loop-i.i c.args.keys.now.keys c.index.result.now c.double_at.result c.loop-i.doubles c.push.new.self
     (omega (arith, c.loop-i-test.true, c.len-i-end.ensures.len)) (sym (at-get_or c.args.keys.now.keys c.loop-i.i c.index.result.now 0 c.index.ensures)) c.double_at.ensures c.in_ok-push.ensures.pushed c.loop-i.invariant
+
+pub double_at-requires-clause-inside : goal.double_at-requires-clause-inside
+double_at-requires-clause-inside c =
+    let n = c.args.states in
+    let keys = c.args.keys.now.keys in
+    subst (λ (x : ℕ). x < n * n) (at-get_or keys c.loop-i.i c.index.result.now 0 c.index.ensures) (Each-has (λ (x : ℕ). x < n * n) (get_or keys c.loop-i.i 0) keys c.requires.inside (Has-get_or keys c.loop-i.i 0 (omega (arith, c.loop-i-test.true, c.len-i-end.ensures.len))))
+
+pub index-requires : goal.index-requires
+index-requires c = omega (arith, c.loop-i-test.true, c.len-i-end.ensures.len)
+
+pub returns : goal.returns
+returns c = c.loop-i.invariant ∙ ap (doubles_in c.args.parts.now c.args.states) (take_all c.loop-i.i c.args.keys.now.keys (omega (arith, c.loop-i-test.false, c.len-i-end.ensures.len)))

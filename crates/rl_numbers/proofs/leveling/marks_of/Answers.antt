@@ -12,3 +12,9 @@ loop-place-preserved c =
 pub returns : goal.returns
 returns c =
     marks-done c.args.ranks.now c.args.targets.now c.args.own c.loop-place.place c.loop-place.marks.items (omega (arith, c.loop-place-test.false)) c.loop-place.invariant
+
+pub bounds-ranks-target : goal.bounds-ranks-target
+bounds-ranks-target c = c.requires c.loop-place.place 0 (omega (arith, c.loop-place-test.true))
+
+pub index_mut-requires : goal.index_mut-requires
+index_mut-requires c = omega (arith, c.requires c.loop-place.place 0 (omega (arith, c.loop-place-test.true)), c.loop-place.invariant.size)

@@ -1,5 +1,7 @@
-use Rattle.std.proofs.Common.{◌≡◌, ◌∙◌, ℕ, subst, ap}
+use Rattle.std.proofs.Common.{◌≡◌, ◌∙◌, ◌*◌, ◌<◌, ℕ, sym, subst, ap, arith}
+use Rattle.std.proofs.lemmas.Result.{err_from_is_err_and}
 use Rattle.rl_graph.specs.Graph.{Graph, IsWhole}
+use Rattle.rl_graph.specs.Paths.{Each}
 use Rattle.rl_numbers.specs.Listed.{listing}
 use Rattle.rl_numbers.proofs.numbering.triples_from.Goals as goal
 
@@ -16,3 +18,24 @@ returns-clause-triples c =
       are_parts = c.in-Ok.ensures;
       same = c.in_ok-triples.ensures ∙ ap (λ (n : ℕ). listing c.in-Ok.parts n 0 c.in_ok-keys.keys.keys) here;
     }
+
+pub listed-triples-requires-clause-few : goal.listed-triples-requires-clause-few
+listed-triples-requires-clause-few c =
+    let here : c.states-states.result ≡ c.args.level.now.states = c.states-states.ensures.number ∙ ap (λ (h : Graph). h.states) c.graph.ensures.same in
+    omega (arith, here, c.graph.ensures.few_states)
+
+pub listed-triples-requires-clause-inside : goal.listed-triples-requires-clause-inside
+listed-triples-requires-clause-inside c =
+    let here : c.states-states.result ≡ c.args.level.now.states = c.states-states.ensures.number ∙ ap (λ (h : Graph). h.states) c.graph.ensures.same in
+    subst (λ (n : ℕ). Each (λ (x : ℕ). x < n * n * n) c.in_ok-keys.keys.keys) (sym here) c.in_ok-keys.ensures.inside
+
+pub listed-triples-requires-clause-size : goal.listed-triples-requires-clause-size
+listed-triples-requires-clause-size c = c.in-Ok.ensures.size
+
+pub listed-triples-requires-clause-low : goal.listed-triples-requires-clause-low
+listed-triples-requires-clause-low c = λ i lt. omega (arith, c.in-Ok.ensures.below i lt, c.in_ok-keys.ensures.few)
+
+pub returns-in_err-keys-clause-too_many : goal.returns-in_err-keys-clause-too_many
+returns-in_err-keys-clause-too_many c =
+    let p = err_from_is_err_and c.from_residual.result c.from_residual.ensures.1 in
+    rw (p.1, p.2) (λ e. c.in_err-keys.ensures.too_many e)
