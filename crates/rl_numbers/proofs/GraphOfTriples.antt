@@ -49,7 +49,7 @@ lifted n t u twice a b c =
     ap (λ (d : Bool). cond d ((t / n / n * n + t / n / n) * n + t % n) t) (eq-eqb (t / n % n) (t % n) twice)
     ∙ ((λ i. (sym a i * n + sym b i) * n + sym c i) ∙ whole n u)
 
-unlifted : (n t : ℕ) → t / n % n ≢ t % n → lift_of n t ≡ t
+pub unlifted : (n t : ℕ) → t / n % n ≢ t % n → lift_of n t ≡ t
 unlifted n t ne = ap (λ (d : Bool). cond d ((t / n / n * n + t / n / n) * n + t % n) t) (ne_eqb (t / n % n) (t % n) ne)
 
 -- a lift, or the triple itself
