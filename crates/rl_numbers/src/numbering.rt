@@ -53,18 +53,6 @@ impl From<OutOfMemory> for TriplesError {
     }
 }
 
-/// The numbers of the doubles that are reached. There are never more than fit.
-fn doubles_from(alloc: Global, g: &Multigraph, starts: &[u64]) -> Result<IndexSet<u64>, OutOfMemory>
-    requires { All (λ s. s < g.now.states * g.now.states) starts.now }
-    ensures reach { IfOk result (λ keys. IsReach (pair_moves (edges_of g.now) g.now.states) starts.now keys.keys) }
-    ensures inside { IfOk result (λ keys. Each (λ x. x < g.now.states * g.now.states) keys.keys) }
-{
-    match reached(alloc, &Twice { graph: g }, starts, usize::MAX) {
-        Ok(keys) => Ok(keys),
-        Err(_) => Err(OutOfMemory),
-    }
-}
-
 /// The doubles that are reached, each with the number of its part.
 fn doubles_by(alloc: Global, g: &Multigraph, starts: &[u64]) -> Result<Doubles, OutOfMemory>
     requires few_states { g.now.states < 65536 }
@@ -72,7 +60,10 @@ fn doubles_by(alloc: Global, g: &Multigraph, starts: &[u64]) -> Result<Doubles, 
     ensures { IfOk result (AreReachedDoubles g.now starts.now) }
 {
     let states = g.states();
-    let keys = doubles_from(alloc, g, starts)?;
+    // There are never more than fit.
+    let Ok(keys) = reached(alloc, &Twice { graph: g }, starts, usize::MAX) else {
+        return Err(OutOfMemory);
+    };
     let Ok(parts) = product_parts(alloc, g) else {
         drop(keys);
         return Err(OutOfMemory);

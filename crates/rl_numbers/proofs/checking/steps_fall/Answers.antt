@@ -36,3 +36,24 @@ returns c = (
       (λ l lt. c.loop-letter.invariant l (omega (arith, lt, c.loop-letter-test.false))),
   λ e. refl,
 )
+
+pub bounds-ranks-triple : goal.bounds-ranks-triple
+bounds-ranks-triple c = omega (arith, c.requires.level.0, c.requires.ranks)
+
+pub edges-firsts-requires-clause-from_in : goal.edges-firsts-requires-clause-from_in
+edges-firsts-requires-clause-from_in c = c.requires.level.0
+
+pub edges-middles-requires-clause-from_in : goal.edges-middles-requires-clause-from_in
+edges-middles-requires-clause-from_in c = c.requires.level.1
+
+pub edges-lasts-requires-clause-from_in : goal.edges-lasts-requires-clause-from_in
+edges-lasts-requires-clause-from_in c = c.requires.level.2
+
+pub edges-firsts-requires-clause-letter_in : goal.edges-firsts-requires-clause-letter_in
+edges-firsts-requires-clause-letter_in c = omega (arith, c.loop-letter-test.true, c.letters-letter-end.ensures)
+
+pub edges-middles-requires-clause-letter_in : goal.edges-middles-requires-clause-letter_in
+edges-middles-requires-clause-letter_in c = omega (arith, c.loop-letter-test.true, c.letters-letter-end.ensures)
+
+pub edges-lasts-requires-clause-letter_in : goal.edges-lasts-requires-clause-letter_in
+edges-lasts-requires-clause-letter_in c = omega (arith, c.loop-letter-test.true, c.letters-letter-end.ensures)

@@ -5,20 +5,20 @@ use Rattle.rl_numbers.specs.internal.ReachedDoubles.{AreReachedDoubles}
 use Rattle.rl_numbers.proofs.numbering.doubles_by.Goals as goal
 
 pub listed_doubles-doubles-requires-clause-inside : goal.listed_doubles-doubles-requires-clause-inside
-listed_doubles-doubles-requires-clause-inside c = rw c.states-states.ensures.number c.in_ok-keys.ensures.inside
+listed_doubles-doubles-requires-clause-inside c = rw c.states-states.ensures.number c.in-Ok.ensures.inside
 
 pub returns : goal.returns
-returns c = IfOk-weaker c.listed_doubles-doubles.result (λ l. l ≡ doubles_in c.in-Ok.parts c.states-states.result c.in_ok-keys.keys.keys) (AreReachedDoubles c.args.g.now c.args.starts.now) (λ l same. record {
-  keys = c.in_ok-keys.keys.keys;
-  parts = c.in-Ok.parts;
-  reach = c.in_ok-keys.ensures.reach;
-  inside = c.in_ok-keys.ensures.inside;
-  are_parts = c.in-Ok.ensures;
-  same = subst (λ (n : ℕ). l ≡ doubles_in c.in-Ok.parts n c.in_ok-keys.keys.keys) c.states-states.ensures.number same;
+returns c = IfOk-weaker c.listed_doubles-doubles.result (λ l. l ≡ doubles_in c.in-Ok-product_parts.parts c.states-states.result c.in-Ok.keys.keys) (AreReachedDoubles c.args.g.now c.args.starts.now) (λ l same. record {
+  keys = c.in-Ok.keys.keys;
+  parts = c.in-Ok-product_parts.parts;
+  reach = c.in-Ok.ensures.reach;
+  inside = c.in-Ok.ensures.inside;
+  are_parts = c.in-Ok-product_parts.ensures;
+  same = subst (λ (n : ℕ). l ≡ doubles_in c.in-Ok-product_parts.parts n c.in-Ok.keys.keys) c.states-states.ensures.number same;
 }) c.listed_doubles-doubles.ensures
 
-pub doubles_from-requires : goal.doubles_from-requires
-doubles_from-requires c = c.requires.starts
+pub reached-requires : goal.reached-requires
+reached-requires c = c.requires.starts
 
 pub listed_doubles-doubles-requires-clause-few : goal.listed_doubles-doubles-requires-clause-few
 listed_doubles-doubles-requires-clause-few c = omega (arith, c.requires.few_states, c.states-states.ensures.number)
