@@ -1,4 +1,4 @@
-use Rattle.std.proofs.Common.{◌-◌, ◌∙◌, ℕ, List, length, get_or, drop, sym, ap, refl, subst, arith}
+use Rattle.std.proofs.Common.{◌≡◌, ◌-◌, ◌∙◌, ℕ, List, length, get_or, drop, sym, ap, refl, subst, arith}
 use Rattle.rl_graph.specs.Graph.{edges_of}
 use Rattle.rl_numbers.specs.Columns.{IsColumn}
 use Rattle.rl_numbers.proofs.ColumnLaws.{at-front, low-column}
@@ -26,3 +26,12 @@ loop-place-preserved c =
           (sym (at-front word c.loop-place.place j (get_or word j 0) (omega (arith, c.loop-place-test.true)) (omega (arith, c.loop-place-test.true, c.loop-place.invariant.within)) refl))
           (c.in_ok-counts-2.ensures.longer c.args.to (drop c.loop-place.place word) col);
     }
+
+pub before-requires-clause-letter_in : goal.before-requires-clause-letter_in
+before-requires-clause-letter_in c = c.requires (c.loop-place.place - 1) 0 (omega (arith, c.loop-place-test.true, c.loop-place.invariant.within))
+
+pub returns : goal.returns
+returns c =
+    let g = c.args.g.now in
+    let none : c.loop-place.place ≡ 0 = omega (arith, c.loop-place-test.false) in
+    subst (λ (k : ℕ). IsColumn (edges_of g) g.states c.args.to (drop k c.args.word.now) c.loop-place.counts.items) none c.loop-place.invariant.column

@@ -1,4 +1,4 @@
-use Rattle.std.proofs.Common.{◌<◌, ℕ, List, All, length, get_or, sym, subst, arith}
+use Rattle.std.proofs.Common.{◌<◌, ℕ, List, All, length, get_or, sym, subst, ap, arith}
 use Rattle.rl_graph.specs.Graph.{edges_of}
 use Rattle.rl_numbers.proofs.MarkLaws.{Has-read}
 use Rattle.rl_numbers.proofs.leveling.add_level_on.Goals as goal
@@ -51,3 +51,6 @@ returns-clause-so_far c = c.add_marked_on-added.ensures.so_far
 
 pub returns-clause-bare : goal.returns-clause-bare
 returns-clause-bare c = c.add_marked_on-added.ensures.bare
+
+pub add_few_on-requires-clause-few : goal.add_few_on-requires-clause-few
+add_few_on-requires-clause-few c = omega (arith, c.if-row-le-MOST_MOVES.true, ap length c.edges-row.ensures.targets)

@@ -1,7 +1,8 @@
-use Rattle.std.proofs.Common.{◌≡◌, ℕ, subst, arith}
+use Rattle.std.proofs.Common.{◌≡◌, ◌*◌, ◌<◌, ℕ, subst, arith}
 use Rattle.std.proofs.lemmas.Result.{IfOk-weaker}
 use Rattle.rl_numbers.specs.internal.Diagonal.{doubles_in}
 use Rattle.rl_numbers.specs.internal.ReachedDoubles.{AreReachedDoubles}
+use Rattle.rl_numbers.proofs.TripleLaws.{small-square}
 use Rattle.rl_numbers.proofs.numbering.doubles_by.Goals as goal
 
 pub listed_doubles-doubles-requires-clause-inside : goal.listed_doubles-doubles-requires-clause-inside
@@ -22,3 +23,12 @@ reached-requires c = c.requires.starts
 
 pub listed_doubles-doubles-requires-clause-few : goal.listed_doubles-doubles-requires-clause-few
 listed_doubles-doubles-requires-clause-few c = omega (arith, c.requires.few_states, c.states-states.ensures.number)
+
+pub listed_doubles-doubles-requires-clause-size : goal.listed_doubles-doubles-requires-clause-size
+listed_doubles-doubles-requires-clause-size c = rw c.states-states.ensures.number c.in-Ok-product_parts.ensures.size
+
+pub listed_doubles-doubles-requires-clause-low : goal.listed_doubles-doubles-requires-clause-low
+listed_doubles-doubles-requires-clause-low c = λ i lt.
+    let n = c.args.g.now.states in
+    let inside = subst (λ (k : ℕ). i < k * k) c.states-states.ensures.number lt in
+    omega (arith, c.in-Ok-product_parts.ensures.below i inside, small-square n n (omega (arith, c.requires.few_states)) (omega (arith, c.requires.few_states)))
