@@ -3,7 +3,6 @@
 ghost use Rattle.std.specs.Prelude.{◌≡◌, ℕ, ◌*◌, ◌<◌, ◌≤◌, All, length, slice_index, IfOk, OnOk, IfErr};
 ghost use Rattle.rl_graph.specs.Graph.{edges_of};
 ghost use Rattle.rl_graph.specs.Paths.{Each};
-ghost use Rattle.rl_graph.specs.Product.{pair_moves};
 ghost use Rattle.rl_graph.specs.Twins.{HasNoTwin};
 ghost use Rattle.rl_degree.specs.Leavers.{HasNoEqualSplit};
 ghost use Rattle.rl_numbers.specs.Doubled.{AreDoubles};
