@@ -56,13 +56,16 @@ impl Relation {
         ensures { IfOk result (λ name. string_bytes name ≡ relation_name self) }
     {
         let name = match self {
-            Relation::Overlapping => String::from_str(alloc, "overlapping")?,
-            Relation::Passed => format!(in alloc; "passed over {MOST_SET_PAIRS}")?,
-            Relation::Equal => String::from_str(alloc, "equal")?,
-            Relation::Included => String::from_str(alloc, "included")?,
-            Relation::Includes => String::from_str(alloc, "includes")?,
-            Relation::Disjoint => String::from_str(alloc, "disjoint")?,
+            Relation::Overlapping => "overlapping",
+            Relation::Passed => {
+                return Ok(format!(in alloc; "passed over {MOST_SET_PAIRS}")?);
+            }
+            Relation::Equal => "equal",
+            Relation::Included => "included",
+            Relation::Includes => "includes",
+            Relation::Disjoint => "disjoint",
         };
+        let name = String::from_str(alloc, name)?;
         Ok(name)
     }
 
