@@ -1,7 +1,7 @@
 -- Trees joined one by one, from the last one on.
 use Rattle.std.proofs.Common.{◌≡◌, ℕ, zero, suc, ◌-◌, Bool, List, [], ◌∷◌, ◌++◌, Option, None, Some, replicate, ◌+◌, add-one, refl, sym, ap, ◌∙◌}
 use Rattle.rl_syntax.specs.Tree.{Tree, both, either}
-use Rattle.rl_syntax.specs.Lowering.{in_turn, one_of, options, tail_of}
+use Rattle.rl_syntax.specs.Lowering.{in_turn, one_of, option_of, options, tail_of}
 
 pub in_turn-last : (ts : List Tree) (t : Tree) (us : List Tree) → in_turn (ts ++ in_turn (t ∷ us) ∷ []) ≡ in_turn (ts ++ t ∷ us)
 in_turn-last [] t us = refl
@@ -41,3 +41,10 @@ joined-copy n t r us tail e f =
     ∙ ap (λ x. in_turn (t ∷ x) ∷ []) e
     ∙ joined-cons t (replicate n t ++ tail)
     ∙ ap (λ m. joined (replicate m t ++ tail)) (sym (add-one n))
+
+-- one more copy in front of those that may be left out
+pub options-copy : (n : ℕ) (greedy : Bool) (t r : Tree) (us : List Tree) → us ≡ options greedy t n → r ≡ option_of greedy (in_turn (t ∷ us)) → r ∷ [] ≡ options greedy t (n + 1)
+options-copy n greedy t r us e f =
+    ap (λ x. x ∷ []) f
+    ∙ ap (λ x. option_of greedy (in_turn (t ∷ x)) ∷ []) e
+    ∙ ap (options greedy t) (sym (add-one n))

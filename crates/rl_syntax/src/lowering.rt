@@ -3,11 +3,12 @@
 ghost use Rattle.std.specs.Prelude.{◌≡◌, ℕ, ◌<◌, ◌≤◌, false, ◌∷◌, map, IfOk, IfErr};
 ghost use Rattle.rl_syntax.specs.declared.re.LowerError.TheVariants as error;
 ghost use Rattle.rl_syntax.specs.PatTree.{pat_of, items_of, branches_of};
-ghost use Rattle.rl_syntax.specs.Tree.{tree_of, size, IsOver};
+ghost use Rattle.rl_syntax.specs.Tree.{Tree, tree_of, size, IsOver};
 ghost use Rattle.rl_syntax.specs.Lowering.{in_turn, one_of, option_of, options, times, guard_of, lowered, items_lowered, branches_lowered};
 ghost use Rattle.rl_syntax.specs.Lowering.{boundary_guard as guard_of_boundary};
 ghost use Rattle.rl_syntax.specs.Counting.{branch_tree, held};
-ghost use Rattle.rl_syntax.specs.Modes.{trailed, sought, wrapped, ending_of};
+ghost use Rattle.rl_syntax.specs.Guards.{is_line_feed};
+ghost use Rattle.rl_syntax.specs.Modes.{trailed, sought, wrapped, ending_of, is_code};
 ghost use Rattle.rl_syntax.specs.Pattern.{pattern_tree, pattern_ending, is_anchored, trail_of, universe_of};
 
 use crate::anchors::{AnchorKind, Guard, Trail};
@@ -76,20 +77,40 @@ fn with_trail(alloc: Global, trailing: Trail, tree: Re) -> Result<Re, OutOfMemor
     match trailing {
         Trail::None | Trail::End => Ok(tree),
         Trail::Dollar => {
-            let line_feed = Re::One(CodeSet::range(alloc, 10, 10)?);
-            let last = Re::either(alloc, Re::Empty, line_feed)?;
+            let Ok(last) = last_line_feed(alloc) else {
+                drop(tree);
+                return Err(OutOfMemory);
+            };
             Re::both(alloc, tree, last)
         }
     }
+}
+
+/// The tree of a line feed or nothing, nothing tried first.
+fn last_line_feed(alloc: Global) -> Result<Re, OutOfMemory>
+    ensures { IfOk result (λ re. tree_of re ≡ Tree.either Tree.empty (Tree.one is_line_feed)) }
+{
+    let line_feed = Re::One(CodeSet::range(alloc, 10, 10)?);
+    Re::either(alloc, Re::Empty, line_feed)
 }
 
 /// The tree after any codes of the universe, as few as it can.
 fn after_any(alloc: Global, universe: Universe, tree: Re) -> Result<Re, OutOfMemory>
     ensures { IfOk result (λ re. tree_of re ≡ sought universe false (tree_of tree)) }
 {
-    let any = Re::One(CodeSet::range(alloc, 0, universe.count() - 1)?);
-    let passed = Re::many(alloc, any, false)?;
+    let Ok(passed) = any_codes(alloc, universe) else {
+        drop(tree);
+        return Err(OutOfMemory);
+    };
     Re::both(alloc, passed, tree)
+}
+
+/// The tree of any codes of the universe, as few as it can.
+fn any_codes(alloc: Global, universe: Universe) -> Result<Re, OutOfMemory>
+    ensures { IfOk result (λ re. tree_of re ≡ Tree.many (Tree.one (is_code universe)) false) }
+{
+    let any = Re::One(CodeSet::range(alloc, 0, universe.count() - 1)?);
+    Re::many(alloc, any, false)
 }
 
 /// The tree of a part of a pattern.
@@ -126,7 +147,7 @@ fn lower_items(alloc: Global, items: &[Pat]) -> Result<Re, OutOfMemory>
 {
     let mut rest = None;
     for item in items.iter().rev() {
-        let first = lower_part(alloc, item)?;
+        let first = lower_part(alloc, item);
         rest = Some(followed(alloc, first, rest)?);
     }
     Ok(rest.unwrap_or(Re::Empty))
@@ -139,7 +160,7 @@ fn lower_branches(alloc: Global, branches: &[Branch]) -> Result<Re, OutOfMemory>
 {
     let mut rest = None;
     for branch in branches.iter().rev() {
-        let first = lower_part(alloc, &branch.body)?;
+        let first = lower_part(alloc, &branch.body);
         rest = Some(preferred(alloc, first, rest)?);
     }
     Ok(rest.unwrap_or(Re::Empty))
@@ -164,7 +185,7 @@ fn lower_repeat(
         Some(max) => lower_options(alloc, body, max.saturating_sub(min), greedy)?,
     };
     for _ in 0..min {
-        let copy = lower_part(alloc, body)?;
+        let copy = lower_part(alloc, body);
         rest = Some(followed(alloc, copy, rest)?);
     }
     Ok(rest.unwrap_or(Re::Empty))
@@ -182,37 +203,58 @@ fn lower_options(
 {
     let mut rest = None;
     for _ in 0..count {
-        let copy = lower_part(alloc, body)?;
-        let copies = followed(alloc, copy, rest)?;
+        let copy = lower_part(alloc, body);
+        let copies = followed(alloc, copy, rest);
         rest = Some(optional(alloc, copies, greedy)?);
     }
     Ok(rest)
 }
 
-/// The tree, and what follows it if something does.
-fn followed(alloc: Global, first: Re, rest: Option<Re>) -> Result<Re, OutOfMemory>
-    ensures { IfOk result (λ re. tree_of re ≡ in_turn (tree_of first ∷ held rest)) }
+/// The tree, if it could be built, and what follows it if something does.
+fn followed(
+    alloc: Global,
+    first: Result<Re, OutOfMemory>,
+    rest: Option<Re>,
+) -> Result<Re, OutOfMemory>
+    ensures { (t : Tree) → IfOk first (λ re. tree_of re ≡ t) → IfOk result (λ re. tree_of re ≡ in_turn (t ∷ held rest)) }
 {
+    let Ok(first) = first else {
+        drop(rest);
+        return Err(OutOfMemory);
+    };
     match rest {
         None => Ok(first),
         Some(rest) => Re::both(alloc, first, rest),
     }
 }
 
-/// The tree, or the other if there is one.
-fn preferred(alloc: Global, first: Re, rest: Option<Re>) -> Result<Re, OutOfMemory>
-    ensures { IfOk result (λ re. tree_of re ≡ one_of (tree_of first ∷ held rest)) }
+/// The tree, if it could be built, or the other if there is one.
+fn preferred(
+    alloc: Global,
+    first: Result<Re, OutOfMemory>,
+    rest: Option<Re>,
+) -> Result<Re, OutOfMemory>
+    ensures { (t : Tree) → IfOk first (λ re. tree_of re ≡ t) → IfOk result (λ re. tree_of re ≡ one_of (t ∷ held rest)) }
 {
+    let Ok(first) = first else {
+        drop(rest);
+        return Err(OutOfMemory);
+    };
     match rest {
         None => Ok(first),
         Some(rest) => Re::either(alloc, first, rest),
     }
 }
 
-/// The tree or nothing; a greedy one tries the tree first.
-fn optional(alloc: Global, tree: Re, greedy: bool) -> Result<Re, OutOfMemory>
-    ensures { IfOk result (λ re. tree_of re ≡ option_of greedy (tree_of tree)) }
+/// The tree, if it could be built, or nothing; a greedy one tries the tree first.
+fn optional(
+    alloc: Global,
+    tree: Result<Re, OutOfMemory>,
+    greedy: bool,
+) -> Result<Re, OutOfMemory>
+    ensures { (t : Tree) → IfOk tree (λ re. tree_of re ≡ t) → IfOk result (λ re. tree_of re ≡ option_of greedy t) }
 {
+    let tree = tree?;
     if greedy {
         Re::either(alloc, tree, Re::Empty)
     } else {

@@ -33,8 +33,7 @@ impl Re {
     pub fn both(alloc: Global, first: Re, second: Re) -> Result<Re, OutOfMemory>
         ensures { IfOk result (λ tree. tree_of tree ≡ Tree.both (tree_of first) (tree_of second)) }
     {
-        let first = Box::new(alloc, first)?;
-        let second = Box::new(alloc, second)?;
+        let (first, second) = Re::boxed(alloc, first, second)?;
         Ok(Re::Both(first, second))
     }
 
@@ -45,9 +44,23 @@ impl Re {
     pub fn either(alloc: Global, first: Re, second: Re) -> Result<Re, OutOfMemory>
         ensures { IfOk result (λ tree. tree_of tree ≡ Tree.either (tree_of first) (tree_of second)) }
     {
-        let first = Box::new(alloc, first)?;
-        let second = Box::new(alloc, second)?;
+        let (first, second) = Re::boxed(alloc, first, second)?;
         Ok(Re::Either(first, second))
+    }
+
+    /// Both trees, each in a box.
+    fn boxed(alloc: Global, first: Re, second: Re) -> Result<(Box<Re>, Box<Re>), OutOfMemory>
+        ensures { IfOk result (λ boxes. (boxes.0.value ≡ first) × (boxes.1.value ≡ second)) }
+    {
+        let Ok(first) = Box::new(alloc, first) else {
+            drop(second);
+            return Err(OutOfMemory);
+        };
+        let Ok(second) = Box::new(alloc, second) else {
+            drop(first);
+            return Err(OutOfMemory);
+        };
+        Ok((first, second))
     }
 
     /// The tree any number of times. A greedy one tries one more before none.
