@@ -1,6 +1,6 @@
 //! Lowering: from a pattern in a mode to its tree.
 
-ghost use Rattle.std.specs.Prelude.{◌≡◌, ℕ, ◌<◌, ◌≤◌, false, ◌∷◌, map, IfOk, IfErr};
+ghost use Rattle.std.specs.Prelude.{◌≡◌, ℕ, ◌<◌, ◌≤◌, false, ◌∷◌, map, IfOk, IfErr, Ok};
 ghost use Rattle.rl_syntax.specs.declared.re.LowerError.TheVariants as error;
 ghost use Rattle.rl_syntax.specs.PatTree.{pat_of, items_of, branches_of};
 ghost use Rattle.rl_syntax.specs.Tree.{Tree, tree_of, size, IsOver};
@@ -45,17 +45,13 @@ pub fn lower(alloc: Global, p: &Pattern, mode: Mode) -> Result<Lowered, LowerErr
 fn tree_in_mode(alloc: Global, p: &Pattern, mode: Mode) -> Result<Re, OutOfMemory>
     ensures { IfOk result (λ re. tree_of re ≡ pattern_tree p.now mode) }
 {
-    let body = lower_part(alloc, p.body())?;
+    let body = lower_part(alloc, p.body());
     match mode {
-        Mode::Fullmatch => Ok(body),
+        Mode::Fullmatch => body,
         Mode::Match => with_trail(alloc, p.trailing(), body),
         Mode::Search => {
-            let trailed = with_trail(alloc, p.trailing(), body)?;
-            if p.leading() {
-                Ok(trailed)
-            } else {
-                after_any(alloc, p.universe(), trailed)
-            }
+            let trailed = with_trail(alloc, p.trailing(), body);
+            after_any(alloc, p.universe(), p.leading(), trailed)
         }
     }
 }
@@ -70,19 +66,17 @@ fn ending_in_mode(mode: Mode, trailing: Trail) -> Ending
     }
 }
 
-/// The tree with what the trailing anchor lets stand after it: a last line feed where it is `$` alone.
-fn with_trail(alloc: Global, trailing: Trail, tree: Re) -> Result<Re, OutOfMemory>
-    ensures { IfOk result (λ re. tree_of re ≡ trailed trailing (tree_of tree)) }
+/// The tree, if it could be built, with what the trailing anchor lets stand after it: a last line feed where it is `$` alone.
+fn with_trail(
+    alloc: Global,
+    trailing: Trail,
+    tree: Result<Re, OutOfMemory>,
+) -> Result<Re, OutOfMemory>
+    ensures { (t : Tree) → IfOk tree (λ re. tree_of re ≡ t) → IfOk result (λ re. tree_of re ≡ trailed trailing t) }
 {
     match trailing {
-        Trail::None | Trail::End => Ok(tree),
-        Trail::Dollar => {
-            let Ok(last) = last_line_feed(alloc) else {
-                drop(tree);
-                return Err(OutOfMemory);
-            };
-            Re::both(alloc, tree, last)
-        }
+        Trail::None | Trail::End => tree,
+        Trail::Dollar => joined(alloc, tree, last_line_feed(alloc)),
     }
 }
 
@@ -94,15 +88,20 @@ fn last_line_feed(alloc: Global) -> Result<Re, OutOfMemory>
     Re::either(alloc, Re::Empty, line_feed)
 }
 
-/// The tree after any codes of the universe, as few as it can.
-fn after_any(alloc: Global, universe: Universe, tree: Re) -> Result<Re, OutOfMemory>
-    ensures { IfOk result (λ re. tree_of re ≡ sought universe false (tree_of tree)) }
+/// The tree, if it could be built, after any codes of the universe, as few as it can, unless it is held to the start.
+fn after_any(
+    alloc: Global,
+    universe: Universe,
+    leading: bool,
+    tree: Result<Re, OutOfMemory>,
+) -> Result<Re, OutOfMemory>
+    ensures { (t : Tree) → IfOk tree (λ re. tree_of re ≡ t) → IfOk result (λ re. tree_of re ≡ sought universe leading t) }
 {
-    let Ok(passed) = any_codes(alloc, universe) else {
-        drop(tree);
-        return Err(OutOfMemory);
-    };
-    Re::both(alloc, passed, tree)
+    if leading {
+        tree
+    } else {
+        joined(alloc, any_codes(alloc, universe), tree)
+    }
 }
 
 /// The tree of any codes of the universe, as few as it can.
@@ -218,13 +217,9 @@ fn followed(
 ) -> Result<Re, OutOfMemory>
     ensures { (t : Tree) → IfOk first (λ re. tree_of re ≡ t) → IfOk result (λ re. tree_of re ≡ in_turn (t ∷ held rest)) }
 {
-    let Ok(first) = first else {
-        drop(rest);
-        return Err(OutOfMemory);
-    };
     match rest {
-        None => Ok(first),
-        Some(rest) => Re::both(alloc, first, rest),
+        None => first,
+        Some(rest) => joined(alloc, first, Ok(rest)),
     }
 }
 
@@ -236,13 +231,47 @@ fn preferred(
 ) -> Result<Re, OutOfMemory>
     ensures { (t : Tree) → IfOk first (λ re. tree_of re ≡ t) → IfOk result (λ re. tree_of re ≡ one_of (t ∷ held rest)) }
 {
-    let Ok(first) = first else {
-        drop(rest);
-        return Err(OutOfMemory);
-    };
     match rest {
-        None => Ok(first),
-        Some(rest) => Re::either(alloc, first, rest),
+        None => first,
+        Some(rest) => {
+            let (first, rest) = pair(first, Ok(rest))?;
+            Re::either(alloc, first, rest)
+        }
+    }
+}
+
+/// The one tree and then the other, if both could be built.
+fn joined(
+    alloc: Global,
+    first: Result<Re, OutOfMemory>,
+    second: Result<Re, OutOfMemory>,
+) -> Result<Re, OutOfMemory>
+    ensures { (s t : Tree) → IfOk first (λ re. tree_of re ≡ s) → IfOk second (λ re. tree_of re ≡ t)
+        → IfOk result (λ re. tree_of re ≡ Tree.both s t) }
+{
+    let (first, second) = pair(first, second)?;
+    Re::both(alloc, first, second)
+}
+
+/// Both trees, if both could be built.
+fn pair(
+    first: Result<Re, OutOfMemory>,
+    second: Result<Re, OutOfMemory>,
+) -> Result<(Re, Re), OutOfMemory>
+    ensures { IfOk result (λ both. (first ≡ Ok both.0) × (second ≡ Ok both.1)) }
+{
+    match first {
+        Ok(first) => {
+            let Ok(second) = second else {
+                drop(first);
+                return Err(OutOfMemory);
+            };
+            Ok((first, second))
+        }
+        Err(error) => {
+            drop(second);
+            Err(error)
+        }
     }
 }
 

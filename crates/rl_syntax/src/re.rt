@@ -52,11 +52,11 @@ impl Re {
     fn boxed(alloc: Global, first: Re, second: Re) -> Result<(Box<Re>, Box<Re>), OutOfMemory>
         ensures { IfOk result (λ boxes. (boxes.0.value ≡ first) × (boxes.1.value ≡ second)) }
     {
-        let Ok(first) = Box::new(alloc, first) else {
+        let Ok(first) = in_box(alloc, first) else {
             drop(second);
             return Err(OutOfMemory);
         };
-        let Ok(second) = Box::new(alloc, second) else {
+        let Ok(second) = in_box(alloc, second) else {
             drop(first);
             return Err(OutOfMemory);
         };
@@ -70,7 +70,7 @@ impl Re {
     pub fn many(alloc: Global, body: Re, greedy: bool) -> Result<Re, OutOfMemory>
         ensures { IfOk result (λ tree. tree_of tree ≡ Tree.many (tree_of body) greedy) }
     {
-        let body = Box::new(alloc, body)?;
+        let body = in_box(alloc, body)?;
         Ok(Re::Many(body, greedy))
     }
 
@@ -89,6 +89,13 @@ impl Re {
     }
 }
 
+/// The tree in a box.
+fn in_box(alloc: Global, tree: Re) -> Result<Box<Re>, OutOfMemory>
+    ensures { IfOk result (λ b. b.value ≡ tree) }
+{
+    Ok(Box::new(alloc, tree)?)
+}
+
 /// How a pattern is matched against a text.
 #[derive(Clone, Copy, Debug, PartialEq, Eq)]
 pub enum Mode {
@@ -101,7 +108,7 @@ pub enum Mode {
 }
 
 /// Where a match may end.
-#[derive(Clone, Copy, Debug, PartialEq, Eq)]
+#[derive(Clone, Copy)]
 pub enum Ending {
     /// At the text's end.
     AtEnd,
@@ -119,7 +126,7 @@ pub struct Lowered {
 }
 
 /// Why a pattern isn't lowered.
-#[derive(Clone, Copy, Debug, PartialEq, Eq)]
+#[derive(Clone, Copy, Debug)]
 pub enum LowerError {
     /// The tree would have more than 4,000 nodes.
     TooLarge,
