@@ -30,9 +30,13 @@ joined-options : (greedy : Bool) (t : Tree) (k : ℕ) → joined (options greedy
 joined-options greedy t zero = refl
 joined-options greedy t (suc k) = refl
 
-pub joined-tail : (greedy : Bool) (t : Tree) (least : ℕ) (most : Option ℕ) → joined (tail_of greedy t least most) ≡ tail_of greedy t least most
+joined-tail : (greedy : Bool) (t : Tree) (least : ℕ) (most : Option ℕ) → joined (tail_of greedy t least most) ≡ tail_of greedy t least most
 joined-tail greedy t least None = refl
 joined-tail greedy t least (Some most) = joined-options greedy t (most - least)
+
+-- no copy yet in front
+pub joined-start : (greedy : Bool) (t : Tree) (least : ℕ) (most : Option ℕ) (us : List Tree) → us ≡ tail_of greedy t least most → us ≡ joined (tail_of greedy t least most)
+joined-start greedy t least most us e = e ∙ sym (joined-tail greedy t least most)
 
 -- one more copy in front
 pub joined-copy : (n : ℕ) (t r : Tree) (us tail : List Tree) → us ≡ joined (replicate n t ++ tail) → r ≡ in_turn (t ∷ us) → r ∷ [] ≡ joined (replicate (n + 1) t ++ tail)

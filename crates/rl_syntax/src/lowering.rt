@@ -1,6 +1,6 @@
 //! Lowering: from a pattern in a mode to its tree.
 
-ghost use Rattle.std.specs.Prelude.{◌≡◌, ℕ, ◌<◌, ◌≤◌, false, ◌∷◌, map, IfOk, IfErr, Ok};
+ghost use Rattle.std.specs.Prelude.{◌≡◌, ℕ, ◌<◌, ◌≤◌, false, [], ◌∷◌, map, IfOk, IfErr};
 ghost use Rattle.rl_syntax.specs.declared.re.LowerError.TheVariants as error;
 ghost use Rattle.rl_syntax.specs.PatTree.{pat_of, items_of, branches_of};
 ghost use Rattle.rl_syntax.specs.Tree.{Tree, tree_of, size, IsOver};
@@ -147,9 +147,12 @@ fn lower_items(alloc: Global, items: &[Pat]) -> Result<Re, OutOfMemory>
     let mut rest = None;
     for item in items.iter().rev() {
         let first = lower_part(alloc, item);
-        rest = Some(followed(alloc, first, rest)?);
+        let Ok(all) = followed(alloc, first, rest) else {
+            return Err(OutOfMemory);
+        };
+        rest = Some(all);
     }
-    Ok(rest.unwrap_or(Re::Empty))
+    Ok(whole(rest))
 }
 
 /// The tree of one of several branches.
@@ -160,9 +163,12 @@ fn lower_branches(alloc: Global, branches: &[Branch]) -> Result<Re, OutOfMemory>
     let mut rest = None;
     for branch in branches.iter().rev() {
         let first = lower_part(alloc, &branch.body);
-        rest = Some(preferred(alloc, first, rest)?);
+        let Ok(all) = preferred(alloc, first, rest) else {
+            return Err(OutOfMemory);
+        };
+        rest = Some(all);
     }
-    Ok(rest.unwrap_or(Re::Empty))
+    Ok(whole(rest))
 }
 
 /// The tree of a part repeated. The part is lowered anew for each copy.
@@ -176,18 +182,21 @@ fn lower_repeat(
 ) -> Result<Re, OutOfMemory>
     ensures { IfOk result (λ re. tree_of re ≡ times min max greedy (lowered (pat_of body.now))) }
 {
-    let mut rest = match max {
-        None => {
-            let copy = lower_part(alloc, body)?;
-            Some(Re::many(alloc, copy, greedy)?)
-        }
-        Some(max) => lower_options(alloc, body, max.saturating_sub(min), greedy)?,
+    let tail = match max {
+        None => any_number(alloc, lower_part(alloc, body), greedy),
+        Some(max) => lower_options(alloc, body, max.saturating_sub(min), greedy),
+    };
+    let Ok(mut rest) = tail else {
+        return Err(OutOfMemory);
     };
     for _ in 0..min {
         let copy = lower_part(alloc, body);
-        rest = Some(followed(alloc, copy, rest)?);
+        let Ok(all) = followed(alloc, copy, rest) else {
+            return Err(OutOfMemory);
+        };
+        rest = Some(all);
     }
-    Ok(rest.unwrap_or(Re::Empty))
+    Ok(whole(rest))
 }
 
 /// The tree of up to so many copies of a part, each of which is left out only with those after it. There is none of no copy.
@@ -204,9 +213,33 @@ fn lower_options(
     for _ in 0..count {
         let copy = lower_part(alloc, body);
         let copies = followed(alloc, copy, rest);
-        rest = Some(optional(alloc, copies, greedy)?);
+        let Ok(option) = optional(alloc, copies, greedy) else {
+            return Err(OutOfMemory);
+        };
+        rest = Some(option);
     }
     Ok(rest)
+}
+
+/// The tree that is held, or nothing.
+fn whole(rest: Option<Re>) -> Re
+    ensures { tree_of result ≡ in_turn (held rest) }
+{
+    rest.unwrap_or(Re::Empty)
+}
+
+/// The tree, if it could be built, any number of times.
+fn any_number(
+    alloc: Global,
+    tree: Result<Re, OutOfMemory>,
+    greedy: bool,
+) -> Result<Option<Re>, OutOfMemory>
+    ensures { (t : Tree) → IfOk tree (λ re. tree_of re ≡ t) → IfOk result (λ o. held o ≡ Tree.many t greedy ∷ []) }
+{
+    let Ok(tree) = tree else {
+        return Err(OutOfMemory);
+    };
+    Ok(Some(Re::many(alloc, tree, greedy)?))
 }
 
 /// The tree, if it could be built, and what follows it if something does.
@@ -223,23 +256,6 @@ fn followed(
     }
 }
 
-/// The tree, if it could be built, or the other if there is one.
-fn preferred(
-    alloc: Global,
-    first: Result<Re, OutOfMemory>,
-    rest: Option<Re>,
-) -> Result<Re, OutOfMemory>
-    ensures { (t : Tree) → IfOk first (λ re. tree_of re ≡ t) → IfOk result (λ re. tree_of re ≡ one_of (t ∷ held rest)) }
-{
-    match rest {
-        None => first,
-        Some(rest) => {
-            let (first, rest) = pair(first, Ok(rest))?;
-            Re::either(alloc, first, rest)
-        }
-    }
-}
-
 /// The one tree and then the other, if both could be built.
 fn joined(
     alloc: Global,
@@ -249,29 +265,32 @@ fn joined(
     ensures { (s t : Tree) → IfOk first (λ re. tree_of re ≡ s) → IfOk second (λ re. tree_of re ≡ t)
         → IfOk result (λ re. tree_of re ≡ Tree.both s t) }
 {
-    let (first, second) = pair(first, second)?;
+    let Ok(first) = first else {
+        drop(second);
+        return Err(OutOfMemory);
+    };
+    let Ok(second) = second else {
+        drop(first);
+        return Err(OutOfMemory);
+    };
     Re::both(alloc, first, second)
 }
 
-/// Both trees, if both could be built.
-fn pair(
+/// The tree, if it could be built, or the other if there is one.
+fn preferred(
+    alloc: Global,
     first: Result<Re, OutOfMemory>,
-    second: Result<Re, OutOfMemory>,
-) -> Result<(Re, Re), OutOfMemory>
-    ensures { IfOk result (λ both. (first ≡ Ok both.0) × (second ≡ Ok both.1)) }
+    rest: Option<Re>,
+) -> Result<Re, OutOfMemory>
+    ensures { (t : Tree) → IfOk first (λ re. tree_of re ≡ t) → IfOk result (λ re. tree_of re ≡ one_of (t ∷ held rest)) }
 {
-    match first {
-        Ok(first) => {
-            let Ok(second) = second else {
-                drop(first);
-                return Err(OutOfMemory);
-            };
-            Ok((first, second))
-        }
-        Err(error) => {
-            drop(second);
-            Err(error)
-        }
+    let Ok(first) = first else {
+        drop(rest);
+        return Err(OutOfMemory);
+    };
+    match rest {
+        None => Ok(first),
+        Some(rest) => Re::either(alloc, first, rest),
     }
 }
 
@@ -283,7 +302,9 @@ fn optional(
 ) -> Result<Re, OutOfMemory>
     ensures { (t : Tree) → IfOk tree (λ re. tree_of re ≡ t) → IfOk result (λ re. tree_of re ≡ option_of greedy t) }
 {
-    let tree = tree?;
+    let Ok(tree) = tree else {
+        return Err(OutOfMemory);
+    };
     if greedy {
         Re::either(alloc, tree, Re::Empty)
     } else {
