@@ -295,11 +295,7 @@ fn preferred(
 }
 
 /// The tree, if it could be built, or nothing; a greedy one tries the tree first.
-fn optional(
-    alloc: Global,
-    tree: Result<Re, OutOfMemory>,
-    greedy: bool,
-) -> Result<Re, OutOfMemory>
+fn optional(alloc: Global, tree: Result<Re, OutOfMemory>, greedy: bool) -> Result<Re, OutOfMemory>
     ensures { (t : Tree) → IfOk tree (λ re. tree_of re ≡ t) → IfOk result (λ re. tree_of re ≡ option_of greedy t) }
 {
     let Ok(tree) = tree else {

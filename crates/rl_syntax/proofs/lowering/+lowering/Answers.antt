@@ -12,9 +12,10 @@ pub lower_repeat-loop-init : goal.lower_repeat-loop-init
 lower_repeat-loop-init t c =
     let e = lowered (pat_of c.args.body.now) in
     let h : IfOk c.match-max.tail (λ o. held o ≡ tail_of c.args.greedy e c.args.min c.args.max) =
-    elim c.match-max.branch
-    [ lower_repeat-in-None w ↦ rw w.tail-is (rw w.in-None.is (w.any_number-tail.ensures e w.lower_part.ensures))
-    | lower_repeat-in-Some w ↦ rw w.tail-is (rw w.in-Some.is (rw (sym w.saturating_sub.ensures) w.lower_options-tail.ensures)) ] in
+    elim c.match-max.branch [
+      | lower_repeat-in-None w ↦ rw w.tail-is (rw w.in-None.is (w.any_number-tail.ensures e w.lower_part.ensures))
+      | lower_repeat-in-Some w ↦ rw w.tail-is (rw w.in-Some.is (rw (sym w.saturating_sub.ensures) w.lower_options-tail.ensures))
+    ] in
     joined-start c.args.greedy e c.args.min c.args.max _ (rw c.in-Ok.is at h)
 
 pub lower_repeat-loop-preserved : goal.lower_repeat-loop-preserved
