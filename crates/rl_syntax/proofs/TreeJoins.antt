@@ -1,7 +1,7 @@
 -- Trees joined one by one, from the last one on.
 use Rattle.std.proofs.Common.{◌≡◌, ℕ, zero, suc, ◌-◌, Bool, List, [], ◌∷◌, ◌++◌, Option, None, Some, replicate, ◌+◌, add-one, refl, sym, ap, ◌∙◌}
 use Rattle.rl_syntax.specs.Tree.{Tree, both, either}
-use Rattle.rl_syntax.specs.Lowering.{in_turn, one_of, options, tail_of}
+use Rattle.rl_syntax.specs.Lowering.{in_turn, one_of, option_of, options, tail_of}
 
 pub in_turn-last : (ts : List Tree) (t : Tree) (us : List Tree) → in_turn (ts ++ in_turn (t ∷ us) ∷ []) ≡ in_turn (ts ++ t ∷ us)
 in_turn-last [] t us = refl
@@ -30,9 +30,13 @@ joined-options : (greedy : Bool) (t : Tree) (k : ℕ) → joined (options greedy
 joined-options greedy t zero = refl
 joined-options greedy t (suc k) = refl
 
-pub joined-tail : (greedy : Bool) (t : Tree) (least : ℕ) (most : Option ℕ) → joined (tail_of greedy t least most) ≡ tail_of greedy t least most
+joined-tail : (greedy : Bool) (t : Tree) (least : ℕ) (most : Option ℕ) → joined (tail_of greedy t least most) ≡ tail_of greedy t least most
 joined-tail greedy t least None = refl
 joined-tail greedy t least (Some most) = joined-options greedy t (most - least)
+
+-- no copy yet in front
+pub joined-start : (greedy : Bool) (t : Tree) (least : ℕ) (most : Option ℕ) (us : List Tree) → us ≡ tail_of greedy t least most → us ≡ joined (tail_of greedy t least most)
+joined-start greedy t least most us e = e ∙ sym (joined-tail greedy t least most)
 
 -- one more copy in front
 pub joined-copy : (n : ℕ) (t r : Tree) (us tail : List Tree) → us ≡ joined (replicate n t ++ tail) → r ≡ in_turn (t ∷ us) → r ∷ [] ≡ joined (replicate (n + 1) t ++ tail)
@@ -41,3 +45,10 @@ joined-copy n t r us tail e f =
     ∙ ap (λ x. in_turn (t ∷ x) ∷ []) e
     ∙ joined-cons t (replicate n t ++ tail)
     ∙ ap (λ m. joined (replicate m t ++ tail)) (sym (add-one n))
+
+-- one more copy in front of those that may be left out
+pub options-copy : (n : ℕ) (greedy : Bool) (t r : Tree) (us : List Tree) → us ≡ options greedy t n → r ≡ option_of greedy (in_turn (t ∷ us)) → r ∷ [] ≡ options greedy t (n + 1)
+options-copy n greedy t r us e f =
+    ap (λ x. x ∷ []) f
+    ∙ ap (λ x. option_of greedy (in_turn (t ∷ x)) ∷ []) e
+    ∙ ap (options greedy t) (sym (add-one n))

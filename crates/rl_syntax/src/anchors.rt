@@ -1,7 +1,7 @@
 //! Anchors, and the tests of a place of a text that trees keep of them.
 
 /// An anchor as it is written.
-#[derive(Clone, Copy, Debug, PartialEq, Eq)]
+#[derive(Clone, Copy)]
 pub enum AnchorKind {
     /// `^`.
     Caret,
@@ -14,7 +14,7 @@ pub enum AnchorKind {
 }
 
 /// The anchors at the end of a pattern.
-#[derive(Clone, Copy, Debug, PartialEq, Eq)]
+#[derive(Clone, Copy, PartialEq, Eq)]
 pub enum Trail {
     /// There is none.
     None,
@@ -25,7 +25,7 @@ pub enum Trail {
 }
 
 /// A test of a place of a text, which reads no code of it.
-#[derive(Clone, Copy, Debug, PartialEq, Eq)]
+#[derive(Clone, Copy)]
 pub enum Guard {
     /// The text starts here: `\A`, and `^` without MULTILINE.
     Start,

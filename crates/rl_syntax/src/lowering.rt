@@ -1,13 +1,14 @@
 //! Lowering: from a pattern in a mode to its tree.
 
-ghost use Rattle.std.specs.Prelude.{◌≡◌, ℕ, ◌<◌, ◌≤◌, false, ◌∷◌, map, IfOk, IfErr};
+ghost use Rattle.std.specs.Prelude.{◌≡◌, ℕ, ◌<◌, ◌≤◌, false, [], ◌∷◌, map, IfOk, IfErr};
 ghost use Rattle.rl_syntax.specs.declared.re.LowerError.TheVariants as error;
 ghost use Rattle.rl_syntax.specs.PatTree.{pat_of, items_of, branches_of};
-ghost use Rattle.rl_syntax.specs.Tree.{tree_of, size, IsOver};
+ghost use Rattle.rl_syntax.specs.Tree.{Tree, tree_of, size, IsOver};
 ghost use Rattle.rl_syntax.specs.Lowering.{in_turn, one_of, option_of, options, times, guard_of, lowered, items_lowered, branches_lowered};
 ghost use Rattle.rl_syntax.specs.Lowering.{boundary_guard as guard_of_boundary};
 ghost use Rattle.rl_syntax.specs.Counting.{branch_tree, held};
-ghost use Rattle.rl_syntax.specs.Modes.{trailed, sought, wrapped, ending_of};
+ghost use Rattle.rl_syntax.specs.Guards.{is_line_feed};
+ghost use Rattle.rl_syntax.specs.Modes.{trailed, sought, wrapped, ending_of, is_code};
 ghost use Rattle.rl_syntax.specs.Pattern.{pattern_tree, pattern_ending, is_anchored, trail_of, universe_of};
 
 use crate::anchors::{AnchorKind, Guard, Trail};
@@ -44,17 +45,13 @@ pub fn lower(alloc: Global, p: &Pattern, mode: Mode) -> Result<Lowered, LowerErr
 fn tree_in_mode(alloc: Global, p: &Pattern, mode: Mode) -> Result<Re, OutOfMemory>
     ensures { IfOk result (λ re. tree_of re ≡ pattern_tree p.now mode) }
 {
-    let body = lower_part(alloc, p.body())?;
+    let body = lower_part(alloc, p.body());
     match mode {
-        Mode::Fullmatch => Ok(body),
+        Mode::Fullmatch => body,
         Mode::Match => with_trail(alloc, p.trailing(), body),
         Mode::Search => {
-            let trailed = with_trail(alloc, p.trailing(), body)?;
-            if p.leading() {
-                Ok(trailed)
-            } else {
-                after_any(alloc, p.universe(), trailed)
-            }
+            let trailed = with_trail(alloc, p.trailing(), body);
+            after_any(alloc, p.universe(), p.leading(), trailed)
         }
     }
 }
@@ -69,27 +66,50 @@ fn ending_in_mode(mode: Mode, trailing: Trail) -> Ending
     }
 }
 
-/// The tree with what the trailing anchor lets stand after it: a last line feed where it is `$` alone.
-fn with_trail(alloc: Global, trailing: Trail, tree: Re) -> Result<Re, OutOfMemory>
-    ensures { IfOk result (λ re. tree_of re ≡ trailed trailing (tree_of tree)) }
+/// The tree, if it could be built, with what the trailing anchor lets stand after it: a last line feed where it is `$` alone.
+fn with_trail(
+    alloc: Global,
+    trailing: Trail,
+    tree: Result<Re, OutOfMemory>,
+) -> Result<Re, OutOfMemory>
+    ensures { (t : Tree) → IfOk tree (λ re. tree_of re ≡ t) → IfOk result (λ re. tree_of re ≡ trailed trailing t) }
 {
     match trailing {
-        Trail::None | Trail::End => Ok(tree),
-        Trail::Dollar => {
-            let line_feed = Re::One(CodeSet::range(alloc, 10, 10)?);
-            let last = Re::either(alloc, Re::Empty, line_feed)?;
-            Re::both(alloc, tree, last)
-        }
+        Trail::None | Trail::End => tree,
+        Trail::Dollar => joined(alloc, tree, last_line_feed(alloc)),
     }
 }
 
-/// The tree after any codes of the universe, as few as it can.
-fn after_any(alloc: Global, universe: Universe, tree: Re) -> Result<Re, OutOfMemory>
-    ensures { IfOk result (λ re. tree_of re ≡ sought universe false (tree_of tree)) }
+/// The tree of a line feed or nothing, nothing tried first.
+fn last_line_feed(alloc: Global) -> Result<Re, OutOfMemory>
+    ensures { IfOk result (λ re. tree_of re ≡ Tree.either Tree.empty (Tree.one is_line_feed)) }
+{
+    let line_feed = Re::One(CodeSet::range(alloc, 10, 10)?);
+    Re::either(alloc, Re::Empty, line_feed)
+}
+
+/// The tree, if it could be built, after any codes of the universe, as few as it can, unless it is held to the start.
+fn after_any(
+    alloc: Global,
+    universe: Universe,
+    leading: bool,
+    tree: Result<Re, OutOfMemory>,
+) -> Result<Re, OutOfMemory>
+    ensures { (t : Tree) → IfOk tree (λ re. tree_of re ≡ t) → IfOk result (λ re. tree_of re ≡ sought universe leading t) }
+{
+    if leading {
+        tree
+    } else {
+        joined(alloc, any_codes(alloc, universe), tree)
+    }
+}
+
+/// The tree of any codes of the universe, as few as it can.
+fn any_codes(alloc: Global, universe: Universe) -> Result<Re, OutOfMemory>
+    ensures { IfOk result (λ re. tree_of re ≡ Tree.many (Tree.one (is_code universe)) false) }
 {
     let any = Re::One(CodeSet::range(alloc, 0, universe.count() - 1)?);
-    let passed = Re::many(alloc, any, false)?;
-    Re::both(alloc, passed, tree)
+    Re::many(alloc, any, false)
 }
 
 /// The tree of a part of a pattern.
@@ -126,10 +146,13 @@ fn lower_items(alloc: Global, items: &[Pat]) -> Result<Re, OutOfMemory>
 {
     let mut rest = None;
     for item in items.iter().rev() {
-        let first = lower_part(alloc, item)?;
-        rest = Some(followed(alloc, first, rest)?);
+        let first = lower_part(alloc, item);
+        let Ok(all) = followed(alloc, first, rest) else {
+            return Err(OutOfMemory);
+        };
+        rest = Some(all);
     }
-    Ok(rest.unwrap_or(Re::Empty))
+    Ok(whole(rest))
 }
 
 /// The tree of one of several branches.
@@ -139,10 +162,13 @@ fn lower_branches(alloc: Global, branches: &[Branch]) -> Result<Re, OutOfMemory>
 {
     let mut rest = None;
     for branch in branches.iter().rev() {
-        let first = lower_part(alloc, &branch.body)?;
-        rest = Some(preferred(alloc, first, rest)?);
+        let first = lower_part(alloc, &branch.body);
+        let Ok(all) = preferred(alloc, first, rest) else {
+            return Err(OutOfMemory);
+        };
+        rest = Some(all);
     }
-    Ok(rest.unwrap_or(Re::Empty))
+    Ok(whole(rest))
 }
 
 /// The tree of a part repeated. The part is lowered anew for each copy.
@@ -156,18 +182,21 @@ fn lower_repeat(
 ) -> Result<Re, OutOfMemory>
     ensures { IfOk result (λ re. tree_of re ≡ times min max greedy (lowered (pat_of body.now))) }
 {
-    let mut rest = match max {
-        None => {
-            let copy = lower_part(alloc, body)?;
-            Some(Re::many(alloc, copy, greedy)?)
-        }
-        Some(max) => lower_options(alloc, body, max.saturating_sub(min), greedy)?,
+    let tail = match max {
+        None => any_number(alloc, lower_part(alloc, body), greedy),
+        Some(max) => lower_options(alloc, body, max.saturating_sub(min), greedy),
+    };
+    let Ok(mut rest) = tail else {
+        return Err(OutOfMemory);
     };
     for _ in 0..min {
-        let copy = lower_part(alloc, body)?;
-        rest = Some(followed(alloc, copy, rest)?);
+        let copy = lower_part(alloc, body);
+        let Ok(all) = followed(alloc, copy, rest) else {
+            return Err(OutOfMemory);
+        };
+        rest = Some(all);
     }
-    Ok(rest.unwrap_or(Re::Empty))
+    Ok(whole(rest))
 }
 
 /// The tree of up to so many copies of a part, each of which is left out only with those after it. There is none of no copy.
@@ -182,37 +211,96 @@ fn lower_options(
 {
     let mut rest = None;
     for _ in 0..count {
-        let copy = lower_part(alloc, body)?;
-        let copies = followed(alloc, copy, rest)?;
-        rest = Some(optional(alloc, copies, greedy)?);
+        let copy = lower_part(alloc, body);
+        let copies = followed(alloc, copy, rest);
+        let Ok(option) = optional(alloc, copies, greedy) else {
+            return Err(OutOfMemory);
+        };
+        rest = Some(option);
     }
     Ok(rest)
 }
 
-/// The tree, and what follows it if something does.
-fn followed(alloc: Global, first: Re, rest: Option<Re>) -> Result<Re, OutOfMemory>
-    ensures { IfOk result (λ re. tree_of re ≡ in_turn (tree_of first ∷ held rest)) }
+/// The tree that is held, or nothing.
+fn whole(rest: Option<Re>) -> Re
+    ensures { tree_of result ≡ in_turn (held rest) }
+{
+    rest.unwrap_or(Re::Empty)
+}
+
+/// The tree, if it could be built, any number of times.
+fn any_number(
+    alloc: Global,
+    tree: Result<Re, OutOfMemory>,
+    greedy: bool,
+) -> Result<Option<Re>, OutOfMemory>
+    ensures { (t : Tree) → IfOk tree (λ re. tree_of re ≡ t) → IfOk result (λ o. held o ≡ Tree.many t greedy ∷ []) }
+{
+    let Ok(tree) = tree else {
+        return Err(OutOfMemory);
+    };
+    Ok(Some(Re::many(alloc, tree, greedy)?))
+}
+
+/// The tree, if it could be built, and what follows it if something does.
+fn followed(
+    alloc: Global,
+    first: Result<Re, OutOfMemory>,
+    rest: Option<Re>,
+) -> Result<Re, OutOfMemory>
+    ensures { (t : Tree) → IfOk first (λ re. tree_of re ≡ t) → IfOk result (λ re. tree_of re ≡ in_turn (t ∷ held rest)) }
 {
     match rest {
-        None => Ok(first),
-        Some(rest) => Re::both(alloc, first, rest),
+        None => first,
+        Some(rest) => joined(alloc, first, Ok(rest)),
     }
 }
 
-/// The tree, or the other if there is one.
-fn preferred(alloc: Global, first: Re, rest: Option<Re>) -> Result<Re, OutOfMemory>
-    ensures { IfOk result (λ re. tree_of re ≡ one_of (tree_of first ∷ held rest)) }
+/// The one tree and then the other, if both could be built.
+fn joined(
+    alloc: Global,
+    first: Result<Re, OutOfMemory>,
+    second: Result<Re, OutOfMemory>,
+) -> Result<Re, OutOfMemory>
+    ensures { (s t : Tree) → IfOk first (λ re. tree_of re ≡ s) → IfOk second (λ re. tree_of re ≡ t)
+        → IfOk result (λ re. tree_of re ≡ Tree.both s t) }
 {
+    let Ok(first) = first else {
+        drop(second);
+        return Err(OutOfMemory);
+    };
+    let Ok(second) = second else {
+        drop(first);
+        return Err(OutOfMemory);
+    };
+    Re::both(alloc, first, second)
+}
+
+/// The tree, if it could be built, or the other if there is one.
+fn preferred(
+    alloc: Global,
+    first: Result<Re, OutOfMemory>,
+    rest: Option<Re>,
+) -> Result<Re, OutOfMemory>
+    ensures { (t : Tree) → IfOk first (λ re. tree_of re ≡ t) → IfOk result (λ re. tree_of re ≡ one_of (t ∷ held rest)) }
+{
+    let Ok(first) = first else {
+        drop(rest);
+        return Err(OutOfMemory);
+    };
     match rest {
         None => Ok(first),
         Some(rest) => Re::either(alloc, first, rest),
     }
 }
 
-/// The tree or nothing; a greedy one tries the tree first.
-fn optional(alloc: Global, tree: Re, greedy: bool) -> Result<Re, OutOfMemory>
-    ensures { IfOk result (λ re. tree_of re ≡ option_of greedy (tree_of tree)) }
+/// The tree, if it could be built, or nothing; a greedy one tries the tree first.
+fn optional(alloc: Global, tree: Result<Re, OutOfMemory>, greedy: bool) -> Result<Re, OutOfMemory>
+    ensures { (t : Tree) → IfOk tree (λ re. tree_of re ≡ t) → IfOk result (λ re. tree_of re ≡ option_of greedy t) }
 {
+    let Ok(tree) = tree else {
+        return Err(OutOfMemory);
+    };
     if greedy {
         Re::either(alloc, tree, Re::Empty)
     } else {

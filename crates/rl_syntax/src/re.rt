@@ -33,8 +33,7 @@ impl Re {
     pub fn both(alloc: Global, first: Re, second: Re) -> Result<Re, OutOfMemory>
         ensures { IfOk result (λ tree. tree_of tree ≡ Tree.both (tree_of first) (tree_of second)) }
     {
-        let first = Box::new(alloc, first)?;
-        let second = Box::new(alloc, second)?;
+        let (first, second) = Re::boxed(alloc, first, second)?;
         Ok(Re::Both(first, second))
     }
 
@@ -45,9 +44,23 @@ impl Re {
     pub fn either(alloc: Global, first: Re, second: Re) -> Result<Re, OutOfMemory>
         ensures { IfOk result (λ tree. tree_of tree ≡ Tree.either (tree_of first) (tree_of second)) }
     {
-        let first = Box::new(alloc, first)?;
-        let second = Box::new(alloc, second)?;
+        let (first, second) = Re::boxed(alloc, first, second)?;
         Ok(Re::Either(first, second))
+    }
+
+    /// Both trees, each in a box.
+    fn boxed(alloc: Global, first: Re, second: Re) -> Result<(Box<Re>, Box<Re>), OutOfMemory>
+        ensures { IfOk result (λ boxes. (boxes.0.value ≡ first) × (boxes.1.value ≡ second)) }
+    {
+        let Ok(first) = in_box(alloc, first) else {
+            drop(second);
+            return Err(OutOfMemory);
+        };
+        let Ok(second) = in_box(alloc, second) else {
+            drop(first);
+            return Err(OutOfMemory);
+        };
+        Ok((first, second))
     }
 
     /// The tree any number of times. A greedy one tries one more before none.
@@ -57,7 +70,7 @@ impl Re {
     pub fn many(alloc: Global, body: Re, greedy: bool) -> Result<Re, OutOfMemory>
         ensures { IfOk result (λ tree. tree_of tree ≡ Tree.many (tree_of body) greedy) }
     {
-        let body = Box::new(alloc, body)?;
+        let body = in_box(alloc, body)?;
         Ok(Re::Many(body, greedy))
     }
 
@@ -76,6 +89,13 @@ impl Re {
     }
 }
 
+/// The tree in a box.
+fn in_box(alloc: Global, tree: Re) -> Result<Box<Re>, OutOfMemory>
+    ensures { IfOk result (λ b. b.value ≡ tree) }
+{
+    Ok(Box::new(alloc, tree)?)
+}
+
 /// How a pattern is matched against a text.
 #[derive(Clone, Copy, Debug, PartialEq, Eq)]
 pub enum Mode {
@@ -88,7 +108,7 @@ pub enum Mode {
 }
 
 /// Where a match may end.
-#[derive(Clone, Copy, Debug, PartialEq, Eq)]
+#[derive(Clone, Copy)]
 pub enum Ending {
     /// At the text's end.
     AtEnd,
@@ -106,7 +126,7 @@ pub struct Lowered {
 }
 
 /// Why a pattern isn't lowered.
-#[derive(Clone, Copy, Debug, PartialEq, Eq)]
+#[derive(Clone, Copy, Debug)]
 pub enum LowerError {
     /// The tree would have more than 4,000 nodes.
     TooLarge,

@@ -3,7 +3,7 @@
 use rl_lists::Items;
 
 /// The codes of a pattern from one place up to another, which it leaves out. Places are code numbers from 0.
-#[derive(Clone, Copy, Debug, PartialEq, Eq)]
+#[derive(Clone, Copy, PartialEq, Eq)]
 pub struct Span {
     /// The place of the first code.
     pub from: u32,

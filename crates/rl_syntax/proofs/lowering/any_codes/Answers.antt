@@ -3,7 +3,7 @@ use Rattle.std.proofs.lemmas.Grind.{common_steps}
 use Rattle.rl_ranges.specs.Codes.{has}
 use Rattle.rl_syntax.specs.Modes.{is_code}
 use Rattle.rl_syntax.proofs.SetTests.{has-all}
-use Rattle.rl_syntax.proofs.lowering.after_any.Goals as goal
+use Rattle.rl_syntax.proofs.lowering.any_codes.Goals as goal
 
 pub returns : goal.returns
 returns c =
