@@ -8,8 +8,12 @@ use crate::nodes::{Child, Held, Kind, Node};
 fn held_at<'a>(nodes: &'a [Node], path: &str) -> Option<&'a Held>
     ensures { option_copied result ≡ held_at nodes.now path.now }
 {
-    let node = nodes.iter().find(|node| node.path.as_str() == path)?;
-    Some(&node.held)
+    for node in nodes {
+        if node.path.as_str() == path {
+            return Some(&node.held);
+        }
+    }
+    None
 }
 
 /// The kind of what stands at a path.
