@@ -114,10 +114,7 @@ impl MemTree {
     {
         match self.note(name, path, found.is_none()) {
             Ok(()) => found.ok_or(TreeError::Failed),
-            Err(OutOfMemory) => {
-                drop(found);
-                Err(TreeError::OutOfMemory)
-            }
+            Err(OutOfMemory) => Err(TreeError::OutOfMemory),
         }
     }
 }
