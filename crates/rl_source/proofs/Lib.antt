@@ -1,3 +1,4 @@
 pub mod Progress
 pub mod Seen
 pub mod Listed
+pub mod Found

@@ -4,7 +4,7 @@ ghost use Rattle.std.specs.IoError.{error_kind};
 
 use crate::nodes::{CallName, Child, Kind, Name};
 use crate::trees::{Tree, TreeError};
-use std::fs::FileType;
+use std::fs::{DirEntry, FileType};
 use std::io::{ErrorKind, Read};
 use std::marker::Model;
 use std::{fs, io};
@@ -124,19 +124,54 @@ fn kind_on_disk(rt: &Runtime, path: &str) -> io::Result<Kind> {
     Ok(kind_of(fs::symlink_metadata(rt, path)?.file_type()))
 }
 
+/// The entry as a child of its folder.
+fn child_of(rt: &Runtime, entry: &DirEntry) -> io::Result<Child> {
+    let name = String::from_str(rt.alloc(), entry.file_name())?;
+    match entry.file_type() {
+        Ok(found) => Ok(Child {
+            name: Name::from_string(name),
+            kind: kind_of(found),
+        }),
+        Err(error) => {
+            drop(name);
+            Err(error)
+        }
+    }
+}
+
+/// Puts an entry of the listing at the end of the children.
+fn add_entry(
+    rt: &Runtime,
+    entry: io::Result<DirEntry>,
+    children: &mut Vec<Child>,
+) -> io::Result<()> {
+    let entry = entry?;
+    let child = child_of(rt, &entry);
+    drop(entry);
+    children.push(child?)?;
+    Ok(())
+}
+
+/// Puts the entries of a folder at the end of the children.
+fn list_folder(rt: &Runtime, path: &str, children: &mut Vec<Child>) -> io::Result<()> {
+    for entry in fs::read_dir(rt, path)? {
+        add_entry(rt, entry, children)?;
+    }
+    Ok(())
+}
+
 fn children_on_disk(rt: &Runtime, path: &str) -> io::Result<Vec<Child>> {
     if kind_on_disk(rt, path)? != Kind::Folder {
         return Err(io::Error::from(ErrorKind::NotADirectory));
     }
     let mut children = Vec::new(rt.alloc());
-    for entry in fs::read_dir(rt, path)? {
-        let entry = entry?;
-        let name = String::from_str(rt.alloc(), entry.file_name())?;
-        let kind = kind_of(entry.file_type()?);
-        let name = Name::from_string(name);
-        children.push(Child { name, kind })?;
+    match list_folder(rt, path, &mut children) {
+        Ok(()) => Ok(children),
+        Err(error) => {
+            drop(children);
+            Err(error)
+        }
     }
-    Ok(children)
 }
 
 /// The room for so many bytes of a file of this length, of at most `at_most`, and for one more, so that a read that finds the
@@ -145,13 +180,24 @@ fn room_for(length: u64, at_most: usize) -> usize {
     (length.min(at_most as u64) as usize).saturating_add(1)
 }
 
+/// Puts the first `at_most` bytes of a file, or all of them where there are fewer, at the end of the bytes.
+fn add_bytes(rt: &Runtime, path: &str, at_most: usize, bytes: &mut Vec<u8>) -> io::Result<()> {
+    let file = fs::open(rt, path)?;
+    file.take(at_most as u64).read_to_end(bytes)?;
+    Ok(())
+}
+
 fn bytes_on_disk(rt: &Runtime, path: &str, at_most: usize) -> io::Result<Vec<u8>> {
     let found = fs::symlink_metadata(rt, path)?;
     if kind_of(found.file_type()) != Kind::File {
         return Err(io::Error::from(ErrorKind::InvalidInput));
     }
     let mut bytes = Vec::with_capacity(rt.alloc(), room_for(found.len(), at_most))?;
-    let file = fs::open(rt, path)?;
-    file.take(at_most as u64).read_to_end(&mut bytes)?;
-    Ok(bytes)
+    match add_bytes(rt, path, at_most, &mut bytes) {
+        Ok(()) => Ok(bytes),
+        Err(error) => {
+            drop(bytes);
+            Err(error)
+        }
+    }
 }

@@ -1,10 +1,10 @@
 //! A tree over memory, whose calls can be made to fail.
-ghost use Rattle.std.specs.Prelude.{◌≡◌, [], true, false, take, Some, is_some, IfOk, IsSomeAnd, IsErr, IsErrOf, OnOk, OnErr, ◌∷◌, ◌++◌};
+ghost use Rattle.std.specs.Prelude.{◌≡◌, [], true, false, take, Some, None, is_some, IfOk, IsSomeAnd, IsErr, IsErrOf, OnOk, OnErr, ◌∷◌, ◌++◌};
 ghost use Rattle.rl_source.specs.Told.{after};
 ghost use Rattle.rl_source.specs.Distinct.{Lists, is_double};
 
 use crate::doubles::is_double;
-use crate::node_map::{bytes_at, children_at, copy_of, kind_at};
+use crate::node_map::{bytes_at, children_at, kind_at};
 use crate::nodes::{Call, CallName, Child, Kind, Name, Nodes};
 use crate::trees::{Tree, TreeError};
 use rl_lists::OutOfMemory;
@@ -56,8 +56,8 @@ impl Model for MemTree {
 }
 
 impl MemTree {
-    ghost use Rattle.rl_source.specs.MemTreeState.{MemTreeState, call_fails, after_call};
-    ghost use Rattle.rl_source.specs.Asked.{call_of};
+    ghost use Rattle.rl_source.specs.MemTreeState.{MemTreeState, call_fails, after_call, failed_calls};
+    ghost use Rattle.rl_source.specs.Asked.{call_of, noted, HasTreeCause};
 
     /// A tree of these nodes, in which the calls with these numbers fail. No call was made on it yet.
     ///
@@ -99,6 +99,24 @@ impl MemTree {
         self.trail.push(Call { name, path, failed })?;
         Ok(())
     }
+
+    /// Puts a call into the trail, and answers with what was found. Where nothing was, the call failed.
+    fn answer<T: Drop>(
+        &mut self,
+        name: CallName,
+        path: &str,
+        found: Option<T>,
+    ) -> Result<T, TreeError>
+        ensures found { IfOk result (λ value. found ≡ Some value) }
+        ensures none { IsErrOf result TreeError.Failed → found ≡ None }
+        ensures cause { HasTreeCause (failed_calls self.old) (failed_calls self.new) result }
+        ensures state { self.new ≡ after_call self.old (noted name path.now result) }
+    {
+        match self.note(name, path, found.is_none()) {
+            Ok(()) => found.ok_or(TreeError::Failed),
+            Err(OutOfMemory) => Err(TreeError::OutOfMemory),
+        }
+    }
 }
 
 impl Tree for MemTree {
@@ -126,8 +144,7 @@ impl Tree for MemTree {
         } else {
             kind_at(self.nodes.as_slice(), path)
         };
-        self.note(CallName::Kind, path, found.is_none())?;
-        found.ok_or(TreeError::Failed)
+        self.answer(CallName::Kind, path, found)
     }
 
     fn children(&mut self, path: &str) -> Result<Vec<Child>, TreeError>
@@ -139,11 +156,10 @@ impl Tree for MemTree {
         ensures exact { FailsExactly self.old (is_some (children_at self.old.nodes path.now)) result }
     {
         let found = match children_at(self.nodes.as_slice(), path) {
-            Some(children) if !self.call_fails() => Some(copy_of(self.alloc, children)?),
+            Some(children) if !self.call_fails() => Some(Vec::from_clones(self.alloc, children)?),
             _ => None,
         };
-        self.note(CallName::Children, path, found.is_none())?;
-        found.ok_or(TreeError::Failed)
+        self.answer(CallName::Children, path, found)
     }
 
     fn read(&mut self, path: &str, at_most: usize) -> Result<Vec<u8>, TreeError>
@@ -161,7 +177,6 @@ impl Tree for MemTree {
             }
             _ => None,
         };
-        self.note(CallName::Read, path, found.is_none())?;
-        found.ok_or(TreeError::Failed)
+        self.answer(CallName::Read, path, found)
     }
 }

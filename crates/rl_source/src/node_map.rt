@@ -1,17 +1,19 @@
 //! Look-ups in a list of nodes.
-ghost use Rattle.std.specs.Prelude.{◌≡◌, option_copied, option_map, IfOk};
+ghost use Rattle.std.specs.Prelude.{◌≡◌, option_copied, option_map};
 ghost use Rattle.rl_source.specs.NodeMap.{held_at, kind_at, children_at, bytes_at};
 
 use crate::nodes::{Child, Held, Kind, Node};
-use rl_lists::OutOfMemory;
-use std::alloc::Global;
 
 /// What stands at a path.
 fn held_at<'a>(nodes: &'a [Node], path: &str) -> Option<&'a Held>
     ensures { option_copied result ≡ held_at nodes.now path.now }
 {
-    let node = nodes.iter().find(|node| node.path.as_str() == path)?;
-    Some(&node.held)
+    for node in nodes {
+        if node.path.as_str() == path {
+            return Some(&node.held);
+        }
+    }
+    None
 }
 
 /// The kind of what stands at a path.
@@ -42,15 +44,4 @@ pub(crate) fn bytes_at<'a>(nodes: &'a [Node], path: &str) -> Option<&'a [u8]>
         Some(Held::File(content)) => Some(content.as_slice()),
         _ => None,
     }
-}
-
-/// A copy of the children.
-pub(crate) fn copy_of(alloc: Global, children: &[Child]) -> Result<Vec<Child>, OutOfMemory>
-    ensures { IfOk result (λ copy. copy.items ≡ children.now) }
-{
-    let mut copy = Vec::with_capacity(alloc, children.len())?;
-    for child in children {
-        copy.push(child.clone()?)?;
-    }
-    Ok(copy)
 }

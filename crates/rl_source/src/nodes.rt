@@ -127,7 +127,7 @@ pub struct Node {
 }
 
 /// The three calls of a tree.
-#[derive(Clone, Copy, Debug, PartialEq, Eq)]
+#[derive(Clone, Copy)]
 pub enum CallName {
     Kind,
     Children,
