@@ -59,12 +59,27 @@ fn settings_given(matches: &ArgMatches) -> Option<PartialSettings>
     ensures value { result ≡ settings_given (rows_of (found_of matches.now)) }
     ensures ranges { IfSome result AreInRange }
 {
+    let Some(mode) = mode_given(matches) else {
+        return None;
+    };
+    let Some(format) = format_given(matches) else {
+        return None;
+    };
+    let Some(max_degree) = number_given(matches, "max-degree", MAX_DEGREES) else {
+        return None;
+    };
+    let Some(max_pairs) = number_given(matches, "max-pairs", MAX_PAIRS) else {
+        return None;
+    };
+    let Some(report) = number_given(matches, "report", REPORT_VERSIONS) else {
+        return None;
+    };
     Some(PartialSettings {
-        mode: mode_given(matches)?,
-        format: format_given(matches)?,
-        max_degree: number_given(matches, "max-degree", MAX_DEGREES)?,
-        max_pairs: number_given(matches, "max-pairs", MAX_PAIRS)?,
-        report: number_given(matches, "report", REPORT_VERSIONS)?,
+        mode,
+        format,
+        max_degree,
+        max_pairs,
+        report,
     })
 }
 
@@ -73,9 +88,18 @@ pub(crate) fn options_given<'a>(matches: &ArgMatches<'a>) -> Option<Options<'a>>
     ensures value { option_map chosen result ≡ options_given (rows_of (found_of matches.now)) }
     ensures ranges { IfSome result (λ options. AreInRange options.values) }
 {
+    let Some(values) = settings_given(matches) else {
+        return None;
+    };
+    let Some(settings) = path_given(matches, "settings") else {
+        return None;
+    };
+    let Some(baseline) = path_given(matches, "baseline") else {
+        return None;
+    };
     Some(Options {
-        values: settings_given(matches)?,
-        settings: path_given(matches, "settings")?,
-        baseline: path_given(matches, "baseline")?,
+        values,
+        settings,
+        baseline,
     })
 }

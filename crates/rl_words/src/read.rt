@@ -66,5 +66,7 @@ pub fn read_words<'a>(alloc: Global, words: &'a Vec<String>) -> Result<Words<'a>
         → given_by (map string_bytes words.entry.now.items) ≡ None }
 {
     let matches = matches_given(alloc, words.as_slice())?;
-    call_given(alloc, &matches)
+    let call = call_given(alloc, &matches);
+    drop(matches);
+    call
 }

@@ -15,9 +15,9 @@ returns-in_err-matches-clause-invalid c = λ invalid.
 pub returns-clause-ok : goal.returns-clause-ok
 returns-clause-ok c =
     let same = ap (λ words. rows_given (map string_bytes words)) (sym c.as_slice.ensures.value) in
-    IfOk-weaker c.call_given.result _ _ (λ w e. given_rows _ _ _ (same ∙ c.in_ok-matches.ensures.ok) (sym e)) c.call_given.ensures.ok
+    IfOk-weaker c.call_given-call.result _ _ (λ w e. given_rows _ _ _ (same ∙ c.in_ok-matches.ensures.ok) (sym e)) c.call_given-call.ensures.ok
 
 pub returns-clause-invalid : goal.returns-clause-invalid
 returns-clause-invalid c = λ invalid.
     let same = ap (λ words. rows_given (map string_bytes words)) (sym c.as_slice.ensures.value) in
-    given_rows _ _ _ (same ∙ c.in_ok-matches.ensures.ok) (sym (c.call_given.ensures.invalid invalid))
+    given_rows _ _ _ (same ∙ c.in_ok-matches.ensures.ok) (sym (c.call_given-call.ensures.invalid invalid))
