@@ -21,7 +21,10 @@ fn mode_given(matches: &ArgMatches) -> Option<Option<ModeWord>>
     ensures { result ≡ given (codes "mode") mode_of (rows_of (found_of matches.now)) }
 {
     match value_of(matches, "mode") {
-        Some(word) => Some(Some(mode_of(word)?)),
+        Some(word) => match mode_of(word) {
+            Some(mode) => Some(Some(mode)),
+            None => None,
+        },
         None => Some(None),
     }
 }
@@ -30,7 +33,10 @@ fn format_given(matches: &ArgMatches) -> Option<Option<FormatWord>>
     ensures { result ≡ given (codes "format") format_of (rows_of (found_of matches.now)) }
 {
     match value_of(matches, "format") {
-        Some(word) => Some(Some(format_of(word)?)),
+        Some(word) => match format_of(word) {
+            Some(format) => Some(Some(format)),
+            None => None,
+        },
         None => Some(None),
     }
 }
@@ -40,7 +46,10 @@ fn number_given(matches: &ArgMatches, name: &str, range: NumberRange) -> Option<
     ensures range { IfSome result (λ n. IfSome n (IsWithin range)) }
 {
     match value_of(matches, name) {
-        Some(text) => Some(Some(number_of(6, range, text)?)),
+        Some(text) => match number_of(6, range, text) {
+            Some(number) => Some(Some(number)),
+            None => None,
+        },
         None => Some(None),
     }
 }
@@ -50,7 +59,10 @@ fn path_given<'a>(matches: &ArgMatches<'a>, name: &str) -> Option<Option<&'a str
         ≡ given name.now path_of (rows_of (found_of matches.now)) }
 {
     match value_of(matches, name) {
-        Some(path) => Some(Some(path_of(path)?)),
+        Some(path) => match path_of(path) {
+            Some(path) => Some(Some(path)),
+            None => None,
+        },
         None => Some(None),
     }
 }
