@@ -32,7 +32,7 @@ with_options app names = fold (λ app name. with_rule app (option_rule name)) ap
 
 -- the command with its arguments and its seven options
 unfoldable pub relint_app : App
-relint_app = fold (λ app name. with_rule app (option_rule name)) (with_rule (with_rule bare_app action_rule) args_rule)
+relint_app = with_options (with_rule (with_rule bare_app action_rule) args_rule)
     (codes "mode" ∷ codes "format" ∷ codes "max-degree" ∷ codes "max-pairs" ∷ codes "settings" ∷ codes "report" ∷ codes "baseline" ∷ [])
 
 -- what was found for each argument and option, where the command takes the words

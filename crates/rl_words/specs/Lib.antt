@@ -3,3 +3,4 @@ pub mod Command
 pub mod Values
 pub mod Given
 pub mod Usage
+pub mod internal

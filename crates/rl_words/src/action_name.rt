@@ -1,7 +1,7 @@
 //! The names of actions.
 
 /// The name of an action.
-#[derive(Clone, Copy, Debug, PartialEq, Eq)]
+#[derive(Clone, Copy)]
 pub enum ActionName {
     Check,
     Class,

@@ -1,11 +1,12 @@
 //! The command that the words are read by, in `clap`'s terms.
-ghost use Rattle.std.specs.Prelude.{◌≡◌, Some, None, false, map, IfOk, IsErrOf, option_map};
+ghost use Rattle.std.specs.Prelude.{◌≡◌, ◌≤◌, Some, None, false, length, map, IfOk, IsErrOf, option_map};
 ghost use Rattle.std.specs.String.{string_bytes};
 ghost use Rattle.clap.specs.Walk.{all_of, first_of, rows_of, rule_of, texts};
 ghost use Rattle.clap.specs.Simple.{app_of, with_rule};
 ghost use Rattle.clap.specs.Matches.{found_of};
 ghost use Rattle.rl_words.specs.Command.{action_rule, args_rule, bare_app, option_rule};
 ghost use Rattle.rl_words.specs.Command.{relint_app, rows_given, with_options};
+ghost use Rattle.rl_words.specs.internal.Arguments.{Makes};
 
 use crate::WordsError;
 use clap::error::ErrorKind;
@@ -55,37 +56,31 @@ fn bare_command<'a>(alloc: Global) -> Command<'a>
         .disable_help_flag(true)
 }
 
-// The command with one more argument.
-fn with_argument<'a>(command: Command<'a>, argument: Arg<'a>) -> Result<Command<'a>, AllocError>
-    requires { argument.global ≡ false }
-    ensures { IfOk result (λ c. app_of c
-        ≡ with_rule (app_of command.entry) (rule_of argument.entry)) }
-{
-    command.arg(argument)
-}
-
-// The command with more options.
-fn with_options<'a>(
+// The arguments of the command, and options of these names.
+fn arguments_and_options<'a>(
     alloc: Global,
-    mut command: Command<'a>,
     names: &[&'static str],
-) -> Result<Command<'a>, AllocError>
-    ensures { IfOk result (λ c. app_of c ≡ with_options (app_of command.entry) (texts names.now)) }
+) -> Result<Vec<Arg<'a>>, AllocError>
+    requires { length names.now ≤ 7 }
+    ensures { IfOk result (λ arguments. Makes bare_app arguments.items
+        (with_options (with_rule (with_rule bare_app action_rule) args_rule) (texts names.now))) }
 {
+    let mut arguments = Vec::with_capacity(alloc, 9)?;
+    arguments.push(action_argument(alloc)).unwrap();
+    arguments.push(args_argument(alloc)).unwrap();
     for name in names {
-        command = with_argument(command, option_argument(alloc, *name))?;
+        arguments.push(option_argument(alloc, *name)).unwrap();
     }
-    Ok(command)
+    Ok(arguments)
 }
 
 // The command with its arguments and its seven options.
 fn relint_command<'a>(alloc: Global) -> Result<Command<'a>, AllocError>
     ensures { IfOk result (λ c. app_of c ≡ relint_app) }
 {
-    let action = with_argument(bare_command(alloc), action_argument(alloc))?;
-    let args = with_argument(action, args_argument(alloc))?;
     let options: [&str; 7] = OPTIONS;
-    with_options(alloc, args, options.as_slice())
+    let arguments = arguments_and_options(alloc, options.as_slice())?;
+    bare_command(alloc).args(arguments)
 }
 
 /// What the words give under the command.

@@ -1,7 +1,7 @@
 //! Why words were not read.
 
 /// Why words were not read.
-#[derive(Clone, Copy, Debug, PartialEq, Eq)]
+#[derive(Clone, Copy)]
 pub enum WordsError {
     /// The words aren't a valid call.
     Invalid,

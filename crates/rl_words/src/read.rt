@@ -42,9 +42,8 @@ fn call_given<'a>(alloc: Global, matches: &ArgMatches<'a>) -> Result<Words<'a>, 
     ensures invalid { IsErrOf result WordsError.Invalid
         → call_given (rows_of (found_of matches.now)) ≡ None }
 {
-    let options = options_given(matches);
     match action_given(alloc, matches) {
-        Ok(Some(action)) => match options {
+        Ok(Some(action)) => match options_given(matches) {
             Some(options) => Ok(Words { action, options }),
             None => Err(WordsError::Invalid),
         },
@@ -65,6 +64,12 @@ pub fn read_words<'a>(alloc: Global, words: &'a Vec<String>) -> Result<Words<'a>
     ensures invalid { IsErrOf result WordsError.Invalid
         → given_by (map string_bytes words.entry.now.items) ≡ None }
 {
-    let matches = matches_given(alloc, words.as_slice())?;
-    call_given(alloc, &matches)
+    match matches_given(alloc, words.as_slice()) {
+        Ok(matches) => {
+            let call = call_given(alloc, &matches);
+            drop(matches);
+            call
+        }
+        Err(error) => Err(error),
+    }
 }

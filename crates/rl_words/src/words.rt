@@ -2,7 +2,7 @@
 use rl_lists::Items;
 
 /// The words of `--mode`.
-#[derive(Clone, Copy, Debug, PartialEq, Eq)]
+#[derive(Clone, Copy)]
 pub enum ModeWord {
     Fullmatch,
     Match,
@@ -10,7 +10,7 @@ pub enum ModeWord {
 }
 
 /// The words of `--format`.
-#[derive(Clone, Copy, Debug, PartialEq, Eq)]
+#[derive(Clone, Copy)]
 pub enum FormatWord {
     Text,
     Brief,
@@ -19,7 +19,7 @@ pub enum FormatWord {
 }
 
 /// The settings that options or a settings file give.
-#[derive(Clone, Copy, Debug, PartialEq, Eq)]
+#[derive(Clone, Copy)]
 pub struct PartialSettings {
     /// What `--mode` says, or the key `compile-as`.
     pub mode: Option<ModeWord>,
@@ -34,7 +34,7 @@ pub struct PartialSettings {
 }
 
 /// The options that were given.
-#[derive(Clone, Copy, Debug)]
+#[derive(Clone, Copy)]
 pub struct Options<'a> {
     /// The settings among them.
     pub values: PartialSettings,

@@ -1,14 +1,18 @@
-use Rattle.std.proofs.Common.{◌∙◌, ap, ap₂}
+use Rattle.std.proofs.Common.{◌∙◌, ap, sym, subst}
 use Rattle.std.proofs.lemmas.Result.{IfOk-weaker}
 use Rattle.clap.specs.Simple.{with_rule}
 use Rattle.clap.specs.Walk.{texts}
-use Rattle.rl_words.specs.Command.{relint_app, with_options}
+use Rattle.rl_words.specs.Command.{action_rule, args_rule, bare_app, relint_app, with_options}
+use Rattle.rl_words.specs.internal.Arguments.{Makes}
+use Rattle.rl_words.proofs.CommandLemmas.{Makes-added}
 use Rattle.rl_words.proofs.command.relint_command.Goals as goal
 
 pub returns : goal.returns
 unfolding relint_app
 returns c =
-    let action = c.in_ok-action.ensures ∙ ap₂ with_rule c.bare_command.ensures c.action_argument.ensures.rule in
-    let args = c.in_ok-args.ensures ∙ ap₂ with_rule action c.args_argument.ensures.rule in
-    IfOk-weaker c.with_options.result _ _
-    (λ x e. e ∙ ap₂ with_options args (ap texts c.as_slice.ensures)) c.with_options.ensures
+    let arguments = c.in_ok-arguments.arguments.items in
+    let made = subst (λ before. Makes before arguments (with_options (with_rule (with_rule bare_app action_rule) args_rule) (texts c.as_slice.result.now)))
+    (sym c.bare_command.ensures) c.in_ok-arguments.ensures in
+    IfOk-weaker c.args-2.result _ _
+    (λ command adds. Makes-added _ command arguments _ made adds ∙ ap (λ names. with_options (with_rule (with_rule bare_app action_rule) args_rule) (texts names)) c.as_slice.ensures)
+    c.args-2.ensures
