@@ -58,12 +58,8 @@ fn sample_of<'a>(seed: &str, count: &str) -> Option<Action<'a>>
     ensures value { option_map asked result ≡ asked_with name.Sample (seed.now ∷ count.now ∷ []) }
     ensures ranges { IfSome result (λ action. HasActionRanges (asked action)) }
 {
-    let Some(seed) = number_of(10, SEEDS, seed) else {
-        return None;
-    };
-    let Some(count) = number_of(10, COUNTS, count) else {
-        return None;
-    };
+    let seed = number_of(10, SEEDS, seed)?;
+    let count = number_of(10, COUNTS, count)?;
     Some(Action::Sample { seed, count })
 }
 

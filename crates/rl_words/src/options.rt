@@ -21,10 +21,7 @@ fn mode_given(matches: &ArgMatches) -> Option<Option<ModeWord>>
     ensures { result ≡ given (codes "mode") mode_of (rows_of (found_of matches.now)) }
 {
     match value_of(matches, "mode") {
-        Some(word) => match mode_of(word) {
-            Some(mode) => Some(Some(mode)),
-            None => None,
-        },
+        Some(word) => Some(Some(mode_of(word)?)),
         None => Some(None),
     }
 }
@@ -33,10 +30,7 @@ fn format_given(matches: &ArgMatches) -> Option<Option<FormatWord>>
     ensures { result ≡ given (codes "format") format_of (rows_of (found_of matches.now)) }
 {
     match value_of(matches, "format") {
-        Some(word) => match format_of(word) {
-            Some(format) => Some(Some(format)),
-            None => None,
-        },
+        Some(word) => Some(Some(format_of(word)?)),
         None => Some(None),
     }
 }
@@ -46,10 +40,7 @@ fn number_given(matches: &ArgMatches, name: &str, range: NumberRange) -> Option<
     ensures range { IfSome result (λ n. IfSome n (IsWithin range)) }
 {
     match value_of(matches, name) {
-        Some(text) => match number_of(6, range, text) {
-            Some(number) => Some(Some(number)),
-            None => None,
-        },
+        Some(text) => Some(Some(number_of(6, range, text)?)),
         None => Some(None),
     }
 }
@@ -59,10 +50,7 @@ fn path_given<'a>(matches: &ArgMatches<'a>, name: &str) -> Option<Option<&'a str
         ≡ given name.now path_of (rows_of (found_of matches.now)) }
 {
     match value_of(matches, name) {
-        Some(path) => match path_of(path) {
-            Some(path) => Some(Some(path)),
-            None => None,
-        },
+        Some(path) => Some(Some(path_of(path)?)),
         None => Some(None),
     }
 }
@@ -71,27 +59,12 @@ fn settings_given(matches: &ArgMatches) -> Option<PartialSettings>
     ensures value { result ≡ settings_given (rows_of (found_of matches.now)) }
     ensures ranges { IfSome result AreInRange }
 {
-    let Some(mode) = mode_given(matches) else {
-        return None;
-    };
-    let Some(format) = format_given(matches) else {
-        return None;
-    };
-    let Some(max_degree) = number_given(matches, "max-degree", MAX_DEGREES) else {
-        return None;
-    };
-    let Some(max_pairs) = number_given(matches, "max-pairs", MAX_PAIRS) else {
-        return None;
-    };
-    let Some(report) = number_given(matches, "report", REPORT_VERSIONS) else {
-        return None;
-    };
     Some(PartialSettings {
-        mode,
-        format,
-        max_degree,
-        max_pairs,
-        report,
+        mode: mode_given(matches)?,
+        format: format_given(matches)?,
+        max_degree: number_given(matches, "max-degree", MAX_DEGREES)?,
+        max_pairs: number_given(matches, "max-pairs", MAX_PAIRS)?,
+        report: number_given(matches, "report", REPORT_VERSIONS)?,
     })
 }
 
@@ -100,18 +73,9 @@ pub(crate) fn options_given<'a>(matches: &ArgMatches<'a>) -> Option<Options<'a>>
     ensures value { option_map chosen result ≡ options_given (rows_of (found_of matches.now)) }
     ensures ranges { IfSome result (λ options. AreInRange options.values) }
 {
-    let Some(values) = settings_given(matches) else {
-        return None;
-    };
-    let Some(settings) = path_given(matches, "settings") else {
-        return None;
-    };
-    let Some(baseline) = path_given(matches, "baseline") else {
-        return None;
-    };
     Some(Options {
-        values,
-        settings,
-        baseline,
+        values: settings_given(matches)?,
+        settings: path_given(matches, "settings")?,
+        baseline: path_given(matches, "baseline")?,
     })
 }
