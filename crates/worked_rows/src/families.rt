@@ -2,6 +2,7 @@
 
 use crate::answer::{Answer, plain_answer_to};
 use crate::failure::{Failure, same, same_number};
+use crate::program::Program;
 use crate::row::Printed;
 use crate::text::add_word;
 use crate::tree::Places;
@@ -234,15 +235,25 @@ fn words_of_cost(alloc: Global, printed: &Printed, text: &str) -> Result<Vec<Str
     Ok(words)
 }
 
-fn answer_of_cost(alloc: Global, printed: &Printed, text: &str) -> Result<Answer, Failure> {
+fn answer_of_cost<P: Program>(
+    alloc: Global,
+    program: &P,
+    printed: &Printed,
+    text: &str,
+) -> Result<Answer, Failure> {
     let words = words_of_cost(alloc, printed, text)?;
     let places = Places::new(alloc)?;
-    plain_answer_to(alloc, &words, &places)
+    plain_answer_to(alloc, program, &words, &places)
 }
 
 /// How many steps the text costs, or `None` where `cost` gives no number that 64 bits hold.
-fn steps(alloc: Global, printed: &Printed, text: &str) -> Result<Option<u64>, Failure> {
-    let answer = answer_of_cost(alloc, printed, text)?;
+fn steps<P: Program>(
+    alloc: Global,
+    program: &P,
+    printed: &Printed,
+    text: &str,
+) -> Result<Option<u64>, Failure> {
+    let answer = answer_of_cost(alloc, program, printed, text)?;
     Ok(steps_of(answer.out.bytes()))
 }
 
@@ -256,16 +267,21 @@ struct Trial<'a> {
 
 impl Trial<'_> {
     /// How many steps the text for this number costs.
-    fn steps(self, alloc: Global, times: u64) -> Result<Option<u64>, Failure> {
+    fn steps<P: Program>(
+        self,
+        alloc: Global,
+        program: &P,
+        times: u64,
+    ) -> Result<Option<u64>, Failure> {
         let text = self.family.text(alloc, times)?;
-        steps(alloc, self.printed, text.as_str())
+        steps(alloc, program, self.printed, text.as_str())
     }
 
     /// Tries the text for this number.
-    fn judge_text(self, alloc: Global, times: u64) -> Result<(), Failure> {
+    fn judge_text<P: Program>(self, alloc: Global, program: &P, times: u64) -> Result<(), Failure> {
         let Shown { verdict, line } = self.shown;
         let least = self.family.least_steps(verdict, times);
-        match self.steps(alloc, times)? {
+        match self.steps(alloc, program, times)? {
             Some(steps) if steps >= least => Ok(()),
             _ => Err(Failure::Told(format!(in alloc;
                 "the text for {times} doesn't cost {least} steps: {line:?}"
@@ -281,18 +297,19 @@ impl Trial<'_> {
         Err(Failure::Told(format!(in alloc; "{verdict} isn't shown by {line:?}")?))
     }
 
-    fn judge(self, alloc: Global, greatest: u64) -> Result<(), Failure> {
+    fn judge<P: Program>(self, alloc: Global, program: &P, greatest: u64) -> Result<(), Failure> {
         self.judge_form(alloc)?;
         for times in 0..=greatest {
-            self.judge_text(alloc, times)?;
+            self.judge_text(alloc, program, times)?;
         }
         Ok(())
     }
 }
 
 /// Tries the texts of a family for the numbers up to the greatest.
-fn judge_family(
+fn judge_family<P: Program>(
     alloc: Global,
+    program: &P,
     shown: Shown<'_>,
     printed: &Printed,
     greatest: u64,
@@ -303,7 +320,7 @@ fn judge_family(
         printed,
         family: &family,
     };
-    trial.judge(alloc, greatest)
+    trial.judge(alloc, program, greatest)
 }
 
 /// The mode that words name.
@@ -336,29 +353,32 @@ fn class_of(alloc: Global, words: &Vec<String>) -> Result<Vec<Printed>, AllocErr
 }
 
 /// Compares an output of `class`, without its family, and tries the family up to this number.
-pub fn judge_class(
+pub fn judge_class<P: Program>(
     alloc: Global,
+    program: &P,
     words: &Vec<String>,
     output: &[u8],
     wanted: &[u8],
     greatest: u64,
 ) -> Result<(), Failure> {
     let families = class_of(alloc, words)?;
-    judge_families(alloc, output, wanted, &families, greatest)
+    judge_families(alloc, program, output, wanted, &families, greatest)
 }
 
 /// Compares a report without the lines of families, and tries each family.
-pub fn judge_report(
+pub fn judge_report<P: Program>(
     alloc: Global,
+    program: &P,
     output: &[u8],
     wanted: &[u8],
     families: &Vec<Printed>,
 ) -> Result<(), Failure> {
-    judge_families(alloc, output, wanted, families, GREATEST)
+    judge_families(alloc, program, output, wanted, families, GREATEST)
 }
 
-fn judge_parted(
+fn judge_parted<P: Program>(
     alloc: Global,
+    program: &P,
     parted: &Parted<'_>,
     wanted: &[u8],
     families: &Vec<Printed>,
@@ -369,13 +389,14 @@ fn judge_parted(
     let (shown, expected) = (parted.shown.len() as u64, families.len() as u64);
     same_number(alloc, "the number of families", shown, expected)?;
     for (shown, printed) in parted.shown.iter().zip(families) {
-        judge_family(alloc, *shown, printed, greatest)?;
+        judge_family(alloc, program, *shown, printed, greatest)?;
     }
     Ok(())
 }
 
-fn judge_families(
+fn judge_families<P: Program>(
     alloc: Global,
+    program: &P,
     output: &[u8],
     wanted: &[u8],
     families: &Vec<Printed>,
@@ -385,5 +406,5 @@ fn judge_families(
         return Failure::told(alloc, "standard output isn't UTF-8");
     };
     let parted = part(alloc, output)?;
-    judge_parted(alloc, &parted, wanted, families, greatest)
+    judge_parted(alloc, program, &parted, wanted, families, greatest)
 }

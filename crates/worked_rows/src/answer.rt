@@ -1,9 +1,9 @@
 //! A call of the program over a tree and sinks in memory.
 
 use crate::failure::Failure;
+use crate::program::Program;
 use crate::row::{Faults, Writes};
 use crate::tree::Places;
-use rl_lint::relint_main;
 use rl_source::{MemSink, MemTree, Tree};
 use std::alloc::Global;
 
@@ -58,14 +58,15 @@ fn sinks_of(alloc: Global, faults: &Faults) -> Result<(MemSink, MemSink), Failur
     Ok((out, err))
 }
 
-fn answer_over(
+fn answer_over<P: Program>(
     alloc: Global,
+    program: &P,
     words: &Vec<String>,
     mut tree: MemTree,
     mut out: MemSink,
     mut err: MemSink,
 ) -> Answer {
-    let status = relint_main(alloc, words, &mut tree, &mut out, &mut err);
+    let status = program.run(alloc, words, &mut tree, &mut out, &mut err);
     let tree_faults = tree.faults();
     Answer {
         status,
@@ -76,23 +77,25 @@ fn answer_over(
 }
 
 /// The answer to these words over these files.
-pub fn answer_to(
+pub fn answer_to<P: Program>(
     alloc: Global,
+    program: &P,
     words: &Vec<String>,
     places: &Places,
     faults: &Faults,
 ) -> Result<Answer, Failure> {
     let tree = tree_of(alloc, words, places, &faults.tree)?;
     let (out, err) = sinks_of(alloc, faults)?;
-    Ok(answer_over(alloc, words, tree, out, err))
+    Ok(answer_over(alloc, program, words, tree, out, err))
 }
 
 /// The answer to these words over these files, where nothing fails.
-pub fn plain_answer_to(
+pub fn plain_answer_to<P: Program>(
     alloc: Global,
+    program: &P,
     words: &Vec<String>,
     places: &Places,
 ) -> Result<Answer, Failure> {
     let faults = no_faults(alloc);
-    answer_to(alloc, words, places, &faults)
+    answer_to(alloc, program, words, places, &faults)
 }

@@ -3,10 +3,14 @@
 use crate::answer::{Answer, answer_to, plain_answer_to};
 use crate::failure::{Failure, same, same_number};
 use crate::families::{judge_class, judge_report};
+use crate::program::Program;
+use crate::read::row_of;
 use crate::row::{Calls, Expected, Faults, Row, Saved, Setting, Stdout, Writes};
 use crate::text::add_word;
 use crate::tree::Places;
 use std::alloc::{AllocError, Global};
+use std::collections::BTreeSet;
+use toml::Value;
 
 /// Refuses a status above 1.
 fn ended_well(alloc: Global, status: u8) -> Result<(), Failure> {
@@ -17,23 +21,38 @@ fn ended_well(alloc: Global, status: u8) -> Result<(), Failure> {
 }
 
 /// What a call wrote that has to end with status 0 or 1, and in which nothing fails.
-fn written(alloc: Global, words: &Vec<String>, places: &Places) -> Result<Vec<u8>, Failure> {
-    let answer = plain_answer_to(alloc, words, places)?;
+fn written<P: Program>(
+    alloc: Global,
+    program: &P,
+    words: &Vec<String>,
+    places: &Places,
+) -> Result<Vec<u8>, Failure> {
+    let answer = plain_answer_to(alloc, program, words, places)?;
     ended_well(alloc, answer.status)?;
     Ok(Vec::from_slice(alloc, answer.out.bytes())?)
 }
 
 /// Makes a call, and a file of what it wrote.
-fn put_written(alloc: Global, call: &Saved, places: &mut Places) -> Result<(), Failure> {
-    let output = written(alloc, &call.words, places)?;
+fn put_written<P: Program>(
+    alloc: Global,
+    program: &P,
+    call: &Saved,
+    places: &mut Places,
+) -> Result<(), Failure> {
+    let output = written(alloc, program, &call.words, places)?;
     places.put_file(call.save.as_str(), output.as_slice())?;
     Ok(())
 }
 
-fn put_setting(alloc: Global, setting: &Setting, places: &mut Places) -> Result<(), Failure> {
+fn put_setting<P: Program>(
+    alloc: Global,
+    program: &P,
+    setting: &Setting,
+    places: &mut Places,
+) -> Result<(), Failure> {
     places.put_all(&setting.files)?;
     for call in &setting.before {
-        put_written(alloc, call, places)?;
+        put_written(alloc, program, call, places)?;
     }
     places.put_all(&setting.then)?;
     Ok(())
@@ -59,8 +78,13 @@ fn put_made(alloc: Global, made: &Answer, places: &mut Places) -> Result<(), Fai
 }
 
 /// Makes the certificate that the words of `prove` ask for.
-fn put_certificate(alloc: Global, words: &Vec<String>, places: &mut Places) -> Result<(), Failure> {
-    let made = plain_answer_to(alloc, words, places)?;
+fn put_certificate<P: Program>(
+    alloc: Global,
+    program: &P,
+    words: &Vec<String>,
+    places: &mut Places,
+) -> Result<(), Failure> {
+    let made = plain_answer_to(alloc, program, words, places)?;
     put_made(alloc, &made, places)
 }
 
@@ -70,8 +94,9 @@ fn is_line(output: &[u8], begins: &str) -> bool {
     output.starts_with(begins.as_bytes()) && output.ends_with(b"\n") && line_ends == 1
 }
 
-fn judge_stdout(
+fn judge_stdout<P: Program>(
     alloc: Global,
+    program: &P,
     words: &Vec<String>,
     wanted: &Stdout,
     output: &[u8],
@@ -81,10 +106,10 @@ fn judge_stdout(
         Stdout::Begins(begins) if is_line(output, begins.as_str()) => Ok(()),
         Stdout::Begins(begins) => same(alloc, "the line", output, begins.as_bytes()),
         Stdout::WithFamily(bytes, greatest) => {
-            judge_class(alloc, words, output, bytes.as_slice(), *greatest)
+            judge_class(alloc, program, words, output, bytes.as_slice(), *greatest)
         }
         Stdout::WithFamilies(bytes, families) => {
-            judge_report(alloc, output, bytes.as_slice(), families)
+            judge_report(alloc, program, output, bytes.as_slice(), families)
         }
     }
 }
@@ -102,40 +127,59 @@ fn judge_rest(alloc: Global, expected: &Expected, answered: &Answer) -> Result<(
 }
 
 /// Compares what came of the row's call with these words.
-fn judge_answer(
+fn judge_answer<P: Program>(
     alloc: Global,
+    program: &P,
     row: &Row,
     words: &Vec<String>,
     answered: &Answer,
 ) -> Result<(), Failure> {
     judge_rest(alloc, &row.expected, answered)?;
-    judge_stdout(alloc, words, &row.expected.stdout, answered.out.bytes())
+    judge_stdout(
+        alloc,
+        program,
+        words,
+        &row.expected.stdout,
+        answered.out.bytes(),
+    )
 }
 
 /// Makes the row's call with these words, and compares what comes.
-fn judge_call(
+fn judge_call<P: Program>(
     alloc: Global,
+    program: &P,
     row: &Row,
     words: &Vec<String>,
     places: &Places,
 ) -> Result<(), Failure> {
-    let answered = answer_to(alloc, words, places, &row.faults)?;
-    judge_answer(alloc, row, words, &answered)
+    let answered = answer_to(alloc, program, words, places, &row.faults)?;
+    judge_answer(alloc, program, row, words, &answered)
 }
 
 /// Compares two answers to the row's call, which are the same.
-fn judge_answers(alloc: Global, row: &Row, first: &Answer, second: &Answer) -> Result<(), Failure> {
-    judge_answer(alloc, row, &row.words, first)?;
-    judge_answer(alloc, row, &row.words, second)?;
+fn judge_answers<P: Program>(
+    alloc: Global,
+    program: &P,
+    row: &Row,
+    first: &Answer,
+    second: &Answer,
+) -> Result<(), Failure> {
+    judge_answer(alloc, program, row, &row.words, first)?;
+    judge_answer(alloc, program, row, &row.words, second)?;
     let (second, first) = (second.out.bytes(), first.out.bytes());
     same(alloc, "the second output", second, first)
 }
 
 /// Makes the row's call twice.
-fn judge_same(alloc: Global, row: &Row, places: &Places) -> Result<(), Failure> {
-    let first = answer_to(alloc, &row.words, places, &row.faults)?;
-    let second = answer_to(alloc, &row.words, places, &row.faults)?;
-    judge_answers(alloc, row, &first, &second)
+fn judge_same<P: Program>(
+    alloc: Global,
+    program: &P,
+    row: &Row,
+    places: &Places,
+) -> Result<(), Failure> {
+    let first = answer_to(alloc, program, &row.words, places, &row.faults)?;
+    let second = answer_to(alloc, program, &row.words, places, &row.faults)?;
+    judge_answers(alloc, program, row, &first, &second)
 }
 
 /// These writes, but that the write with this number fails.
@@ -160,59 +204,118 @@ fn with_failing(alloc: Global, faults: &Faults, write: u64) -> Result<Faults, Al
 }
 
 /// The answer to the row's call where this write to standard output fails.
-fn answer_failing(
+fn answer_failing<P: Program>(
     alloc: Global,
+    program: &P,
     row: &Row,
     places: &Places,
     write: u64,
 ) -> Result<Answer, Failure> {
     let faults = with_failing(alloc, &row.faults, write)?;
-    answer_to(alloc, &row.words, places, &faults)
+    answer_to(alloc, program, &row.words, places, &faults)
 }
 
 /// Makes the call where the write of the byte behind these fails.
-fn judge_cut(alloc: Global, row: &Row, places: &Places, cut: &[u8]) -> Result<(), Failure> {
-    let answered = answer_failing(alloc, row, places, (cut.len() as u64).saturating_add(1))?;
+fn judge_cut<P: Program>(
+    alloc: Global,
+    program: &P,
+    row: &Row,
+    places: &Places,
+    cut: &[u8],
+) -> Result<(), Failure> {
+    let answered = answer_failing(
+        alloc,
+        program,
+        row,
+        places,
+        (cut.len() as u64).saturating_add(1),
+    )?;
     same(alloc, "standard output", answered.out.bytes(), cut)?;
     judge_rest(alloc, &row.expected, &answered)
 }
 
-fn judge_cuts(alloc: Global, row: &Row, places: &Places, report: &[u8]) -> Result<(), Failure> {
+fn judge_cuts<P: Program>(
+    alloc: Global,
+    program: &P,
+    row: &Row,
+    places: &Places,
+    report: &[u8],
+) -> Result<(), Failure> {
     if report.len() < 100 {
         return Failure::told(alloc, "standard output has less than 100 bytes");
     }
     for place in 0..report.len() {
-        judge_cut(alloc, row, places, &report[..place])?;
+        judge_cut(alloc, program, row, places, &report[..place])?;
     }
     Ok(())
 }
 
 /// Makes the call once for each byte that it writes: the write of that byte fails.
-fn judge_each_write(alloc: Global, row: &Row, places: &Places) -> Result<(), Failure> {
-    let report = written(alloc, &row.words, places)?;
-    judge_cuts(alloc, row, places, report.as_slice())
+fn judge_each_write<P: Program>(
+    alloc: Global,
+    program: &P,
+    row: &Row,
+    places: &Places,
+) -> Result<(), Failure> {
+    let report = written(alloc, program, &row.words, places)?;
+    judge_cuts(alloc, program, row, places, report.as_slice())
 }
 
 /// Makes the certificate, and has it verified.
-fn judge_verified(alloc: Global, row: &Row, places: &mut Places) -> Result<(), Failure> {
-    put_certificate(alloc, &row.words, places)?;
+fn judge_verified<P: Program>(
+    alloc: Global,
+    program: &P,
+    row: &Row,
+    places: &mut Places,
+) -> Result<(), Failure> {
+    put_certificate(alloc, program, &row.words, places)?;
     let words = words_of_verify(alloc, &row.words)?;
-    judge_call(alloc, row, &words, places)
+    judge_call(alloc, program, row, &words, places)
 }
 
 /// Makes the row's calls, and compares what comes.
-fn judge_calls(alloc: Global, row: &Row, places: &mut Places) -> Result<(), Failure> {
-    put_setting(alloc, &row.setting, places)?;
+fn judge_calls<P: Program>(
+    alloc: Global,
+    program: &P,
+    row: &Row,
+    places: &mut Places,
+) -> Result<(), Failure> {
+    put_setting(alloc, program, &row.setting, places)?;
     match row.calls {
-        Calls::One => judge_call(alloc, row, &row.words, places),
-        Calls::Same => judge_same(alloc, row, places),
-        Calls::EachWrite => judge_each_write(alloc, row, places),
-        Calls::Verified => judge_verified(alloc, row, places),
+        Calls::One => judge_call(alloc, program, row, &row.words, places),
+        Calls::Same => judge_same(alloc, program, row, places),
+        Calls::EachWrite => judge_each_write(alloc, program, row, places),
+        Calls::Verified => judge_verified(alloc, program, row, places),
     }
 }
 
 /// Runs a row.
-pub fn judge(alloc: Global, row: &Row) -> Result<(), Failure> {
+fn judge<P: Program>(alloc: Global, program: &P, row: &Row) -> Result<(), Failure> {
     let mut places = Places::new(alloc)?;
-    judge_calls(alloc, row, &mut places)
+    judge_calls(alloc, program, row, &mut places)
+}
+
+/// Notes the name of a row, which no other row has.
+fn add_name(alloc: Global, name: &String, names: &mut BTreeSet<String>) -> Result<(), Failure> {
+    let name = name.clone()?;
+    if names.insert(name)? {
+        return Ok(());
+    }
+    Failure::told(alloc, "another row has this name")
+}
+
+/// Reads the row that a value is, adds its name to those of the rows before it, and runs it.
+///
+/// # Errors
+/// [`Failure::Told`] where the value is no row, where another row has its name, and where the program answers otherwise than
+/// the row says; [`Failure::OutOfMemory`] when out of memory.
+pub fn judge_value<P: Program>(
+    alloc: Global,
+    program: &P,
+    names: &mut BTreeSet<String>,
+    value: &Value,
+) -> Result<(), Failure> {
+    let row = row_of(alloc, value)?;
+    add_name(alloc, &row.name, names)?;
+    judge(alloc, program, &row)
 }
