@@ -2,7 +2,7 @@
 
 use crate::failure::Failure;
 use crate::program::Program;
-use crate::row::{Faults, Writes};
+use crate::row::{Faults, Writes, no_faults};
 use crate::tree::Places;
 use rl_source::{MemSink, MemTree, Tree};
 use std::alloc::Global;
@@ -17,23 +17,6 @@ pub struct Answer {
     pub out: MemSink,
     pub err: MemSink,
     pub tree_faults: u64,
-}
-
-/// No write fails.
-fn all_written(alloc: Global) -> Writes {
-    Writes {
-        failing: Vec::new(alloc),
-        step: usize::MAX,
-    }
-}
-
-/// Nothing fails.
-fn no_faults(alloc: Global) -> Faults {
-    Faults {
-        tree: Vec::new(alloc),
-        out: all_written(alloc),
-        err: all_written(alloc),
-    }
 }
 
 fn tree_of(
@@ -52,9 +35,9 @@ fn sink_of(alloc: Global, writes: &Writes) -> Result<MemSink, Failure> {
     Ok(MemSink::new(alloc, writes.step.max(1), ROOM, failing)?)
 }
 
-fn sinks_of(alloc: Global, faults: &Faults) -> Result<(MemSink, MemSink), Failure> {
-    let out = sink_of(alloc, &faults.out)?;
-    let err = sink_of(alloc, &faults.err)?;
+fn sinks_of(alloc: Global, out: &Writes, err: &Writes) -> Result<(MemSink, MemSink), Failure> {
+    let out = sink_of(alloc, out)?;
+    let err = sink_of(alloc, err)?;
     Ok((out, err))
 }
 
@@ -76,6 +59,20 @@ fn answer_over<P: Program>(
     }
 }
 
+/// The answer to these words over these files, where these writes to standard output fail, and all other faults come.
+pub fn answer_with<P: Program>(
+    alloc: Global,
+    program: &P,
+    words: &Vec<String>,
+    places: &Places,
+    faults: &Faults,
+    out: &Writes,
+) -> Result<Answer, Failure> {
+    let tree = tree_of(alloc, words, places, &faults.tree)?;
+    let (out, err) = sinks_of(alloc, out, &faults.err)?;
+    Ok(answer_over(alloc, program, words, tree, out, err))
+}
+
 /// The answer to these words over these files.
 pub fn answer_to<P: Program>(
     alloc: Global,
@@ -84,9 +81,7 @@ pub fn answer_to<P: Program>(
     places: &Places,
     faults: &Faults,
 ) -> Result<Answer, Failure> {
-    let tree = tree_of(alloc, words, places, &faults.tree)?;
-    let (out, err) = sinks_of(alloc, faults)?;
-    Ok(answer_over(alloc, program, words, tree, out, err))
+    answer_with(alloc, program, words, places, faults, &faults.out)
 }
 
 /// The answer to these words over these files, where nothing fails.

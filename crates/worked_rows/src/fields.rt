@@ -1,75 +1,87 @@
-//! The fields of a row, by the kinds of their values. Where a field isn't there, its value is empty, or `None`.
+//! The fields of a row, by the kinds of their values. What may be long is added to a list; where the field isn't there, nothing is.
 
 use crate::failure::Failure;
-use crate::text::{bytes_of, string_of};
+use crate::text::{add_text, string_of};
 use std::alloc::Global;
 use toml::value::Array;
 use toml::{Table, Value};
 
 /// The failure of a field whose value isn't one that it takes.
-pub fn refused<T>(alloc: Global, key: &str) -> Result<T, Failure> {
-    Err(Failure::Told(format!(in alloc; "the value of {key} isn't one that it takes")?))
+pub fn refused(alloc: Global, key: &str) -> Failure {
+    Failure::of(format!(in alloc; "the value of {key} isn't one that it takes"))
 }
 
 /// The failure of a field that has to be there.
-fn missing<T>(alloc: Global, key: &str) -> Result<T, Failure> {
-    Err(Failure::Told(format!(in alloc; "the field {key} is missing")?))
+fn missing(alloc: Global, key: &str) -> Failure {
+    Failure::of(format!(in alloc; "the field {key} is missing"))
+}
+
+/// The failure of a field that isn't known.
+fn unknown(alloc: Global, key: &str) -> Failure {
+    Failure::of(format!(in alloc; "the field {key} isn't known"))
 }
 
 /// Refuses a table with other fields than these.
-pub fn has_only(alloc: Global, table: &Table, keys: &[&str]) -> Result<(), Failure> {
+pub fn has_only<'a>(alloc: Global, table: &'a Table, keys: &[&'a str]) -> Result<(), Failure> {
     for key in table.keys() {
         if !keys.contains(&key.as_str()) {
-            return Err(Failure::Told(format!(in alloc; "the field {key} isn't known")?));
+            return Err(unknown(alloc, key.as_str()));
         }
     }
     Ok(())
 }
 
-pub fn bytes_at(alloc: Global, table: &Table, key: &str) -> Result<Vec<u8>, Failure> {
+pub fn add_bytes_at(
+    alloc: Global,
+    table: &Table,
+    key: &str,
+    bytes: &mut Vec<u8>,
+) -> Result<(), Failure> {
     match table.get(key) {
-        Some(value) => bytes_of(alloc, value),
-        None => Ok(Vec::new(alloc)),
+        Some(value) => add_text(alloc, value, bytes),
+        None => Ok(()),
     }
 }
 
-pub fn string_at(alloc: Global, table: &Table, key: &str) -> Result<Option<String>, Failure> {
+pub fn string_at<'a>(
+    alloc: Global,
+    table: &'a Table,
+    key: &str,
+) -> Result<Option<&'a String>, Failure> {
     match table.get(key) {
-        Some(Value::String(text)) => Ok(Some(text.clone()?)),
-        Some(_) => refused(alloc, key),
+        Some(Value::String(text)) => Ok(Some(text)),
+        Some(_) => Err(refused(alloc, key)),
         None => Ok(None),
     }
 }
 
 /// The string of a field that has to be there.
-pub fn needed_at(alloc: Global, table: &Table, key: &str) -> Result<String, Failure> {
-    match string_at(alloc, table, key)? {
-        Some(text) => Ok(text),
-        None => missing(alloc, key),
+pub fn needed_at<'a>(alloc: Global, table: &'a Table, key: &str) -> Result<&'a String, Failure> {
+    match table.get(key) {
+        Some(Value::String(text)) => Ok(text),
+        Some(_) => Err(refused(alloc, key)),
+        None => Err(missing(alloc, key)),
     }
+}
+
+fn number_of(value: &Value) -> Option<u64> {
+    u64::try_from(value.as_integer()?).ok()
 }
 
 pub fn number_at(alloc: Global, table: &Table, key: &str) -> Result<Option<u64>, Failure> {
     match table.get(key) {
-        Some(value) => Ok(Some(number_of(alloc, key, value)?)),
-        None => Ok(None),
-    }
-}
-
-fn number_of(alloc: Global, key: &str, value: &Value) -> Result<u64, Failure> {
-    match value {
-        Value::Integer(number) => match u64::try_from(*number) {
-            Ok(number) => Ok(number),
-            Err(_) => refused(alloc, key),
+        Some(value) => match number_of(value) {
+            Some(number) => Ok(Some(number)),
+            None => Err(refused(alloc, key)),
         },
-        _ => refused(alloc, key),
+        None => Ok(None),
     }
 }
 
 pub fn is_set(alloc: Global, table: &Table, key: &str) -> Result<bool, Failure> {
     match table.get(key) {
         Some(Value::Boolean(is_set)) => Ok(*is_set),
-        Some(_) => refused(alloc, key),
+        Some(_) => Err(refused(alloc, key)),
         None => Ok(false),
     }
 }
@@ -82,40 +94,45 @@ pub fn list_at<'a>(
 ) -> Result<Option<&'a Array>, Failure> {
     match table.get(key) {
         Some(Value::Array(values)) => Ok(Some(values)),
-        Some(_) => refused(alloc, key),
+        Some(_) => Err(refused(alloc, key)),
         None => Ok(None),
     }
 }
 
-fn numbers_of(alloc: Global, key: &str, values: &Array) -> Result<Vec<u64>, Failure> {
-    let mut numbers = Vec::new(alloc);
-    for value in values {
-        let number = number_of(alloc, key, value)?;
-        numbers.push(number)?;
+pub fn add_numbers_at(
+    alloc: Global,
+    table: &Table,
+    key: &str,
+    numbers: &mut Vec<u64>,
+) -> Result<(), Failure> {
+    if let Some(values) = list_at(alloc, table, key)? {
+        for value in values {
+            let Some(number) = number_of(value) else {
+                return Err(refused(alloc, key));
+            };
+            numbers.push(number)?;
+        }
     }
-    Ok(numbers)
+    Ok(())
 }
 
-pub fn numbers_at(alloc: Global, table: &Table, key: &str) -> Result<Vec<u64>, Failure> {
-    match list_at(alloc, table, key)? {
-        Some(values) => numbers_of(alloc, key, values),
-        None => Ok(Vec::new(alloc)),
-    }
-}
-
-fn words_of(alloc: Global, values: &Array) -> Result<Vec<String>, Failure> {
-    let mut words = Vec::new(alloc);
+fn add_words(alloc: Global, values: &Array, words: &mut Vec<String>) -> Result<(), Failure> {
     for value in values {
         let word = string_of(alloc, value)?;
         words.push(word)?;
     }
-    Ok(words)
+    Ok(())
 }
 
-/// The words of a field that has to be there.
-pub fn words_at(alloc: Global, table: &Table, key: &str) -> Result<Vec<String>, Failure> {
+/// Adds the words of a field that has to be there.
+pub fn add_words_at(
+    alloc: Global,
+    table: &Table,
+    key: &str,
+    words: &mut Vec<String>,
+) -> Result<(), Failure> {
     match list_at(alloc, table, key)? {
-        Some(values) => words_of(alloc, values),
-        None => missing(alloc, key),
+        Some(values) => add_words(alloc, values, words),
+        None => Err(missing(alloc, key)),
     }
 }

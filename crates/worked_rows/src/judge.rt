@@ -1,11 +1,11 @@
 //! Runs a row, and compares what comes with what the row says.
 
-use crate::answer::{Answer, answer_to, plain_answer_to};
+use crate::answer::{Answer, answer_to, answer_with, plain_answer_to};
 use crate::failure::{Failure, same, same_number};
 use crate::families::{judge_class, judge_report};
 use crate::program::Program;
-use crate::read::row_of;
-use crate::row::{Calls, Expected, Faults, Row, Saved, Setting, Stdout, Writes};
+use crate::read::read_row;
+use crate::row::{Calls, Expected, Form, Row, Saved, Setting, Writes, empty_row};
 use crate::text::add_word;
 use crate::tree::Places;
 use std::alloc::{AllocError, Global};
@@ -17,37 +17,36 @@ fn ended_well(alloc: Global, status: u8) -> Result<(), Failure> {
     if status <= 1 {
         return Ok(());
     }
-    Err(Failure::Told(format!(in alloc; "a call without faults ends with status {status}")?))
+    Err(Failure::of(format!(in alloc; "a call without faults ends with status {status}")))
 }
 
-/// What a call wrote that has to end with status 0 or 1, and in which nothing fails.
-fn written<P: Program>(
+/// Makes a file of what a call wrote.
+fn put_output(
     alloc: Global,
-    program: &P,
-    words: &Vec<String>,
-    places: &Places,
-) -> Result<Vec<u8>, Failure> {
-    let answer = plain_answer_to(alloc, program, words, places)?;
+    answer: &Answer,
+    save: &str,
+    places: &mut Places,
+) -> Result<(), Failure> {
     ended_well(alloc, answer.status)?;
-    Ok(Vec::from_slice(alloc, answer.out.bytes())?)
+    places.put_file(save, answer.out.bytes())?;
+    Ok(())
 }
 
 /// Makes a call, and a file of what it wrote.
 fn put_written<P: Program>(
     alloc: Global,
     program: &P,
-    call: &Saved,
+    call: &Saved<'_>,
     places: &mut Places,
 ) -> Result<(), Failure> {
-    let output = written(alloc, program, &call.words, places)?;
-    places.put_file(call.save.as_str(), output.as_slice())?;
-    Ok(())
+    let answer = plain_answer_to(alloc, program, &call.words, places)?;
+    put_output(alloc, &answer, call.save.as_str(), places)
 }
 
 fn put_setting<P: Program>(
     alloc: Global,
     program: &P,
-    setting: &Setting,
+    setting: &Setting<'_>,
     places: &mut Places,
 ) -> Result<(), Failure> {
     places.put_all(&setting.files)?;
@@ -58,15 +57,17 @@ fn put_setting<P: Program>(
     Ok(())
 }
 
-/// The words of `verify` for a certificate of what these words of `prove` name.
-fn words_of_verify(alloc: Global, words: &Vec<String>) -> Result<Vec<String>, AllocError> {
-    let mut others = Vec::new(alloc);
-    add_word(alloc, "verify", &mut others)?;
-    for word in words.iter().skip(1) {
-        add_word(alloc, word.as_str(), &mut others)?;
+/// Adds the words of `verify` for a certificate of what these words of `prove` name: `verify` stands in the place of `prove`.
+fn add_words_of_verify(
+    alloc: Global,
+    words: &Vec<String>,
+    others: &mut Vec<String>,
+) -> Result<(), AllocError> {
+    for (place, word) in words.iter().enumerate() {
+        let word = if place == 0 { "verify" } else { word.as_str() };
+        add_word(alloc, word, others)?;
     }
-    add_word(alloc, "certificate.json", &mut others)?;
-    Ok(others)
+    add_word(alloc, "certificate.json", others)
 }
 
 /// Compares a call of `prove`, and makes a file of the certificate that it wrote.
@@ -98,24 +99,21 @@ fn judge_stdout<P: Program>(
     alloc: Global,
     program: &P,
     words: &Vec<String>,
-    wanted: &Stdout,
+    expected: &Expected<'_>,
     output: &[u8],
 ) -> Result<(), Failure> {
-    match wanted {
-        Stdout::Is(bytes) => same(alloc, "standard output", output, bytes.as_slice()),
-        Stdout::Begins(begins) if is_line(output, begins.as_str()) => Ok(()),
-        Stdout::Begins(begins) => same(alloc, "the line", output, begins.as_bytes()),
-        Stdout::WithFamily(bytes, greatest) => {
-            judge_class(alloc, program, words, output, bytes.as_slice(), *greatest)
-        }
-        Stdout::WithFamilies(bytes, families) => {
-            judge_report(alloc, program, output, bytes.as_slice(), families)
-        }
+    let wanted = expected.stdout.as_slice();
+    match expected.form {
+        Form::Plain => same(alloc, "standard output", output, wanted),
+        Form::Begins(begins) if is_line(output, begins.as_str()) => Ok(()),
+        Form::Begins(begins) => same(alloc, "the line", output, begins.as_bytes()),
+        Form::WithFamily(greatest) => judge_class(alloc, program, words, output, wanted, greatest),
+        Form::WithFamilies => judge_report(alloc, program, output, wanted, &expected.families),
     }
 }
 
 /// Compares all but standard output.
-fn judge_rest(alloc: Global, expected: &Expected, answered: &Answer) -> Result<(), Failure> {
+fn judge_rest(alloc: Global, expected: &Expected<'_>, answered: &Answer) -> Result<(), Failure> {
     let stderr = expected.stderr.as_slice();
     same(alloc, "standard error", answered.err.bytes(), stderr)?;
     let (status, wanted) = (u64::from(answered.status), u64::from(expected.status));
@@ -130,25 +128,19 @@ fn judge_rest(alloc: Global, expected: &Expected, answered: &Answer) -> Result<(
 fn judge_answer<P: Program>(
     alloc: Global,
     program: &P,
-    row: &Row,
+    row: &Row<'_>,
     words: &Vec<String>,
     answered: &Answer,
 ) -> Result<(), Failure> {
     judge_rest(alloc, &row.expected, answered)?;
-    judge_stdout(
-        alloc,
-        program,
-        words,
-        &row.expected.stdout,
-        answered.out.bytes(),
-    )
+    judge_stdout(alloc, program, words, &row.expected, answered.out.bytes())
 }
 
 /// Makes the row's call with these words, and compares what comes.
 fn judge_call<P: Program>(
     alloc: Global,
     program: &P,
-    row: &Row,
+    row: &Row<'_>,
     words: &Vec<String>,
     places: &Places,
 ) -> Result<(), Failure> {
@@ -160,7 +152,7 @@ fn judge_call<P: Program>(
 fn judge_answers<P: Program>(
     alloc: Global,
     program: &P,
-    row: &Row,
+    row: &Row<'_>,
     first: &Answer,
     second: &Answer,
 ) -> Result<(), Failure> {
@@ -170,79 +162,78 @@ fn judge_answers<P: Program>(
     same(alloc, "the second output", second, first)
 }
 
+/// Makes the row's call again.
+fn judge_again<P: Program>(
+    alloc: Global,
+    program: &P,
+    row: &Row<'_>,
+    places: &Places,
+    first: &Answer,
+) -> Result<(), Failure> {
+    let second = answer_to(alloc, program, &row.words, places, &row.faults)?;
+    judge_answers(alloc, program, row, first, &second)
+}
+
 /// Makes the row's call twice.
 fn judge_same<P: Program>(
     alloc: Global,
     program: &P,
-    row: &Row,
+    row: &Row<'_>,
     places: &Places,
 ) -> Result<(), Failure> {
     let first = answer_to(alloc, program, &row.words, places, &row.faults)?;
-    let second = answer_to(alloc, program, &row.words, places, &row.faults)?;
-    judge_answers(alloc, program, row, &first, &second)
+    judge_again(alloc, program, row, places, &first)
 }
 
-/// These writes, but that the write with this number fails.
-fn failing_at(alloc: Global, writes: &Writes, write: u64) -> Result<Writes, AllocError> {
-    let failing = Vec::from_slice(alloc, &[write])?;
-    let step = writes.step;
-    Ok(Writes { failing, step })
-}
-
-fn copy_of(writes: &Writes) -> Result<Writes, AllocError> {
-    let failing = writes.failing.clone()?;
-    let step = writes.step;
-    Ok(Writes { failing, step })
-}
-
-/// The row's faults, but that this write to standard output fails.
-fn with_failing(alloc: Global, faults: &Faults, write: u64) -> Result<Faults, AllocError> {
-    let out = failing_at(alloc, &faults.out, write)?;
-    let err = copy_of(&faults.err)?;
-    let tree = faults.tree.clone()?;
-    Ok(Faults { tree, out, err })
-}
-
-/// The answer to the row's call where this write to standard output fails.
+/// The answer to the row's call where this write to standard output fails, and no other one does.
 fn answer_failing<P: Program>(
     alloc: Global,
     program: &P,
-    row: &Row,
+    row: &Row<'_>,
     places: &Places,
     write: u64,
 ) -> Result<Answer, Failure> {
-    let faults = with_failing(alloc, &row.faults, write)?;
-    answer_to(alloc, program, &row.words, places, &faults)
+    let failing = Vec::from_slice(alloc, &[write])?;
+    let step = row.faults.out.step;
+    let out = Writes { failing, step };
+    answer_with(alloc, program, &row.words, places, &row.faults, &out)
+}
+
+/// Compares what came of a call in which a write failed.
+fn judge_piece(
+    alloc: Global,
+    expected: &Expected<'_>,
+    answered: &Answer,
+    cut: &[u8],
+) -> Result<(), Failure> {
+    same(alloc, "standard output", answered.out.bytes(), cut)?;
+    judge_rest(alloc, expected, answered)
 }
 
 /// Makes the call where the write of the byte behind these fails.
 fn judge_cut<P: Program>(
     alloc: Global,
     program: &P,
-    row: &Row,
+    row: &Row<'_>,
     places: &Places,
     cut: &[u8],
 ) -> Result<(), Failure> {
-    let answered = answer_failing(
-        alloc,
-        program,
-        row,
-        places,
-        (cut.len() as u64).saturating_add(1),
-    )?;
-    same(alloc, "standard output", answered.out.bytes(), cut)?;
-    judge_rest(alloc, &row.expected, &answered)
+    let write = (cut.len() as u64).saturating_add(1);
+    let answered = answer_failing(alloc, program, row, places, write)?;
+    judge_piece(alloc, &row.expected, &answered, cut)
 }
 
 fn judge_cuts<P: Program>(
     alloc: Global,
     program: &P,
-    row: &Row,
+    row: &Row<'_>,
     places: &Places,
-    report: &[u8],
+    whole: &Answer,
 ) -> Result<(), Failure> {
+    ended_well(alloc, whole.status)?;
+    let report = whole.out.bytes();
     if report.len() < 100 {
-        return Failure::told(alloc, "standard output has less than 100 bytes");
+        return Err(Failure::told(alloc, "standard output has less than 100 bytes"));
     }
     for place in 0..report.len() {
         judge_cut(alloc, program, row, places, &report[..place])?;
@@ -254,30 +245,41 @@ fn judge_cuts<P: Program>(
 fn judge_each_write<P: Program>(
     alloc: Global,
     program: &P,
-    row: &Row,
+    row: &Row<'_>,
     places: &Places,
 ) -> Result<(), Failure> {
-    let report = written(alloc, program, &row.words, places)?;
-    judge_cuts(alloc, program, row, places, report.as_slice())
+    let whole = plain_answer_to(alloc, program, &row.words, places)?;
+    judge_cuts(alloc, program, row, places, &whole)
+}
+
+/// Has the certificate verified.
+fn judge_made<P: Program>(
+    alloc: Global,
+    program: &P,
+    row: &Row<'_>,
+    places: &Places,
+) -> Result<(), Failure> {
+    let mut words = Vec::new(alloc);
+    add_words_of_verify(alloc, &row.words, &mut words)?;
+    judge_call(alloc, program, row, &words, places)
 }
 
 /// Makes the certificate, and has it verified.
 fn judge_verified<P: Program>(
     alloc: Global,
     program: &P,
-    row: &Row,
+    row: &Row<'_>,
     places: &mut Places,
 ) -> Result<(), Failure> {
     put_certificate(alloc, program, &row.words, places)?;
-    let words = words_of_verify(alloc, &row.words)?;
-    judge_call(alloc, program, row, &words, places)
+    judge_made(alloc, program, row, places)
 }
 
 /// Makes the row's calls, and compares what comes.
 fn judge_calls<P: Program>(
     alloc: Global,
     program: &P,
-    row: &Row,
+    row: &Row<'_>,
     places: &mut Places,
 ) -> Result<(), Failure> {
     put_setting(alloc, program, &row.setting, places)?;
@@ -289,19 +291,33 @@ fn judge_calls<P: Program>(
     }
 }
 
+/// Notes the name of a row, which no other row has.
+fn add_name(alloc: Global, name: &str, names: &mut BTreeSet<String>) -> Result<(), Failure> {
+    let name = String::from_str(alloc, name)?;
+    if names.insert(name)? {
+        Ok(())
+    } else {
+        Err(Failure::told(alloc, "another row has this name"))
+    }
+}
+
 /// Runs a row.
-fn judge<P: Program>(alloc: Global, program: &P, row: &Row) -> Result<(), Failure> {
+fn judge<P: Program>(alloc: Global, program: &P, row: &Row<'_>) -> Result<(), Failure> {
     let mut places = Places::new(alloc)?;
     judge_calls(alloc, program, row, &mut places)
 }
 
-/// Notes the name of a row, which no other row has.
-fn add_name(alloc: Global, name: &String, names: &mut BTreeSet<String>) -> Result<(), Failure> {
-    let name = name.clone()?;
-    if names.insert(name)? {
-        return Ok(());
-    }
-    Failure::told(alloc, "another row has this name")
+/// Reads a row, which is empty so far, and runs it.
+fn read_and_judge<'a, P: Program>(
+    alloc: Global,
+    program: &P,
+    names: &mut BTreeSet<String>,
+    value: &'a Value,
+    row: &mut Row<'a>,
+) -> Result<(), Failure> {
+    read_row(alloc, value, row)?;
+    add_name(alloc, row.name, names)?;
+    judge(alloc, program, row)
 }
 
 /// Reads the row that a value is, adds its name to those of the rows before it, and runs it.
@@ -315,7 +331,6 @@ pub fn judge_value<P: Program>(
     names: &mut BTreeSet<String>,
     value: &Value,
 ) -> Result<(), Failure> {
-    let row = row_of(alloc, value)?;
-    add_name(alloc, &row.name, names)?;
-    judge(alloc, program, &row)
+    let mut row = empty_row(alloc);
+    read_and_judge(alloc, program, names, value, &mut row)
 }

@@ -2,11 +2,11 @@
 
 use crate::failure::Failure;
 use crate::fields::{
-    bytes_at, has_only, is_set, list_at, needed_at, number_at, numbers_at, refused, string_at,
-    words_at,
+    add_bytes_at, add_numbers_at, add_words_at, has_only, is_set, list_at, needed_at, number_at,
+    refused, string_at,
 };
 use crate::row::{
-    Calls, Expected, Faults, File, Files, Printed, Row, Saved, Setting, Stdout, Writes,
+    Calls, Expected, Faults, File, Form, Placed, Printed, Row, Saved, Setting, Writes,
 };
 use crate::text::bytes_of;
 use std::alloc::{AllocError, Global};
@@ -39,20 +39,27 @@ const FIELDS: [&str; 20] = [
 fn document_of(alloc: Global, text: &str) -> Result<Table, Failure> {
     match toml::table_from_str(alloc, text) {
         Ok(document) => Ok(document),
-        Err(error) => Err(Failure::Told(format!(in alloc; "{error}")?)),
+        Err(error) => Err(Failure::of(format!(in alloc; "{error}"))),
     }
 }
 
 /// The values of a file's rows.
+///
+/// # Errors
+/// [`Failure::Told`] where the text is no TOML, or has anything beside rows or no rows; [`Failure::OutOfMemory`] when out of
+/// memory.
 pub fn values_of(alloc: Global, text: &str) -> Result<Array, Failure> {
     let mut document = document_of(alloc, text)?;
     match document.remove("row") {
         Some(Value::Array(values)) if document.is_empty() => Ok(values),
-        _ => Failure::told(alloc, "there has to be [[row]], and nothing else"),
+        _ => Err(Failure::told(alloc, "there has to be [[row]], and nothing else")),
     }
 }
 
 /// The file and the name of a row; its number where it has no name.
+///
+/// # Errors
+/// [`AllocError`] when out of memory.
 pub fn name_of(
     alloc: Global,
     file: &str,
@@ -66,37 +73,29 @@ pub fn name_of(
     }
 }
 
-/// The row that a value is.
-pub fn row_of(alloc: Global, value: &Value) -> Result<Row, Failure> {
+/// Reads the row that a value is into an empty one.
+pub fn read_row<'a>(alloc: Global, value: &'a Value, row: &mut Row<'a>) -> Result<(), Failure> {
     match value {
-        Value::Table(table) => row_in(alloc, table),
-        _ => Failure::told(alloc, "it is no table"),
+        Value::Table(table) => read_fields(alloc, table, row),
+        _ => Err(Failure::told(alloc, "it is no table")),
     }
 }
 
-fn row_in(alloc: Global, table: &Table) -> Result<Row, Failure> {
+fn read_fields<'a>(alloc: Global, table: &'a Table, row: &mut Row<'a>) -> Result<(), Failure> {
     has_only(alloc, table, &FIELDS)?;
-    let calls = calls_of(alloc, table)?;
-    let name = needed_at(alloc, table, "name")?;
-    let words = words_at(alloc, table, "words")?;
-    let setting = setting_of(alloc, table)?;
-    let faults = faults_of(alloc, table)?;
-    let expected = expected_of(alloc, table)?;
-    Ok(Row {
-        name,
-        words,
-        setting,
-        calls,
-        faults,
-        expected,
-    })
+    row.calls = calls_of(alloc, table)?;
+    row.name = needed_at(alloc, table, "name")?.as_str();
+    add_words_at(alloc, table, "words", &mut row.words)?;
+    read_setting(alloc, table, &mut row.setting)?;
+    read_faults(alloc, table, &mut row.faults)?;
+    read_expected(alloc, table, &mut row.expected)
 }
 
 /// The table of a list's item.
 fn item<'a>(alloc: Global, key: &str, value: &'a Value) -> Result<&'a Table, Failure> {
     match value {
         Value::Table(table) => Ok(table),
-        _ => refused(alloc, key),
+        _ => Err(refused(alloc, key)),
     }
 }
 
@@ -110,66 +109,76 @@ fn file_of(alloc: Global, path: &str, value: &Value) -> Result<File, Failure> {
     }
 }
 
-fn add_file(alloc: Global, path: &String, value: &Value, files: &mut Files) -> Result<(), Failure> {
+fn add_file<'a>(
+    alloc: Global,
+    path: &'a String,
+    value: &Value,
+    files: &mut Vec<Placed<'a>>,
+) -> Result<(), Failure> {
     let file = file_of(alloc, path.as_str(), value)?;
-    let path = path.clone()?;
-    files.insert(path, file)?;
+    files.push(Placed { path, file })?;
     Ok(())
 }
 
-fn files_of(alloc: Global, values: &Table) -> Result<Files, Failure> {
-    let mut files = Files::new(alloc);
+fn add_files<'a>(
+    alloc: Global,
+    values: &'a Table,
+    files: &mut Vec<Placed<'a>>,
+) -> Result<(), Failure> {
     for (path, value) in values {
-        add_file(alloc, path, value, &mut files)?;
+        add_file(alloc, path, value, files)?;
     }
-    Ok(files)
+    Ok(())
 }
 
-fn files_at(alloc: Global, table: &Table, key: &str) -> Result<Files, Failure> {
+fn add_files_at<'a>(
+    alloc: Global,
+    table: &'a Table,
+    key: &str,
+    files: &mut Vec<Placed<'a>>,
+) -> Result<(), Failure> {
     match table.get(key) {
-        Some(Value::Table(values)) => files_of(alloc, values),
-        Some(_) => refused(alloc, key),
-        None => Ok(Files::new(alloc)),
+        Some(Value::Table(values)) => add_files(alloc, values, files),
+        Some(_) => Err(refused(alloc, key)),
+        None => Ok(()),
     }
 }
 
-fn saved_in(alloc: Global, table: &Table) -> Result<Saved, Failure> {
-    has_only(alloc, table, &["words", "save"])?;
-    let words = words_at(alloc, table, "words")?;
-    let save = needed_at(alloc, table, "save")?;
-    Ok(Saved { words, save })
-}
-
-fn saved_of(alloc: Global, value: &Value) -> Result<Saved, Failure> {
+fn add_call<'a>(
+    alloc: Global,
+    value: &'a Value,
+    calls: &mut Vec<Saved<'a>>,
+) -> Result<(), Failure> {
     let table = item(alloc, "before", value)?;
-    saved_in(alloc, table)
+    has_only(alloc, table, &["words", "save"])?;
+    let mut words = Vec::new(alloc);
+    add_words_at(alloc, table, "words", &mut words)?;
+    let save = needed_at(alloc, table, "save")?;
+    calls.push(Saved { words, save })?;
+    Ok(())
 }
 
-fn calls_before(alloc: Global, values: &Array) -> Result<Vec<Saved>, Failure> {
-    let mut calls = Vec::new(alloc);
-    for value in values {
-        let call = saved_of(alloc, value)?;
-        calls.push(call)?;
+fn add_calls_at<'a>(
+    alloc: Global,
+    table: &'a Table,
+    calls: &mut Vec<Saved<'a>>,
+) -> Result<(), Failure> {
+    if let Some(values) = list_at(alloc, table, "before")? {
+        for value in values {
+            add_call(alloc, value, calls)?;
+        }
     }
-    Ok(calls)
+    Ok(())
 }
 
-fn before_of(alloc: Global, table: &Table) -> Result<Vec<Saved>, Failure> {
-    match list_at(alloc, table, "before")? {
-        Some(values) => calls_before(alloc, values),
-        None => Ok(Vec::new(alloc)),
-    }
-}
-
-fn setting_of(alloc: Global, table: &Table) -> Result<Setting, Failure> {
-    let files = files_at(alloc, table, "files")?;
-    let before = before_of(alloc, table)?;
-    let then = files_at(alloc, table, "then")?;
-    Ok(Setting {
-        files,
-        before,
-        then,
-    })
+fn read_setting<'a>(
+    alloc: Global,
+    table: &'a Table,
+    setting: &mut Setting<'a>,
+) -> Result<(), Failure> {
+    add_files_at(alloc, table, "files", &mut setting.files)?;
+    add_calls_at(alloc, table, &mut setting.before)?;
+    add_files_at(alloc, table, "then", &mut setting.then)
 }
 
 fn calls_of(alloc: Global, table: &Table) -> Result<Calls, Failure> {
@@ -181,73 +190,74 @@ fn calls_of(alloc: Global, table: &Table) -> Result<Calls, Failure> {
         (true, false, false) => Ok(Calls::Same),
         (false, true, false) => Ok(Calls::Verified),
         (false, false, true) => Ok(Calls::EachWrite),
-        _ => Failure::told(alloc, "only one of stable, round and every_call may be set"),
+        _ => Err(Failure::told(alloc, "only one of stable, round and every_call may be set")),
     }
 }
 
-/// How many bytes a write takes at most.
-fn step_at(alloc: Global, table: &Table, key: &str) -> Result<usize, Failure> {
-    match number_at(alloc, table, key)? {
-        Some(step) => Ok(step as usize),
-        None => Ok(usize::MAX),
+fn read_writes(
+    alloc: Global,
+    table: &Table,
+    failing: &str,
+    step: &str,
+    writes: &mut Writes,
+) -> Result<(), Failure> {
+    if let Some(step) = number_at(alloc, table, step)? {
+        writes.step = step as usize;
     }
+    add_numbers_at(alloc, table, failing, &mut writes.failing)
 }
 
-fn writes_of(alloc: Global, table: &Table, failing: &str, step: &str) -> Result<Writes, Failure> {
-    let step = step_at(alloc, table, step)?;
-    let failing = numbers_at(alloc, table, failing)?;
-    Ok(Writes { failing, step })
+fn read_faults(alloc: Global, table: &Table, faults: &mut Faults) -> Result<(), Failure> {
+    add_numbers_at(alloc, table, "tree_failing", &mut faults.tree)?;
+    read_writes(alloc, table, "out_failing", "out_step", &mut faults.out)?;
+    read_writes(alloc, table, "err_failing", "err_step", &mut faults.err)
 }
 
-fn faults_of(alloc: Global, table: &Table) -> Result<Faults, Failure> {
-    let tree = numbers_at(alloc, table, "tree_failing")?;
-    let out = writes_of(alloc, table, "out_failing", "out_step")?;
-    let err = writes_of(alloc, table, "err_failing", "err_step")?;
-    Ok(Faults { tree, out, err })
-}
-
-fn printed_in(alloc: Global, table: &Table) -> Result<Printed, Failure> {
-    has_only(alloc, table, &["pattern", "mode"])?;
-    let pattern = needed_at(alloc, table, "pattern")?;
-    let mode = needed_at(alloc, table, "mode")?;
-    Ok(Printed { pattern, mode })
-}
-
-fn printed_of(alloc: Global, value: &Value) -> Result<Printed, Failure> {
+fn add_family<'a>(
+    alloc: Global,
+    value: &'a Value,
+    families: &mut Vec<Printed<'a>>,
+) -> Result<(), Failure> {
     let table = item(alloc, "families", value)?;
-    printed_in(alloc, table)
+    has_only(alloc, table, &["pattern", "mode"])?;
+    let pattern = needed_at(alloc, table, "pattern")?.as_str();
+    let mode = needed_at(alloc, table, "mode")?.as_str();
+    families.push(Printed { pattern, mode })?;
+    Ok(())
 }
 
-fn families_of(alloc: Global, values: &Array) -> Result<Vec<Printed>, Failure> {
-    let mut families = Vec::new(alloc);
+fn add_families<'a>(
+    alloc: Global,
+    values: &'a Array,
+    families: &mut Vec<Printed<'a>>,
+) -> Result<(), Failure> {
     for value in values {
-        let family = printed_of(alloc, value)?;
-        families.push(family)?;
+        add_family(alloc, value, families)?;
     }
-    Ok(families)
+    Ok(())
 }
 
-/// These bytes, with the lines of families among them where there are any.
-fn with_families(alloc: Global, table: &Table, bytes: Vec<u8>) -> Result<Stdout, Failure> {
-    match list_at(alloc, table, "families")? {
-        Some(values) => Ok(Stdout::WithFamilies(bytes, families_of(alloc, values)?)),
-        None => Ok(Stdout::Is(bytes)),
+fn read_form<'a>(
+    alloc: Global,
+    table: &'a Table,
+    expected: &mut Expected<'a>,
+) -> Result<(), Failure> {
+    if let Some(begins) = string_at(alloc, table, "begins")? {
+        expected.form = Form::Begins(begins);
+        return Ok(());
     }
-}
-
-fn bytes_wanted(alloc: Global, table: &Table) -> Result<Stdout, Failure> {
     let family = number_at(alloc, table, "family")?;
-    let bytes = bytes_at(alloc, table, "stdout")?;
-    match family {
-        Some(greatest) => Ok(Stdout::WithFamily(bytes, greatest)),
-        None => with_families(alloc, table, bytes),
+    add_bytes_at(alloc, table, "stdout", &mut expected.stdout)?;
+    if let Some(greatest) = family {
+        expected.form = Form::WithFamily(greatest);
+        return Ok(());
     }
-}
-
-fn stdout_of(alloc: Global, table: &Table) -> Result<Stdout, Failure> {
-    match string_at(alloc, table, "begins")? {
-        Some(begins) => Ok(Stdout::Begins(begins)),
-        None => bytes_wanted(alloc, table),
+    match list_at(alloc, table, "families")? {
+        Some(values) => {
+            expected.form = Form::WithFamilies;
+            add_families(alloc, values, &mut expected.families)
+        }
+        None => Ok(()),
     }
 }
 
@@ -255,19 +265,17 @@ fn status_of(alloc: Global, table: &Table) -> Result<u8, Failure> {
     let status = number_at(alloc, table, "status")?.unwrap_or(0);
     match u8::try_from(status) {
         Ok(status) => Ok(status),
-        Err(_) => refused(alloc, "status"),
+        Err(_) => Err(refused(alloc, "status")),
     }
 }
 
-fn expected_of(alloc: Global, table: &Table) -> Result<Expected, Failure> {
-    let status = status_of(alloc, table)?;
-    let tree_faults = number_at(alloc, table, "tree_faults")?;
-    let stdout = stdout_of(alloc, table)?;
-    let stderr = bytes_at(alloc, table, "stderr")?;
-    Ok(Expected {
-        stdout,
-        stderr,
-        status,
-        tree_faults,
-    })
+fn read_expected<'a>(
+    alloc: Global,
+    table: &'a Table,
+    expected: &mut Expected<'a>,
+) -> Result<(), Failure> {
+    expected.status = status_of(alloc, table)?;
+    expected.tree_faults = number_at(alloc, table, "tree_faults")?;
+    read_form(alloc, table, expected)?;
+    add_bytes_at(alloc, table, "stderr", &mut expected.stderr)
 }

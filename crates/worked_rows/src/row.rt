@@ -1,29 +1,33 @@
-//! A worked row, as its file has it. `README.md` says what each field means.
+//! A worked row, as its file has it. `README.md` beside the files says what each field means.
 
-use std::collections::BTreeMap;
+use std::alloc::Global;
 
 /// A worked row.
 #[derive(Drop)]
-pub struct Row {
-    pub name: String,
+pub struct Row<'a> {
+    pub name: &'a str,
     pub words: Vec<String>,
-    pub setting: Setting,
+    pub setting: Setting<'a>,
     pub calls: Calls,
     pub faults: Faults,
-    pub expected: Expected,
+    pub expected: Expected<'a>,
 }
 
 /// What the row's call finds.
 #[derive(Drop)]
-pub struct Setting {
-    pub files: Files,
-    pub before: Vec<Saved>,
+pub struct Setting<'a> {
+    pub files: Vec<Placed<'a>>,
+    pub before: Vec<Saved<'a>>,
     /// The files that are written after the calls of `before`.
-    pub then: Files,
+    pub then: Vec<Placed<'a>>,
 }
 
-/// Files by their paths.
-pub type Files = BTreeMap<String, File>;
+/// What stands at this path.
+#[derive(Drop)]
+pub struct Placed<'a> {
+    pub path: &'a String,
+    pub file: File,
+}
 
 /// What stands at a path.
 #[derive(Drop)]
@@ -35,9 +39,9 @@ pub enum File {
 
 /// A call before the row's own, whose standard output becomes a file.
 #[derive(Drop)]
-pub struct Saved {
+pub struct Saved<'a> {
     pub words: Vec<String>,
-    pub save: String,
+    pub save: &'a String,
 }
 
 /// Which calls are made with the row's words.
@@ -70,29 +74,78 @@ pub struct Writes {
 
 /// What the row's call has to answer.
 #[derive(Drop)]
-pub struct Expected {
-    pub stdout: Stdout,
+pub struct Expected<'a> {
+    /// What the standard output has to be, as far as `form` says.
+    pub stdout: Vec<u8>,
+    pub form: Form<'a>,
+    /// The families whose lines stand in the standard output, if that is its form.
+    pub families: Vec<Printed<'a>>,
     pub stderr: Vec<u8>,
     pub status: u8,
     pub tree_faults: Option<u64>,
 }
 
 /// What the standard output has to be.
-#[derive(Drop)]
-pub enum Stdout {
-    /// These bytes.
-    Is(Vec<u8>),
+#[derive(Clone, Copy)]
+pub enum Form<'a> {
+    /// The bytes.
+    Plain,
     /// One line that begins so.
-    Begins(String),
-    /// These bytes and then the family that `class` shows, whose texts are tried up to this number.
-    WithFamily(Vec<u8>, u64),
-    /// These bytes with the lines of these families among them.
-    WithFamilies(Vec<u8>, Vec<Printed>),
+    Begins(&'a String),
+    /// The bytes and then the family that `class` shows, whose texts are tried up to this number.
+    WithFamily(u64),
+    /// The bytes with the lines of families among them.
+    WithFamilies,
 }
 
 /// A family that is shown: the pattern that it is of, and in which mode.
-#[derive(Drop)]
-pub struct Printed {
-    pub pattern: String,
-    pub mode: String,
+#[derive(Clone, Copy)]
+pub struct Printed<'a> {
+    pub pattern: &'a str,
+    pub mode: &'a str,
+}
+
+/// No write fails.
+fn all_written(alloc: Global) -> Writes {
+    Writes {
+        failing: Vec::new(alloc),
+        step: usize::MAX,
+    }
+}
+
+/// Nothing fails.
+pub fn no_faults(alloc: Global) -> Faults {
+    Faults {
+        tree: Vec::new(alloc),
+        out: all_written(alloc),
+        err: all_written(alloc),
+    }
+}
+
+/// Nothing is written, and nothing fails.
+fn nothing_expected<'a>(alloc: Global) -> Expected<'a> {
+    Expected {
+        stdout: Vec::new(alloc),
+        form: Form::Plain,
+        families: Vec::new(alloc),
+        stderr: Vec::new(alloc),
+        status: 0,
+        tree_faults: None,
+    }
+}
+
+/// The row in which no field is set.
+pub fn empty_row<'a>(alloc: Global) -> Row<'a> {
+    Row {
+        name: "",
+        words: Vec::new(alloc),
+        setting: Setting {
+            files: Vec::new(alloc),
+            before: Vec::new(alloc),
+            then: Vec::new(alloc),
+        },
+        calls: Calls::One,
+        faults: no_faults(alloc),
+        expected: nothing_expected(alloc),
+    }
 }
