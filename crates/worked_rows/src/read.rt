@@ -36,6 +36,12 @@ const FIELDS: [&str; 20] = [
     "every_call",
 ];
 
+// The fields of a call of `before`.
+const FIELDS_OF_CALL: [&str; 2] = ["words", "save"];
+
+// The fields of one of the `families`.
+const FIELDS_OF_FAMILY: [&str; 2] = ["pattern", "mode"];
+
 fn document_of(alloc: Global, text: &str) -> Result<Table, Failure> {
     match toml::table_from_str(alloc, text) {
         Ok(document) => Ok(document),
@@ -76,13 +82,15 @@ pub fn name_of(
 /// Reads the row that a value is into an empty one.
 pub fn read_row<'a>(alloc: Global, value: &'a Value, row: &mut Row<'a>) -> Result<(), Failure> {
     match value {
-        Value::Table(table) => read_fields(alloc, table, row),
+        Value::Table(table) => {
+            has_only(alloc, table, &FIELDS)?;
+            read_fields(alloc, table, row)
+        }
         _ => Err(Failure::told(alloc, "it is no table")),
     }
 }
 
 fn read_fields<'a>(alloc: Global, table: &'a Table, row: &mut Row<'a>) -> Result<(), Failure> {
-    has_only(alloc, table, &FIELDS)?;
     row.calls = calls_of(alloc, table)?;
     row.name = needed_at(alloc, table, "name")?.as_str();
     add_words_at(alloc, table, "words", &mut row.words)?;
@@ -91,10 +99,18 @@ fn read_fields<'a>(alloc: Global, table: &'a Table, row: &mut Row<'a>) -> Result
     read_expected(alloc, table, &mut row.expected)
 }
 
-/// The table of a list's item.
-fn item<'a>(alloc: Global, key: &str, value: &'a Value) -> Result<&'a Table, Failure> {
+/// The table of a list's item, which has only these fields.
+fn item<'a>(
+    alloc: Global,
+    key: &str,
+    value: &'a Value,
+    fields: &[&'a str],
+) -> Result<&'a Table, Failure> {
     match value {
-        Value::Table(table) => Ok(table),
+        Value::Table(table) => {
+            has_only(alloc, table, fields)?;
+            Ok(table)
+        }
         _ => Err(refused(alloc, key)),
     }
 }
@@ -149,8 +165,7 @@ fn add_call<'a>(
     value: &'a Value,
     calls: &mut Vec<Saved<'a>>,
 ) -> Result<(), Failure> {
-    let table = item(alloc, "before", value)?;
-    has_only(alloc, table, &["words", "save"])?;
+    let table = item(alloc, "before", value, &FIELDS_OF_CALL)?;
     let mut words = Vec::new(alloc);
     add_words_at(alloc, table, "words", &mut words)?;
     let save = needed_at(alloc, table, "save")?;
@@ -218,8 +233,7 @@ fn add_family<'a>(
     value: &'a Value,
     families: &mut Vec<Printed<'a>>,
 ) -> Result<(), Failure> {
-    let table = item(alloc, "families", value)?;
-    has_only(alloc, table, &["pattern", "mode"])?;
+    let table = item(alloc, "families", value, &FIELDS_OF_FAMILY)?;
     let pattern = needed_at(alloc, table, "pattern")?.as_str();
     let mode = needed_at(alloc, table, "mode")?.as_str();
     families.push(Printed { pattern, mode })?;
