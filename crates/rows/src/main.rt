@@ -6,27 +6,33 @@
 //! where the files can't be read.
 #![tactic(auto)]
 
-mod answer;
-mod failure;
-mod families;
-mod fields;
-mod judge;
-mod read;
-mod row;
-mod text;
-mod tree;
-
-use crate::failure::Failure;
-use crate::judge::judge;
-use crate::read::{name_of, row_of, values_of};
-use crate::text::add_word;
+use rl_lint::relint_main;
+use rl_source::{MemSink, MemTree};
+use std::alloc::Global;
 use std::collections::BTreeSet;
 use std::process::ExitCode;
 use std::{fs, io};
 use toml::Value;
 use toml::value::Array;
+use worked_rows::{Failure, Program, judge_value, name_of, values_of};
 
 type Runtime = HostRuntime;
+
+/// The program `relint`.
+struct Relint;
+
+impl Program for Relint {
+    fn run(
+        &self,
+        alloc: Global,
+        words: &Vec<String>,
+        tree: &mut MemTree,
+        out: &mut MemSink,
+        err: &mut MemSink,
+    ) -> u8 {
+        relint_main(alloc, words, tree, out, err)
+    }
+}
 
 /// How many rows there were, and how many of them failed.
 #[derive(Drop)]
@@ -51,22 +57,6 @@ impl Tally {
         println!(rt; "{place}: {failure}")
     }
 
-    /// Notes the name of a row, which no other row has.
-    fn add_name(&mut self, rt: &Runtime, name: &String) -> Result<(), Failure> {
-        let name = name.clone()?;
-        if self.names.insert(name)? {
-            return Ok(());
-        }
-        Failure::told(rt.alloc(), "another row has this name")
-    }
-
-    /// Reads and runs the row that stands at this place of a file.
-    fn run_row(&mut self, rt: &Runtime, value: &Value) -> Result<(), Failure> {
-        let row = row_of(rt.alloc(), value)?;
-        self.add_name(rt, &row.name)?;
-        judge(rt.alloc(), &row)
-    }
-
     /// Runs a row, and prints why it fails.
     fn tell_row(
         &mut self,
@@ -76,7 +66,7 @@ impl Tally {
         value: &Value,
     ) -> io::Result<()> {
         self.rows = self.rows.saturating_add(1);
-        match self.run_row(rt, value) {
+        match judge_value(rt.alloc(), &Relint, &mut self.names, value) {
             Ok(()) => Ok(()),
             Err(failure) => {
                 let name = name_of(rt.alloc(), file, place, value)?;
@@ -104,7 +94,8 @@ impl Tally {
 /// Adds the name of a file, where it is one of rows.
 fn add_file_name(rt: &Runtime, name: &str, names: &mut Vec<String>) -> io::Result<()> {
     if name.ends_with(".toml") {
-        add_word(rt.alloc(), name, names)?;
+        let name = String::from_str(rt.alloc(), name)?;
+        names.push(name)?;
     }
     Ok(())
 }

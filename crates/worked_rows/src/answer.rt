@@ -1,9 +1,9 @@
 //! A call of the program over a tree and sinks in memory.
 
 use crate::failure::Failure;
-use crate::row::{Faults, Writes};
+use crate::program::Program;
+use crate::row::{Faults, Writes, no_faults};
 use crate::tree::Places;
-use rl_lint::relint_main;
 use rl_source::{MemSink, MemTree, Tree};
 use std::alloc::Global;
 
@@ -17,23 +17,6 @@ pub struct Answer {
     pub out: MemSink,
     pub err: MemSink,
     pub tree_faults: u64,
-}
-
-/// No write fails.
-fn all_written(alloc: Global) -> Writes {
-    Writes {
-        failing: Vec::new(alloc),
-        step: usize::MAX,
-    }
-}
-
-/// Nothing fails.
-fn no_faults(alloc: Global) -> Faults {
-    Faults {
-        tree: Vec::new(alloc),
-        out: all_written(alloc),
-        err: all_written(alloc),
-    }
 }
 
 fn tree_of(
@@ -52,20 +35,21 @@ fn sink_of(alloc: Global, writes: &Writes) -> Result<MemSink, Failure> {
     Ok(MemSink::new(alloc, writes.step.max(1), ROOM, failing)?)
 }
 
-fn sinks_of(alloc: Global, faults: &Faults) -> Result<(MemSink, MemSink), Failure> {
-    let out = sink_of(alloc, &faults.out)?;
-    let err = sink_of(alloc, &faults.err)?;
+fn sinks_of(alloc: Global, out: &Writes, err: &Writes) -> Result<(MemSink, MemSink), Failure> {
+    let out = sink_of(alloc, out)?;
+    let err = sink_of(alloc, err)?;
     Ok((out, err))
 }
 
-fn answer_over(
+fn answer_over<P: Program>(
     alloc: Global,
+    program: &P,
     words: &Vec<String>,
     mut tree: MemTree,
     mut out: MemSink,
     mut err: MemSink,
 ) -> Answer {
-    let status = relint_main(alloc, words, &mut tree, &mut out, &mut err);
+    let status = program.run(alloc, words, &mut tree, &mut out, &mut err);
     let tree_faults = tree.faults();
     Answer {
         status,
@@ -75,24 +59,38 @@ fn answer_over(
     }
 }
 
-/// The answer to these words over these files.
-pub fn answer_to(
+/// The answer to these words over these files, where these writes to standard output fail, and all other faults come.
+pub fn answer_with<P: Program>(
     alloc: Global,
+    program: &P,
+    words: &Vec<String>,
+    places: &Places,
+    faults: &Faults,
+    out: &Writes,
+) -> Result<Answer, Failure> {
+    let tree = tree_of(alloc, words, places, &faults.tree)?;
+    let (out, err) = sinks_of(alloc, out, &faults.err)?;
+    Ok(answer_over(alloc, program, words, tree, out, err))
+}
+
+/// The answer to these words over these files.
+pub fn answer_to<P: Program>(
+    alloc: Global,
+    program: &P,
     words: &Vec<String>,
     places: &Places,
     faults: &Faults,
 ) -> Result<Answer, Failure> {
-    let tree = tree_of(alloc, words, places, &faults.tree)?;
-    let (out, err) = sinks_of(alloc, faults)?;
-    Ok(answer_over(alloc, words, tree, out, err))
+    answer_with(alloc, program, words, places, faults, &faults.out)
 }
 
 /// The answer to these words over these files, where nothing fails.
-pub fn plain_answer_to(
+pub fn plain_answer_to<P: Program>(
     alloc: Global,
+    program: &P,
     words: &Vec<String>,
     places: &Places,
 ) -> Result<Answer, Failure> {
     let faults = no_faults(alloc);
-    answer_to(alloc, words, places, &faults)
+    answer_to(alloc, program, words, places, &faults)
 }

@@ -2,6 +2,7 @@
 
 use crate::answer::{Answer, plain_answer_to};
 use crate::failure::{Failure, same, same_number};
+use crate::program::Program;
 use crate::row::Printed;
 use crate::text::add_word;
 use crate::tree::Places;
@@ -54,20 +55,17 @@ fn line_before<'a>(lines: &[&'a str], place: usize) -> &'a str {
     }
 }
 
-fn part_lines<'a>(alloc: Global, lines: &[&'a str]) -> Result<Parted<'a>, AllocError> {
-    let rest = String::new(alloc);
-    let shown = Vec::new(alloc);
-    let mut parted = Parted { rest, shown };
+fn part_lines<'a>(lines: &[&'a str], parted: &mut Parted<'a>) -> Result<(), AllocError> {
     for (place, line) in lines.iter().enumerate() {
         parted.add(line_before(lines, place), *line)?;
     }
-    Ok(parted)
+    Ok(())
 }
 
 /// Takes the lines of families out of an output.
-fn part(alloc: Global, output: &str) -> Result<Parted<'_>, AllocError> {
+fn part<'a>(alloc: Global, output: &'a str, parted: &mut Parted<'a>) -> Result<(), AllocError> {
     let lines: Vec<&str> = output.split_inclusive('\n').collect(alloc)?;
-    part_lines(alloc, lines.as_slice())
+    part_lines(lines.as_slice(), parted)
 }
 
 /// Where the reader of a line stands: between two texts, in one without or with escapes, behind a backslash, or before so many
@@ -179,12 +177,10 @@ impl Family {
         false
     }
 
-    /// Whether it has as many pumps as the verdict says, none of them empty.
-    fn fits(&self, alloc: Global, verdict: &str) -> Result<bool, AllocError> {
-        let pumps = self.pumps();
-        let degree = format!(in alloc; "degree {pumps}")?;
-        let is_told = verdict == degree.as_str() || verdict == "exponential" && pumps == 1;
-        Ok(is_told && self.texts.len() % 2 == 1 && !self.has_empty_pump())
+    /// Whether it has as many pumps as the verdict says, none of them empty; `degree` names the degree that so many pumps show.
+    fn fits(&self, verdict: &str, degree: &str) -> bool {
+        let is_told = verdict == degree || verdict == "exponential" && self.pumps() == 1;
+        is_told && self.texts.len() % 2 == 1 && !self.has_empty_pump()
     }
 
     /// The text in which each pump stands so many times.
@@ -224,25 +220,23 @@ fn steps_of(out: &[u8]) -> Option<u64> {
     number.parse::<u64>().ok()
 }
 
-/// The words that ask what a text costs.
-fn words_of_cost(alloc: Global, printed: &Printed, text: &str) -> Result<Vec<String>, AllocError> {
-    let mode = printed.mode.as_str();
-    let mut words = Vec::new(alloc);
-    for word in ["cost", "--mode", mode, "--", printed.pattern.as_str(), text] {
-        add_word(alloc, word, &mut words)?;
-    }
-    Ok(words)
-}
-
-fn answer_of_cost(alloc: Global, printed: &Printed, text: &str) -> Result<Answer, Failure> {
-    let words = words_of_cost(alloc, printed, text)?;
+/// What the program answers to words of `cost`, which needs no files.
+fn answer_of_cost<P: Program>(
+    alloc: Global,
+    program: &P,
+    words: &Vec<String>,
+) -> Result<Answer, Failure> {
     let places = Places::new(alloc)?;
-    plain_answer_to(alloc, &words, &places)
+    plain_answer_to(alloc, program, words, &places)
 }
 
-/// How many steps the text costs, or `None` where `cost` gives no number that 64 bits hold.
-fn steps(alloc: Global, printed: &Printed, text: &str) -> Result<Option<u64>, Failure> {
-    let answer = answer_of_cost(alloc, printed, text)?;
+/// The number of steps in what the program answers to these words, or `None` where that is no number that 64 bits hold.
+fn steps<P: Program>(
+    alloc: Global,
+    program: &P,
+    words: &Vec<String>,
+) -> Result<Option<u64>, Failure> {
+    let answer = answer_of_cost(alloc, program, words)?;
     Ok(steps_of(answer.out.bytes()))
 }
 
@@ -250,51 +244,77 @@ fn steps(alloc: Global, printed: &Printed, text: &str) -> Result<Option<u64>, Fa
 #[derive(Clone, Copy)]
 struct Trial<'a> {
     shown: Shown<'a>,
-    printed: &'a Printed,
+    printed: Printed<'a>,
     family: &'a Family,
 }
 
 impl Trial<'_> {
-    /// How many steps the text for this number costs.
-    fn steps(self, alloc: Global, times: u64) -> Result<Option<u64>, Failure> {
+    /// Adds the words that ask what the text for this number costs.
+    fn add_words(
+        self,
+        alloc: Global,
+        times: u64,
+        words: &mut Vec<String>,
+    ) -> Result<(), AllocError> {
+        let Printed { pattern, mode } = self.printed;
+        for word in ["cost", "--mode", mode, "--", pattern] {
+            add_word(alloc, word, words)?;
+        }
         let text = self.family.text(alloc, times)?;
-        steps(alloc, self.printed, text.as_str())
+        words.push(text)?;
+        Ok(())
+    }
+
+    /// How many steps the text for this number costs.
+    fn steps<P: Program>(
+        self,
+        alloc: Global,
+        program: &P,
+        times: u64,
+    ) -> Result<Option<u64>, Failure> {
+        let mut words = Vec::new(alloc);
+        self.add_words(alloc, times, &mut words)?;
+        steps(alloc, program, &words)
     }
 
     /// Tries the text for this number.
-    fn judge_text(self, alloc: Global, times: u64) -> Result<(), Failure> {
+    fn judge_text<P: Program>(self, alloc: Global, program: &P, times: u64) -> Result<(), Failure> {
         let Shown { verdict, line } = self.shown;
         let least = self.family.least_steps(verdict, times);
-        match self.steps(alloc, times)? {
+        match self.steps(alloc, program, times)? {
             Some(steps) if steps >= least => Ok(()),
-            _ => Err(Failure::Told(format!(in alloc;
+            _ => Err(Failure::of(format!(in alloc;
                 "the text for {times} doesn't cost {least} steps: {line:?}"
-            )?)),
+            ))),
         }
     }
 
     fn judge_form(self, alloc: Global) -> Result<(), Failure> {
         let Shown { verdict, line } = self.shown;
-        if self.family.fits(alloc, verdict)? {
-            return Ok(());
+        let pumps = self.family.pumps();
+        let degree = format!(in alloc; "degree {pumps}")?;
+        if self.family.fits(verdict, degree.as_str()) {
+            Ok(())
+        } else {
+            Err(Failure::of(format!(in alloc; "{verdict} isn't shown by {line:?}")))
         }
-        Err(Failure::Told(format!(in alloc; "{verdict} isn't shown by {line:?}")?))
     }
 
-    fn judge(self, alloc: Global, greatest: u64) -> Result<(), Failure> {
+    fn judge<P: Program>(self, alloc: Global, program: &P, greatest: u64) -> Result<(), Failure> {
         self.judge_form(alloc)?;
         for times in 0..=greatest {
-            self.judge_text(alloc, times)?;
+            self.judge_text(alloc, program, times)?;
         }
         Ok(())
     }
 }
 
 /// Tries the texts of a family for the numbers up to the greatest.
-fn judge_family(
+fn judge_family<P: Program>(
     alloc: Global,
+    program: &P,
     shown: Shown<'_>,
-    printed: &Printed,
+    printed: Printed<'_>,
     greatest: u64,
 ) -> Result<(), Failure> {
     let family = Family::read(alloc, shown.line)?;
@@ -303,7 +323,7 @@ fn judge_family(
         printed,
         family: &family,
     };
-    trial.judge(alloc, greatest)
+    trial.judge(alloc, program, greatest)
 }
 
 /// The mode that words name.
@@ -318,72 +338,102 @@ fn mode_of(words: &Vec<String>) -> &str {
     "fullmatch"
 }
 
-/// A pattern with the mode that words name.
-fn printed_by(alloc: Global, words: &Vec<String>, pattern: &String) -> Result<Printed, AllocError> {
-    let mode = String::from_str(alloc, mode_of(words))?;
-    let pattern = pattern.clone()?;
-    Ok(Printed { pattern, mode })
-}
-
-/// The pattern that ends words of `class`, and their mode.
-fn class_of(alloc: Global, words: &Vec<String>) -> Result<Vec<Printed>, AllocError> {
-    let mut families = Vec::new(alloc);
-    if let Some(pattern) = words.last() {
-        let printed = printed_by(alloc, words, pattern)?;
-        families.push(printed)?;
-    }
-    Ok(families)
-}
-
-/// Compares an output of `class`, without its family, and tries the family up to this number.
-pub fn judge_class(
+/// Compares an output of `class`, without its family, and tries the family up to this number. The pattern is the last word.
+pub fn judge_class<P: Program>(
     alloc: Global,
+    program: &P,
     words: &Vec<String>,
     output: &[u8],
     wanted: &[u8],
     greatest: u64,
 ) -> Result<(), Failure> {
-    let families = class_of(alloc, words)?;
-    judge_families(alloc, output, wanted, &families, greatest)
+    let Some(pattern) = words.last() else {
+        return judge_families(alloc, program, output, wanted, &[], greatest);
+    };
+    let printed = Printed {
+        pattern: pattern.as_str(),
+        mode: mode_of(words),
+    };
+    judge_families(alloc, program, output, wanted, &[printed], greatest)
 }
 
 /// Compares a report without the lines of families, and tries each family.
-pub fn judge_report(
+pub fn judge_report<P: Program>(
     alloc: Global,
+    program: &P,
     output: &[u8],
     wanted: &[u8],
-    families: &Vec<Printed>,
+    families: &Vec<Printed<'_>>,
 ) -> Result<(), Failure> {
-    judge_families(alloc, output, wanted, families, GREATEST)
+    judge_families(
+        alloc,
+        program,
+        output,
+        wanted,
+        families.as_slice(),
+        GREATEST,
+    )
 }
 
-fn judge_parted(
+/// Tries each family that is shown.
+fn judge_shown<P: Program>(
     alloc: Global,
+    program: &P,
+    shown: &[Shown<'_>],
+    families: &[Printed<'_>],
+    greatest: u64,
+) -> Result<(), Failure> {
+    for (place, shown) in shown.iter().enumerate() {
+        if let Some(printed) = families.get(place) {
+            judge_family(alloc, program, *shown, *printed, greatest)?;
+        }
+    }
+    Ok(())
+}
+
+fn judge_parted<P: Program>(
+    alloc: Global,
+    program: &P,
     parted: &Parted<'_>,
     wanted: &[u8],
-    families: &Vec<Printed>,
+    families: &[Printed<'_>],
     greatest: u64,
 ) -> Result<(), Failure> {
     let rest = parted.rest.as_bytes();
     same(alloc, "standard output without families", rest, wanted)?;
     let (shown, expected) = (parted.shown.len() as u64, families.len() as u64);
     same_number(alloc, "the number of families", shown, expected)?;
-    for (shown, printed) in parted.shown.iter().zip(families) {
-        judge_family(alloc, *shown, printed, greatest)?;
-    }
-    Ok(())
+    judge_shown(alloc, program, parted.shown.as_slice(), families, greatest)
 }
 
-fn judge_families(
+fn judge_text<P: Program>(
     alloc: Global,
-    output: &[u8],
+    program: &P,
+    output: &str,
     wanted: &[u8],
-    families: &Vec<Printed>,
+    families: &[Printed<'_>],
     greatest: u64,
 ) -> Result<(), Failure> {
-    let Ok(output) = str::from_utf8(output) else {
-        return Failure::told(alloc, "standard output isn't UTF-8");
+    let mut parted = Parted {
+        rest: String::new(alloc),
+        shown: Vec::new(alloc),
     };
-    let parted = part(alloc, output)?;
-    judge_parted(alloc, &parted, wanted, families, greatest)
+    match part(alloc, output, &mut parted) {
+        Ok(()) => judge_parted(alloc, program, &parted, wanted, families, greatest),
+        Err(_) => Err(Failure::OutOfMemory),
+    }
+}
+
+fn judge_families<P: Program>(
+    alloc: Global,
+    program: &P,
+    output: &[u8],
+    wanted: &[u8],
+    families: &[Printed<'_>],
+    greatest: u64,
+) -> Result<(), Failure> {
+    match str::from_utf8(output) {
+        Ok(output) => judge_text(alloc, program, output, wanted, families, greatest),
+        Err(_) => Err(Failure::told(alloc, "standard output isn't UTF-8")),
+    }
 }

@@ -1,6 +1,6 @@
 //! The files of a row, as a tree in memory.
 
-use crate::row::{File, Files};
+use crate::row::{File, Placed};
 use rl_lists::OutOfMemory;
 use rl_source::{Child, Children, Content, Held, Kind, Name, Node, Nodes};
 use std::alloc::Global;
@@ -8,6 +8,9 @@ use std::collections::BTreeMap;
 
 // The folder in which the row is run.
 const TOP: &str = ".";
+
+/// Files by their paths.
+type Files = BTreeMap<String, File>;
 
 /// What stands at the paths below the folder in which a row is run.
 #[derive(Drop)]
@@ -88,23 +91,33 @@ impl Places {
         self.put_bytes(path, bytes)
     }
 
-    fn put_link(&mut self, path: &str) -> Result<(), OutOfMemory> {
-        self.put_above(path)?;
-        self.put(path, File::Link)
-    }
-
     fn put_one(&mut self, path: &str, file: &File) -> Result<(), OutOfMemory> {
+        self.put_above(path)?;
         match file {
-            File::Holds(bytes) => self.put_file(path, bytes.as_slice()),
-            File::Folder => self.put_above(path),
-            File::Link => self.put_link(path),
+            File::Holds(bytes) => self.put_bytes(path, bytes.as_slice()),
+            File::Folder => Ok(()),
+            File::Link => self.put(path, File::Link),
         }
     }
 
     /// Puts the files of a row.
-    pub fn put_all(&mut self, files: &Files) -> Result<(), OutOfMemory> {
-        for (path, file) in files {
-            self.put_one(path.as_str(), file)?;
+    pub fn put_all(&mut self, files: &Vec<Placed<'_>>) -> Result<(), OutOfMemory> {
+        for placed in files {
+            self.put_one(placed.path.as_str(), &placed.file)?;
+        }
+        Ok(())
+    }
+
+    /// Adds what stands at a path, if the path is in this folder.
+    fn add_child(
+        &self,
+        folder: &str,
+        place: Place<'_>,
+        children: &mut Children,
+    ) -> Result<(), OutOfMemory> {
+        if let Some(name) = name_in(folder, place.path) {
+            let child = place.child(self.alloc, name)?;
+            children.push(child)?;
         }
         Ok(())
     }
@@ -113,10 +126,7 @@ impl Places {
     fn add_children(&self, folder: &str, children: &mut Children) -> Result<(), OutOfMemory> {
         for (path, file) in self.files.iter().rev() {
             let path = path.as_str();
-            if let Some(name) = name_in(folder, path) {
-                let child = Place { path, file }.child(self.alloc, name)?;
-                children.push(child)?;
-            }
+            self.add_child(folder, Place { path, file }, children)?;
         }
         Ok(())
     }
@@ -149,8 +159,7 @@ impl Places {
     fn add_plain<'a>(&'a self, spellings: &mut Spellings<'a>) -> Result<(), OutOfMemory> {
         for (path, file) in &self.files {
             let spelling = path.clone()?;
-            let path = path.as_str();
-            spellings.insert(spelling, Place { path, file })?;
+            add_spelling(spelling, path.as_str(), file, spellings)?;
         }
         Ok(())
     }
@@ -163,10 +172,9 @@ impl Places {
         spellings: &mut Spellings<'a>,
     ) -> Result<(), OutOfMemory> {
         for (path, file) in &self.files {
-            let path = path.as_str();
-            if let Some(rest) = below(wanted, path) {
+            if let Some(rest) = below(wanted, path.as_str()) {
                 let spelling = joined(self.alloc, word, rest)?;
-                spellings.insert(spelling, Place { path, file })?;
+                add_spelling(spelling, path.as_str(), file, spellings)?;
             }
         }
         Ok(())
@@ -197,29 +205,58 @@ impl Places {
         Ok(())
     }
 
-    /// All places, as they are spelled in a call with these words.
-    fn spellings(&self, words: &Vec<String>) -> Result<Spellings<'_>, OutOfMemory> {
-        let mut spellings = Spellings::new(self.alloc);
-        self.add_plain(&mut spellings)?;
-        self.add_words(words, &mut spellings)?;
-        Ok(spellings)
+    /// Adds all places, as they are spelled in a call with these words.
+    fn add_spellings<'a>(
+        &'a self,
+        words: &Vec<String>,
+        spellings: &mut Spellings<'a>,
+    ) -> Result<(), OutOfMemory> {
+        self.add_plain(spellings)?;
+        self.add_words(words, spellings)
+    }
+
+    fn add_node(
+        &self,
+        spelling: &str,
+        place: Place<'_>,
+        nodes: &mut Nodes,
+    ) -> Result<(), OutOfMemory> {
+        let node = self.node(spelling, place)?;
+        nodes.push(node)?;
+        Ok(())
     }
 
     fn add_nodes(&self, spellings: &Spellings<'_>, nodes: &mut Nodes) -> Result<(), OutOfMemory> {
         for (spelling, place) in spellings {
-            let node = self.node(spelling.as_str(), *place)?;
-            nodes.push(node)?;
+            self.add_node(spelling.as_str(), *place, nodes)?;
         }
         Ok(())
     }
 
+    /// Adds the nodes of all places that a call with these words finds.
+    fn add_all(&self, words: &Vec<String>, nodes: &mut Nodes) -> Result<(), OutOfMemory> {
+        let mut spellings = Spellings::new(self.alloc);
+        self.add_spellings(words, &mut spellings)?;
+        self.add_nodes(&spellings, nodes)
+    }
+
     /// The nodes of a tree with these files, where a call with these words finds them.
     pub fn nodes(&self, words: &Vec<String>) -> Result<Nodes, OutOfMemory> {
-        let spellings = self.spellings(words)?;
         let mut nodes = Nodes::new(self.alloc);
-        self.add_nodes(&spellings, &mut nodes)?;
+        self.add_all(words, &mut nodes)?;
         Ok(nodes)
     }
+}
+
+/// Adds what stands at a path, by a spelling of the path.
+fn add_spelling<'a>(
+    spelling: String,
+    path: &'a str,
+    file: &'a File,
+    spellings: &mut Spellings<'a>,
+) -> Result<(), OutOfMemory> {
+    spellings.insert(spelling, Place { path, file })?;
+    Ok(())
 }
 
 /// The folder and the name of a path.
@@ -240,7 +277,11 @@ fn name_in<'a>(folder: &str, path: &'a str) -> Option<&'a str> {
     }
 }
 
+/// Adds a name to a path, if it names anything but the folder that it stands in.
 fn add_name(path: &mut String, name: &str) -> Result<(), OutOfMemory> {
+    if name.is_empty() || name == TOP {
+        return Ok(());
+    }
     if !path.is_empty() {
         path.push('/')?;
     }
@@ -251,9 +292,7 @@ fn add_name(path: &mut String, name: &str) -> Result<(), OutOfMemory> {
 /// Adds the names of a word that aren't `.`.
 fn add_names(path: &mut String, word: &str) -> Result<(), OutOfMemory> {
     for name in word.split('/') {
-        if !name.is_empty() && name != TOP {
-            add_name(path, name)?;
-        }
+        add_name(path, name)?;
     }
     Ok(())
 }

@@ -8,14 +8,24 @@ use std::fmt;
 /// Why a row fails: it can't be read, or it is answered otherwise than it says.
 #[derive(Drop)]
 pub enum Failure {
+    /// What is wrong with it.
     Told(String),
+    /// Out of memory.
     OutOfMemory,
 }
 
 impl Failure {
+    /// The failure that a text tells of, where there was memory for the text.
+    pub(crate) fn of(text: Result<String, AllocError>) -> Failure {
+        match text {
+            Ok(text) => Failure::Told(text),
+            Err(_) => Failure::OutOfMemory,
+        }
+    }
+
     /// The failure that this text tells of.
-    pub fn told<T>(alloc: Global, text: &str) -> Result<T, Failure> {
-        Err(Failure::Told(String::from_str(alloc, text)?))
+    pub(crate) fn told(alloc: Global, text: &str) -> Failure {
+        Failure::of(String::from_str(alloc, text))
     }
 }
 
@@ -56,7 +66,7 @@ impl From<MemTreeError> for Failure {
 fn differ(alloc: Global, what: &str, got: &[u8], wanted: &[u8]) -> Result<(), Failure> {
     let got = String::from_utf8_lossy(alloc, got)?;
     let wanted = String::from_utf8_lossy(alloc, wanted)?;
-    Err(Failure::Told(format!(in alloc; "{what} is {got:?} and should be {wanted:?}")?))
+    Err(Failure::of(format!(in alloc; "{what} is {got:?} and should be {wanted:?}")))
 }
 
 /// Refuses bytes that aren't those that should come.
@@ -71,7 +81,8 @@ pub fn same(alloc: Global, what: &str, got: &[u8], wanted: &[u8]) -> Result<(), 
 /// Refuses a number that isn't the one that should come.
 pub fn same_number(alloc: Global, what: &str, got: u64, wanted: u64) -> Result<(), Failure> {
     if got == wanted {
-        return Ok(());
+        Ok(())
+    } else {
+        Err(Failure::of(format!(in alloc; "{what} is {got} and should be {wanted}")))
     }
-    Err(Failure::Told(format!(in alloc; "{what} is {got} and should be {wanted}")?))
 }

@@ -11,7 +11,8 @@ pub fn bytes_of(alloc: Global, value: &Value) -> Result<Vec<u8>, Failure> {
     Ok(bytes)
 }
 
-fn add_text(alloc: Global, value: &Value, bytes: &mut Vec<u8>) -> Result<(), Failure> {
+/// Adds the bytes of a text.
+pub fn add_text(alloc: Global, value: &Value, bytes: &mut Vec<u8>) -> Result<(), Failure> {
     match value.get("parts") {
         Some(Value::Array(parts)) => {
             for part in parts {
@@ -28,7 +29,7 @@ pub fn string_of(alloc: Global, value: &Value) -> Result<String, Failure> {
     let bytes = bytes_of(alloc, value)?;
     match str::from_utf8(bytes.as_slice()) {
         Ok(text) => Ok(String::from_str(alloc, text)?),
-        Err(_) => Failure::told(alloc, "a word isn't UTF-8"),
+        Err(_) => Err(Failure::told(alloc, "a word isn't UTF-8")),
     }
 }
 
@@ -43,7 +44,7 @@ fn add_part(alloc: Global, value: &Value, bytes: &mut Vec<u8>) -> Result<(), Fai
     match value {
         Value::String(text) => Ok(bytes.extend_from_slice(text.as_bytes())?),
         Value::Table(table) => add_spelled(alloc, table, bytes),
-        _ => Failure::told(alloc, "a text is neither a string nor a table"),
+        _ => Err(Failure::told(alloc, "a text is neither a string nor a table")),
     }
 }
 
@@ -78,7 +79,7 @@ fn add_spelled(alloc: Global, table: &Table, bytes: &mut Vec<u8>) -> Result<(), 
     ) {
         (Some(text), Some(times), None) => add_copies(text, times, bytes),
         (Some(text), None, Some(first)) => add_first(text, first, bytes),
-        _ => Failure::told(alloc, "a table spells no text"),
+        _ => Err(Failure::told(alloc, "a table spells no text")),
     }
 }
 
@@ -101,7 +102,7 @@ fn add_characters(alloc: Global, from: u32, upto: u32, bytes: &mut Vec<u8>) -> R
         match char::from_u32(number) {
             Some(character) => add_character(alloc, character, bytes)?,
             None => {
-                return Failure::told(alloc, "a number from `from` to `upto` is no character");
+                return Err(Failure::told(alloc, "a number from `from` to `upto` is no character"));
             }
         }
     }
@@ -119,7 +120,7 @@ fn add_character(alloc: Global, character: char, bytes: &mut Vec<u8>) -> Result<
 fn add_hex(alloc: Global, hex: &str, bytes: &mut Vec<u8>) -> Result<(), Failure> {
     for pair in hex.split_ascii_whitespace() {
         let Ok(byte) = u8::from_str_radix(pair, 16) else {
-            return Failure::told(alloc, "`hex` isn't bytes with blanks between them");
+            return Err(Failure::told(alloc, "`hex` isn't bytes with blanks between them"));
         };
         bytes.push(byte)?;
     }

@@ -1,0 +1,138 @@
+//! The fields of a row, by the kinds of their values. What may be long is added to a list; where the field isn't there, nothing is.
+
+use crate::failure::Failure;
+use crate::text::{add_text, string_of};
+use std::alloc::Global;
+use toml::value::Array;
+use toml::{Table, Value};
+
+/// The failure of a field whose value isn't one that it takes.
+pub fn refused(alloc: Global, key: &str) -> Failure {
+    Failure::of(format!(in alloc; "the value of {key} isn't one that it takes"))
+}
+
+/// The failure of a field that has to be there.
+fn missing(alloc: Global, key: &str) -> Failure {
+    Failure::of(format!(in alloc; "the field {key} is missing"))
+}
+
+/// The failure of a field that isn't known.
+fn unknown(alloc: Global, key: &str) -> Failure {
+    Failure::of(format!(in alloc; "the field {key} isn't known"))
+}
+
+/// Refuses a table with other fields than these.
+pub fn has_only<'a>(alloc: Global, table: &'a Table, keys: &[&'a str]) -> Result<(), Failure> {
+    for key in table.keys() {
+        if !keys.contains(&key.as_str()) {
+            return Err(unknown(alloc, key.as_str()));
+        }
+    }
+    Ok(())
+}
+
+pub fn add_bytes_at(
+    alloc: Global,
+    table: &Table,
+    key: &str,
+    bytes: &mut Vec<u8>,
+) -> Result<(), Failure> {
+    match table.get(key) {
+        Some(value) => add_text(alloc, value, bytes),
+        None => Ok(()),
+    }
+}
+
+pub fn string_at<'a>(
+    alloc: Global,
+    table: &'a Table,
+    key: &str,
+) -> Result<Option<&'a String>, Failure> {
+    match table.get(key) {
+        Some(Value::String(text)) => Ok(Some(text)),
+        Some(_) => Err(refused(alloc, key)),
+        None => Ok(None),
+    }
+}
+
+/// The string of a field that has to be there.
+pub fn needed_at<'a>(alloc: Global, table: &'a Table, key: &str) -> Result<&'a String, Failure> {
+    match table.get(key) {
+        Some(Value::String(text)) => Ok(text),
+        Some(_) => Err(refused(alloc, key)),
+        None => Err(missing(alloc, key)),
+    }
+}
+
+fn number_of(value: &Value) -> Option<u64> {
+    u64::try_from(value.as_integer()?).ok()
+}
+
+pub fn number_at(alloc: Global, table: &Table, key: &str) -> Result<Option<u64>, Failure> {
+    match table.get(key) {
+        Some(value) => match number_of(value) {
+            Some(number) => Ok(Some(number)),
+            None => Err(refused(alloc, key)),
+        },
+        None => Ok(None),
+    }
+}
+
+pub fn is_set(alloc: Global, table: &Table, key: &str) -> Result<bool, Failure> {
+    match table.get(key) {
+        Some(Value::Boolean(is_set)) => Ok(*is_set),
+        Some(_) => Err(refused(alloc, key)),
+        None => Ok(false),
+    }
+}
+
+/// The list at a key.
+pub fn list_at<'a>(
+    alloc: Global,
+    table: &'a Table,
+    key: &str,
+) -> Result<Option<&'a Array>, Failure> {
+    match table.get(key) {
+        Some(Value::Array(values)) => Ok(Some(values)),
+        Some(_) => Err(refused(alloc, key)),
+        None => Ok(None),
+    }
+}
+
+pub fn add_numbers_at(
+    alloc: Global,
+    table: &Table,
+    key: &str,
+    numbers: &mut Vec<u64>,
+) -> Result<(), Failure> {
+    if let Some(values) = list_at(alloc, table, key)? {
+        for value in values {
+            let Some(number) = number_of(value) else {
+                return Err(refused(alloc, key));
+            };
+            numbers.push(number)?;
+        }
+    }
+    Ok(())
+}
+
+fn add_words(alloc: Global, values: &Array, words: &mut Vec<String>) -> Result<(), Failure> {
+    for value in values {
+        let word = string_of(alloc, value)?;
+        words.push(word)?;
+    }
+    Ok(())
+}
+
+/// Adds the words of a field that has to be there.
+pub fn add_words_at(
+    alloc: Global,
+    table: &Table,
+    key: &str,
+    words: &mut Vec<String>,
+) -> Result<(), Failure> {
+    match list_at(alloc, table, key)? {
+        Some(values) => add_words(alloc, values, words),
+        None => Err(missing(alloc, key)),
+    }
+}

@@ -1,0 +1,17 @@
+//! The program that the rows call.
+
+use rl_source::{MemSink, MemTree};
+use std::alloc::Global;
+
+/// A program that is called with words, and finds a tree in memory and two outputs in memory.
+pub trait Program {
+    /// Runs the program with these words, and answers its status.
+    fn run(
+        &self,
+        alloc: Global,
+        words: &Vec<String>,
+        tree: &mut MemTree,
+        out: &mut MemSink,
+        err: &mut MemSink,
+    ) -> u8;
+}
