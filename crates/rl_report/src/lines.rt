@@ -19,7 +19,7 @@ use rl_syntax::{Suggestion, Universe, Verdict};
 use std::alloc::Global;
 
 /// The limits and the version by which a report is written.
-#[derive(Clone, Copy, Debug, PartialEq, Eq)]
+#[derive(Clone, Copy)]
 pub struct Terms {
     /// The greatest degree that is no finding.
     pub max_degree: u32,
