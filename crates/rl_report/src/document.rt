@@ -53,8 +53,7 @@ fn put_place(alloc: Global, members: &mut Members, place: Place) -> Result<(), O
         ≡ place_members place (members_view members.old.entries)) }
 {
     put_number(alloc, members, "line", place.line as usize)?;
-    put_number(alloc, members, "column", place.column as usize)?;
-    Ok(())
+    put_number(alloc, members, "column", place.column as usize)
 }
 
 fn place_value(alloc: Global, place: Place) -> Result<Value, OutOfMemory>
@@ -111,8 +110,7 @@ fn put_limit(
     put_text(alloc, members, "kind", "undecided")?;
     put_text(alloc, members, "limit", limit_name(limit))?;
     let number = limit_number(limit, max_pairs) as usize;
-    put_number(alloc, members, "over", number)?;
-    Ok(())
+    put_number(alloc, members, "over", number)
 }
 
 fn put_verdict(
@@ -127,8 +125,7 @@ fn put_verdict(
     match verdict {
         Verdict::Degree(degree, _) => {
             put_text(alloc, members, "kind", "degree")?;
-            put_number(alloc, members, "degree", *degree as usize)?;
-            Ok(())
+            put_number(alloc, members, "degree", *degree as usize)
         }
         Verdict::Expo(_) => put_text(alloc, members, "kind", "exponential"),
         Verdict::Undecided(limit) => put_limit(alloc, members, *limit, max_pairs),
@@ -150,8 +147,7 @@ fn put_refusal(
         None => Ok(()),
         Some(cause) => {
             put_text(alloc, members, "cause", cause)?;
-            put_fault(alloc, members, fault)?;
-            Ok(())
+            put_fault(alloc, members, fault)
         }
     }
 }
@@ -288,8 +284,7 @@ fn put_marks(alloc: Global, members: &mut Members, marks: &Marks) -> Result<(), 
 {
     put_mark_list(alloc, members, "dropped", marks.dropped.as_slice())?;
     put_mark_list(alloc, members, "merged", marks.merged.as_slice())?;
-    put_mark_list(alloc, members, "passed", marks.passed.as_slice())?;
-    Ok(())
+    put_mark_list(alloc, members, "passed", marks.passed.as_slice())
 }
 
 fn verdict_value(alloc: Global, verdict: &Verdict, max_pairs: u32) -> Result<Value, OutOfMemory>
@@ -340,8 +335,7 @@ fn put_suggest(
         Some(text) => {
             let value = quoted_value(alloc, text, universe)?;
             put(members, alloc, "suggest", value)?;
-            put_becomes(alloc, members, terms, becomes)?;
-            Ok(())
+            put_becomes(alloc, members, terms, becomes)
         }
     }
 }
@@ -365,8 +359,7 @@ fn put_suggestion(
         None => Ok(()),
         Some(suggestion) => {
             put_marks(alloc, members, marks)?;
-            put_suggest(alloc, members, terms, universe, &suggestion.text, becomes)?;
-            Ok(())
+            put_suggest(alloc, members, terms, universe, &suggestion.text, becomes)
         }
     }
 }
@@ -377,8 +370,7 @@ fn put_front(alloc: Global, members: &mut Members, entry: &Entry) -> Result<(), 
 {
     put_text(alloc, members, "path", entry.path.as_str())?;
     put_at(alloc, members, entry.at)?;
-    put_call(alloc, members, entry.call)?;
-    Ok(())
+    put_call(alloc, members, entry.call)
 }
 
 fn put_judged(
@@ -401,8 +393,7 @@ fn put_judged(
         &entry.marks,
         outcome.suggestion(),
         outcome.becomes(),
-    )?;
-    Ok(())
+    )
 }
 
 fn entry_value(alloc: Global, terms: Terms, entry: &Entry) -> Result<Value, OutOfMemory>
@@ -450,8 +441,7 @@ fn put_counts(
     )?;
     put_number(alloc, members, "refused", refusals(entries))?;
     put_number(alloc, members, "undecided", undecided(entries))?;
-    put_number(alloc, members, "version", terms.report as usize)?;
-    Ok(())
+    put_number(alloc, members, "version", terms.report as usize)
 }
 
 #[tactic(auto, unfolding(crate::specs::Document::report_data))]

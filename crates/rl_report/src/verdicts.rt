@@ -55,8 +55,7 @@ fn push_part(
     push_text(out, letter)?;
     push_number(alloc, out, number)?;
     push_text(out, " ")?;
-    push_quoted(alloc, out, text, universe)?;
-    Ok(())
+    push_quoted(alloc, out, text, universe)
 }
 
 /// Appends the pumps and the heads behind them, numbered from 1.
@@ -95,8 +94,7 @@ fn push_parts(
         [] => Ok(()),
         [head, heads @ ..] => {
             push_part(alloc, out, universe, "x", 0, head)?;
-            push_later_parts(alloc, out, universe, pumps, heads)?;
-            Ok(())
+            push_later_parts(alloc, out, universe, pumps, heads)
         }
     }
 }
@@ -119,8 +117,7 @@ pub fn push_family(
         family.heads.as_slice(),
         family.pumps.as_slice(),
     )?;
-    push_text(out, "\n")?;
-    Ok(())
+    push_text(out, "\n")
 }
 
 /// The line of a verdict: `degree D`, `exponential` or `undecided L over N`, and a line feed.
