@@ -6,13 +6,17 @@ ghost use Rattle.rl_report.specs.Findings.{is_finding, is_refused, is_undecided}
 use crate::report::Entry;
 
 /// How many entries are findings.
+#[tactic(auto, using(crate::proofs::CountLemmas::counts))]
 pub fn findings(entries: &[Entry], max_degree: u32) -> usize
     ensures { result ≡ count_by (is_finding max_degree) entries.now }
 {
-    entries
-        .iter()
-        .filter(|entry| entry.is_finding(max_degree))
-        .count()
+    let mut count = 0;
+    for entry in entries {
+        if entry.is_finding(max_degree) {
+            count += 1;
+        }
+    }
+    count
 }
 
 /// How many entries are anything but verdicts.

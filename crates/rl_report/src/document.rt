@@ -308,10 +308,11 @@ fn put_becomes(
     match becomes {
         None => Ok(()),
         Some(verdict) => {
-            if terms.report == 2 {
-                let value = verdict_value(alloc, verdict, terms.max_pairs)?;
-                put(members, alloc, "becomes", value)?;
+            if terms.report != 2 {
+                return Ok(());
             }
+            let value = verdict_value(alloc, verdict, terms.max_pairs)?;
+            put(members, alloc, "becomes", value)?;
             Ok(())
         }
     }

@@ -62,11 +62,11 @@ fn push_head(
 ) -> Result<(), OutOfMemory>
     ensures { OnOk result (out.new.items ≡ out.old.items ++ head_line max_pairs entry.now) }
 {
-    let outcome = outcome_text(alloc, entry, max_pairs)?;
     push_text(out, entry.path.as_str())?;
     push_at(alloc, out, entry.at)?;
     push_text(out, ": ")?;
     push_call(out, entry.call)?;
+    let outcome = outcome_text(alloc, entry, max_pairs)?;
     push_text(out, outcome.as_str())?;
     push_text(out, "\n")
 }
@@ -129,12 +129,12 @@ fn push_becomes(
     match becomes {
         None => Ok(()),
         Some(verdict) => {
-            if terms.report == 2 {
-                push_text(out, "  becomes ")?;
-                push_verdict(alloc, out, verdict, terms.max_pairs)?;
-                push_text(out, "\n")?;
+            if terms.report != 2 {
+                return Ok(());
             }
-            Ok(())
+            push_text(out, "  becomes ")?;
+            push_verdict(alloc, out, verdict, terms.max_pairs)?;
+            push_text(out, "\n")
         }
     }
 }

@@ -14,16 +14,15 @@ use std::alloc::Global;
 pub fn verdict_text(alloc: Global, verdict: &Verdict, max_pairs: u32) -> Result<String, OutOfMemory>
     ensures { IfOk result (λ text. string_bytes text ≡ verdict_text max_pairs verdict.now) }
 {
-    let text = match verdict {
-        Verdict::Degree(degree, _) => format!(in alloc; "degree {degree}")?,
-        Verdict::Expo(_) => String::from_str(alloc, "exponential")?,
+    match verdict {
+        Verdict::Degree(degree, _) => Ok(format!(in alloc; "degree {degree}")?),
+        Verdict::Expo(_) => Ok(String::from_str(alloc, "exponential")?),
         Verdict::Undecided(limit) => {
             let name = limit_name(*limit);
             let number = limit_number(*limit, max_pairs);
-            format!(in alloc; "undecided {name} over {number}")?
+            Ok(format!(in alloc; "undecided {name} over {number}")?)
         }
-    };
-    Ok(text)
+    }
 }
 
 /// Appends a verdict.
