@@ -58,7 +58,6 @@ fn push_part(
 }
 
 /// Appends the pumps and the heads behind them, numbered from 1.
-#[tactic(auto, using(crate::proofs::FamilyLemmas::parts))]
 fn push_later_parts(
     alloc: Global,
     out: &mut Vec<u8>,
