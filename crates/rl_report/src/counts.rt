@@ -6,7 +6,6 @@ ghost use Rattle.rl_report.specs.Findings.{is_finding, is_refused, is_undecided}
 use crate::report::Entry;
 
 /// How many entries are findings.
-#[tactic(auto, using(crate::proofs::CountLemmas::counts))]
 pub fn findings(entries: &[Entry], max_degree: u32) -> usize
     ensures { result ≡ count_by (is_finding max_degree) entries.now }
 {
@@ -20,7 +19,6 @@ pub fn findings(entries: &[Entry], max_degree: u32) -> usize
 }
 
 /// How many entries are anything but verdicts.
-#[tactic(auto, using(crate::proofs::CountLemmas::counts))]
 pub fn refusals(entries: &[Entry]) -> usize
     ensures { result ≡ count_by is_refused entries.now }
 {
@@ -34,7 +32,6 @@ pub fn refusals(entries: &[Entry]) -> usize
 }
 
 /// How many verdicts are that a limit was passed.
-#[tactic(auto, using(crate::proofs::CountLemmas::counts))]
 pub fn undecided(entries: &[Entry]) -> usize
     ensures { result ≡ count_by is_undecided entries.now }
 {

@@ -459,7 +459,6 @@ fn report_value(alloc: Global, terms: Terms, entries: &[Entry]) -> Result<Value,
 }
 
 /// The report in JSON: one line.
-#[tactic(auto, using(crate::proofs::NoFloats::plain))]
 pub fn json_report(alloc: Global, terms: Terms, entries: &[Entry]) -> Result<Bytes, OutOfMemory>
     requires { All IsOfItsUniverse entries.now }
     ensures { IfOk result (λ bytes. bytes

@@ -1,8 +1,8 @@
-use Rattle.std.proofs.Common.{sym, ap, ◌∙◌}
+use Rattle.std.proofs.Common.{sym, ap, ◌∙◌, arith}
 use Rattle.std.specs.List.{count_by}
 use Rattle.std.proofs.lemmas.List.{take_all}
 use Rattle.rl_report.specs.Findings.{is_finding}
-use Rattle.rl_report.proofs.CountLemmas.{counted, passed_over}
+use Rattle.rl_report.proofs.CountLemmas.{counted, passed_over, few_so_far}
 use Rattle.rl_report.proofs.counts.findings.Goals as goal
 use Rattle.rl_report.proofs.counts.findings.Goals.{then-is_finding, else-is_finding}
 
@@ -20,3 +20,6 @@ loop-entry-preserved c =
 
 pub returns : goal.returns
 returns c = c.loop-entry.invariant ∙ ap (count_by (is_finding c.args.max_degree)) (take_all c.loop-entry.entry-index c.args.entries.now c.loop-entry-test.false)
+
+pub overflow_add-count : goal.overflow_add-count
+overflow_add-count c = omega (arith, few_so_far (is_finding c.args.max_degree) c.args.entries.now c.loop-entry.entry-index c.loop-entry.count c.loop-entry.invariant)

@@ -1,8 +1,8 @@
-use Rattle.std.proofs.Common.{sym, ap, ◌∙◌}
+use Rattle.std.proofs.Common.{sym, ap, ◌∙◌, arith}
 use Rattle.std.specs.List.{count_by}
 use Rattle.std.proofs.lemmas.List.{take_all}
 use Rattle.rl_report.specs.Findings.{is_undecided}
-use Rattle.rl_report.proofs.CountLemmas.{counted, passed_over}
+use Rattle.rl_report.proofs.CountLemmas.{counted, passed_over, few_so_far}
 use Rattle.rl_report.proofs.counts.undecided.Goals as goal
 use Rattle.rl_report.proofs.counts.undecided.Goals.{then-is_undecided, else-is_undecided}
 
@@ -20,3 +20,6 @@ loop-entry-preserved c =
 
 pub returns : goal.returns
 returns c = c.loop-entry.invariant ∙ ap (count_by is_undecided) (take_all c.loop-entry.entry-index c.args.entries.now c.loop-entry-test.false)
+
+pub overflow_add-count : goal.overflow_add-count
+overflow_add-count c = omega (arith, few_so_far is_undecided c.args.entries.now c.loop-entry.entry-index c.loop-entry.count c.loop-entry.invariant)
