@@ -26,13 +26,25 @@ use std::alloc::Global;
 /// The members of an object.
 type Members = Map<String, Value>;
 
+fn put_value(
+    alloc: Global,
+    members: &mut Members,
+    key: &str,
+    value: Value,
+) -> Result<(), OutOfMemory>
+    ensures { OnOk result (members_view members.new.entries
+        ≡ put key.now (view value) (members_view members.old.entries)) }
+{
+    put(members, alloc, key, value)?;
+    Ok(())
+}
+
 fn put_text(alloc: Global, members: &mut Members, key: &str, text: &str) -> Result<(), OutOfMemory>
     ensures { OnOk result (members_view members.new.entries
         ≡ put key.now (string text.now) (members_view members.old.entries)) }
 {
     let value = Value::try_from_str(alloc, text)?;
-    put(members, alloc, key, value)?;
-    Ok(())
+    put_value(alloc, members, key, value)
 }
 
 fn put_number(
@@ -44,8 +56,7 @@ fn put_number(
     ensures { OnOk result (members_view members.new.entries
         ≡ put key.now (whole number) (members_view members.old.entries)) }
 {
-    put(members, alloc, key, Value::from(number))?;
-    Ok(())
+    put_value(alloc, members, key, Value::from(number))
 }
 
 fn put_place(alloc: Global, members: &mut Members, place: Place) -> Result<(), OutOfMemory>
@@ -92,8 +103,7 @@ fn put_fault(alloc: Global, members: &mut Members, fault: Option<Place>) -> Resu
         None => Ok(()),
         Some(place) => {
             let value = place_value(alloc, place)?;
-            put(members, alloc, "fault", value)?;
-            Ok(())
+            put_value(alloc, members, "fault", value)
         }
     }
 }
@@ -204,8 +214,7 @@ fn put_texts(
         ≡ put key.now (texts_data universe texts.now) (members_view members.old.entries)) }
 {
     let value = texts_value(alloc, texts, universe)?;
-    put(members, alloc, key, value)?;
-    Ok(())
+    put_value(alloc, members, key, value)
 }
 
 fn family_value(alloc: Global, family: &Family, universe: Universe) -> Result<Value, OutOfMemory>
@@ -230,8 +239,7 @@ fn put_family(
         ≡ put (codes "family") (family_data universe family.now) (members_view members.old.entries)) }
 {
     let value = family_value(alloc, family, universe)?;
-    put(members, alloc, "family", value)?;
-    Ok(())
+    put_value(alloc, members, "family", value)
 }
 
 fn put_family_of(
@@ -274,8 +282,7 @@ fn put_mark_list(
         ≡ put key.now (marks_data marks.now) (members_view members.old.entries)) }
 {
     let value = marks_value(alloc, marks)?;
-    put(members, alloc, key, value)?;
-    Ok(())
+    put_value(alloc, members, key, value)
 }
 
 fn put_marks(alloc: Global, members: &mut Members, marks: &Marks) -> Result<(), OutOfMemory>
@@ -312,8 +319,7 @@ fn put_becomes(
                 return Ok(());
             }
             let value = verdict_value(alloc, verdict, terms.max_pairs)?;
-            put(members, alloc, "becomes", value)?;
-            Ok(())
+            put_value(alloc, members, "becomes", value)
         }
     }
 }
@@ -335,7 +341,7 @@ fn put_suggest(
         None => Ok(()),
         Some(text) => {
             let value = quoted_value(alloc, text, universe)?;
-            put(members, alloc, "suggest", value)?;
+            put_value(alloc, members, "suggest", value)?;
             put_becomes(alloc, members, terms, becomes)
         }
     }
@@ -453,7 +459,7 @@ fn report_value(alloc: Global, terms: Terms, entries: &[Entry]) -> Result<Value,
 {
     let value = entries_value(alloc, terms, entries)?;
     let mut members = Map::new(alloc);
-    put(&mut members, alloc, "entries", value)?;
+    put_value(alloc, &mut members, "entries", value)?;
     put_counts(alloc, &mut members, terms, entries)?;
     Ok(Value::Object(members))
 }
