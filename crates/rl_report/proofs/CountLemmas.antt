@@ -14,5 +14,3 @@ passed_over p xs i n x h e fails is = is ∙ sym (count_by_more_no p xs i x h (a
 
 pub few_so_far : {X : Type 0} (p : X → Bool) (xs : List X) (i n : ℕ) → n ≡ count_by p (take i xs) → n ≤ i
 few_so_far p xs i n is = omega (arith, count_by-le-length p (take i xs), length-take i xs)
-
-pub ruleset counts = (counted, passed_over, few_so_far)

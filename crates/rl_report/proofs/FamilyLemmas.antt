@@ -34,5 +34,3 @@ pub part_end : (u : Universe) (whole now : List ℕ) (pumps heads : List (List �
 part_end u whole now pumps heads i h inv =
     let none : min (length (drop i pumps)) (length (drop i heads)) ≡ 0 = omega (arith, length-drop i pumps, length-drop i heads) in
     sym (append-nil now) ∙ ap (λ xs. now ++ xs) (sym (no_pair u (i + 1) (drop i pumps) (drop i heads) none)) ∙ inv
-
-pub ruleset parts = (part_more)

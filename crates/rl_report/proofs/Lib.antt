@@ -5,3 +5,4 @@ pub mod Ascii
 mod CountLemmas
 mod ValueLemmas
 mod NoFloats
+mod PartLemmas

@@ -157,5 +157,3 @@ report-plain max_degree max_pairs report entries =
 -- a report in JSON has no float
 pub plain_report : (d : Data) (max_degree max_pairs report : ℕ) (entries : List Entry) → d ≡ report_data max_degree max_pairs report entries → has_float d ≡ false
 plain_report d max_degree max_pairs report entries e = ap has_float e ∙ report-plain max_degree max_pairs report entries
-
-pub ruleset plain = (plain_report)

@@ -26,13 +26,25 @@ use std::alloc::Global;
 /// The members of an object.
 type Members = Map<String, Value>;
 
+fn put_value(
+    alloc: Global,
+    members: &mut Members,
+    key: &str,
+    value: Value,
+) -> Result<(), OutOfMemory>
+    ensures { OnOk result (members_view members.new.entries
+        ≡ put key.now (view value) (members_view members.old.entries)) }
+{
+    put(members, alloc, key, value)?;
+    Ok(())
+}
+
 fn put_text(alloc: Global, members: &mut Members, key: &str, text: &str) -> Result<(), OutOfMemory>
     ensures { OnOk result (members_view members.new.entries
         ≡ put key.now (string text.now) (members_view members.old.entries)) }
 {
     let value = Value::try_from_str(alloc, text)?;
-    put(members, alloc, key, value)?;
-    Ok(())
+    put_value(alloc, members, key, value)
 }
 
 fn put_number(
@@ -44,8 +56,7 @@ fn put_number(
     ensures { OnOk result (members_view members.new.entries
         ≡ put key.now (whole number) (members_view members.old.entries)) }
 {
-    put(members, alloc, key, Value::from(number))?;
-    Ok(())
+    put_value(alloc, members, key, Value::from(number))
 }
 
 fn put_place(alloc: Global, members: &mut Members, place: Place) -> Result<(), OutOfMemory>
@@ -53,8 +64,7 @@ fn put_place(alloc: Global, members: &mut Members, place: Place) -> Result<(), O
         ≡ place_members place (members_view members.old.entries)) }
 {
     put_number(alloc, members, "line", place.line as usize)?;
-    put_number(alloc, members, "column", place.column as usize)?;
-    Ok(())
+    put_number(alloc, members, "column", place.column as usize)
 }
 
 fn place_value(alloc: Global, place: Place) -> Result<Value, OutOfMemory>
@@ -93,8 +103,7 @@ fn put_fault(alloc: Global, members: &mut Members, fault: Option<Place>) -> Resu
         None => Ok(()),
         Some(place) => {
             let value = place_value(alloc, place)?;
-            put(members, alloc, "fault", value)?;
-            Ok(())
+            put_value(alloc, members, "fault", value)
         }
     }
 }
@@ -111,8 +120,7 @@ fn put_limit(
     put_text(alloc, members, "kind", "undecided")?;
     put_text(alloc, members, "limit", limit_name(limit))?;
     let number = limit_number(limit, max_pairs) as usize;
-    put_number(alloc, members, "over", number)?;
-    Ok(())
+    put_number(alloc, members, "over", number)
 }
 
 fn put_verdict(
@@ -127,8 +135,7 @@ fn put_verdict(
     match verdict {
         Verdict::Degree(degree, _) => {
             put_text(alloc, members, "kind", "degree")?;
-            put_number(alloc, members, "degree", *degree as usize)?;
-            Ok(())
+            put_number(alloc, members, "degree", *degree as usize)
         }
         Verdict::Expo(_) => put_text(alloc, members, "kind", "exponential"),
         Verdict::Undecided(limit) => put_limit(alloc, members, *limit, max_pairs),
@@ -150,8 +157,7 @@ fn put_refusal(
         None => Ok(()),
         Some(cause) => {
             put_text(alloc, members, "cause", cause)?;
-            put_fault(alloc, members, fault)?;
-            Ok(())
+            put_fault(alloc, members, fault)
         }
     }
 }
@@ -208,8 +214,7 @@ fn put_texts(
         ≡ put key.now (texts_data universe texts.now) (members_view members.old.entries)) }
 {
     let value = texts_value(alloc, texts, universe)?;
-    put(members, alloc, key, value)?;
-    Ok(())
+    put_value(alloc, members, key, value)
 }
 
 fn family_value(alloc: Global, family: &Family, universe: Universe) -> Result<Value, OutOfMemory>
@@ -234,8 +239,7 @@ fn put_family(
         ≡ put (codes "family") (family_data universe family.now) (members_view members.old.entries)) }
 {
     let value = family_value(alloc, family, universe)?;
-    put(members, alloc, "family", value)?;
-    Ok(())
+    put_value(alloc, members, "family", value)
 }
 
 fn put_family_of(
@@ -278,8 +282,7 @@ fn put_mark_list(
         ≡ put key.now (marks_data marks.now) (members_view members.old.entries)) }
 {
     let value = marks_value(alloc, marks)?;
-    put(members, alloc, key, value)?;
-    Ok(())
+    put_value(alloc, members, key, value)
 }
 
 fn put_marks(alloc: Global, members: &mut Members, marks: &Marks) -> Result<(), OutOfMemory>
@@ -288,8 +291,7 @@ fn put_marks(alloc: Global, members: &mut Members, marks: &Marks) -> Result<(), 
 {
     put_mark_list(alloc, members, "dropped", marks.dropped.as_slice())?;
     put_mark_list(alloc, members, "merged", marks.merged.as_slice())?;
-    put_mark_list(alloc, members, "passed", marks.passed.as_slice())?;
-    Ok(())
+    put_mark_list(alloc, members, "passed", marks.passed.as_slice())
 }
 
 fn verdict_value(alloc: Global, verdict: &Verdict, max_pairs: u32) -> Result<Value, OutOfMemory>
@@ -313,11 +315,11 @@ fn put_becomes(
     match becomes {
         None => Ok(()),
         Some(verdict) => {
-            if terms.report == 2 {
-                let value = verdict_value(alloc, verdict, terms.max_pairs)?;
-                put(members, alloc, "becomes", value)?;
+            if terms.report != 2 {
+                return Ok(());
             }
-            Ok(())
+            let value = verdict_value(alloc, verdict, terms.max_pairs)?;
+            put_value(alloc, members, "becomes", value)
         }
     }
 }
@@ -339,9 +341,8 @@ fn put_suggest(
         None => Ok(()),
         Some(text) => {
             let value = quoted_value(alloc, text, universe)?;
-            put(members, alloc, "suggest", value)?;
-            put_becomes(alloc, members, terms, becomes)?;
-            Ok(())
+            put_value(alloc, members, "suggest", value)?;
+            put_becomes(alloc, members, terms, becomes)
         }
     }
 }
@@ -365,8 +366,7 @@ fn put_suggestion(
         None => Ok(()),
         Some(suggestion) => {
             put_marks(alloc, members, marks)?;
-            put_suggest(alloc, members, terms, universe, &suggestion.text, becomes)?;
-            Ok(())
+            put_suggest(alloc, members, terms, universe, &suggestion.text, becomes)
         }
     }
 }
@@ -377,8 +377,7 @@ fn put_front(alloc: Global, members: &mut Members, entry: &Entry) -> Result<(), 
 {
     put_text(alloc, members, "path", entry.path.as_str())?;
     put_at(alloc, members, entry.at)?;
-    put_call(alloc, members, entry.call)?;
-    Ok(())
+    put_call(alloc, members, entry.call)
 }
 
 fn put_judged(
@@ -401,8 +400,7 @@ fn put_judged(
         &entry.marks,
         outcome.suggestion(),
         outcome.becomes(),
-    )?;
-    Ok(())
+    )
 }
 
 fn entry_value(alloc: Global, terms: Terms, entry: &Entry) -> Result<Value, OutOfMemory>
@@ -450,8 +448,7 @@ fn put_counts(
     )?;
     put_number(alloc, members, "refused", refusals(entries))?;
     put_number(alloc, members, "undecided", undecided(entries))?;
-    put_number(alloc, members, "version", terms.report as usize)?;
-    Ok(())
+    put_number(alloc, members, "version", terms.report as usize)
 }
 
 #[tactic(auto, unfolding(crate::specs::Document::report_data))]
@@ -462,13 +459,12 @@ fn report_value(alloc: Global, terms: Terms, entries: &[Entry]) -> Result<Value,
 {
     let value = entries_value(alloc, terms, entries)?;
     let mut members = Map::new(alloc);
-    put(&mut members, alloc, "entries", value)?;
+    put_value(alloc, &mut members, "entries", value)?;
     put_counts(alloc, &mut members, terms, entries)?;
     Ok(Value::Object(members))
 }
 
 /// The report in JSON: one line.
-#[tactic(auto, using(crate::proofs::NoFloats::plain))]
 pub fn json_report(alloc: Global, terms: Terms, entries: &[Entry]) -> Result<Bytes, OutOfMemory>
     requires { All IsOfItsUniverse entries.now }
     ensures { IfOk result (λ bytes. bytes

@@ -19,7 +19,7 @@ use rl_syntax::{Suggestion, Universe, Verdict};
 use std::alloc::Global;
 
 /// The limits and the version by which a report is written.
-#[derive(Clone, Copy, Debug, PartialEq, Eq)]
+#[derive(Clone, Copy)]
 pub struct Terms {
     /// The greatest degree that is no finding.
     pub max_degree: u32,
@@ -36,8 +36,7 @@ fn push_at(alloc: Global, out: &mut Vec<u8>, at: Option<Place>) -> Result<(), Ou
         None => Ok(()),
         Some(place) => {
             push_text(out, ":")?;
-            push_place(alloc, out, place)?;
-            Ok(())
+            push_place(alloc, out, place)
         }
     }
 }
@@ -49,8 +48,7 @@ fn push_call(out: &mut Vec<u8>, call: Option<Call>) -> Result<(), OutOfMemory>
         None => Ok(()),
         Some(call) => {
             push_text(out, call_name(call))?;
-            push_text(out, ": ")?;
-            Ok(())
+            push_text(out, ": ")
         }
     }
 }
@@ -64,14 +62,13 @@ fn push_head(
 ) -> Result<(), OutOfMemory>
     ensures { OnOk result (out.new.items ≡ out.old.items ++ head_line max_pairs entry.now) }
 {
-    let outcome = outcome_text(alloc, entry, max_pairs)?;
     push_text(out, entry.path.as_str())?;
     push_at(alloc, out, entry.at)?;
     push_text(out, ": ")?;
     push_call(out, entry.call)?;
+    let outcome = outcome_text(alloc, entry, max_pairs)?;
     push_text(out, outcome.as_str())?;
-    push_text(out, "\n")?;
-    Ok(())
+    push_text(out, "\n")
 }
 
 fn push_mark_text(out: &mut Vec<u8>, text: &Option<Bytes>) -> Result<(), OutOfMemory>
@@ -95,8 +92,7 @@ fn push_mark(alloc: Global, out: &mut Vec<u8>, word: &str, mark: &Mark) -> Resul
     push_text(out, " ")?;
     push_place(alloc, out, mark.at)?;
     push_mark_text(out, &mark.text)?;
-    push_text(out, "\n")?;
-    Ok(())
+    push_text(out, "\n")
 }
 
 fn push_mark_list(
@@ -118,8 +114,7 @@ fn push_marks(alloc: Global, out: &mut Vec<u8>, marks: &Marks) -> Result<(), Out
 {
     push_mark_list(alloc, out, "drop", marks.dropped.as_slice())?;
     push_mark_list(alloc, out, "merge", marks.merged.as_slice())?;
-    push_mark_list(alloc, out, "passed", marks.passed.as_slice())?;
-    Ok(())
+    push_mark_list(alloc, out, "passed", marks.passed.as_slice())
 }
 
 fn push_becomes(
@@ -134,12 +129,12 @@ fn push_becomes(
     match becomes {
         None => Ok(()),
         Some(verdict) => {
-            if terms.report == 2 {
-                push_text(out, "  becomes ")?;
-                push_verdict(alloc, out, verdict, terms.max_pairs)?;
-                push_text(out, "\n")?;
+            if terms.report != 2 {
+                return Ok(());
             }
-            Ok(())
+            push_text(out, "  becomes ")?;
+            push_verdict(alloc, out, verdict, terms.max_pairs)?;
+            push_text(out, "\n")
         }
     }
 }
@@ -162,8 +157,7 @@ fn push_suggest(
             push_text(out, "  suggest ")?;
             push_quoted(alloc, out, text, universe)?;
             push_text(out, "\n")?;
-            push_becomes(alloc, out, terms, becomes)?;
-            Ok(())
+            push_becomes(alloc, out, terms, becomes)
         }
     }
 }
@@ -186,8 +180,7 @@ fn push_suggestion(
         None => Ok(()),
         Some(suggestion) => {
             push_marks(alloc, out, marks)?;
-            push_suggest(alloc, out, terms, universe, &suggestion.text, becomes)?;
-            Ok(())
+            push_suggest(alloc, out, terms, universe, &suggestion.text, becomes)
         }
     }
 }
@@ -231,8 +224,7 @@ fn push_details(
         &entry.marks,
         outcome.suggestion(),
         outcome.becomes(),
-    )?;
-    Ok(())
+    )
 }
 
 /// Appends the head line and the detail lines of an entry.
@@ -247,8 +239,7 @@ fn push_entry(
         ≡ out.old.items ++ entry_lines terms.max_pairs terms.report entry.now) }
 {
     push_head(alloc, out, entry, terms.max_pairs)?;
-    push_details(alloc, out, terms, entry)?;
-    Ok(())
+    push_details(alloc, out, terms, entry)
 }
 
 fn push_entries(
@@ -289,8 +280,7 @@ fn push_hidden(alloc: Global, out: &mut Vec<u8>, hidden: Option<usize>) -> Resul
         Some(hidden) => {
             push_text(out, ", ")?;
             push_number(alloc, out, hidden)?;
-            push_text(out, " hidden")?;
-            Ok(())
+            push_text(out, " hidden")
         }
     }
 }
@@ -325,8 +315,7 @@ fn push_last(
 {
     push_counts(alloc, out, max_degree, entries)?;
     push_hidden(alloc, out, hidden)?;
-    push_text(out, "\n")?;
-    Ok(())
+    push_text(out, "\n")
 }
 
 /// The head lines and the last line.

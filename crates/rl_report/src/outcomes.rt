@@ -19,16 +19,17 @@ fn refusal_text(
     ensures { IfOk result (λ text. string_bytes text
         ≡ refusal_text outcome.now (cause_name outcome.now) fault) }
 {
-    let text = match (outcome.cause(), fault) {
-        (None, _) => String::from_str(alloc, outcome.kind())?,
-        (Some(cause), None) => format!(in alloc; "refused {cause}")?,
-        (Some(cause), Some(place)) => {
+    let Some(cause) = outcome.cause() else {
+        return Ok(String::from_str(alloc, outcome.kind())?);
+    };
+    match fault {
+        None => Ok(format!(in alloc; "refused {cause}")?),
+        Some(place) => {
             let line = place.line;
             let column = place.column;
-            format!(in alloc; "refused {cause} at {line}:{column}")?
+            Ok(format!(in alloc; "refused {cause} at {line}:{column}")?)
         }
-    };
-    Ok(text)
+    }
 }
 
 /// The outcome of an entry, as it stands in the head line: the verdict, the cause of a refusal with its place, or the kind

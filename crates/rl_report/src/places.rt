@@ -4,7 +4,7 @@ ghost use Rattle.rl_pylex.specs.Bytes.{text_start};
 ghost use Rattle.rl_report.specs.Places.{IsAt, after, place_of, role_at};
 
 /// A place in a source. Lines and columns count from 1, columns in codes.
-#[derive(Clone, Copy, Debug, PartialEq, Eq)]
+#[derive(Clone, Copy, PartialEq, Eq)]
 pub struct Place {
     /// The number of the line.
     pub line: u32,
@@ -13,7 +13,7 @@ pub struct Place {
 }
 
 /// What a byte is for lines and columns.
-#[derive(Clone, Copy, Debug, PartialEq, Eq)]
+#[derive(Clone, Copy)]
 pub enum Role {
     /// A line ends with it.
     EndsLine,
@@ -79,7 +79,7 @@ impl Place {
 
 /// A byte place in a source with its line and column, which goes forward: the places of a source in rising order cost
 /// one pass over it.
-#[derive(Clone, Copy, Debug, PartialEq, Eq)]
+#[derive(Clone, Copy)]
 pub struct Cursor {
     byte: u32,
     place: Place,

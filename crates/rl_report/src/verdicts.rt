@@ -14,16 +14,15 @@ use std::alloc::Global;
 pub fn verdict_text(alloc: Global, verdict: &Verdict, max_pairs: u32) -> Result<String, OutOfMemory>
     ensures { IfOk result (λ text. string_bytes text ≡ verdict_text max_pairs verdict.now) }
 {
-    let text = match verdict {
-        Verdict::Degree(degree, _) => format!(in alloc; "degree {degree}")?,
-        Verdict::Expo(_) => String::from_str(alloc, "exponential")?,
+    match verdict {
+        Verdict::Degree(degree, _) => Ok(format!(in alloc; "degree {degree}")?),
+        Verdict::Expo(_) => Ok(String::from_str(alloc, "exponential")?),
         Verdict::Undecided(limit) => {
             let name = limit_name(*limit);
             let number = limit_number(*limit, max_pairs);
-            format!(in alloc; "undecided {name} over {number}")?
+            Ok(format!(in alloc; "undecided {name} over {number}")?)
         }
-    };
-    Ok(text)
+    }
 }
 
 /// Appends a verdict.
@@ -55,12 +54,10 @@ fn push_part(
     push_text(out, letter)?;
     push_number(alloc, out, number)?;
     push_text(out, " ")?;
-    push_quoted(alloc, out, text, universe)?;
-    Ok(())
+    push_quoted(alloc, out, text, universe)
 }
 
 /// Appends the pumps and the heads behind them, numbered from 1.
-#[tactic(auto, using(crate::proofs::FamilyLemmas::parts))]
 fn push_later_parts(
     alloc: Global,
     out: &mut Vec<u8>,
@@ -95,8 +92,7 @@ fn push_parts(
         [] => Ok(()),
         [head, heads @ ..] => {
             push_part(alloc, out, universe, "x", 0, head)?;
-            push_later_parts(alloc, out, universe, pumps, heads)?;
-            Ok(())
+            push_later_parts(alloc, out, universe, pumps, heads)
         }
     }
 }
@@ -119,8 +115,7 @@ pub fn push_family(
         family.heads.as_slice(),
         family.pumps.as_slice(),
     )?;
-    push_text(out, "\n")?;
-    Ok(())
+    push_text(out, "\n")
 }
 
 /// The line of a verdict: `degree D`, `exponential` or `undecided L over N`, and a line feed.

@@ -1,3 +1,5 @@
+use Rattle.std.proofs.Common.{sym, subst}
+use Rattle.rl_ranges.specs.Text.{IsText}
 use Rattle.serde_json.specs.Data.{string}
 use Rattle.rl_report.specs.Verdicts.{quoted_text}
 use Rattle.rl_report.proofs.ValueLemmas.{value_more, value_all}
@@ -12,3 +14,6 @@ pub returns : goal.returns
 returns c =
     value_all (λ text. string (quoted_text c.args.universe text)) c.loop-text.values c.args.texts.now c.loop-text.text-index c.loop-text-test.false
     c.loop-text.invariant
+
+pub quoted_value-requires : goal.quoted_value-requires
+quoted_value-requires c = subst (IsText c.args.universe) (sym c.text-item.is) (c.requires c.loop-text.text-index c.text-item.result c.loop-text-test.true)

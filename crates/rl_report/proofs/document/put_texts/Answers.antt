@@ -1,0 +1,4 @@
+use Rattle.rl_report.proofs.document.put_texts.Goals as goal
+
+pub texts_value-requires : goal.texts_value-requires
+texts_value-requires c = c.requires
