@@ -47,4 +47,4 @@ read_on-all keys values i h inv = sym inv ∙ by (drop i values) (omega (arith, 
     by [] h = ap Some (append-nil (map key_in keys))
     by (v ∷ l) h = absurd (omega arith)
 
-pub ruleset reading = (read_on-none, read_on-refused, read_on-next, read_on-all)
+pub ruleset reading = (read_on-refused)

@@ -39,7 +39,9 @@ pub value_all : {X : Type 0} (p : X → Bool) (f : X → Data) (vs : Vec Value G
     → view (Array vs) ≡ array (items_of (map f (filter p xs)))
 value_all p f vs xs i h so_far = view-Array vs ∙ ap (λ ds. array (items_of ds)) (so_far ∙ ap (λ l. map f (filter p l)) (take_all i xs h))
 
-pub ruleset results = (value_more, value_passed, value_all)
+-- an array with one item
+pub one_item : (before : List Value) (vs : Vec Value Global) (v : Value) → before ≡ [] → vs.items ≡ before ++ v ∷ [] → view (Array vs) ≡ array (items_of (view v ∷ []))
+one_item before vs v none pushed = view-Array vs ∙ ap (λ xs. array (items_of (map view xs))) (pushed ∙ ap (λ xs. xs ++ v ∷ []) none)
 
 -- ---- no float
 
@@ -56,5 +58,3 @@ document-plain results h = rw h
 pub plain_document : (d results : Data) (max_degree max_pairs : ℕ) (entries : List Entry) → d ≡ document_data results → results ≡ results_data max_degree max_pairs entries → has_float d ≡ false
 plain_document d results max_degree max_pairs entries e is =
     ap has_float e ∙ document-plain results (ap has_float is ∙ items-plain (result_data max_pairs) (filter (is_result max_degree) entries) (result-plain max_pairs))
-
-pub ruleset plain = (plain_document)

@@ -1,8 +1,9 @@
 //! A report as a document of SARIF 2.1.0.
-ghost use Rattle.std.specs.Prelude.{◌≡◌, IfOk, OnOk, codes, false, string_bytes};
-ghost use Rattle.serde_json.specs.Data.{no_members, object, put, string};
-ghost use Rattle.serde_json.specs.View.{members_view, view};
+ghost use Rattle.std.specs.Prelude.{◌≡◌, [], ◌∷◌, IfOk, OnOk, codes, false, string_bytes};
+ghost use Rattle.serde_json.specs.Data.{array, no_members, object, put, string};
+ghost use Rattle.serde_json.specs.View.{items_of, members_view, view};
 ghost use Rattle.rl_report.specs.Document.{put_some};
+ghost use Rattle.rl_report.specs.Names.{kind_name};
 ghost use Rattle.rl_sarif.specs.Sarif.{document_data, is_result, location_data, message_text, physical_data, region_data, result_data, results_data, run_data, sarif_text, tool_data, uri_text};
 
 use crate::uri::uri_of;
@@ -14,6 +15,33 @@ use std::alloc::Global;
 
 /// The members of an object.
 type Members = Map<String, Value>;
+
+/// An object with one member.
+fn object_of(alloc: Global, key: &str, value: Value) -> Result<Value, OutOfMemory>
+    ensures { IfOk result (λ v. view v ≡ object (put key.now (view value) no_members)) }
+{
+    let mut members = Map::new(alloc);
+    put(&mut members, alloc, key, value)?;
+    Ok(Value::Object(members))
+}
+
+/// An array with one item.
+fn array_of(alloc: Global, value: Value) -> Result<Value, OutOfMemory>
+    ensures { IfOk result (λ v. view v ≡ array (items_of (view value ∷ []))) }
+{
+    let mut values = Vec::new(alloc);
+    values.push(value)?;
+    Ok(Value::Array(values))
+}
+
+fn put_text(alloc: Global, members: &mut Members, key: &str, text: &str) -> Result<(), OutOfMemory>
+    ensures { OnOk result (members_view members.new.entries
+        ≡ put key.now (string text.now) (members_view members.old.entries)) }
+{
+    let value = Value::try_from_str(alloc, text)?;
+    put(members, alloc, key, value)?;
+    Ok(())
+}
 
 fn region_value(alloc: Global, place: Place) -> Result<Value, OutOfMemory>
     ensures { IfOk result (λ v. view v ≡ region_data place) }
@@ -39,7 +67,7 @@ fn artifact_value(alloc: Global, path: &str) -> Result<Value, OutOfMemory>
     ensures { IfOk result (λ v. view v ≡ object (put (codes "uri") (string (uri_text path.now)) no_members)) }
 {
     let uri = uri_of(alloc, path)?;
-    Ok(json!(in alloc; {"uri": uri})?)
+    object_of(alloc, "uri", Value::from(uri))
 }
 
 fn physical_value(alloc: Global, entry: &Entry) -> Result<Value, OutOfMemory>
@@ -56,7 +84,7 @@ fn location_value(alloc: Global, entry: &Entry) -> Result<Value, OutOfMemory>
     ensures { IfOk result (λ v. view v ≡ location_data entry.now) }
 {
     let physical = physical_value(alloc, entry)?;
-    Ok(json!(in alloc; {"physicalLocation": physical})?)
+    object_of(alloc, "physicalLocation", physical)
 }
 
 /// The head line of an entry without its path, its place and the line end.
@@ -73,17 +101,33 @@ fn message(alloc: Global, entry: &Entry, max_pairs: u32) -> Result<String, OutOf
     }
 }
 
+/// Puts the message and the rule.
+fn put_told(
+    alloc: Global,
+    members: &mut Members,
+    entry: &Entry,
+    max_pairs: u32,
+) -> Result<(), OutOfMemory>
+    ensures { OnOk result (members_view members.new.entries
+        ≡ put (codes "ruleId") (string (kind_name entry.now.outcome))
+        (put (codes "message") (object (put (codes "text") (string (message_text max_pairs entry.now)) no_members))
+        (members_view members.old.entries))) }
+{
+    let text = message(alloc, entry, max_pairs)?;
+    let message = object_of(alloc, "text", Value::from(text))?;
+    put(members, alloc, "message", message)?;
+    put_text(alloc, members, "ruleId", entry.outcome.kind())
+}
+
 fn result_value(alloc: Global, entry: &Entry, max_pairs: u32) -> Result<Value, OutOfMemory>
     ensures { IfOk result (λ v. view v ≡ result_data max_pairs entry.now) }
 {
     let location = location_value(alloc, entry)?;
-    let text = message(alloc, entry, max_pairs)?;
-    let rule = entry.outcome.kind();
-    Ok(json!(in alloc; {
-        "locations": [location],
-        "message": {"text": text},
-        "ruleId": rule
-    })?)
+    let locations = array_of(alloc, location)?;
+    let mut members = Map::new(alloc);
+    put(&mut members, alloc, "locations", locations)?;
+    put_told(alloc, &mut members, entry, max_pairs)?;
+    Ok(Value::Object(members))
 }
 
 /// Whether the document tells of the entry: it is a finding, refused or undecided.
@@ -93,7 +137,6 @@ fn is_result(entry: &Entry, max_degree: u32) -> bool
     entry.is_finding(max_degree) || entry.is_refused() || entry.is_undecided()
 }
 
-#[tactic(auto, using(crate::proofs::ResultLemmas::results))]
 fn results_value(
     alloc: Global,
     entries: &[Entry],
@@ -115,18 +158,29 @@ fn results_value(
 fn tool_value(alloc: Global) -> Result<Value, OutOfMemory>
     ensures { IfOk result (λ v. view v ≡ tool_data) }
 {
-    Ok(json!(in alloc; {"driver": {"name": "relint"}})?)
+    let name = Value::try_from_str(alloc, "relint")?;
+    let driver = object_of(alloc, "name", name)?;
+    object_of(alloc, "driver", driver)
+}
+
+/// Puts the members of a run.
+fn put_run(alloc: Global, members: &mut Members, results: Value) -> Result<(), OutOfMemory>
+    ensures { OnOk result (members_view members.new.entries
+        ≡ put (codes "tool") tool_data (put (codes "results") (view results)
+        (put (codes "columnKind") (string (codes "unicodeCodePoints")) (members_view members.old.entries)))) }
+{
+    put_text(alloc, members, "columnKind", "unicodeCodePoints")?;
+    put(members, alloc, "results", results)?;
+    let tool = tool_value(alloc)?;
+    put(members, alloc, "tool", tool)?;
+    Ok(())
 }
 
 fn run_value(alloc: Global, results: Value) -> Result<Value, OutOfMemory>
     ensures { IfOk result (λ v. view v ≡ run_data (view results)) }
 {
-    let columns = Value::try_from_str(alloc, "unicodeCodePoints")?;
-    let tool = tool_value(alloc)?;
     let mut members = Map::new(alloc);
-    put(&mut members, alloc, "columnKind", columns)?;
-    put(&mut members, alloc, "results", results)?;
-    put(&mut members, alloc, "tool", tool)?;
+    put_run(alloc, &mut members, results)?;
     Ok(Value::Object(members))
 }
 
@@ -134,7 +188,11 @@ fn document_value(alloc: Global, results: Value) -> Result<Value, OutOfMemory>
     ensures { IfOk result (λ v. view v ≡ document_data (view results)) }
 {
     let run = run_value(alloc, results)?;
-    Ok(json!(in alloc; {"runs": [run], "version": "2.1.0"})?)
+    let runs = array_of(alloc, run)?;
+    let mut members = Map::new(alloc);
+    put(&mut members, alloc, "runs", runs)?;
+    put_text(alloc, &mut members, "version", "2.1.0")?;
+    Ok(Value::Object(members))
 }
 
 /// The report as a document of SARIF 2.1.0, one line with the keys in the order of their bytes. Its results are the entries
@@ -142,7 +200,6 @@ fn document_value(alloc: Global, results: Value) -> Result<Value, OutOfMemory>
 ///
 /// # Errors
 /// [`OutOfMemory`] when out of memory.
-#[tactic(auto, using(crate::proofs::ResultLemmas::plain))]
 pub fn sarif(
     alloc: Global,
     entries: &Entries,

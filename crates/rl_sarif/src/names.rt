@@ -6,7 +6,7 @@ use rl_report::{call_name, limit_name};
 use rl_sites::Call;
 use rl_syntax::Limit;
 
-const KINDS: [&str; 7] = [
+const KINDS: &[&str] = &[
     "degree",
     "exponential",
     "undecided",
@@ -17,7 +17,7 @@ const KINDS: [&str; 7] = [
 ];
 
 /// The last two stand in older reports.
-const CAUSES: [&str; 30] = [
+const CAUSES: &[&str] = &[
     "not-utf8",
     "coding",
     "unterminated",
@@ -84,8 +84,7 @@ pub(crate) fn call_named(text: &str) -> Option<&'static str>
 pub(crate) fn kind_named(text: &str) -> Option<&'static str>
     ensures { option_map (λ n. n.now) result ≡ one_of kind_names text.now }
 {
-    let names: [&str; 7] = KINDS;
-    one_of(names.as_slice(), text)
+    one_of(KINDS, text)
 }
 
 /// The name of a limit.
@@ -106,6 +105,5 @@ pub(crate) fn limit_named(text: &str) -> Option<&'static str>
 pub(crate) fn cause_named(text: &str) -> Option<&'static str>
     ensures { option_map (λ n. n.now) result ≡ one_of cause_names text.now }
 {
-    let names: [&str; 30] = CAUSES;
-    one_of(names.as_slice(), text)
+    one_of(CAUSES, text)
 }

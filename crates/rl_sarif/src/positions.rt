@@ -2,9 +2,10 @@
 ghost use Rattle.std.specs.Prelude.{◌≡◌, IfOk, map};
 ghost use Rattle.rl_sarif.specs.Keys.{key_in};
 ghost use Rattle.rl_sarif.specs.Known.{unknown_positions};
+ghost use Rattle.rl_sarif.specs.internal.Tally.{Holds};
 
 use crate::key::{Key, KnownKeys};
-use crate::tally::{take, tally_of};
+use crate::tally::{Tally, add_all, take};
 use rl_lists::{Items, OutOfMemory};
 use rl_report::{Entries, Entry};
 use std::alloc::Global;
@@ -12,15 +13,21 @@ use std::alloc::Global;
 /// Positions in a list, from 0.
 pub type Positions = Items<u64>;
 
-/// The positions of the entries that these keys don't know.
-fn unknown_to(alloc: Global, entries: &[Entry], keys: &[Key]) -> Result<Positions, OutOfMemory>
+/// The positions of the entries that these keys don't know. The tally is empty, and used up then.
+fn unknown_to(
+    alloc: Global,
+    tally: &mut Tally,
+    entries: &[Entry],
+    keys: &[Key],
+) -> Result<Positions, OutOfMemory>
+    requires { Holds tally.old (λ _. 0) }
     ensures { IfOk result (λ positions. positions ≡ unknown_positions (map key_in keys.now) entries.now) }
 {
-    let mut tally = tally_of(alloc, keys)?;
+    add_all(tally, keys)?;
     let mut positions = Positions::new(alloc);
     for (position, entry) in entries.iter().enumerate() {
         let key = Key::of(alloc, entry)?;
-        if !take(&mut tally, key)? {
+        if !take(tally, key)? {
             positions.push(position as u64)?;
         }
     }
@@ -39,5 +46,8 @@ pub fn unknown(
 ) -> Result<Positions, OutOfMemory>
     ensures { IfOk result (λ positions. positions ≡ unknown_positions known.now entries.now) }
 {
-    unknown_to(alloc, entries.as_slice(), known.keys.as_slice())
+    let mut tally = Tally::new(alloc);
+    let positions = unknown_to(alloc, &mut tally, entries.as_slice(), known.keys.as_slice());
+    drop(tally);
+    positions
 }

@@ -17,7 +17,7 @@ use std::alloc::{AllocError, AllocFailed, Global};
 const MAX_BYTES: usize = 67_108_864;
 
 /// Why bytes gave no baseline.
-#[derive(Clone, Copy, Debug, PartialEq, Eq)]
+#[derive(Clone, Copy)]
 pub enum BaselineError {
     /// They are too many, no JSON, or no report.
     Refused,

@@ -7,7 +7,6 @@ ghost use Rattle.rl_sarif.specs.internal.Tally.{Holds, left, one_if_same};
 use crate::key::Key;
 use indexmap::IndexMap;
 use rl_lists::OutOfMemory;
-use std::alloc::Global;
 
 /// How often each key is left.
 pub(crate) type Tally = IndexMap<Key, usize>;
@@ -41,13 +40,13 @@ pub(crate) fn take(tally: &mut Tally, key: Key) -> Result<bool, OutOfMemory>
     Ok(true)
 }
 
-/// How often each key is among the keys.
-pub(crate) fn tally_of(alloc: Global, keys: &[Key]) -> Result<Tally, OutOfMemory>
-    ensures { IfOk result (λ tally. Holds tally (times (map key_in keys.now))) }
+/// Counts each of the keys in an empty tally.
+pub(crate) fn add_all(tally: &mut Tally, keys: &[Key]) -> Result<(), OutOfMemory>
+    requires { Holds tally.old (λ _. 0) }
+    ensures { OnOk result (Holds tally.new (times (map key_in keys.now))) }
 {
-    let mut tally = Tally::new(alloc);
     for key in keys {
-        add(&mut tally, key.clone()?)?;
+        add(tally, key.clone()?)?;
     }
-    Ok(tally)
+    Ok(())
 }

@@ -39,7 +39,6 @@ fn push_byte(uri: &mut String, byte: u8) -> Result<(), OutOfMemory>
 }
 
 /// The path as a relative URI: every other byte is `%` and two hexadecimal digits in upper case.
-#[tactic(auto, using(crate::proofs::UriLemmas::pieces))]
 pub(crate) fn uri_of(alloc: Global, path: &str) -> Result<String, OutOfMemory>
     ensures { IfOk result (λ uri. string_bytes uri ≡ uri_text path.now) }
 {

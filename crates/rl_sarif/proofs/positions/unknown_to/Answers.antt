@@ -7,7 +7,7 @@ use Rattle.rl_sarif.proofs.positions.unknown_to.Goals as goal
 use Rattle.rl_sarif.proofs.positions.unknown_to.Goals.{then-not-branch+in_ok-push, else-not-branch}
 
 pub loop-position-init : goal.loop-position-init
-loop-position-init c = record { rest = λ q. omega (arith, c.in_ok-tally.ensures q); told = c.new-positions.ensures }
+loop-position-init c = record { rest = λ q. omega (arith, c.in_ok-add_all.ensures q); told = c.new-positions.ensures }
 
 pub loop-position-preserved : goal.loop-position-preserved
 loop-position-preserved c =

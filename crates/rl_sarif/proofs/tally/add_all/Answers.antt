@@ -3,7 +3,7 @@ use Rattle.std.proofs.lemmas.List.{take_all}
 use Rattle.rl_sarif.specs.Keys.{key_in}
 use Rattle.rl_sarif.specs.Known.{times}
 use Rattle.rl_sarif.proofs.TallyLemmas.{tallied-more, few-tallied}
-use Rattle.rl_sarif.proofs.tally.tally_of.Goals as goal
+use Rattle.rl_sarif.proofs.tally.add_all.Goals as goal
 
 pub add-requires : goal.add-requires
 add-requires c =
