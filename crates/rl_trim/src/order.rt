@@ -35,12 +35,17 @@ impl Order {
         ensures keys { IfOk result (λ o. o.keys.keys ≡ no_key ∷ []) }
         ensures arrived { IfOk result (λ o. o.arrived ≡ replicate MOST_SETS false) }
     {
+        let arrived = BitRow::zeros(alloc, MOST_SETS as usize)?;
         let mut keys = IndexSet::new(alloc);
-        keys.insert(Key {
+        let first = Key {
             first: 0,
             second: 0,
-        })?;
-        let arrived = BitRow::zeros(alloc, MOST_SETS as usize)?;
+        };
+        let Ok(_) = keys.insert(first) else {
+            drop(keys);
+            drop(arrived);
+            return Err(OutOfMemory);
+        };
         Ok(Order { keys, arrived })
     }
 

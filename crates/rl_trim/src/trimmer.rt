@@ -68,9 +68,10 @@ fn trial_in_order(
     ensures grown { OnOk result (IsGrown branch.now.automaton.now walk.old walk.new) }
 {
     let mut order = Order::new(alloc)?;
-    let found = order.judge(branch, walk, limit as usize)?;
+    let found = order.judge(branch, walk, limit as usize);
     *patience = patience.saturating_sub(order.keys.len());
-    Ok(found)
+    drop(order);
+    found
 }
 
 /// What a trial tells: a quick one, or else one in order.
