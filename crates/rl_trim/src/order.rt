@@ -128,8 +128,7 @@ impl Order {
     {
         let key = self.keys[place];
         if key.second == key.first {
-            self.visit_whole(branch, walk, key, letter)?;
-            return Ok(());
+            return self.visit_whole(branch, walk, key, letter);
         }
         let next = branch.next(walk, key, letter)?;
         self.put(next)?;

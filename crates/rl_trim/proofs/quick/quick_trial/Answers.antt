@@ -1,5 +1,4 @@
-use Rattle.std.proofs.Common.{Result, Ok, Err, sym, subst}
-use Rattle.std.specs.Result.{OnOk}
+use Rattle.std.proofs.Common.{Result, Ok, Err, OnOk, sym, subst}
 use Rattle.rl_prio.specs.Automaton.{Automaton}
 use Rattle.rl_sets.specs.Walk.{Walk}
 use Rattle.rl_trim.specs.internal.Quick.{IsGrown, ArePairs}
