@@ -132,8 +132,12 @@ impl<'a> Branch<'a> {
             return Ok(set);
         }
         let members = walk.members(set)?;
-        let kept = kept_of(self.alloc, self.keep, &members)?;
-        let number = walk.intern(self.automaton, &kept)?;
+        let listed = kept_of(self.alloc, self.keep, &members);
+        drop(members);
+        let kept = listed?;
+        let interned = walk.intern(self.automaton, &kept);
+        drop(kept);
+        let number = interned?;
         Ok(number)
     }
 

@@ -70,7 +70,11 @@ pub(crate) fn touched_sets(
     ensures { IfOk result (AreTouched branch.now.keep.now walk.now count) }
 {
     let chosen = chosen_states(alloc, branch)?;
-    let mut touched = BitRow::zeros(alloc, count as usize)?;
+    let Ok(mut touched) = BitRow::zeros(alloc, count as usize) else {
+        drop(chosen);
+        return Err(OutOfMemory);
+    };
     holders.image(&chosen, &mut touched);
+    drop(chosen);
     Ok(touched)
 }

@@ -1,7 +1,7 @@
 //! What a trial of a branch tells.
 
 /// What a trial of a branch tells of the languages of the tree with the branch and without it.
-#[derive(Clone, Copy, Debug, PartialEq, Eq)]
+#[derive(Clone, Copy)]
 pub enum Judgement {
     /// They are equal.
     Equal,

@@ -7,7 +7,7 @@ use indexmap::IndexSet;
 use rl_lists::OutOfMemory;
 
 /// A pair of sets by their numbers in a walk.
-#[derive(Clone, Copy, Debug, PartialEq, Eq, Hash)]
+#[derive(Clone, Copy, PartialEq, Eq, Hash)]
 pub(crate) struct Key {
     /// The number of the set of the whole tree.
     pub first: u32,

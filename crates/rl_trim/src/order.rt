@@ -35,12 +35,17 @@ impl Order {
         ensures keys { IfOk result (λ o. o.keys.keys ≡ no_key ∷ []) }
         ensures arrived { IfOk result (λ o. o.arrived ≡ replicate MOST_SETS false) }
     {
+        let arrived = BitRow::zeros(alloc, MOST_SETS as usize)?;
         let mut keys = IndexSet::new(alloc);
-        keys.insert(Key {
+        let first = Key {
             first: 0,
             second: 0,
-        })?;
-        let arrived = BitRow::zeros(alloc, MOST_SETS as usize)?;
+        };
+        let Ok(_) = keys.insert(first) else {
+            drop(keys);
+            drop(arrived);
+            return Err(OutOfMemory);
+        };
         Ok(Order { keys, arrived })
     }
 
@@ -123,8 +128,7 @@ impl Order {
     {
         let key = self.keys[place];
         if key.second == key.first {
-            self.visit_whole(branch, walk, key, letter)?;
-            return Ok(());
+            return self.visit_whole(branch, walk, key, letter);
         }
         let next = branch.next(walk, key, letter)?;
         self.put(next)?;

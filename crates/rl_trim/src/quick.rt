@@ -59,7 +59,10 @@ pub(crate) fn quick_trial(
 {
     let count = reached.count;
     let touched = touched_sets(alloc, branch, &reached.holders, walk, count)?;
-    let mut pairs = Pairs::new(alloc, branch, walk, &touched, count)?;
-    let told = judge_pairs(alloc, branch, walk, &mut pairs, &reached.ways, limit)?;
-    Ok(told)
+    let begun = Pairs::new(alloc, branch, walk, &touched, count);
+    drop(touched);
+    let mut pairs = begun?;
+    let told = judge_pairs(alloc, branch, walk, &mut pairs, &reached.ways, limit);
+    drop(pairs);
+    told
 }

@@ -68,9 +68,10 @@ fn trial_in_order(
     ensures grown { OnOk result (IsGrown branch.now.automaton.now walk.old walk.new) }
 {
     let mut order = Order::new(alloc)?;
-    let found = order.judge(branch, walk, limit as usize)?;
+    let found = order.judge(branch, walk, limit as usize);
     *patience = patience.saturating_sub(order.keys.len());
-    Ok(found)
+    drop(order);
+    found
 }
 
 /// What a trial tells: a quick one, or else one in order.
@@ -85,15 +86,13 @@ fn trial_of(
     ensures store { OnOk result (IsStore branch.now.automaton.now store.new) }
 {
     let Some(reached) = &store.reached else {
-        let found = trial_in_order(alloc, branch, &mut store.walk, &mut store.patience, limit)?;
-        return Ok(found);
+        return trial_in_order(alloc, branch, &mut store.walk, &mut store.patience, limit);
     };
     let told = quick_trial(alloc, branch, &mut store.walk, reached, limit)?;
     if let Some(found) = told {
         return Ok(found);
     }
-    let found = trial_in_order(alloc, branch, &mut store.walk, &mut store.patience, limit)?;
-    Ok(found)
+    trial_in_order(alloc, branch, &mut store.walk, &mut store.patience, limit)
 }
 
 /// What a trial tells of an automaton without the states of the places that aren't kept.

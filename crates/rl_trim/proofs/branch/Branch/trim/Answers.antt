@@ -15,8 +15,8 @@ returns-then-not-touches c =
     let none : list_any (holds set) b.gone.items ≡ false = subst (λ (l : List ℕ). list_any (holds set) l ≡ false) c.deref.ensures.value (sym c.if-not-touches.ensures) in
     numbered-here a c.args.walk.now (trimmed b.keep.now set) c.args.set c.requires.made c.requires.set_in (sym (untouched a b.keep.now set b.gone.items (c.requires.made.sets c.args.set c.requires.set_in) b.are_gone none))
 
-pub intern-requires-clause-states : goal.intern-requires-clause-states
-intern-requires-clause-states c =
+pub intern-interned-requires-clause-states : goal.intern-interned-requires-clause-states
+intern-interned-requires-clause-states c =
     let b = c.args.self.now in
     let a = b.automaton.now in
     let set = set_at c.args.walk.now c.args.set in
@@ -28,7 +28,7 @@ returns c =
     let b = c.args.self.now in
     let a = b.automaton.now in
     let v = c.args.walk.now in
-    let w = c.intern.new.self in
+    let w = c.intern-interned.new.self in
     let n = c.in_ok-number.number in
     let set = set_at v c.args.set in
     let is : c.in_ok-kept.kept.items ≡ trimmed b.keep.now set = c.in_ok-kept.ensures ∙ ap (trimmed b.keep.now) c.in_ok-members.ensures in

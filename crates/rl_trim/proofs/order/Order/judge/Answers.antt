@@ -67,3 +67,35 @@ returns-clause-found c =
     let keys = c.loop-place.self.keys.keys in
     looking-equal (trim_pairs c.args.branch.now.automaton.now c.args.branch.now.keep.now) c.args.limit c.loop-place.place (pairs_in c.loop-place.walk keys) c.loop-place.invariant.looking
     (omega (arith, pairs-length c.loop-place.walk keys, c.len-2.ensures.len, c.if-len-limit-2.false, c.loop-place-test.false, c.loop-place.auto)) (omega (arith, c.loop-place-test.false, c.loop-place.auto))
+
+pub differs-requires-clause-keys : goal.differs-requires-clause-keys
+differs-requires-clause-keys c = c.loop-place.invariant.are
+
+pub differs-requires-clause-arrived : goal.differs-requires-clause-arrived
+differs-requires-clause-arrived c = c.loop-place.invariant.arrived
+
+pub differs-requires-clause-place_in : goal.differs-requires-clause-place_in
+differs-requires-clause-place_in c =
+    omega (arith, c.len.ensures.len, c.if-place-len.false, c.loop-place.invariant.looking.inside, pairs-length c.loop-place.walk c.loop-place.self.keys.keys)
+
+pub expand-requires-clause-keys : goal.expand-requires-clause-keys
+expand-requires-clause-keys c = c.in_ok-differs.ensures.keys
+
+pub expand-requires-clause-arrived : goal.expand-requires-clause-arrived
+expand-requires-clause-arrived c = c.in_ok-differs.ensures.arrived
+
+pub expand-requires-clause-place_in : goal.expand-requires-clause-place_in
+expand-requires-clause-place_in c =
+    omega (arith, c.len.ensures.len, c.if-place-len.false, c.loop-place.invariant.looking.inside, pairs-length c.loop-place.walk c.loop-place.self.keys.keys)
+
+pub returns-then-place-len-clause-grown : goal.returns-then-place-len-clause-grown
+returns-then-place-len-clause-grown c = c.loop-place.invariant.grown
+
+pub returns-then-branch-clause-grown : goal.returns-then-branch-clause-grown
+returns-then-branch-clause-grown c = grown-grown c.args.branch.now.automaton.now c.args.walk.now c.loop-place.walk c.differs.new.walk c.loop-place.invariant.grown c.in_ok-differs.ensures.grown
+
+pub returns-then-len-limit-2-clause-grown : goal.returns-then-len-limit-2-clause-grown
+returns-then-len-limit-2-clause-grown c = c.loop-place.invariant.grown
+
+pub returns-clause-grown : goal.returns-clause-grown
+returns-clause-grown c = c.loop-place.invariant.grown

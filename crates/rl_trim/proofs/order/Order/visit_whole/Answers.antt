@@ -1,8 +1,9 @@
-use Rattle.std.proofs.Common.{◌≡◌, ◌∙◌, List, sym, ap, subst}
+use Rattle.std.proofs.Common.{◌≡◌, ◌∙◌, List, sym, ap, subst, arith}
 use Rattle.rl_trim.specs.declared.key.Key.{Key}
-use Rattle.rl_trim.specs.internal.Orders.{pairs_in, AreArrived}
+use Rattle.rl_trim.specs.internal.Orders.{pairs_in, AreKeys, AreArrived}
+use Rattle.rl_trim.proofs.SetLaws.{grown-grown}
 use Rattle.rl_trim.proofs.PairLaws.{next-same}
-use Rattle.rl_trim.proofs.KeyOrder.{keys-grown, pairs-put}
+use Rattle.rl_trim.proofs.KeyOrder.{keys-grown, keys-put, pairs-put}
 use Rattle.rl_trim.proofs.ArrivedLaws.{arrived-grown, arrived-put, arrived-noted, whole-there, whole-put}
 use Rattle.rl_trim.proofs.order.Order.visit_whole.Goals as goal
 
@@ -53,3 +54,36 @@ returns-clause-pairs c =
     let is = next-same a keep v c.step.new.walk x c.args.key c.args.letter first second c.requires.inside c.requires.whole c.in_ok-first.ensures c.in_ok-second.ensures in
     ap (λ o. pairs_in x o.keys) c.note.ensures.keys
     ∙ pairs-put a v x keys c.put.new.self.keys.keys key _ is.grown is.inside is.is c.in_ok-put.ensures.keys c.requires.keys
+
+pub step-requires-clause-made : goal.step-requires-clause-made
+step-requires-clause-made c = c.requires.keys.made
+
+pub step-requires-clause-set_in : goal.step-requires-clause-set_in
+step-requires-clause-set_in c = c.requires.inside.first_in
+
+pub step-requires-clause-letter_in : goal.step-requires-clause-letter_in
+step-requires-clause-letter_in c = omega (arith, c.requires.letter_in)
+
+pub returns-then-has_arrived-clause-grown : goal.returns-then-has_arrived-clause-grown
+returns-then-has_arrived-clause-grown c = c.in_ok-first.ensures.grown
+
+pub trim-requires-clause-made : goal.trim-requires-clause-made
+trim-requires-clause-made c = c.in_ok-first.ensures.grown.made
+
+pub trim-requires-clause-set_in : goal.trim-requires-clause-set_in
+trim-requires-clause-set_in c = c.in_ok-first.ensures.inside
+
+pub returns-clause-grown : goal.returns-clause-grown
+returns-clause-grown c =
+    grown-grown c.args.branch.now.automaton.now c.args.walk.now c.step.new.walk c.trim.new.walk c.in_ok-first.ensures.grown c.in_ok-second.ensures.grown
+
+pub returns-clause-keys : goal.returns-clause-keys
+returns-clause-keys c =
+    let a = c.args.branch.now.automaton.now in
+    let x = c.trim.new.walk in
+    let first = c.in_ok-first.first in
+    let second = c.in_ok-second.second in
+    let key : Key = record { first = first; second = second } in
+    let is = next-same a c.args.branch.now.keep.now c.args.walk.now c.step.new.walk x c.args.key c.args.letter first second c.requires.inside c.requires.whole c.in_ok-first.ensures c.in_ok-second.ensures in
+    let same : c.note.new.self.keys.keys ≡ c.put.new.self.keys.keys = ap (λ o. o.keys) c.note.ensures.keys in
+    subst (AreKeys a x) (sym same) (keys-put a c.args.walk.now x c.args.self.now.keys.keys c.put.new.self.keys.keys key is.grown is.inside c.in_ok-put.ensures.keys c.requires.keys)

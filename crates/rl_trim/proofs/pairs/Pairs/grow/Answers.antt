@@ -1,4 +1,5 @@
 use Rattle.std.proofs.Common.{◌∙◌, ℕ, ◌+◌, ◌<◌, length, refl, sym, subst, arith}
+use Rattle.std.proofs.lemmas.Bool.{false≢true}
 use Rattle.rl_trim.specs.internal.Quick.{IsDone, AreDone}
 use Rattle.rl_trim.proofs.SetLaws.{grown-refl, grown-grown}
 use Rattle.rl_trim.proofs.PairLaws.{done-more}
@@ -27,3 +28,34 @@ loop-place-init c = record {
   inside = omega arith;
   count = refl;
 }
+
+pub look-requires-clause-pairs : goal.look-requires-clause-pairs
+look-requires-clause-pairs c = c.loop-place.invariant.pairs
+
+pub look-requires-clause-place_in : goal.look-requires-clause-place_in
+look-requires-clause-place_in c = omega (arith, c.loop-place.invariant.inside, c.len.ensures.len, c.if-place-len.false)
+
+pub returns-then-place-len-clause-grown : goal.returns-then-place-len-clause-grown
+returns-then-place-len-clause-grown c = c.loop-place.invariant.grown
+
+pub returns-then-place-len-clause-pairs : goal.returns-then-place-len-clause-pairs
+returns-then-place-len-clause-pairs c = c.loop-place.invariant.pairs
+
+pub returns-then-place-len-clause-done : goal.returns-then-place-len-clause-done
+returns-then-place-len-clause-done c = λ e.
+    subst (AreDone c.args.branch.now.automaton.now c.args.branch.now.keep.now c.loop-place.walk c.loop-place.self.count c.loop-place.self.keys.keys) (c.if-place-len.true ∙ c.len.ensures.len) c.loop-place.invariant.done
+
+pub returns-then-place-len-clause-count : goal.returns-then-place-len-clause-count
+returns-then-place-len-clause-count c = c.loop-place.invariant.count
+
+pub returns-clause-grown : goal.returns-clause-grown
+returns-clause-grown c = c.loop-place.invariant.grown
+
+pub returns-clause-pairs : goal.returns-clause-pairs
+returns-clause-pairs c = c.loop-place.invariant.pairs
+
+pub returns-clause-done : goal.returns-clause-done
+returns-clause-done c = λ e. absurd (false≢true e)
+
+pub returns-clause-count : goal.returns-clause-count
+returns-clause-count c = c.loop-place.invariant.count
