@@ -60,9 +60,12 @@ pub fn path_entries(
     ensures entry { IfOk result (λ entries. entries ≡ path_entry path.now at outcome ∷ []) }
     ensures universe { IfOk result (All IsOfItsUniverse) }
 {
-    let path = path.clone()?;
+    let Ok(path) = path.clone() else {
+        drop(outcome);
+        return Err(OutOfMemory);
+    };
     let mut entries = Entries::new(alloc);
-    entries.push(Entry {
+    let entry = Entry {
         path,
         at,
         call: None,
@@ -70,7 +73,11 @@ pub fn path_entries(
         fault: None,
         outcome,
         marks: no_marks(alloc),
-    })?;
+    };
+    let Ok(()) = entries.push(entry) else {
+        drop(entries);
+        return Err(OutOfMemory);
+    };
     Ok(entries)
 }
 
@@ -111,10 +118,17 @@ fn site_entry(
     ensures universe { IfOk result IsOfItsUniverse }
     ensures at { IsAt source.now cursor.new }
 {
-    let path = path.clone()?;
+    let Ok(path) = path.clone() else {
+        drop(analysis);
+        return Err(OutOfMemory);
+    };
     let at = some_place_at(cursor, source, start_of(tokens, site.first));
     let fault = some_place_at(cursor, source, analysis.fault);
-    let marks = marks_of(alloc, source, analysis.parts, *cursor)?;
+    let Ok(marks) = marks_of(alloc, source, analysis.parts, *cursor) else {
+        drop(analysis.outcome);
+        drop(path);
+        return Err(OutOfMemory);
+    };
     Ok(Entry {
         path,
         at,
