@@ -1,5 +1,7 @@
-use Rattle.std.proofs.Common.{◌≡◌, ℕ, List, sym, subst}
+use Rattle.std.proofs.Common.{◌≡◌, ◌∙◌, ℕ, List, sym, subst}
 use Rattle.std.specs.Prelude.{All}
+use Rattle.std.specs.List.{AllZip}
+use Rattle.std.proofs.lemmas.List.{take_all}
 use Rattle.std.proofs.lemmas.List.Elements.{All-push}
 use Rattle.rl_pylex.specs.declared.token_list.Token.{Token}
 use Rattle.rl_sites.specs.declared.site.Site.{Site}
@@ -32,3 +34,11 @@ loop-site-preserved c = record {
       (All-push IsOfItsUniverse c.loop-site.entries c.in_ok-entry.entry c.loop-site.invariant.universe c.in_ok-entry.ensures.universe);
   at = c.in_ok-entry.ensures.at;
 }
+
+pub returns-clause-right : goal.returns-clause-right
+returns-clause-right c =
+    subst (λ (l : List Site). AllZip (IsSiteEntry c.args.path.now c.args.source.now c.args.tokens.now c.args.settings.now) l c.loop-site.entries)
+    (take_all c.loop-site.site-index c.as_slice-site-items.result.now c.loop-site-test.false ∙ c.as_slice-site-items.ensures ∙ c.in_ok-sites.ensures.sites) c.loop-site.invariant.right
+
+pub returns-clause-universe : goal.returns-clause-universe
+returns-clause-universe c = c.loop-site.invariant.universe
