@@ -154,14 +154,12 @@ fn with_pattern(
 {
     let universe = literal.universe;
     let verdict = verdict_on(alloc, pattern, options)?;
-    let Ok(suggestion) =
-        suggestion_beside(alloc, pattern, &literal.codes, flags, options, &verdict)
+    let Ok(suggestion) = suggestion_beside(alloc, pattern, &literal.codes, flags, options, &verdict)
     else {
         drop(verdict);
         return Err(OutOfMemory);
     };
-    let Ok(becomes) = suggested_verdict(alloc, suggestion.as_ref(), universe, flags, options)
-    else {
+    let Ok(becomes) = suggested_verdict(alloc, suggestion.as_ref(), universe, flags, options) else {
         drop(suggestion);
         drop(verdict);
         return Err(OutOfMemory);

@@ -7,13 +7,13 @@ ghost use Rattle.rl_report.specs.Findings.{is_finding};
 ghost use Rattle.rl_report.specs.Layouts.{IsOfItsUniverse};
 ghost use Rattle.rl_report.specs.Places.{IsAt};
 ghost use Rattle.rl_sites.specs.Sites.{sites_of};
+ghost use Rattle.rl_sites.specs.Runs.{HasRun};
 ghost use Rattle.rl_judge.specs.declared.settings.Settings.{Settings};
 ghost use Rattle.rl_judge.specs.internal.Conditions.{IsOfUniverse};
 ghost use Rattle.rl_judge.specs.Faults.{source_fault};
-ghost use Rattle.rl_judge.specs.RightEntries.{IsValid, path_entry, site_entry, IsSiteEntry, AreRight, status_of};
-ghost use Rattle.rl_lists.specs.declared.limits.TheConstants.{MOST_BYTES};
+ghost use Rattle.rl_judge.specs.RightEntries.{IsValid, path_entry, IsSiteEntry, AreRight, status_of};
 
-use crate::analysis::{Analysis, analyze};
+use crate::analysis::analyze;
 use crate::options::options_of;
 use crate::places::{fault_place, marks_of, no_marks, some_place_at};
 use crate::settings::Settings;
@@ -101,23 +101,25 @@ fn fault_entries(
     }
 }
 
-/// The entry of a site with this analysis.
+/// The entry of a site.
 fn site_entry(
     alloc: Global,
     path: &Name,
     source: &[u8],
     tokens: &TokenList,
+    settings: &Settings,
     site: Site,
-    analysis: Analysis,
     cursor: &mut Cursor,
 ) -> Result<Entry, OutOfMemory>
     requires at { IsAt source.now cursor.old }
-    requires short { length source.now ≤ MOST_BYTES }
-    requires texts { IsOfUniverse analysis.universe analysis.outcome }
-    ensures entry { IfOk result (λ entry. entry ≡ site_entry path.now source.now tokens.now site analysis) }
+    requires settings { IsValid settings.now }
+    requires tokens { IsTokenList source.now tokens.now }
+    requires run { HasRun tokens.now site }
+    ensures right { IfOk result (IsSiteEntry path.now source.now tokens.now settings.now site) }
     ensures universe { IfOk result IsOfItsUniverse }
     ensures at { IsAt source.now cursor.new }
 {
+    let analysis = analyze(alloc, source, tokens, site, options_of(settings, site.call))?;
     let Ok(path) = path.clone() else {
         drop(analysis);
         return Err(OutOfMemory);
@@ -157,9 +159,7 @@ fn site_entries(
     let mut entries = Entries::new(alloc);
     let mut cursor = Cursor::start();
     for site in sites.as_slice() {
-        let options = options_of(settings, site.call);
-        let analysis = analyze(alloc, source, tokens, *site, options)?;
-        let entry = site_entry(alloc, path, source, tokens, *site, analysis, &mut cursor)?;
+        let entry = site_entry(alloc, path, source, tokens, settings, *site, &mut cursor)?;
         entries.push(entry)?;
     }
     Ok(entries)

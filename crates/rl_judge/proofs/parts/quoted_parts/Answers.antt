@@ -1,7 +1,6 @@
-use Rattle.std.proofs.Common.{◌∙◌, [], ◌∷◌, ◌++◌, List, Some, map, get_or, sym, ap}
+use Rattle.std.proofs.Common.{◌∙◌, [], ◌∷◌, ◌++◌, Some, map, sym, ap}
 use Rattle.std.proofs.lemmas.List.{map_more, take_all}
 use Rattle.rl_syntax.specs.declared.span.Span.{Span}
-use Rattle.rl_judge.specs.declared.parts.Part.{Part}
 use Rattle.rl_judge.specs.Analysis.{quoted_part}
 use Rattle.rl_judge.proofs.parts.quoted_parts.Goals as goal
 
