@@ -90,7 +90,11 @@ fn literal_universe(
     ensures { IfOk result (IsUniverseOfRun source.now (run_of tokens.now site)) }
 {
     match value(alloc, source, tokens, site.first, site.count) {
-        Ok(literal) => Ok(literal.universe),
+        Ok(literal) => {
+            let universe = literal.universe;
+            drop(literal);
+            Ok(universe)
+        }
         Err(StrError::OutOfMemory) => Err(OutOfMemory),
         Err(_) => Ok(Universe::Str),
     }
@@ -150,9 +154,22 @@ fn with_pattern(
 {
     let universe = literal.universe;
     let verdict = verdict_on(alloc, pattern, options)?;
-    let suggestion = suggestion_beside(alloc, pattern, &literal.codes, flags, options, &verdict)?;
-    let becomes = suggested_verdict(alloc, suggestion.as_ref(), universe, flags, options)?;
-    let parts = parts_of(alloc, literal, suggestion.as_ref())?;
+    let Ok(suggestion) = suggestion_beside(alloc, pattern, &literal.codes, flags, options, &verdict)
+    else {
+        drop(verdict);
+        return Err(OutOfMemory);
+    };
+    let Ok(becomes) = suggested_verdict(alloc, suggestion.as_ref(), universe, flags, options) else {
+        drop(suggestion);
+        drop(verdict);
+        return Err(OutOfMemory);
+    };
+    let Ok(parts) = parts_of(alloc, literal, suggestion.as_ref()) else {
+        drop(becomes);
+        drop(suggestion);
+        drop(verdict);
+        return Err(OutOfMemory);
+    };
     Ok(Analysis {
         universe,
         fault: None,
@@ -187,11 +204,19 @@ pub fn analyze(
     };
     let universe = literal.universe;
     let SiteFlags::Known(flags) = site.flags else {
+        drop(literal);
         return Ok(refusal(alloc, universe, None, Outcome::FlagsUnknown));
     };
     let pattern = match parse(alloc, &literal.codes, flags, universe) {
         Ok(pattern) => pattern,
-        Err(error) => return without_pattern(alloc, &literal, error),
+        Err(error) => {
+            let refused = without_pattern(alloc, &literal, error);
+            drop(literal);
+            return refused;
+        }
     };
-    with_pattern(alloc, &literal, &pattern, flags, options)
+    let judged = with_pattern(alloc, &literal, &pattern, flags, options);
+    drop(pattern);
+    drop(literal);
+    judged
 }

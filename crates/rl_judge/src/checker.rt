@@ -112,8 +112,10 @@ impl Visitor for Checker {
     ghost config = { λ c. c.settings };
 
     fn visit(&mut self, visit: Visit) -> Result<(), OutOfMemory> {
-        let later = entries_of(self.alloc, &visit, &self.settings)?;
+        let found = entries_of(self.alloc, &visit, &self.settings);
         let has_unread = is_unread(self.has_unread, &visit);
+        drop(visit);
+        let later = found?;
         append(&mut self.entries, later)?;
         self.has_unread = has_unread;
         Ok(())

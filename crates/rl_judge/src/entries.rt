@@ -7,13 +7,13 @@ ghost use Rattle.rl_report.specs.Findings.{is_finding};
 ghost use Rattle.rl_report.specs.Layouts.{IsOfItsUniverse};
 ghost use Rattle.rl_report.specs.Places.{IsAt};
 ghost use Rattle.rl_sites.specs.Sites.{sites_of};
+ghost use Rattle.rl_sites.specs.Runs.{HasRun};
 ghost use Rattle.rl_judge.specs.declared.settings.Settings.{Settings};
 ghost use Rattle.rl_judge.specs.internal.Conditions.{IsOfUniverse};
 ghost use Rattle.rl_judge.specs.Faults.{source_fault};
-ghost use Rattle.rl_judge.specs.RightEntries.{IsValid, path_entry, site_entry, IsSiteEntry, AreRight, status_of};
-ghost use Rattle.rl_lists.specs.declared.limits.TheConstants.{MOST_BYTES};
+ghost use Rattle.rl_judge.specs.RightEntries.{IsValid, path_entry, IsSiteEntry, AreRight, status_of};
 
-use crate::analysis::{Analysis, analyze};
+use crate::analysis::analyze;
 use crate::options::options_of;
 use crate::places::{fault_place, marks_of, no_marks, some_place_at};
 use crate::settings::Settings;
@@ -60,9 +60,12 @@ pub fn path_entries(
     ensures entry { IfOk result (λ entries. entries ≡ path_entry path.now at outcome ∷ []) }
     ensures universe { IfOk result (All IsOfItsUniverse) }
 {
-    let path = path.clone()?;
+    let Ok(path) = path.clone() else {
+        drop(outcome);
+        return Err(OutOfMemory);
+    };
     let mut entries = Entries::new(alloc);
-    entries.push(Entry {
+    let entry = Entry {
         path,
         at,
         call: None,
@@ -70,7 +73,11 @@ pub fn path_entries(
         fault: None,
         outcome,
         marks: no_marks(alloc),
-    })?;
+    };
+    let Ok(()) = entries.push(entry) else {
+        drop(entries);
+        return Err(OutOfMemory);
+    };
     Ok(entries)
 }
 
@@ -94,27 +101,36 @@ fn fault_entries(
     }
 }
 
-/// The entry of a site with this analysis.
+/// The entry of a site.
 fn site_entry(
     alloc: Global,
     path: &Name,
     source: &[u8],
     tokens: &TokenList,
+    settings: &Settings,
     site: Site,
-    analysis: Analysis,
     cursor: &mut Cursor,
 ) -> Result<Entry, OutOfMemory>
     requires at { IsAt source.now cursor.old }
-    requires short { length source.now ≤ MOST_BYTES }
-    requires texts { IsOfUniverse analysis.universe analysis.outcome }
-    ensures entry { IfOk result (λ entry. entry ≡ site_entry path.now source.now tokens.now site analysis) }
+    requires settings { IsValid settings.now }
+    requires tokens { IsTokenList source.now tokens.now }
+    requires run { HasRun tokens.now site }
+    ensures right { IfOk result (IsSiteEntry path.now source.now tokens.now settings.now site) }
     ensures universe { IfOk result IsOfItsUniverse }
     ensures at { IsAt source.now cursor.new }
 {
-    let path = path.clone()?;
+    let analysis = analyze(alloc, source, tokens, site, options_of(settings, site.call))?;
+    let Ok(path) = path.clone() else {
+        drop(analysis);
+        return Err(OutOfMemory);
+    };
     let at = some_place_at(cursor, source, start_of(tokens, site.first));
     let fault = some_place_at(cursor, source, analysis.fault);
-    let marks = marks_of(alloc, source, analysis.parts, *cursor)?;
+    let Ok(marks) = marks_of(alloc, source, analysis.parts, *cursor) else {
+        drop(analysis.outcome);
+        drop(path);
+        return Err(OutOfMemory);
+    };
     Ok(Entry {
         path,
         at,
@@ -143,9 +159,7 @@ fn site_entries(
     let mut entries = Entries::new(alloc);
     let mut cursor = Cursor::start();
     for site in sites.as_slice() {
-        let options = options_of(settings, site.call);
-        let analysis = analyze(alloc, source, tokens, *site, options)?;
-        let entry = site_entry(alloc, path, source, tokens, *site, analysis, &mut cursor)?;
+        let entry = site_entry(alloc, path, source, tokens, settings, *site, &mut cursor)?;
         entries.push(entry)?;
     }
     Ok(entries)

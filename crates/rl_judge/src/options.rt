@@ -7,7 +7,7 @@ use rl_sites::Call;
 use rl_syntax::Mode;
 
 /// How a pattern is judged: in this mode, with so many live pairs looked at, for a report of this version.
-#[derive(Clone, Copy, Debug, PartialEq, Eq)]
+#[derive(Clone, Copy)]
 pub struct AnalysisOptions {
     /// The mode.
     pub mode: Mode,

@@ -3,7 +3,7 @@ use rl_report::Format;
 use rl_syntax::Mode;
 
 /// How a report is laid out.
-#[derive(Clone, Copy, Debug, PartialEq, Eq)]
+#[derive(Clone, Copy, PartialEq, Eq)]
 pub enum Layout {
     /// As a report.
     Report(Format),
@@ -12,7 +12,7 @@ pub enum Layout {
 }
 
 /// What decides on a report beside the sources.
-#[derive(Clone, Copy, Debug, PartialEq, Eq)]
+#[derive(Clone, Copy, PartialEq, Eq)]
 pub struct Settings {
     /// The mode that a call of `compile` counts as.
     pub compile_as: Mode,

@@ -103,7 +103,11 @@ fn verdict_on_text(
     ensures { IfOk result (IsTextVerdict flags options universe text.now) }
 {
     match parse(alloc, text, flags, universe) {
-        Ok(pattern) => verdict_on(alloc, &pattern, options),
+        Ok(pattern) => {
+            let verdict = verdict_on(alloc, &pattern, options);
+            drop(pattern);
+            verdict
+        }
         Err(PatError::OutOfMemory) => Err(OutOfMemory),
         Err(_) => unreachable!(),
     }

@@ -23,7 +23,11 @@ pub fn verdict_on(
     ensures texts { IfOk result (IsVerdictOf (universe_of pattern.now)) }
 {
     match lower(alloc, pattern, options.mode) {
-        Ok(lowered) => classify(alloc, &lowered, pattern.universe(), options.max_pairs),
+        Ok(lowered) => {
+            let verdict = classify(alloc, &lowered, pattern.universe(), options.max_pairs);
+            drop(lowered);
+            verdict
+        }
         Err(LowerError::TooLarge) => Ok(Verdict::Undecided(Limit::Size)),
         Err(LowerError::OutOfMemory) => Err(OutOfMemory),
     }

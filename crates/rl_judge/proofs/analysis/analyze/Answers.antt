@@ -1,4 +1,5 @@
-use Rattle.std.proofs.Common.{◌≡◌, ◌≢◌, ℕ, true, List, Result, Ok, Err, IfOk, OnOk, refl, arith}
+use Rattle.std.proofs.Common.{◌≡◌, ◌≢◌, ℕ, Bool, true, false, not, List, Result, Ok, Err, IfOk, OnOk, refl, sym}
+use Rattle.std.proofs.lemmas.Bool.{false≢true}
 use Rattle.rl_ranges.specs.declared.universe.Universe.TheVariants as universe
 use Rattle.rl_syntax.specs.declared.pattern.Pattern.{Pattern}
 use Rattle.rl_pattern.specs.declared.flags.Flags.{Flags}
@@ -23,6 +24,14 @@ use Rattle.rl_judge.specs.Analysis.{IsAnalysisOf, IsJudged, has_no_pattern, has_
 use Rattle.rl_judge.specs.Faults.{literal_fault, pattern_fault}
 use Rattle.rl_judge.proofs.Values.{value_text}
 use Rattle.rl_judge.proofs.analysis.analyze.Goals as goal
+
+is_true : (b : Bool) → not b ≡ false → b ≡ true
+is_true true e = refl
+is_true false e = absurd (false≢true (sym e))
+
+is_false : (b : Bool) → not b ≡ true → b ≡ false
+is_false true e = absurd (false≢true e)
+is_false false e = refl
 
 -- flags that aren't known
 unknown : (flags : SiteFlags) → ((known : Flags) → flags ≡ Known known → ⊥) → flags ≡ Unknown
@@ -60,21 +69,21 @@ module _ {E : Type 0} (source : List ℕ) (tokens : List Token) (options : Analy
 
 pub returns-then-not-site-clause-right : goal.returns-then-not-site-clause-right
 returns-then-not-site-clause-right c =
-    is_not_whole (grind (arith, c.if-not-site.true)) c.in_ok-universe.ensures c.refusal.ensures
+    is_not_whole (is_false c.args.site.whole c.if-not-site.true) c.in_ok-universe.ensures c.refusal.ensures
 
 pub returns-in-Err-clause-right : goal.returns-in-Err-clause-right
 returns-in-Err-clause-right c =
-    without_value c.args.source.now c.args.tokens.now c.args.options c.args.site c.without_value.result c.in-Err.error (grind (arith, c.if-not-site.false))
+    without_value c.args.source.now c.args.tokens.now c.args.options c.args.site c.without_value.result c.in-Err.error (is_true c.args.site.whole c.if-not-site.false)
     c.in-Err.ensures.err c.without_value.ensures.is c.without_value.ensures.some
 
 pub returns-in_default-clause-right : goal.returns-in_default-clause-right
 returns-in_default-clause-right c =
-    has_unknown_flags (grind (arith, c.if-not-site.false)) c.in-Ok.ensures.ok (unknown c.args.site.flags c.in_default.not-Known) c.refusal-in_default.ensures
+    has_unknown_flags (is_true c.args.site.whole c.if-not-site.false) c.in-Ok.ensures.ok (unknown c.args.site.flags c.in_default.not-Known) c.refusal-in_default.ensures
 
 pub returns-in-Err-parse-clause-right : goal.returns-in-Err-parse-clause-right
 returns-in-Err-parse-clause-right c =
-    without_pattern c.args.source.now c.args.tokens.now c.args.options c.args.site c.without_pattern.result c.in-Ok.literal c.in-Known.flags c.in-Err-parse.error
-    (grind (arith, c.if-not-site.false)) c.in-Ok.ensures.ok c.in-Known.is c.in-Err-parse.ensures c.without_pattern.ensures.is c.without_pattern.ensures.some
+    without_pattern c.args.source.now c.args.tokens.now c.args.options c.args.site c.without_pattern-refused.result c.in-Ok.literal c.in-Known.flags c.in-Err-parse.error
+    (is_true c.args.site.whole c.if-not-site.false) c.in-Ok.ensures.ok c.in-Known.is c.in-Err-parse.ensures c.without_pattern-refused.ensures.is c.without_pattern-refused.ensures.some
 
 pub value-requires-clause-run : goal.value-requires-clause-run
 value-requires-clause-run c = c.requires.run.run
@@ -83,11 +92,11 @@ pub parse-requires : goal.parse-requires
 parse-requires c =
     value_text c.args.source.now c.args.tokens.now c.args.site.count c.args.site.first c.in-Ok.literal c.requires.tokens c.in-Ok.ensures.ok
 
-pub with_pattern-requires-clause-text : goal.with_pattern-requires-clause-text
-with_pattern-requires-clause-text c =
+pub with_pattern-judged-requires-clause-text : goal.with_pattern-judged-requires-clause-text
+with_pattern-judged-requires-clause-text c =
     value_text c.args.source.now c.args.tokens.now c.args.site.count c.args.site.first c.in-Ok.literal c.requires.tokens c.in-Ok.ensures.ok
 
 pub returns-clause-right : goal.returns-clause-right
 returns-clause-right c =
-    judged c.args.source.now c.args.tokens.now c.args.options c.args.site c.with_pattern.result c.in-Ok.literal c.in-Known.flags c.in-Ok-parse.pattern
-    (grind (arith, c.if-not-site.false)) c.in-Ok.ensures.ok c.in-Known.is c.in-Ok-parse.ensures c.with_pattern.ensures.right
+    judged c.args.source.now c.args.tokens.now c.args.options c.args.site c.with_pattern-judged.result c.in-Ok.literal c.in-Known.flags c.in-Ok-parse.pattern
+    (is_true c.args.site.whole c.if-not-site.false) c.in-Ok.ensures.ok c.in-Known.is c.in-Ok-parse.ensures c.with_pattern-judged.ensures.right
