@@ -256,8 +256,9 @@ fn closed(alloc: Global, body: Frame, i: u32) -> Result<Last, OutOfMemory>
         start,
         from: _,
         branches,
-        items: _,
+        items,
     } = body;
+    drop(items);
     let whole = whole_body(
         Span {
             from: start,
@@ -265,7 +266,10 @@ fn closed(alloc: Global, body: Frame, i: u32) -> Result<Last, OutOfMemory>
         },
         branches,
     );
-    let whole = Box::new(alloc, whole)?;
+    let Ok(whole) = Box::new(alloc, whole) else {
+        drop(kind);
+        return Err(OutOfMemory);
+    };
     let span = Span {
         from: opened,
         upto: i + 1,
@@ -286,7 +290,7 @@ pub(crate) fn close(alloc: Global, base: &mut Base, i: u32) -> Result<Option<Lex
         None => Ok(None),
         Some(outer) => {
             let body = mem::replace(&mut base.top, outer);
-            base.last = closed(alloc, body, i)?;
+            drop(mem::replace(&mut base.last, closed(alloc, body, i)?));
             Ok(Some(Lex::Between))
         }
     }

@@ -41,7 +41,9 @@ fn may_end(alloc: Global, base: &mut Base, lex: Lex, k: u32) -> Result<bool, Out
     match lex {
         Lex::Between | Lex::Line => Ok(true),
         Lex::InBraces(from, text) => {
-            no_count(base, from, text.as_slice())?;
+            let put = no_count(base, from, text.as_slice());
+            drop(text);
+            put?;
             Ok(true)
         }
         Lex::Counted(from, atom, mark, count) => {
@@ -63,7 +65,10 @@ fn may_end(alloc: Global, base: &mut Base, lex: Lex, k: u32) -> Result<bool, Out
         | Lex::AtSlash(_)
         | Lex::InHead(_, _)
         | Lex::SetOpen(_)
-        | Lex::InClass(_, _, _) => Ok(false),
+        | Lex::InClass(_, _, _) => {
+            drop(lex);
+            Ok(false)
+        }
     }
 }
 
@@ -92,7 +97,9 @@ pub(crate) fn finish(alloc: Global, state: State, k: u32) -> Result<Option<Whole
     ensures { IfOk result (λ found. option_map whole_of found ≡ m.finish_at k (state_of state)) }
 {
     let State { mut base, lex } = state;
-    finish_lex(alloc, &mut base, lex, k)
+    let found = finish_lex(alloc, &mut base, lex, k);
+    drop(base);
+    found
 }
 
 /// The state before the first code.

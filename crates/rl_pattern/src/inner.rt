@@ -116,7 +116,7 @@ fn take_from_back(items: &mut Vec<SyntaxNode>)
     ensures { reverse (map node_of items.new.items) ≡ without_leading (reverse (map node_of items.old.items)) }
 {
     while ends_leading(items.as_slice()) {
-        items.pop();
+        drop(items.pop());
     }
 }
 
@@ -137,7 +137,7 @@ fn take_trailing(items: &mut Vec<SyntaxNode>) -> Trail
     let mut run = Trail::None;
     let mut last = last_trail(items.as_slice());
     while last != Trail::None {
-        items.pop();
+        drop(items.pop());
         run = both_trails(run, last);
         last = last_trail(items.as_slice());
     }

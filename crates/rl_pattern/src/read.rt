@@ -102,7 +102,7 @@ fn one_code(
     match step(alloc, text, place, &mut state.base, lex, code)? {
         None => Err(ReadError::Syntax(place)),
         Some(lex) => {
-            state.lex = lex;
+            drop(mem::replace(&mut state.lex, lex));
             if is_too_deep(state, codes, place) {
                 Err(ReadError::TooDeep(place))
             } else {
@@ -141,7 +141,10 @@ pub(crate) fn read(
     let mut state = start(alloc, flags);
     let mut place = 0;
     for code in codes {
-        one_code(alloc, codes, text, place, &mut state, *code)?;
+        if let Err(error) = one_code(alloc, codes, text, place, &mut state, *code) {
+            drop(state);
+            return Err(error);
+        }
         place += 1;
     }
     at_end(alloc, state, place)

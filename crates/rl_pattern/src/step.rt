@@ -44,18 +44,6 @@ fn code_between(base: &mut Base, i: u32, code: u32) -> Result<Option<Lex>, OutOf
     Ok(Some(Lex::Between))
 }
 
-/// A code that may be passed over.
-fn pass_or_put(base: &mut Base, i: u32, code: u32, lex: Lex) -> Result<Option<Lex>, OutOfMemory>
-    requires { i < 2 ^ 32 - 1 }
-    ensures { IfOk result (λ found. state_with (base_of base.new) found ≡ m.pass_or_put (base_of base.old) i code (lex_of lex)) }
-{
-    if base.top.flags.verbose {
-        Ok(Some(lex))
-    } else {
-        code_between(base, i, code)
-    }
-}
-
 /// A mark from `from` up to `upto`.
 fn put_mark(
     base: &mut Base,
@@ -89,9 +77,9 @@ fn go_on(alloc: Global, i: u32, base: &mut Base, code: u32) -> Result<Option<Lex
         TokenClass::Bracket => Ok(Some(Lex::SetOpen(i))),
         TokenClass::Times(count) => Ok(count_last(base, i, count)),
         TokenClass::Edge(mark) => put_mark(base, i, i + 1, mark),
-        TokenClass::Blank => pass_or_put(base, i, code, Lex::Between),
-        TokenClass::Sharp => pass_or_put(base, i, code, Lex::Line),
-        TokenClass::Plain => code_between(base, i, code),
+        TokenClass::Blank if base.top.flags.verbose => Ok(Some(Lex::Between)),
+        TokenClass::Sharp if base.top.flags.verbose => Ok(Some(Lex::Line)),
+        TokenClass::Blank | TokenClass::Sharp | TokenClass::Plain => code_between(base, i, code),
     }
 }
 
