@@ -58,10 +58,7 @@ fn with_last(base: &mut Base, last: Last) -> Result<(), OutOfMemory>
 {
     match mem::replace(&mut base.last, last) {
         Last::NothingYet => Ok(()),
-        Last::AnAtom(_, atom) => {
-            base.top.items.push(atom)?;
-            Ok(())
-        }
+        Last::AnAtom(_, atom) => base.top.items.push(atom),
     }
 }
 
@@ -69,9 +66,11 @@ fn with_last(base: &mut Base, last: Last) -> Result<(), OutOfMemory>
 pub(crate) fn put_item(base: &mut Base, item: SyntaxNode) -> Result<(), OutOfMemory>
     ensures { OnOk result (base_of base.new ≡ m.put_item (base_of base.old) (node_of item)) }
 {
-    with_last(base, Last::NothingYet)?;
-    base.top.items.push(item)?;
-    Ok(())
+    let Ok(()) = with_last(base, Last::NothingYet) else {
+        drop(item);
+        return Err(OutOfMemory);
+    };
+    base.top.items.push(item)
 }
 
 /// A node for one code, as an atom from a place up to here.
@@ -176,8 +175,7 @@ pub(crate) fn end_branch(alloc: Global, base: &mut Base, upto: u32) -> Result<()
     with_last(base, Last::NothingYet)?;
     let items = mem::replace(&mut base.top.items, Items::new(alloc));
     let from = base.top.from;
-    base.top.branches.push(branch(Span { from, upto }, items))?;
-    Ok(())
+    base.top.branches.push(branch(Span { from, upto }, items))
 }
 
 /// A `|` at `i`.
@@ -238,7 +236,10 @@ pub(crate) fn open_group(
 ) -> Result<(), OutOfMemory>
     ensures { OnOk result (base_of base.new ≡ m.open_group (base_of base.old) opened start kind) }
 {
-    with_last(base, Last::NothingYet)?;
+    let Ok(()) = with_last(base, Last::NothingYet) else {
+        drop(kind);
+        return Err(OutOfMemory);
+    };
     let flags = inside(&kind, base.top.flags);
     let body = empty_body(alloc, flags, kind, opened, start);
     put_below(&mut base.below, mem::replace(&mut base.top, body))
@@ -282,13 +283,13 @@ pub(crate) fn close(alloc: Global, base: &mut Base, i: u32) -> Result<Option<Lex
     requires { i < 2 ^ 32 - 1 }
     ensures { IfOk result (λ found. state_with (base_of base.new) found ≡ m.close (base_of base.old) i (base_of base.old).below) }
 {
-    if base.below.is_empty() {
-        return Ok(None);
-    }
-    end_branch(alloc, base, i)?;
     match base.below.pop() {
         None => Ok(None),
         Some(outer) => {
+            let Ok(()) = end_branch(alloc, base, i) else {
+                drop(outer);
+                return Err(OutOfMemory);
+            };
             let body = mem::replace(&mut base.top, outer);
             drop(mem::replace(&mut base.last, closed(alloc, body, i)?));
             Ok(Some(Lex::Between))

@@ -14,10 +14,13 @@ use rl_syntax::Span;
 use std::alloc::Global;
 use std::mem;
 
-/// The whole pattern where the codes end at `k` between items, with no group open.
-fn whole(alloc: Global, base: &mut Base, k: u32) -> Result<Whole, OutOfMemory>
-    ensures { IfOk result (λ found. Some (whole_of found) ≡ m.finish_below k (base_of base.old) []) }
+/// The whole pattern where the codes end at `k` between items, if no group is open.
+fn whole(alloc: Global, base: &mut Base, k: u32) -> Result<Option<Whole>, OutOfMemory>
+    ensures { IfOk result (λ found. option_map whole_of found ≡ m.finish k (base_of base.old)) }
 {
+    if !base.below.is_empty() {
+        return Ok(None);
+    }
     end_branch(alloc, base, k)?;
     let place = Span {
         from: base.top.start,
@@ -25,11 +28,11 @@ fn whole(alloc: Global, base: &mut Base, k: u32) -> Result<Whole, OutOfMemory>
     };
     let branches = mem::replace(&mut base.top.branches, Items::new(alloc));
     let fronts = mem::replace(&mut base.fronts, Items::new(alloc));
-    Ok(Whole {
+    Ok(Some(Whole {
         fronts,
         place,
         body: whole_body(place, branches),
-    })
+    }))
 }
 
 /// Whether the codes may end at `k` in the middle of this, which is put among what was read where they may.
@@ -73,7 +76,7 @@ fn may_end(alloc: Global, base: &mut Base, lex: Lex, k: u32) -> Result<bool, Out
 }
 
 /// The whole pattern where the codes end at `k` in the middle of this.
-fn finish_lex(
+pub(crate) fn finish_lex(
     alloc: Global,
     base: &mut Base,
     lex: Lex,
@@ -83,23 +86,11 @@ fn finish_lex(
     requires fits { FitsAt (lex_of lex) k }
     ensures { IfOk result (λ found. option_map whole_of found ≡ m.finish_lex k (base_of base.old) (lex_of lex)) }
 {
-    if may_end(alloc, base, lex, k)? && base.below.is_empty() {
-        Ok(Some(whole(alloc, base, k)?))
+    if may_end(alloc, base, lex, k)? {
+        whole(alloc, base, k)
     } else {
         Ok(None)
     }
-}
-
-/// The whole pattern where the codes end at `k`.
-pub(crate) fn finish(alloc: Global, state: State, k: u32) -> Result<Option<Whole>, OutOfMemory>
-    requires room { k < 2 ^ 32 - 1 }
-    requires fits { FitsAt (state_of state).lex k }
-    ensures { IfOk result (λ found. option_map whole_of found ≡ m.finish_at k (state_of state)) }
-{
-    let State { mut base, lex } = state;
-    let found = finish_lex(alloc, &mut base, lex, k);
-    drop(base);
-    found
 }
 
 /// The state before the first code.

@@ -167,10 +167,11 @@ pub(crate) fn without_anchors(alloc: Global, whole: Whole) -> Result<Inner, OutO
     ensures { IfOk result (λ i. left_of i ≡ f.inner (whole_of whole)) }
 {
     let Whole {
-        fronts: _,
+        fronts,
         place,
         body,
     } = whole;
+    drop(fronts);
     match body {
         SyntaxNode::Choice(span, branches) => Ok(Inner {
             body: SyntaxNode::Choice(span, branches),

@@ -33,8 +33,14 @@ fn with_name(
 {
     match kind {
         Kind::Named(name) => {
-            let name = Codes::from_slice(alloc, name.as_slice())?;
-            found.push(Called { place, name })?;
+            let Ok(name) = Codes::from_slice(alloc, name.as_slice()) else {
+                drop(found);
+                return Err(OutOfMemory);
+            };
+            let Ok(()) = found.push(Called { place, name }) else {
+                drop(found);
+                return Err(OutOfMemory);
+            };
             Ok(found)
         }
         Kind::Capturing

@@ -23,7 +23,7 @@ use rl_syntax::{Feature, Pattern};
 use std::alloc::Global;
 
 /// Why codes give no pattern. Places count codes from 0.
-#[derive(Clone, Copy, Debug, PartialEq, Eq)]
+#[derive(Clone, Copy)]
 pub enum PatError {
     /// No pattern is spelled; the place is the length of the longest prefix that begins one.
     Syntax(u32),

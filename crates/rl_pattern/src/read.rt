@@ -6,7 +6,7 @@ ghost use Rattle.rl_pattern.specs.internal.Views.{lex_of, state_of, FitsAt};
 ghost use Rattle.rl_pattern.specs.internal.Machine.{step_at, finish_at};
 ghost use Rattle.rl_pattern.specs.internal.Answering.{Answered, Went, Ended, is_code, opens_none, at_paren, is_too_deep};
 
-use crate::ends::{finish, start};
+use crate::ends::{finish_lex, start};
 use crate::flags::Flags;
 use crate::head::behind_paren;
 use crate::limits::MOST_OPEN_GROUPS;
@@ -118,7 +118,10 @@ fn at_end(alloc: Global, state: State, place: u32) -> Result<Whole, ReadError>
     requires fits { FitsAt (state_of state).lex place }
     ensures { Ended place (finish_at place (state_of state)) result }
 {
-    match finish(alloc, state, place)? {
+    let State { mut base, lex } = state;
+    let found = finish_lex(alloc, &mut base, lex, place);
+    drop(base);
+    match found? {
         Some(whole) => Ok(whole),
         None => Err(ReadError::Syntax(place)),
     }
