@@ -112,25 +112,6 @@ pub(crate) fn no_count(base: &mut Base, from: u32, text: &[u32]) -> Result<(), O
     put_codes(base, from + 1, text)
 }
 
-/// The node of an atom with a quantifier.
-fn repeat_of(
-    alloc: Global,
-    from: u32,
-    atom: SyntaxNode,
-    mark: Span,
-    count: Count,
-    greed: Greed,
-) -> Result<SyntaxNode, OutOfMemory>
-    ensures { IfOk result (λ node. node_of node ≡ t.repeat (t.span from mark.upto) (t.span mark.from mark.upto) count greed (node_of atom)) }
-{
-    let span = Span {
-        from,
-        upto: mark.upto,
-    };
-    let body = Box::new(alloc, atom)?;
-    Ok(SyntaxNode::Repeat(span, mark, count, greed, body))
-}
-
 /// The atom with a quantifier.
 pub(crate) fn put_repeat(
     alloc: Global,
@@ -143,8 +124,12 @@ pub(crate) fn put_repeat(
 ) -> Result<(), OutOfMemory>
     ensures { OnOk result (base_of base.new ≡ m.put_repeat (base_of base.old) from (node_of atom) mark.from mark.upto count greed) }
 {
-    let item = repeat_of(alloc, from, atom, mark, count, greed)?;
-    put_item(base, item)
+    let span = Span {
+        from,
+        upto: mark.upto,
+    };
+    let body = Box::new(alloc, atom)?;
+    put_item(base, SyntaxNode::Repeat(span, mark, count, greed, body))
 }
 
 /// A quantifier from `from` for the last atom.

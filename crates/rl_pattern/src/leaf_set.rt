@@ -46,7 +46,9 @@ fn closed(universe: Universe, flags: Flags, set: CodeSet) -> Result<CodeSet, Out
     ensures inside { IfOk result (IsInside universe) }
 {
     if flags.ignore_case {
-        set.case_closed(flags.ascii, universe)
+        let closed = set.case_closed(flags.ascii, universe);
+        drop(set);
+        closed
     } else {
         Ok(set)
     }
@@ -65,7 +67,9 @@ fn kind_set(
 {
     let class = CodeSet::named(alloc, kind, flags.ascii, universe)?;
     if inverse {
-        class.complement(universe)
+        let others = class.complement(universe);
+        drop(class);
+        others
     } else {
         Ok(class)
     }

@@ -118,14 +118,6 @@ fn group_of(alloc: Global, span: Span, captures: bool, body: Pat) -> Result<Pat,
     })
 }
 
-/// A group that is refused, in place of its body.
-fn refused_group(span: Span, what: Feature, body: Pat) -> Pat
-    ensures { pat_of result ≡ s.outside span what }
-{
-    drop(body);
-    Pat::Outside { span, what }
-}
-
 /// The group of a pattern.
 fn group_pat(alloc: Global, span: Span, kind: &Kind, body: Pat) -> Result<Pat, OutOfMemory>
     ensures { IfOk result (λ found. pat_of found ≡ p.group_shape span kind.now (pat_of body)) }
@@ -133,9 +125,27 @@ fn group_pat(alloc: Global, span: Span, kind: &Kind, body: Pat) -> Result<Pat, O
     match kind {
         Kind::Capturing | Kind::Named(_) => group_of(alloc, span, true, body),
         Kind::Scoped(_, _) => group_of(alloc, span, false, body),
-        Kind::Lookaround => Ok(refused_group(span, Feature::Lookaround, body)),
-        Kind::Atomic => Ok(refused_group(span, Feature::Atomic, body)),
-        Kind::Conditional => Ok(refused_group(span, Feature::Conditional, body)),
+        Kind::Lookaround => {
+            drop(body);
+            Ok(Pat::Outside {
+                span,
+                what: Feature::Lookaround,
+            })
+        }
+        Kind::Atomic => {
+            drop(body);
+            Ok(Pat::Outside {
+                span,
+                what: Feature::Atomic,
+            })
+        }
+        Kind::Conditional => {
+            drop(body);
+            Ok(Pat::Outside {
+                span,
+                what: Feature::Conditional,
+            })
+        }
     }
 }
 

@@ -96,21 +96,13 @@ fn end_braces(
     }
 }
 
-/// A code more of the text after a brace at `from`.
-fn more_text(from: u32, mut text: Items<u32>, code: u32) -> Result<Lex, OutOfMemory>
-    ensures { IfOk result (λ lex. lex_of lex ≡ m.in_braces from (text ++ code ∷ [])) }
-{
-    text.push(code)?;
-    Ok(Lex::InBraces(from, text))
-}
-
 /// The code at `i` after a brace at `from` and text.
 fn braces_step(
     alloc: Global,
     i: u32,
     base: &mut Base,
     from: u32,
-    text: Items<u32>,
+    mut text: Items<u32>,
     code: u32,
 ) -> Result<Option<Lex>, OutOfMemory>
     requires room { i < 2 ^ 32 - 1 }
@@ -124,7 +116,11 @@ fn braces_step(
         return ended;
     }
     if counts(code) {
-        return Ok(Some(more_text(from, text, code)?));
+        let Ok(()) = text.push(code) else {
+            drop(text);
+            return Err(OutOfMemory);
+        };
+        return Ok(Some(Lex::InBraces(from, text)));
     }
     let put = no_count(base, from, text.as_slice());
     drop(text);
