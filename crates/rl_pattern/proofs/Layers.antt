@@ -1,5 +1,5 @@
 -- What nodes are, by their variants.
-use Rattle.std.proofs.Common.{◌≡◌, ◌≤◌, suc, List, [], ◌∷◌, ◌++◌, length, map, Option, Some, refl, sym, ap, ◌∙◌, arith, length-append}
+use Rattle.std.proofs.Common.{◌≡◌, ◌≤◌, List, [], ◌∷◌, ◌++◌, length, map, Option, Some, sym, ap, ◌∙◌, arith, length-append}
 use Rattle.std.specs.Option.{option_to_list}
 use Rattle.rl_pattern.specs.declared.tree.SyntaxNode.TheViews as V
 use Rattle.rl_pattern.specs.declared.tree.SyntaxNode.TheFolds.{the_lemmas}

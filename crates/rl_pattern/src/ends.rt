@@ -1,6 +1,6 @@
 //! The reader before the first code, and at the end of the codes.
 
-ghost use Rattle.std.specs.Prelude.{◌≡◌, ℕ, ◌-◌, ◌<◌, ◌^◌, [], IfOk, option_map, Some, None, if◌then◌else◌};
+ghost use Rattle.std.specs.Prelude.{◌≡◌, ℕ, ◌-◌, ◌<◌, ◌^◌, IfOk, option_map, Some, None, if◌then◌else◌};
 ghost use Rattle.rl_pattern.specs.internal.Views.{base_of, lex_of, state_of, whole_of, FitsAt};
 ghost use Rattle.rl_pattern.specs.internal.Machine as m;
 

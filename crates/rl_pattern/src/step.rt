@@ -1,6 +1,6 @@
 //! The reader of patterns, one code at a time.
 
-ghost use Rattle.std.specs.Prelude.{◌≡◌, ℕ, ◌<◌, ◌^◌, ◌-◌, ◌+◌, suc, [], ◌∷◌, ◌++◌, length, IfOk, Some};
+ghost use Rattle.std.specs.Prelude.{◌≡◌, ℕ, ◌<◌, ◌^◌, ◌-◌, ◌+◌, suc, length, IfOk, Some};
 ghost use Rattle.rl_pattern.specs.internal.Views.{node_of, base_of, lex_of, state_with, FitsAt};
 ghost use Rattle.rl_pattern.specs.Codes.{sign, counts};
 ghost use Rattle.rl_pattern.specs.internal.Machine as m;

@@ -1,5 +1,5 @@
 -- One item is the branch.
-use Rattle.std.proofs.Common.{map, sym, ap, arith}
+use Rattle.std.proofs.Common.{sym, ap, arith}
 use Rattle.rl_pattern.specs.Tree as t
 use Rattle.rl_pattern.specs.internal.Views.{node_of}
 use Rattle.rl_pattern.proofs.Layers.{one_left}

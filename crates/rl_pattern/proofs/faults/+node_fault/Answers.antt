@@ -1,5 +1,5 @@
 -- A node's own faults stand before those of its body.
-use Rattle.std.proofs.Common.{◌≡◌, ℕ, ◌+◌, ◌<◌, Bool, List, length, drop, map, Option, ◌++◌, sym, ap, ◌∙◌}
+use Rattle.std.proofs.Common.{◌≡◌, ℕ, ◌+◌, ◌<◌, Bool, List, length, drop, map, Option, sym, ap, ◌∙◌}
 use Rattle.rl_pattern.specs.Tree as t
 use Rattle.rl_pattern.specs.internal.Views.{node_of, branch_of}
 use Rattle.rl_pattern.specs.Found.{Fault, earlier, first_fault, node_faults, nodes_faults, branches_faults, count_faults, kind_faults}
