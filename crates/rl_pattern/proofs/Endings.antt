@@ -179,10 +179,6 @@ record Fed (x : InEscape) (r : List ℕ) : Type 0 where
   feeds : Feeds value x r
   no_kind : is_kind value ≡ false
 
-hex_zero : hex 48 ≡ Some 0
-unfolding hex
-hex_zero = refl
-
 feeds_hex : (m v : ℕ) → Fed (in_hex (suc m) v) (replicate (suc m) 48)
 unfolding hex
 feeds_hex zero v = record { value = hex_code (with_digit 16 v 0); feeds = at_last refl; no_kind = no_kind 1114111 (with_digit 16 v 0) }

@@ -60,3 +60,7 @@ first_of_joined (a ∷ xs) ys = ap (earlier (Some a)) (first_of_joined xs ys) �
 -- the first fault so far, and one list more
 pub best_of_more : (best : Option Fault) (xs ys : List Fault) → earlier (earlier best (first_fault xs)) (first_fault ys) ≡ earlier best (first_fault (xs ++ ys))
 best_of_more best xs ys = sym (ap (earlier best) (first_of_joined xs ys) ∙ earlier_assoc best (first_fault xs) (first_fault ys))
+
+-- a first fault before that of another list
+pub own_first : (whole own inner : Option Fault) (xs ys : List Fault) → whole ≡ earlier own inner → own ≡ first_fault xs → inner ≡ first_fault ys → whole ≡ first_fault (xs ++ ys)
+own_first whole own inner xs ys e f g = e ∙ ap (λ a. earlier a inner) f ∙ ap (earlier (first_fault xs)) g ∙ sym (first_of_joined xs ys)

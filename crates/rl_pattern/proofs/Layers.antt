@@ -1,5 +1,6 @@
 -- What nodes are, by their variants.
-use Rattle.std.proofs.Common.{◌≡◌}
+use Rattle.std.proofs.Common.{◌≡◌, ◌≤◌, List, [], ◌∷◌, ◌++◌, length, map, Option, Some, sym, ap, ◌∙◌, arith, length-append}
+use Rattle.std.specs.Option.{option_to_list}
 use Rattle.rl_pattern.specs.declared.tree.SyntaxNode.TheViews as V
 use Rattle.rl_pattern.specs.declared.tree.SyntaxNode.TheFolds.{the_lemmas}
 use Rattle.rl_pattern.specs.declared.tree.SyntaxNode.{SyntaxNode}
@@ -17,3 +18,11 @@ node_of-group s k b = search the_lemmas
 
 pub branch_of-fields : (b : Branch) → branch_of b ≡ record { place = b.place; body = node_of b.body }
 branch_of-fields b = search the_lemmas
+
+-- where one item at most stands in a list and one is taken off its end, that is the list
+pub one_left : {A B : Type 0} (f : A → B) (xs ys zs : List A) (o : Option A) (x : A) → ys ≡ xs → ys ≡ zs ++ option_to_list o → o ≡ Some x → length xs ≤ 1 → map f xs ≡ f x ∷ []
+one_left f xs ys zs o x e h s l = go zs (sym e ∙ h ∙ ap (λ p. zs ++ option_to_list p) s)
+  where
+    go : (vs : List _) → xs ≡ vs ++ x ∷ [] → map f xs ≡ f x ∷ []
+    go [] q = ap (map f) q
+    go (v ∷ vs) q = absurd (omega (arith, l, ap length q, length-append vs (x ∷ [])))

@@ -1,5 +1,5 @@
 -- What the sets of the parts of a leaf hold is what the leaf holds.
-use Rattle.std.proofs.Common.{◌≡◌, ℕ, zero, suc, ◌<◌, ◌-◌, ◌==◌, min, nat_lt, nat_le, Bool, true, false, not, ◌&&◌, ◌||◌, cond, List, [], ◌∷◌, length, drop, ◌+◌, inl, inr, Result, Ok, Err, refl, sym, ap, ap₂, ◌∙◌, arith}
+use Rattle.std.proofs.Common.{◌≡◌, ℕ, zero, suc, ◌<◌, ◌-◌, ◌==◌, min, nat_lt, Bool, true, false, not, ◌&&◌, ◌||◌, cond, List, [], ◌∷◌, length, drop, ◌+◌, inl, inr, Result, Ok, Err, refl, sym, ap, ap₂, ◌∙◌, arith}
 use Rattle.std.proofs.lemmas.Bool.{and_parts, and_from, or_cases, or_left, or_right, lt-ltb, ltb-true, cases_eq, true≢false}
 use Rattle.std.proofs.lemmas.Bool.Decides.{nat_tests}
 use Rattle.std.specs.Prelude.{slice_index_or, IfOk}
@@ -44,10 +44,6 @@ between_none Bytes first last code n upto e f h = grind (arith, nat_tests)
 pub between_one : (code d : ℕ) → is_between code code d ≡ (d == code)
 unfolding is_between
 between_one code d = grind (arith, nat_tests)
-
-pub between_parts : (first last d : ℕ) → is_between first last d ≡ (nat_le first d && nat_le d last)
-unfolding is_between
-between_parts first last d = refl
 
 pub same_within : (u : Universe) (p q : ℕ → Bool) → ((d : ℕ) → p d ≡ q d) → (d : ℕ) → within u p d ≡ within u q d
 same_within u p q same d = ap (λ b. nat_lt d (code_count u) && b) (same d)
@@ -110,9 +106,6 @@ closing_true u f set closed p e same is inside code =
     closed_same u (goes_by_ascii f.ascii u) set closed p same is inside code
     ∙ ap (λ a. within u (closed_holds u a p) code) (sym (ascii_rule f.ascii u))
     ∙ sym (ap (λ b. nat_lt code (code_count u) && cond b (closed_holds u (f.ascii || not (is_text u)) p code) (p code)) e)
-
-pub closing_false : (u : Universe) (f : Flags) (p : ℕ → Bool) (code : ℕ) → f.ignore_case ≡ false → within u p code ≡ within u (closing_in u f p) code
-closing_false u f p code e = sym (ap (λ b. nat_lt code (code_count u) && cond b (closed_holds u (f.ascii || not (is_text u)) p code) (p code)) e)
 
 pub kind_same : (u : Universe) (f : Flags) (k : Named) (inverse : Bool) (code : ℕ) → inverse ≡ false → is_named k (goes_by_ascii f.ascii u) code ≡ kind_in u f k inverse code
 unfolding kind_in

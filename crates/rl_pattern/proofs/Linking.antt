@@ -49,9 +49,6 @@ pub not_true : (b : Bool) → not b ≡ true → b ≡ false
 not_true true h = absurd (true≢false (sym h))
 not_true false h = refl
 
-true_false : (b : Bool) → b ≡ true → b ≡ false → ⊥
-true_false b p q = true≢false (sym p ∙ q)
-
 abbrev pub is_plain : Kind → Bool
 is_plain capturing = true
 is_plain (named n) = true

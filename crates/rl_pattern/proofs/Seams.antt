@@ -37,10 +37,6 @@ calm_meets c d h = record { apart = λ e. h.0; no_head = λ e. h.1 }
 pub closed_meets : (c d : ℕ) → is_open c ≡ false → d ≢ 63 → MayMeet c d
 closed_meets c d h n = record { apart = λ e. absurd (true≢false (sym e ∙ h)); no_head = λ e. n }
 
--- what kinds of codes are no question mark
-abbrev Unasked : ℕ → TokenClass → Type 0
-Unasked c s = c ≡ 63 → (n : Count) → s ≡ times n → ⊥
-
 sign_63 : (n : Count) × (sign 63 ≡ times n)
 unfolding sign
 sign_63 = (record { least = 0; most = Some 1 }, refl)

@@ -58,10 +58,7 @@ fn with_last(base: &mut Base, last: Last) -> Result<(), OutOfMemory>
 {
     match mem::replace(&mut base.last, last) {
         Last::NothingYet => Ok(()),
-        Last::AnAtom(_, atom) => {
-            base.top.items.push(atom)?;
-            Ok(())
-        }
+        Last::AnAtom(_, atom) => base.top.items.push(atom),
     }
 }
 
@@ -69,9 +66,11 @@ fn with_last(base: &mut Base, last: Last) -> Result<(), OutOfMemory>
 pub(crate) fn put_item(base: &mut Base, item: SyntaxNode) -> Result<(), OutOfMemory>
     ensures { OnOk result (base_of base.new ≡ m.put_item (base_of base.old) (node_of item)) }
 {
-    with_last(base, Last::NothingYet)?;
-    base.top.items.push(item)?;
-    Ok(())
+    let Ok(()) = with_last(base, Last::NothingYet) else {
+        drop(item);
+        return Err(OutOfMemory);
+    };
+    base.top.items.push(item)
 }
 
 /// A node for one code, as an atom from a place up to here.
@@ -113,25 +112,6 @@ pub(crate) fn no_count(base: &mut Base, from: u32, text: &[u32]) -> Result<(), O
     put_codes(base, from + 1, text)
 }
 
-/// The node of an atom with a quantifier.
-fn repeat_of(
-    alloc: Global,
-    from: u32,
-    atom: SyntaxNode,
-    mark: Span,
-    count: Count,
-    greed: Greed,
-) -> Result<SyntaxNode, OutOfMemory>
-    ensures { IfOk result (λ node. node_of node ≡ t.repeat (t.span from mark.upto) (t.span mark.from mark.upto) count greed (node_of atom)) }
-{
-    let span = Span {
-        from,
-        upto: mark.upto,
-    };
-    let body = Box::new(alloc, atom)?;
-    Ok(SyntaxNode::Repeat(span, mark, count, greed, body))
-}
-
 /// The atom with a quantifier.
 pub(crate) fn put_repeat(
     alloc: Global,
@@ -144,8 +124,12 @@ pub(crate) fn put_repeat(
 ) -> Result<(), OutOfMemory>
     ensures { OnOk result (base_of base.new ≡ m.put_repeat (base_of base.old) from (node_of atom) mark.from mark.upto count greed) }
 {
-    let item = repeat_of(alloc, from, atom, mark, count, greed)?;
-    put_item(base, item)
+    let span = Span {
+        from,
+        upto: mark.upto,
+    };
+    let body = Box::new(alloc, atom)?;
+    put_item(base, SyntaxNode::Repeat(span, mark, count, greed, body))
 }
 
 /// A quantifier from `from` for the last atom.
@@ -176,8 +160,7 @@ pub(crate) fn end_branch(alloc: Global, base: &mut Base, upto: u32) -> Result<()
     with_last(base, Last::NothingYet)?;
     let items = mem::replace(&mut base.top.items, Items::new(alloc));
     let from = base.top.from;
-    base.top.branches.push(branch(Span { from, upto }, items))?;
-    Ok(())
+    base.top.branches.push(branch(Span { from, upto }, items))
 }
 
 /// A `|` at `i`.
@@ -238,7 +221,10 @@ pub(crate) fn open_group(
 ) -> Result<(), OutOfMemory>
     ensures { OnOk result (base_of base.new ≡ m.open_group (base_of base.old) opened start kind) }
 {
-    with_last(base, Last::NothingYet)?;
+    let Ok(()) = with_last(base, Last::NothingYet) else {
+        drop(kind);
+        return Err(OutOfMemory);
+    };
     let flags = inside(&kind, base.top.flags);
     let body = empty_body(alloc, flags, kind, opened, start);
     put_below(&mut base.below, mem::replace(&mut base.top, body))
@@ -256,8 +242,9 @@ fn closed(alloc: Global, body: Frame, i: u32) -> Result<Last, OutOfMemory>
         start,
         from: _,
         branches,
-        items: _,
+        items,
     } = body;
+    drop(items);
     let whole = whole_body(
         Span {
             from: start,
@@ -265,7 +252,10 @@ fn closed(alloc: Global, body: Frame, i: u32) -> Result<Last, OutOfMemory>
         },
         branches,
     );
-    let whole = Box::new(alloc, whole)?;
+    let Ok(whole) = Box::new(alloc, whole) else {
+        drop(kind);
+        return Err(OutOfMemory);
+    };
     let span = Span {
         from: opened,
         upto: i + 1,
@@ -278,15 +268,15 @@ pub(crate) fn close(alloc: Global, base: &mut Base, i: u32) -> Result<Option<Lex
     requires { i < 2 ^ 32 - 1 }
     ensures { IfOk result (λ found. state_with (base_of base.new) found ≡ m.close (base_of base.old) i (base_of base.old).below) }
 {
-    if base.below.is_empty() {
-        return Ok(None);
-    }
-    end_branch(alloc, base, i)?;
     match base.below.pop() {
         None => Ok(None),
         Some(outer) => {
+            let Ok(()) = end_branch(alloc, base, i) else {
+                drop(outer);
+                return Err(OutOfMemory);
+            };
             let body = mem::replace(&mut base.top, outer);
-            base.last = closed(alloc, body, i)?;
+            drop(mem::replace(&mut base.last, closed(alloc, body, i)?));
             Ok(Some(Lex::Between))
         }
     }

@@ -1,6 +1,6 @@
 //! The reader before the first code, and at the end of the codes.
 
-ghost use Rattle.std.specs.Prelude.{◌≡◌, ℕ, ◌-◌, ◌<◌, ◌^◌, [], IfOk, option_map, Some, None, if◌then◌else◌};
+ghost use Rattle.std.specs.Prelude.{◌≡◌, ℕ, ◌-◌, ◌<◌, ◌^◌, IfOk, option_map, Some, None, if◌then◌else◌};
 ghost use Rattle.rl_pattern.specs.internal.Views.{base_of, lex_of, state_of, whole_of, FitsAt};
 ghost use Rattle.rl_pattern.specs.internal.Machine as m;
 
@@ -14,10 +14,13 @@ use rl_syntax::Span;
 use std::alloc::Global;
 use std::mem;
 
-/// The whole pattern where the codes end at `k` between items, with no group open.
-fn whole(alloc: Global, base: &mut Base, k: u32) -> Result<Whole, OutOfMemory>
-    ensures { IfOk result (λ found. Some (whole_of found) ≡ m.finish_below k (base_of base.old) []) }
+/// The whole pattern where the codes end at `k` between items, if no group is open.
+fn whole(alloc: Global, base: &mut Base, k: u32) -> Result<Option<Whole>, OutOfMemory>
+    ensures { IfOk result (λ found. option_map whole_of found ≡ m.finish k (base_of base.old)) }
 {
+    if !base.below.is_empty() {
+        return Ok(None);
+    }
     end_branch(alloc, base, k)?;
     let place = Span {
         from: base.top.start,
@@ -25,11 +28,11 @@ fn whole(alloc: Global, base: &mut Base, k: u32) -> Result<Whole, OutOfMemory>
     };
     let branches = mem::replace(&mut base.top.branches, Items::new(alloc));
     let fronts = mem::replace(&mut base.fronts, Items::new(alloc));
-    Ok(Whole {
+    Ok(Some(Whole {
         fronts,
         place,
         body: whole_body(place, branches),
-    })
+    }))
 }
 
 /// Whether the codes may end at `k` in the middle of this, which is put among what was read where they may.
@@ -41,7 +44,9 @@ fn may_end(alloc: Global, base: &mut Base, lex: Lex, k: u32) -> Result<bool, Out
     match lex {
         Lex::Between | Lex::Line => Ok(true),
         Lex::InBraces(from, text) => {
-            no_count(base, from, text.as_slice())?;
+            let put = no_count(base, from, text.as_slice());
+            drop(text);
+            put?;
             Ok(true)
         }
         Lex::Counted(from, atom, mark, count) => {
@@ -63,12 +68,15 @@ fn may_end(alloc: Global, base: &mut Base, lex: Lex, k: u32) -> Result<bool, Out
         | Lex::AtSlash(_)
         | Lex::InHead(_, _)
         | Lex::SetOpen(_)
-        | Lex::InClass(_, _, _) => Ok(false),
+        | Lex::InClass(_, _, _) => {
+            drop(lex);
+            Ok(false)
+        }
     }
 }
 
 /// The whole pattern where the codes end at `k` in the middle of this.
-fn finish_lex(
+pub(crate) fn finish_lex(
     alloc: Global,
     base: &mut Base,
     lex: Lex,
@@ -78,21 +86,11 @@ fn finish_lex(
     requires fits { FitsAt (lex_of lex) k }
     ensures { IfOk result (λ found. option_map whole_of found ≡ m.finish_lex k (base_of base.old) (lex_of lex)) }
 {
-    if may_end(alloc, base, lex, k)? && base.below.is_empty() {
-        Ok(Some(whole(alloc, base, k)?))
+    if may_end(alloc, base, lex, k)? {
+        whole(alloc, base, k)
     } else {
         Ok(None)
     }
-}
-
-/// The whole pattern where the codes end at `k`.
-pub(crate) fn finish(alloc: Global, state: State, k: u32) -> Result<Option<Whole>, OutOfMemory>
-    requires room { k < 2 ^ 32 - 1 }
-    requires fits { FitsAt (state_of state).lex k }
-    ensures { IfOk result (λ found. option_map whole_of found ≡ m.finish_at k (state_of state)) }
-{
-    let State { mut base, lex } = state;
-    finish_lex(alloc, &mut base, lex, k)
 }
 
 /// The state before the first code.

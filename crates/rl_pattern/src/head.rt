@@ -1,6 +1,6 @@
 //! The reader within the head of a group.
 
-ghost use Rattle.std.specs.Prelude.{◌≡◌, ℕ, Bool, if◌then◌else◌, IfOk};
+ghost use Rattle.std.specs.Prelude.{◌≡◌, ℕ, Bool, [], ◌∷◌, ◌++◌, if◌then◌else◌, IfOk};
 ghost use Rattle.rl_pattern.specs.Codes.{is};
 ghost use Rattle.rl_pattern.specs.internal.Machine.{head_step, quest_next, behind_next, behind_paren};
 
@@ -105,30 +105,29 @@ fn goes_if(goes: bool, head: InHead) -> HeadAnswer
     }
 }
 
-/// The code that begins a group's name, in text or not.
-fn group_name_first(alloc: Global, text: bool, code: u32) -> Result<HeadAnswer, OutOfMemory>
-    ensures { IfOk result (λ answer. answer ≡ head_step text InHead.GroupName code) }
+/// A group's name with one code more, if it goes on.
+fn name_goes(goes: bool, mut name: Items<u32>, code: u32) -> Result<HeadAnswer, OutOfMemory>
+    ensures { IfOk result (λ answer. answer ≡ (if goes then Answer.Goes (InHead.GroupNameGoes (name ++ code ∷ [])) else Answer.Stops)) }
 {
-    if !begins_name(text, code) {
+    if !goes {
+        drop(name);
         return Ok(Answer::Stops);
     }
-    let mut name = Items::new(alloc);
-    name.push(code)?;
+    let Ok(()) = name.push(code) else {
+        drop(name);
+        return Err(OutOfMemory);
+    };
     Ok(Answer::Goes(InHead::GroupNameGoes(name)))
 }
 
 /// A code within a group's name, in text or not.
-fn group_name_next(text: bool, mut name: Items<u32>, code: u32) -> Result<HeadAnswer, OutOfMemory>
+fn group_name_next(text: bool, name: Items<u32>, code: u32) -> Result<HeadAnswer, OutOfMemory>
     ensures { IfOk result (λ answer. answer ≡ head_step text (InHead.GroupNameGoes name) code) }
 {
     if code == '>' as u32 {
-        return Ok(Answer::Ends(GroupStart::BeginsGroup(Kind::Named(name))));
-    }
-    if goes_in_name(text, code) {
-        name.push(code)?;
-        Ok(Answer::Goes(InHead::GroupNameGoes(name)))
+        Ok(Answer::Ends(GroupStart::BeginsGroup(Kind::Named(name))))
     } else {
-        Ok(Answer::Stops)
+        name_goes(goes_in_name(text, code), name, code)
     }
 }
 
@@ -163,7 +162,7 @@ pub(crate) fn head_step(
             }
         }
         InHead::AfterLess => Ok(behind_next(headed(code))),
-        InHead::GroupName => group_name_first(alloc, text, code),
+        InHead::GroupName => name_goes(begins_name(text, code), Items::new(alloc), code),
         InHead::GroupNameGoes(name) => group_name_next(text, name, code),
         InHead::ReferenceName => Ok(goes_if(begins_name(text, code), InHead::ReferenceNameGoes)),
         InHead::ReferenceNameGoes => {

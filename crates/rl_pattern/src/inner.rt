@@ -116,7 +116,7 @@ fn take_from_back(items: &mut Vec<SyntaxNode>)
     ensures { reverse (map node_of items.new.items) ≡ without_leading (reverse (map node_of items.old.items)) }
 {
     while ends_leading(items.as_slice()) {
-        items.pop();
+        drop(items.pop());
     }
 }
 
@@ -137,7 +137,7 @@ fn take_trailing(items: &mut Vec<SyntaxNode>) -> Trail
     let mut run = Trail::None;
     let mut last = last_trail(items.as_slice());
     while last != Trail::None {
-        items.pop();
+        drop(items.pop());
         run = both_trails(run, last);
         last = last_trail(items.as_slice());
     }
@@ -167,10 +167,11 @@ pub(crate) fn without_anchors(alloc: Global, whole: Whole) -> Result<Inner, OutO
     ensures { IfOk result (λ i. left_of i ≡ f.inner (whole_of whole)) }
 {
     let Whole {
-        fronts: _,
+        fronts,
         place,
         body,
     } = whole;
+    drop(fronts);
     match body {
         SyntaxNode::Choice(span, branches) => Ok(Inner {
             body: SyntaxNode::Choice(span, branches),

@@ -46,7 +46,9 @@ fn closed(universe: Universe, flags: Flags, set: CodeSet) -> Result<CodeSet, Out
     ensures inside { IfOk result (IsInside universe) }
 {
     if flags.ignore_case {
-        set.case_closed(flags.ascii, universe)
+        let closed = set.case_closed(flags.ascii, universe);
+        drop(set);
+        closed
     } else {
         Ok(set)
     }
@@ -65,7 +67,9 @@ fn kind_set(
 {
     let class = CodeSet::named(alloc, kind, flags.ascii, universe)?;
     if inverse {
-        class.complement(universe)
+        let others = class.complement(universe);
+        drop(class);
+        others
     } else {
         Ok(class)
     }
@@ -149,8 +153,14 @@ fn with_kind(
     match member {
         Member::One(_, side) => match side {
             Escaped::Kind(kind, inverse) => {
-                let more = kind_set(alloc, universe, flags, kind, inverse)?;
-                set.union(&more)
+                let Ok(more) = kind_set(alloc, universe, flags, kind, inverse) else {
+                    drop(set);
+                    return Err(OutOfMemory);
+                };
+                let both = set.union(&more);
+                drop(more);
+                drop(set);
+                both
             }
             Escaped::Code(_) | Escaped::TooLarge | Escaped::ByName | Escaped::Reference => Ok(set),
         },
@@ -165,8 +175,14 @@ fn all_codes(alloc: Global, universe: Universe, members: &[Member]) -> Result<Co
 {
     let mut set = no_codes(alloc);
     for member in members {
-        let more = member_codes(alloc, universe, *member)?;
-        set = set.union(&more)?;
+        let Ok(more) = member_codes(alloc, universe, *member) else {
+            drop(set);
+            return Err(OutOfMemory);
+        };
+        let both = set.union(&more);
+        drop(more);
+        drop(set);
+        set = both?;
     }
     Ok(set)
 }
@@ -200,8 +216,14 @@ fn members_set(
 {
     let codes = all_codes(alloc, universe, members)?;
     let codes = closed(universe, flags, codes)?;
-    let kinds = all_kinds(alloc, universe, flags, members)?;
-    codes.union(&kinds)
+    let Ok(kinds) = all_kinds(alloc, universe, flags, members) else {
+        drop(codes);
+        return Err(OutOfMemory);
+    };
+    let all = codes.union(&kinds);
+    drop(codes);
+    drop(kinds);
+    all
 }
 
 /// The codes that `.` doesn't hold.
@@ -231,13 +253,17 @@ pub(crate) fn leaf_set(
     match leaf {
         Leaf::Any => {
             let others = left_out(alloc, universe, flags)?;
-            others.complement(universe)
+            let any = others.complement(universe);
+            drop(others);
+            any
         }
         Leaf::Glyph(escaped) => { escaped_set(alloc, universe, flags, *escaped) }
         Leaf::Members(inverse, members) => {
             let set = members_set(alloc, universe, flags, members.as_slice())?;
             if *inverse {
-                set.complement(universe)
+                let others = set.complement(universe);
+                drop(set);
+                others
             } else {
                 Ok(set)
             }

@@ -33,8 +33,14 @@ fn with_name(
 {
     match kind {
         Kind::Named(name) => {
-            let name = Codes::from_slice(alloc, name.as_slice())?;
-            found.push(Called { place, name })?;
+            let Ok(name) = Codes::from_slice(alloc, name.as_slice()) else {
+                drop(found);
+                return Err(OutOfMemory);
+            };
+            let Ok(()) = found.push(Called { place, name }) else {
+                drop(found);
+                return Err(OutOfMemory);
+            };
             Ok(found)
         }
         Kind::Capturing
@@ -107,12 +113,16 @@ fn names_fault(alloc: Global, names: &[Called]) -> Result<Option<Fault>, OutOfMe
     let mut before: BTreeSet<&[u32]> = BTreeSet::new(alloc);
     let mut best = None;
     for called in names {
-        let is_new = before.insert(called.name.as_slice())?;
+        let Ok(is_new) = before.insert(called.name.as_slice()) else {
+            drop(before);
+            return Err(OutOfMemory);
+        };
         best = earlier(
             best,
             fault_if(!is_new, called.place, Feature::DuplicateName),
         );
     }
+    drop(before);
     Ok(best)
 }
 
@@ -124,5 +134,7 @@ pub(crate) fn name_fault(alloc: Global, body: &SyntaxNode) -> Result<Option<Faul
     ensures { IfOk result (λ o. o ≡ f.first_fault (f.name_faults [] (f.node_names (node_of body.now)))) }
 {
     let names = node_names(alloc, body, Items::new(alloc))?;
-    names_fault(alloc, names.as_slice())
+    let fault = names_fault(alloc, names.as_slice());
+    drop(names);
+    fault
 }

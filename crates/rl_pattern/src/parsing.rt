@@ -23,7 +23,7 @@ use rl_syntax::{Feature, Pattern};
 use std::alloc::Global;
 
 /// Why codes give no pattern. Places count codes from 0.
-#[derive(Clone, Copy, Debug, PartialEq, Eq)]
+#[derive(Clone, Copy)]
 pub enum PatError {
     /// No pattern is spelled; the place is the length of the longest prefix that begins one.
     Syntax(u32),
@@ -53,8 +53,10 @@ fn pattern_of(alloc: Global, left: Inner, universe: Universe) -> Result<Pattern,
     requires { IsPattern universe (shape universe (left_of left).body) }
     ensures { IfOk result (IsPatternOf universe (left_of left)) }
 {
-    let body = node_pat(alloc, universe, &left.body)?;
-    Ok(Pattern::new(body, left.leading, left.trailing, universe))
+    let body = node_pat(alloc, universe, &left.body);
+    let (leading, trailing) = (left.leading, left.trailing);
+    drop(left);
+    Ok(Pattern::new(body?, leading, trailing, universe))
 }
 
 /// What is answered of the tree that the codes spell.

@@ -6,7 +6,7 @@ ghost use Rattle.rl_pattern.specs.internal.Views.{lex_of, state_of, FitsAt};
 ghost use Rattle.rl_pattern.specs.internal.Machine.{step_at, finish_at};
 ghost use Rattle.rl_pattern.specs.internal.Answering.{Answered, Went, Ended, is_code, opens_none, at_paren, is_too_deep};
 
-use crate::ends::{finish, start};
+use crate::ends::{finish_lex, start};
 use crate::flags::Flags;
 use crate::head::behind_paren;
 use crate::limits::MOST_OPEN_GROUPS;
@@ -102,7 +102,7 @@ fn one_code(
     match step(alloc, text, place, &mut state.base, lex, code)? {
         None => Err(ReadError::Syntax(place)),
         Some(lex) => {
-            state.lex = lex;
+            drop(mem::replace(&mut state.lex, lex));
             if is_too_deep(state, codes, place) {
                 Err(ReadError::TooDeep(place))
             } else {
@@ -118,7 +118,10 @@ fn at_end(alloc: Global, state: State, place: u32) -> Result<Whole, ReadError>
     requires fits { FitsAt (state_of state).lex place }
     ensures { Ended place (finish_at place (state_of state)) result }
 {
-    match finish(alloc, state, place)? {
+    let State { mut base, lex } = state;
+    let found = finish_lex(alloc, &mut base, lex, place);
+    drop(base);
+    match found? {
         Some(whole) => Ok(whole),
         None => Err(ReadError::Syntax(place)),
     }
@@ -141,7 +144,10 @@ pub(crate) fn read(
     let mut state = start(alloc, flags);
     let mut place = 0;
     for code in codes {
-        one_code(alloc, codes, text, place, &mut state, *code)?;
+        if let Err(error) = one_code(alloc, codes, text, place, &mut state, *code) {
+            drop(state);
+            return Err(error);
+        }
         place += 1;
     }
     at_end(alloc, state, place)

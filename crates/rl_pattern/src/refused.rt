@@ -35,11 +35,17 @@ pub(crate) fn judge(
     ensures { IfOk result (IsJudged call text (whole_of whole)) }
 {
     let fronts = fronts_fault(text, call, whole.fronts.as_slice());
-    let names = name_fault(alloc, &whole.body)?;
+    let Ok(names) = name_fault(alloc, &whole.body) else {
+        drop(whole);
+        return Err(OutOfMemory);
+    };
     let left = without_anchors(alloc, whole)?;
     let nodes = node_fault(text, &left.body);
     match earlier(fronts, earlier(names, nodes)) {
-        Some(fault) => Ok(Judged::Refused(fault)),
+        Some(fault) => {
+            drop(left);
+            Ok(Judged::Refused(fault))
+        }
         None => Ok(Judged::Left(left)),
     }
 }

@@ -14,16 +14,14 @@ use rl_syntax::Span;
 
 type SetAnswer = Answer<Set, Items<Member>>;
 
-/// The members with one side more, which is a member by itself.
-fn with_one(
-    mut before: Items<Member>,
-    from: u32,
-    upto: u32,
-    side: Escaped,
-) -> Result<Items<Member>, OutOfMemory>
-    ensures { IfOk result (λ members. members ≡ with_one before from upto side) }
+/// The members with one more.
+fn with_member(mut before: Items<Member>, member: Member) -> Result<Items<Member>, OutOfMemory>
+    ensures { IfOk result (λ members. members ≡ before ++ member ∷ []) }
 {
-    before.push(Member::One(Span { from, upto }, side))?;
+    let Ok(()) = before.push(member) else {
+        drop(before);
+        return Err(OutOfMemory);
+    };
     Ok(before)
 }
 
@@ -69,21 +67,8 @@ fn side_next(
     if code == '-' as u32 {
         return Ok(in_set(before, InSet::SetDash(from, i, side)));
     }
-    Ok(member_first(i, with_one(before, from, i, side)?, code))
-}
-
-/// The members with one range more.
-fn with_range(
-    mut before: Items<Member>,
-    from: u32,
-    upto: u32,
-    first: Escaped,
-    last: Escaped,
-) -> Result<Items<Member>, OutOfMemory>
-    ensures { IfOk result (λ members. members ≡ before ++ range (span from upto) first last ∷ []) }
-{
-    before.push(Member::Range(Span { from, upto }, first, last))?;
-    Ok(before)
+    let span = Span { from, upto: i };
+    Ok(member_first(i, with_member(before, Member::One(span, side))?, code))
 }
 
 /// A range that ends at `upto`.
@@ -99,7 +84,8 @@ fn range_ends(
     if is_kind(last) {
         return Ok(Answer::Stops);
     }
-    Ok(in_set(with_range(before, from, upto, first, last)?, InSet::SetNext))
+    let range = Member::Range(Span { from, upto }, first, last);
+    Ok(in_set(with_member(before, range)?, InSet::SetNext))
 }
 
 /// The code behind a backslash that begins a member.
@@ -166,7 +152,8 @@ fn behind_range(
     if is_kind(last) {
         return Ok(Answer::Stops);
     }
-    Ok(member_first(i, with_range(before, from, i, first, last)?, code))
+    let range = Member::Range(Span { from, upto: i }, first, last);
+    Ok(member_first(i, with_member(before, range)?, code))
 }
 
 /// A code within an escape after a `-`.
@@ -202,9 +189,15 @@ fn ends_at_dash(
 ) -> Result<SetAnswer, OutOfMemory>
     ensures { IfOk result (λ found. found ≡ Answer.Ends (with_one (with_one before from dash first) dash i (code_side (code_of "-")))) }
 {
-    let before = with_one(before, from, dash, first)?;
-    let all = with_one(before, dash, i, Escaped::Code('-' as u32))?;
-    Ok(Answer::Ends(all))
+    let side = Member::One(Span { from, upto: dash }, first);
+    let dash = Member::One(
+        Span {
+            from: dash,
+            upto: i,
+        },
+        Escaped::Code('-' as u32),
+    );
+    Ok(Answer::Ends(with_member(with_member(before, side)?, dash)?))
 }
 
 /// A code after a side and a `-` at `dash`.
@@ -228,8 +221,7 @@ fn dash_next(
     if code == '\\' as u32 {
         return Ok(in_set(before, InSet::DashSlash(from, first)));
     }
-    let all = with_range(before, from, i + 1, first, Escaped::Code(code))?;
-    Ok(in_set(all, InSet::SetNext))
+    range_ends(i + 1, before, from, first, Escaped::Code(code))
 }
 
 /// The code at `i` of a class, in text or not.

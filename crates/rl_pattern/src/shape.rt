@@ -118,13 +118,6 @@ fn group_of(alloc: Global, span: Span, captures: bool, body: Pat) -> Result<Pat,
     })
 }
 
-/// A group that is refused.
-fn refused_group(span: Span, what: Feature) -> Pat
-    ensures { pat_of result ≡ s.outside span what }
-{
-    Pat::Outside { span, what }
-}
-
 /// The group of a pattern.
 fn group_pat(alloc: Global, span: Span, kind: &Kind, body: Pat) -> Result<Pat, OutOfMemory>
     ensures { IfOk result (λ found. pat_of found ≡ p.group_shape span kind.now (pat_of body)) }
@@ -132,9 +125,27 @@ fn group_pat(alloc: Global, span: Span, kind: &Kind, body: Pat) -> Result<Pat, O
     match kind {
         Kind::Capturing | Kind::Named(_) => group_of(alloc, span, true, body),
         Kind::Scoped(_, _) => group_of(alloc, span, false, body),
-        Kind::Lookaround => Ok(refused_group(span, Feature::Lookaround)),
-        Kind::Atomic => Ok(refused_group(span, Feature::Atomic)),
-        Kind::Conditional => Ok(refused_group(span, Feature::Conditional)),
+        Kind::Lookaround => {
+            drop(body);
+            Ok(Pat::Outside {
+                span,
+                what: Feature::Lookaround,
+            })
+        }
+        Kind::Atomic => {
+            drop(body);
+            Ok(Pat::Outside {
+                span,
+                what: Feature::Atomic,
+            })
+        }
+        Kind::Conditional => {
+            drop(body);
+            Ok(Pat::Outside {
+                span,
+                what: Feature::Conditional,
+            })
+        }
     }
 }
 
@@ -190,8 +201,14 @@ fn item_pats(alloc: Global, universe: Universe, nodes: &[SyntaxNode]) -> Result<
 {
     let mut items: Pats = Items::new(alloc);
     for node in nodes {
-        let item = node_pat(alloc, universe, node)?;
-        items.push(item)?;
+        let Ok(item) = node_pat(alloc, universe, node) else {
+            drop(items);
+            return Err(OutOfMemory);
+        };
+        let Ok(()) = items.push(item) else {
+            drop(items);
+            return Err(OutOfMemory);
+        };
     }
     Ok(items)
 }
@@ -207,8 +224,14 @@ fn branch_pats(
 {
     let mut found: Branches = Items::new(alloc);
     for branch in branches {
-        let body = node_pat(alloc, universe, &branch.body)?;
-        found.push(branch_at(branch.place, body))?;
+        let Ok(body) = node_pat(alloc, universe, &branch.body) else {
+            drop(found);
+            return Err(OutOfMemory);
+        };
+        let Ok(()) = found.push(branch_at(branch.place, body)) else {
+            drop(found);
+            return Err(OutOfMemory);
+        };
     }
     Ok(found)
 }

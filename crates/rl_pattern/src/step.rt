@@ -1,14 +1,13 @@
 //! The reader of patterns, one code at a time.
 
-ghost use Rattle.std.specs.Prelude.{◌≡◌, ℕ, ◌<◌, ◌^◌, ◌-◌, ◌+◌, suc, [], ◌∷◌, ◌++◌, length, IfOk, Some};
+ghost use Rattle.std.specs.Prelude.{◌≡◌, ℕ, ◌<◌, ◌^◌, ◌-◌, ◌+◌, suc, length, IfOk, Some};
 ghost use Rattle.rl_pattern.specs.internal.Views.{node_of, base_of, lex_of, state_with, FitsAt};
 ghost use Rattle.rl_pattern.specs.Codes.{sign, counts};
 ghost use Rattle.rl_pattern.specs.internal.Machine as m;
 ghost use Rattle.rl_pattern.specs.Tree as t;
 
 use crate::base::{
-    close, count_last, no_count, open_group, put_code, put_front, put_item, put_leaf, put_repeat,
-    split,
+    close, count_last, no_count, open_group, put_front, put_item, put_leaf, put_repeat, split,
 };
 use crate::codes::{counts, sign, slashed};
 use crate::count::count_of;
@@ -33,27 +32,6 @@ fn leaf_between(
 {
     put_leaf(base, from, upto, leaf)?;
     Ok(Some(Lex::Between))
-}
-
-/// A literal, and the reader is between items behind it.
-fn code_between(base: &mut Base, i: u32, code: u32) -> Result<Option<Lex>, OutOfMemory>
-    requires { i < 2 ^ 32 - 1 }
-    ensures { IfOk result (λ found. state_with (base_of base.new) found ≡ Some (m.at (m.put_code (base_of base.old) i code) m.between)) }
-{
-    put_code(base, i, code)?;
-    Ok(Some(Lex::Between))
-}
-
-/// A code that may be passed over.
-fn pass_or_put(base: &mut Base, i: u32, code: u32, lex: Lex) -> Result<Option<Lex>, OutOfMemory>
-    requires { i < 2 ^ 32 - 1 }
-    ensures { IfOk result (λ found. state_with (base_of base.new) found ≡ m.pass_or_put (base_of base.old) i code (lex_of lex)) }
-{
-    if base.top.flags.verbose {
-        Ok(Some(lex))
-    } else {
-        code_between(base, i, code)
-    }
 }
 
 /// A mark from `from` up to `upto`.
@@ -89,9 +67,11 @@ fn go_on(alloc: Global, i: u32, base: &mut Base, code: u32) -> Result<Option<Lex
         TokenClass::Bracket => Ok(Some(Lex::SetOpen(i))),
         TokenClass::Times(count) => Ok(count_last(base, i, count)),
         TokenClass::Edge(mark) => put_mark(base, i, i + 1, mark),
-        TokenClass::Blank => pass_or_put(base, i, code, Lex::Between),
-        TokenClass::Sharp => pass_or_put(base, i, code, Lex::Line),
-        TokenClass::Plain => code_between(base, i, code),
+        TokenClass::Blank if base.top.flags.verbose => Ok(Some(Lex::Between)),
+        TokenClass::Sharp if base.top.flags.verbose => Ok(Some(Lex::Line)),
+        TokenClass::Blank | TokenClass::Sharp | TokenClass::Plain => {
+            leaf_between(base, i, i + 1, Leaf::Glyph(Escaped::Code(code)))
+        }
     }
 }
 
@@ -110,18 +90,10 @@ fn end_braces(
     match count {
         None => {
             no_count(base, from, text)?;
-            code_between(base, i, '}' as u32)
+            leaf_between(base, i, i + 1, Leaf::Glyph(Escaped::Code('}' as u32)))
         }
         Some(count) => Ok(count_last(base, from, count)),
     }
-}
-
-/// A code more of the text after a brace at `from`.
-fn more_text(from: u32, mut text: Items<u32>, code: u32) -> Result<Lex, OutOfMemory>
-    ensures { IfOk result (λ lex. lex_of lex ≡ m.in_braces from (text ++ code ∷ [])) }
-{
-    text.push(code)?;
-    Ok(Lex::InBraces(from, text))
 }
 
 /// The code at `i` after a brace at `from` and text.
@@ -130,7 +102,7 @@ fn braces_step(
     i: u32,
     base: &mut Base,
     from: u32,
-    text: Items<u32>,
+    mut text: Items<u32>,
     code: u32,
 ) -> Result<Option<Lex>, OutOfMemory>
     requires room { i < 2 ^ 32 - 1 }
@@ -139,12 +111,20 @@ fn braces_step(
 {
     if code == '}' as u32 {
         let count = count_of(text.as_slice());
-        return end_braces(i, base, from, text.as_slice(), count);
+        let ended = end_braces(i, base, from, text.as_slice(), count);
+        drop(text);
+        return ended;
     }
     if counts(code) {
-        return Ok(Some(more_text(from, text, code)?));
+        let Ok(()) = text.push(code) else {
+            drop(text);
+            return Err(OutOfMemory);
+        };
+        return Ok(Some(Lex::InBraces(from, text)));
     }
-    no_count(base, from, text.as_slice())?;
+    let put = no_count(base, from, text.as_slice());
+    drop(text);
+    put?;
     go_on(alloc, i, base, code)
 }
 
@@ -236,27 +216,6 @@ fn slash_step(
     }
 }
 
-/// The code at `i` behind an escape from `from` that ended before it, if it did.
-fn escape_ended(
-    alloc: Global,
-    i: u32,
-    base: &mut Base,
-    from: u32,
-    rest: Option<Escaped>,
-    code: u32,
-) -> Result<Option<Lex>, OutOfMemory>
-    requires { i < 2 ^ 32 - 1 }
-    ensures { IfOk result (λ found. state_with (base_of base.new) found ≡ m.escape_step i (base_of base.old) from m.stops rest code) }
-{
-    match rest {
-        None => Ok(None),
-        Some(escaped) => {
-            put_leaf(base, from, i, Leaf::Glyph(escaped))?;
-            go_on(alloc, i, base, code)
-        }
-    }
-}
-
 /// The code at `i` of an escape from `from`, which may have ended before it.
 fn escape_step(
     alloc: Global,
@@ -270,7 +229,13 @@ fn escape_step(
     ensures { IfOk result (λ found. state_with (base_of base.new) found ≡ m.escape_step i (base_of base.old) from (m.escape_next within code) (m.escape_rest within) code) }
 {
     match escape_next(within, code) {
-        Answer::Stops => escape_ended(alloc, i, base, from, escape_rest(within), code),
+        Answer::Stops => match escape_rest(within) {
+            None => Ok(None),
+            Some(escaped) => {
+                put_leaf(base, from, i, Leaf::Glyph(escaped))?;
+                go_on(alloc, i, base, code)
+            }
+        },
         Answer::Goes(within) => Ok(Some(Lex::InEscape(from, within))),
         Answer::Ends(escaped) => leaf_between(base, from, i + 1, Leaf::Glyph(escaped)),
     }

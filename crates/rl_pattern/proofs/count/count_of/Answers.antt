@@ -1,9 +1,10 @@
 -- One code more of a count.
-use Rattle.std.proofs.Common.{◌≡◌, ℕ, ◌+◌, ◌<◌, ◌-◌, Bool, true, false, cond, List, ◌∷◌, length, drop, Option, Some, None, refl, sym, ap, ◌∙◌}
-use Rattle.std.proofs.lemmas.List.{at_drop_more}
+use Rattle.std.proofs.Common.{◌≡◌, ℕ, ◌+◌, ◌<◌, ◌-◌, suc, Bool, true, false, cond, ◌==◌, List, [], ◌∷◌, length, drop, Option, Some, None, refl, sym, ap, ◌∙◌, arith}
+use Rattle.std.proofs.lemmas.Bool.{eqb-true, true≢false}
+use Rattle.std.proofs.lemmas.List.{at_drop_more, drop_all}
 use Rattle.std.specs.Prelude.{slice_index_or}
 use Rattle.rl_pattern.specs.Tree.{Count}
-use Rattle.rl_pattern.specs.Codes.{code_of, is, with_digit, least_of, upper_of, most_of}
+use Rattle.rl_pattern.specs.Codes.{code_of, is, with_digit, least_of, upper_of, most_of, count_of}
 use Rattle.rl_pattern.specs.internal.Views.{part_rest, part_next}
 use Rattle.rl_pattern.specs.declared.lex.CountPart.{CountPart}
 use Rattle.rl_pattern.specs.declared.lex.CountPart.TheVariants.{Least, Upper, Most}
@@ -38,6 +39,40 @@ part_more part next t i total l e f =
     sym (one_code part (slice_index_or t i 0) (drop (i + 1) t) ∙ ap (λ o. part_after o (drop (i + 1) t)) e)
     ∙ sym (at_drop_more (part_rest part) t i 0 l)
     ∙ f
+
+none_spelled : (t : List ℕ) → (length t == 0) ≡ true → None ≡ count_of t
+unfolding count_of
+none_spelled [] h = refl
+none_spelled (code ∷ t) h =
+    let none : suc (length t) ≡ 0 = eqb-true (suc (length t)) 0 h in
+    absurd (omega (arith, none))
+
+some_spelled : (t : List ℕ) → (length t == 0) ≡ false → least_of 0 t ≡ count_of t
+unfolding count_of
+some_spelled [] h = absurd (true≢false h)
+some_spelled (code ∷ t) h = refl
+
+part_stops : (part : CountPart) (t : List ℕ) (i : ℕ) (total : Option Count) → i < length t → part_next part (slice_index_or t i 0) ≡ None → part_rest part (drop i t) ≡ total → None ≡ total
+unfolding part_after
+part_stops part t i total l e f =
+    sym (one_code part (slice_index_or t i 0) (drop (i + 1) t) ∙ ap (λ o. part_after o (drop (i + 1) t)) e)
+    ∙ sym (at_drop_more (part_rest part) t i 0 l)
+    ∙ f
+
+pub returns-then-is_empty : goal.returns-then-is_empty
+returns-then-is_empty c = none_spelled c.args.text.now (sym c.is_empty.ensures ∙ c.if-is_empty.true)
+
+pub returns-in-None : goal.returns-in-None
+returns-in-None c =
+    part_stops c.loop-code.part c.args.text.now c.loop-code.code-index _ c.loop-code-test.true (sym c.count_next.ensures ∙ c.in-None.is) c.loop-code.invariant
+    ∙ some_spelled c.args.text.now (sym c.is_empty.ensures ∙ c.if-is_empty.false)
+
+pub returns : goal.returns
+returns c =
+    c.count_at_end.ensures
+    ∙ sym (ap (part_rest c.loop-code.part) (drop_all c.loop-code.code-index c.args.text.now (omega arith)))
+    ∙ c.loop-code.invariant
+    ∙ some_spelled c.args.text.now (sym c.is_empty.ensures ∙ c.if-is_empty.false)
 
 pub loop-code-preserved : goal.loop-code-preserved
 loop-code-preserved c =

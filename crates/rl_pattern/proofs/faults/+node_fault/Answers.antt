@@ -1,18 +1,15 @@
 -- A node's own faults stand before those of its body.
-use Rattle.std.proofs.Common.{◌≡◌, ℕ, ◌+◌, ◌<◌, Bool, List, length, drop, map, Option, ◌++◌, sym, ap, ◌∙◌}
+use Rattle.std.proofs.Common.{◌≡◌, ℕ, ◌+◌, ◌<◌, Bool, List, length, drop, map, Option, sym, ap, ◌∙◌}
 use Rattle.rl_pattern.specs.Tree as t
 use Rattle.rl_pattern.specs.internal.Views.{node_of, branch_of}
 use Rattle.rl_pattern.specs.Found.{Fault, earlier, first_fault, node_faults, nodes_faults, branches_faults, count_faults, kind_faults}
-use Rattle.rl_pattern.proofs.FirstFault.{first_of_joined, best_of_more}
+use Rattle.rl_pattern.proofs.FirstFault.{own_first, best_of_more}
 use Rattle.rl_pattern.proofs.Layers.{node_of-repeat, node_of-group, branch_of-fields}
 use Rattle.rl_pattern.specs.declared.tree.SyntaxNode.{SyntaxNode}
 use Rattle.rl_pattern.specs.declared.tree.Branch.{Branch}
 use Rattle.std.proofs.lemmas.List.{at_drop_more}
 use Rattle.std.specs.Prelude.{slice_index_or}
 use Rattle.rl_pattern.proofs.faults.+node_fault.Goals as goal
-
-own_first : (whole own inner : Option Fault) (xs ys : List Fault) → whole ≡ earlier own inner → own ≡ first_fault xs → inner ≡ first_fault ys → whole ≡ first_fault (xs ++ ys)
-own_first whole own inner xs ys e f g = e ∙ ap (λ a. earlier a inner) f ∙ ap (earlier (first_fault xs)) g ∙ sym (first_of_joined xs ys)
 
 pub node_fault-returns-in-Repeat : goal.node_fault-returns-in-Repeat
 node_fault-returns-in-Repeat t c =

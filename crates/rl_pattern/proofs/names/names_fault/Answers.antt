@@ -73,15 +73,15 @@ loop-called-preserved c =
     let ns = c.args.names.now in
     let i = c.loop-called.called-index in
     let x = c.called-item.result in
-    let is_new = c.in_ok-is_new.is_new in
+    let is_new = c.in-Ok.is_new in
     record {
       fault = fault_more ns i x c.loop-called.best c.earlier-best.result c.fault_if.result _ (not is_new) c.loop-called-test.true c.earlier-best.ensures
           (c.fault_if.ensures ∙ ap (λ (u : Called). first_fault (fault_if (not is_new) u.place is_duplicate_name)) c.called-item.is)
-          (not_not is_new _ c.in_ok-is_new.ensures.added
+          (not_not is_new _ c.in-Ok.ensures.added
           ∙ c.loop-called.invariant.stood c.as_slice.result
           ∙ ap (λ u. is_among u (map called_of (take i ns))) (c.as_slice.ensures ∙ ap (λ (u : Called). u.name) c.called-item.is))
           c.loop-called.invariant.fault;
       stood = λ name. stood_more ns i x c.as_slice.result.now name.now _ _ c.loop-called-test.true (c.as_slice.ensures ∙ ap (λ (u : Called). u.name) c.called-item.is)
           (c.loop-called.invariant.stood name)
-          (c.in_ok-is_new.ensures.updates.0 name);
+          (c.in-Ok.ensures.updates.0 name);
     }

@@ -2,7 +2,6 @@
 use Rattle.std.proofs.Common.{◌≡◌, ℕ, ◌<◌, ◌+◌, suc, List, length, slice_get, Some, arith, subst, sym, ap}
 use Rattle.std.specs.Prelude.{slice_index_or}
 use Rattle.std.proofs.lemmas.Option.{slice_get-get_or}
-use Rattle.std.proofs.lemmas.Result.{err_from_is_err_and}
 use Rattle.rl_pattern.specs.internal.Views.{state_of}
 use Rattle.rl_pattern.specs.internal.Answering.{Standing}
 use Rattle.rl_pattern.proofs.Loop.{stand_fits, went_on, went_wrong, ended_right}
@@ -15,15 +14,14 @@ pub one_code-requires-clause-fits : goal.one_code-requires-clause-fits
 one_code-requires-clause-fits c =
     stand_fits c.args.flags c.args.text c.args.codes.now c.loop-code.place (state_of c.loop-code.state) (omega (arith, c.loop-code.invariant.1, c.loop-code-test.true)) c.loop-code.invariant.0
 
-pub returns-in_err-one_code : goal.returns-in_err-one_code
-returns-in_err-one_code c =
-    let p = err_from_is_err_and c.from_residual.result c.from_residual.ensures.1 in
-    rw (p.1, p.2) (went_wrong c.args.flags c.args.text c.args.codes.now c.loop-code.place (slice_index_or c.args.codes.now c.loop-code.code-index 0) (state_of c.loop-code.state) (state_of c.one_code.new.state) c.in_err-one_code.field-0.0 c.loop-code.invariant.0 (code_here c.args.codes.now c.loop-code.place c.loop-code.code-index c.loop-code.invariant.1 c.loop-code-test.true) c.in_err-one_code.ensures)
+pub returns-in-Err : goal.returns-in-Err
+returns-in-Err c =
+    (went_wrong c.args.flags c.args.text c.args.codes.now c.loop-code.place (slice_index_or c.args.codes.now c.loop-code.code-index 0) (state_of c.loop-code.state) (state_of c.one_code.new.state) c.in-Err.error c.loop-code.invariant.0 (code_here c.args.codes.now c.loop-code.place c.loop-code.code-index c.loop-code.invariant.1 c.loop-code-test.true) c.in-Err.ensures)
 
 pub loop-code-preserved : goal.loop-code-preserved
 loop-code-preserved c =
     let e : suc c.loop-code.place ≡ c.loop-code.place + 1 = omega arith in
-    let next = went_on c.args.flags c.args.text c.args.codes.now c.loop-code.place (slice_index_or c.args.codes.now c.loop-code.code-index 0) (state_of c.loop-code.state) (state_of c.one_code.new.state) c.loop-code.invariant.0 (code_here c.args.codes.now c.loop-code.place c.loop-code.code-index c.loop-code.invariant.1 c.loop-code-test.true) c.in_ok-one_code.ensures in
+    let next = went_on c.args.flags c.args.text c.args.codes.now c.loop-code.place (slice_index_or c.args.codes.now c.loop-code.code-index 0) (state_of c.loop-code.state) (state_of c.one_code.new.state) c.loop-code.invariant.0 (code_here c.args.codes.now c.loop-code.place c.loop-code.code-index c.loop-code.invariant.1 c.loop-code-test.true) c.in_default.ensures in
     (subst (λ k. Standing c.args.flags c.args.text c.args.codes.now k (state_of c.one_code.new.state)) e next, ap (λ n. n + 1) c.loop-code.invariant.1)
 
 pub at_end-requires-clause-fits : goal.at_end-requires-clause-fits

@@ -25,18 +25,18 @@ one_more f g ns i d done next x y total l e h k z =
 
 pub item_pats-loop-node-preserved : goal.item_pats-loop-node-preserved
 item_pats-loop-node-preserved measure c =
-    one_more pat_of (λ xs. shapes c.args.universe (t.nodes (map node_of xs))) c.args.nodes.now c.loop-node.node-index c.node-item.result c.loop-node.items c.push.new.self c.in_ok-item.item (shape c.args.universe (node_of (slice_index_or c.args.nodes.now c.loop-node.node-index c.node-item.result))) _
-    c.loop-node-test.true c.in_ok-push.ensures.pushed
-    (c.in_ok-item.ensures ∙ ap (λ n. shape c.args.universe (node_of n)) c.node-item.is)
+    one_more pat_of (λ xs. shapes c.args.universe (t.nodes (map node_of xs))) c.args.nodes.now c.loop-node.node-index c.node-item.result c.loop-node.items c.push.new.self c.in-Ok.item (shape c.args.universe (node_of (slice_index_or c.args.nodes.now c.loop-node.node-index c.node-item.result))) _
+    c.loop-node-test.true c.in-Ok-push.ensures.pushed
+    (c.in-Ok.ensures ∙ ap (λ n. shape c.args.universe (node_of n)) c.node-item.is)
     refl c.loop-node.invariant
 
 pub branch_pats-loop-branch-preserved : goal.branch_pats-loop-branch-preserved
 branch_pats-loop-branch-preserved measure c =
     let here = slice_index_or c.args.branches.now c.loop-branch.branch-index c.branch-item.result in
     one_more branch_tree (λ xs. branch_shapes c.args.universe (t.branches (map branch_of xs))) c.args.branches.now c.loop-branch.branch-index c.branch-item.result c.loop-branch.found c.push.new.self c.branch_at.result ((branch_of here).place, shape c.args.universe (branch_of here).body) _
-    c.loop-branch-test.true c.in_ok-push.ensures.pushed
+    c.loop-branch-test.true c.in-Ok-push.ensures.pushed
     (c.branch_at.ensures
-    ∙ ap (λ p. (c.branch-item.result.place, p)) c.in_ok-body.ensures
+    ∙ ap (λ p. (c.branch-item.result.place, p)) c.in-Ok.ensures
     ∙ ap (λ b. (b.place, shape c.args.universe b.body)) (sym (branch_of-fields c.branch-item.result))
     ∙ ap (λ b. ((branch_of b).place, shape c.args.universe (branch_of b).body)) c.branch-item.is)
     refl c.loop-branch.invariant
