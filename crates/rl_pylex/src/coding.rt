@@ -8,7 +8,7 @@ ghost use Rattle.rl_pylex.specs.Coding.{is_gap, in_coding, named_here, from_plac
 use crate::bytes::{blank_size, line_end, line_size, rest_from};
 
 /// A coding's name in a text: where it begins, and how many bytes it has.
-#[derive(Clone, Copy, Debug, PartialEq, Eq)]
+#[derive(Clone, Copy)]
 pub struct Named {
     pub from: usize,
     pub size: usize,

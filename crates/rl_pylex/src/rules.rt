@@ -14,7 +14,7 @@ use crate::literals::{prefix_size, size_after, starts_literal};
 use crate::tables::PLAIN_NAME_STARTS;
 
 /// What a rule takes at the front of a text.
-#[derive(Clone, Copy, Debug, PartialEq, Eq)]
+#[derive(Clone, Copy)]
 pub enum Fit {
     /// The rule doesn't fit.
     Passes,
@@ -25,7 +25,7 @@ pub enum Fit {
 }
 
 /// What is read at the front of a text.
-#[derive(Clone, Copy, Debug, PartialEq, Eq)]
+#[derive(Clone, Copy)]
 pub enum Reading {
     /// So many bytes, a token of this kind or none.
     Piece(Option<TokenKind>, usize),
