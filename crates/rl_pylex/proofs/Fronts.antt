@@ -1,9 +1,10 @@
 -- Facts on the front of a text that a test of one byte gives.
-use Rattle.std.proofs.Common.{◌≡◌, ℕ, zero, suc, ◌<◌, ◌≤◌, Bool, true, false, cond, ◌&&◌, List, [], ◌∷◌, length, get_or, take, refl, sym, ap, ◌∙◌, arith, subst, Some, None}
+use Rattle.std.proofs.Common.{◌≡◌, ℕ, zero, suc, ◌<◌, ◌≤◌, Bool, true, false, cond, ◌&&◌, List, [], ◌∷◌, length, get_or, take, drop, ◌+◌, Option, refl, sym, ap, ◌∙◌, arith, subst, Some, None}
+use Rattle.std.specs.Prelude.{option_map}
 use Rattle.std.specs.Str.{str_to_ascii_lowercase}
 use Rattle.std.proofs.lemmas.Bool.{false≢true}
 use Rattle.rl_pylex.specs.Bytes.{has_at, is_quote}
-use Rattle.rl_pylex.specs.Literals.{is_prefix, opens_after, prefix_size}
+use Rattle.rl_pylex.specs.Literals.{is_prefix, opens_after, prefix_size, quote_count, close_from, size_after}
 
 pub has_at-read : (p : ℕ → Bool) (n : ℕ) (xs : List ℕ) → has_at p n xs ≡ true → p (get_or xs n 0) ≡ true
 has_at-read p n [] h = absurd (false≢true h)
@@ -110,6 +111,14 @@ prefix-quote text n e = by-tests (opens_after text 0) (opens_after text 1) (open
 
 pub prefix-within : (text : List ℕ) (n : ℕ) → prefix_size text ≡ Some n → n < length text
 prefix-within text n e = has_at-within is_quote n text (prefix-quote text n e)
+
+-- the size of a literal by the search for its closing quotes
+pub size_is : (n quotes quote : ℕ) (text rest behind : List ℕ) (o : Option ℕ) → rest ≡ drop n text → quotes ≡ quote_count rest → behind ≡ drop (n + quotes) text
+    → quote ≡ get_or text n 0 → o ≡ close_from quotes quote 0 behind → option_map (λ m. n + quotes + m) o ≡ size_after n text
+unfolding size_after
+size_is n quotes quote text rest behind o here counts after opens closes =
+    ap (option_map (λ m. n + quotes + m)) (closes ∙ ap (close_from quotes quote 0) after ∙ ap (λ q. close_from quotes q 0 (drop (n + quotes) text)) opens)
+    ∙ ap (λ k. option_map (λ m. n + k + m) (close_from k (get_or text n 0) 0 (drop (n + k) text))) (counts ∙ ap quote_count here)
 
 pub ruleset prefixes = (prefix-quote, prefix-within)
 

@@ -95,17 +95,12 @@ fn literal(text: &[u8]) -> Fit
     }
 }
 
-fn after_name(text: &[u8]) -> Option<usize>
-    ensures { result ≡ position (λ c. not (in_name c)) text.now }
-{
-    text.iter().position(|byte| !in_name(*byte))
-}
-
-#[tactic(auto, using(crate::proofs::Runs::name_run, crate::proofs::Runs::runs))]
 fn name_size(text: &[u8]) -> usize
     ensures { result ≡ prefix_len in_name text.now }
 {
-    after_name(text).unwrap_or(text.len())
+    text.iter()
+        .position(|byte| !in_name(*byte))
+        .unwrap_or(text.len())
 }
 
 #[tactic(auto, unfolding(crate::specs::Rules::name))]
@@ -124,17 +119,12 @@ fn starts_plain_name(byte: u8) -> bool
     PLAIN_NAME_STARTS[byte as usize]
 }
 
-fn after_number(text: &[u8]) -> Option<usize>
-    ensures { result ≡ position (λ c. not (in_number c)) text.now }
-{
-    text.iter().position(|byte| !in_number(*byte))
-}
-
-#[tactic(auto, using(crate::proofs::Runs::number_run, crate::proofs::Runs::runs))]
 fn number_size(text: &[u8]) -> usize
     ensures { result ≡ prefix_len in_number text.now }
 {
-    after_number(text).unwrap_or(text.len())
+    text.iter()
+        .position(|byte| !in_number(*byte))
+        .unwrap_or(text.len())
 }
 
 #[tactic(auto, unfolding(crate::specs::Rules::number))]
