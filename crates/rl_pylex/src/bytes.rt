@@ -1,5 +1,5 @@
 // Classes of bytes, line ends, and the front of a text.
-ghost use Rattle.std.specs.Prelude.{◌≡◌, ℕ, ◌+◌, ◌≤◌, not, ◌||◌, drop, length, position};
+ghost use Rattle.std.specs.Prelude.{◌≡◌, ℕ, ◌+◌, ◌≤◌, ◌||◌, drop, length};
 ghost use Rattle.std.specs.List.{prefix_len};
 ghost use Rattle.rl_pylex.specs.Bytes.{has_at, is_blank, is_backslash, is_quote, ends_line, in_line, starts_name, in_name, in_number, is_operator, opens_bracket, closes_bracket, line_end, text_start};
 ghost use Rattle.rl_pylex.specs.internal.Rows.{is_plain_operator};

@@ -1,5 +1,5 @@
 // A literal: its prefix, its quotes, and the search for the quotes that close it.
-ghost use Rattle.std.specs.Prelude.{◌≡◌, ℕ, ◌+◌, ◌<◌, ◌≤◌, ◌⊎◌, IsTrue, [], ◌∷◌, length, drop, IfSome, option_map, false, true, not, ◌&&◌, ◌==◌, position};
+ghost use Rattle.std.specs.Prelude.{◌≡◌, ℕ, ◌+◌, ◌<◌, ◌≤◌, ◌⊎◌, IsTrue, [], ◌∷◌, length, drop, IfSome, option_map, false, true, ◌&&◌, ◌==◌};
 ghost use Rattle.std.specs.List.{prefix_len};
 ghost use Rattle.std.specs.Str.{str_to_ascii_lowercase};
 ghost use Rattle.rl_pylex.specs.Bytes.{has_at, is_quote, ends_line};

@@ -1,5 +1,5 @@
 // The rules of tokens, each on the text that is left.
-ghost use Rattle.std.specs.Prelude.{◌≡◌, ℕ, ◌+◌, ◌^◌, ◌<◌, ◌≤◌, length, drop, not, ◌&&◌, ◌||◌, position, Option};
+ghost use Rattle.std.specs.Prelude.{◌≡◌, ℕ, ◌+◌, ◌^◌, ◌<◌, ◌≤◌, length, drop, not, ◌&&◌, ◌||◌, Option};
 ghost use Rattle.std.specs.List.{prefix_len};
 ghost use Rattle.rl_pylex.specs.Bytes.{has_at, is_backslash, starts_name, in_name, in_number};
 ghost use Rattle.rl_pylex.specs.Rules.{takes_if, blank, joined_line, new_line, comment, literal, name, number, operator, reading_by, first_of_rows, reading, depth_after};

@@ -1,5 +1,5 @@
 -- The name is what follows the gap behind `coding`.
-use Rattle.std.proofs.Common.{◌∙◌, ap, sym}
+use Rattle.std.proofs.Common.{◌∙◌, sym}
 use Rattle.rl_pylex.proofs.CodingLines.{named-none, named-is}
 use Rattle.rl_pylex.proofs.coding.named_here.Goals as goal
 

@@ -23,27 +23,27 @@ after_blanks-at-requires c =
 
 pub returns-in-Unterminated-clause-err : goal.returns-in-Unterminated-clause-err
 returns-in-Unterminated-clause-err c = (
-      c.requires.readable,
-      record {
-        within = c.loop-at-test.true;
-        depth = c.loop-at.depth;
-        before = _;
-        reaches = c.loop-at.invariant.0;
-        found_there = sym (c.in-Unterminated.ensures.value ∙ ap (reading c.loop-at.depth) c.rest_from-text.ensures);
-      },
-    )
+  c.requires.readable,
+  record {
+    within = c.loop-at-test.true;
+    depth = c.loop-at.depth;
+    before = _;
+    reaches = c.loop-at.invariant.0;
+    found_there = sym (c.in-Unterminated.ensures.value ∙ ap (reading c.loop-at.depth) c.rest_from-text.ensures);
+  },
+)
 
 pub returns-in-Stray-clause-err : goal.returns-in-Stray-clause-err
 returns-in-Stray-clause-err c = (
-      c.requires.readable,
-      record {
-        within = c.loop-at-test.true;
-        depth = c.loop-at.depth;
-        before = _;
-        reaches = c.loop-at.invariant.0;
-        found_there = sym (c.in-Stray.ensures.value ∙ ap (reading c.loop-at.depth) c.rest_from-text.ensures);
-      },
-    )
+  c.requires.readable,
+  record {
+    within = c.loop-at-test.true;
+    depth = c.loop-at.depth;
+    before = _;
+    reaches = c.loop-at.invariant.0;
+    found_there = sym (c.in-Stray.ensures.value ∙ ap (reading c.loop-at.depth) c.rest_from-text.ensures);
+  },
+)
 
 pub returns-clause-ok : goal.returns-clause-ok
 returns-clause-ok c =

@@ -1,5 +1,5 @@
 -- What was passed holds nothing that ends the search, and what stands at the place tells whether it ends there.
-use Rattle.std.proofs.Common.{◌≡◌, ◌+◌, ◌<◌, length, drop, ap, refl, arith, Some, None}
+use Rattle.std.proofs.Common.{◌<◌, length, drop, ap, refl, arith, Some, None}
 use Rattle.std.proofs.lemmas.List.{length-drop, drop_all}
 use Rattle.rl_pylex.specs.Literals.{close_from}
 use Rattle.rl_pylex.proofs.Closing.{close-here, close-none, close-on, skips-on}
@@ -26,11 +26,10 @@ returns-then-breaks_line-clause-value c =
     (close-none c.args.count c.args.quote rest some c.if-quotes_at.ensures.value c.if-breaks_line.ensures)
 
 pub loop-at-preserved : goal.loop-at-preserved
-loop-at-preserved c =
-    (
-      omega (arith, c.skip-at.ensures.bound, c.loop-at-test.true, ap length c.rest_from-rest.ensures, length-drop c.loop-at.at c.args.body.now),
-      skips-on c.args.count c.args.quote c.loop-at.at c.skip-at.result c.args.body.now c.rest_from-rest.result.now c.loop-at.invariant.1 c.rest_from-rest.ensures c.skip-at.ensures.skips,
-    )
+loop-at-preserved c = (
+  omega (arith, c.skip-at.ensures.bound, c.loop-at-test.true, ap length c.rest_from-rest.ensures, length-drop c.loop-at.at c.args.body.now),
+  skips-on c.args.count c.args.quote c.loop-at.at c.skip-at.result c.args.body.now c.rest_from-rest.result.now c.loop-at.invariant.1 c.rest_from-rest.ensures c.skip-at.ensures.skips,
+)
 
 pub returns-clause-value : goal.returns-clause-value
 returns-clause-value c =
