@@ -1,5 +1,5 @@
 -- The search for the closing quotes of a literal, step by step.
-use Rattle.std.proofs.Common.{◌≡◌, ℕ, zero, suc, ◌+◌, ◌-◌, ◌<◌, Bool, true, false, cond, ◌&&◌, List, [], ◌∷◌, length, drop, refl, ap, sym, ◌∙◌, arith, Some, None, Option, subst}
+use Rattle.std.proofs.Common.{◌≡◌, ◌⊎◌, inl, inr, ℕ, zero, suc, ◌+◌, ◌-◌, ◌<◌, Bool, true, false, cond, ◌&&◌, List, [], ◌∷◌, length, drop, refl, ap, sym, ◌∙◌, arith, Some, None, Option, subst}
 use Rattle.std.specs.Prelude.{option_map, ◌==◌, nat_eq}
 use Rattle.std.specs.List.{prefix_len}
 use Rattle.std.proofs.lemmas.Bool.Decides.{nat_tests}
@@ -127,6 +127,10 @@ chosen A b x y e = rw e refl
 
 middle : (A : Type 0) (b c : Bool) (x y z : A) → b ≡ false → c ≡ true → cond b x (cond c y z) ≡ y
 middle A b c x y z e f = rw (e, f) refl
+
+pub some-count : (n : ℕ) → (n ≡ 1) ⊎ (n ≡ 3) → 0 < n
+some-count n (inl e) = omega (arith, e)
+some-count n (inr e) = omega (arith, e)
 
 -- closing quotes stand at the front
 pub close-here : (count quote : ℕ) (xs : List ℕ) → 0 < length xs → true ≡ quotes_at count quote xs → close_from count quote 0 xs ≡ Some count

@@ -1,6 +1,6 @@
 -- The coding of the second line, by what is read of both lines.
-use Rattle.std.proofs.Common.{◌≡◌, ℕ, ◌+◌, Bool, true, false, cond, not, ◌&&◌, ◌||◌, List, length, drop, refl, ap, sym, ◌∙◌, Some, None, Option}
-use Rattle.std.specs.Prelude.{◌==◌}
+use Rattle.std.proofs.Common.{◌≡◌, ℕ, ◌+◌, ◌≤◌, arith, subst, Bool, true, false, cond, not, ◌&&◌, ◌||◌, List, length, drop, refl, ap, sym, ◌∙◌, Some, None, Option}
+use Rattle.std.specs.Prelude.{◌==◌, IfSome}
 use Rattle.std.specs.List.{prefix_len}
 use Rattle.std.proofs.lemmas.Bool.{false≢true}
 use Rattle.rl_pylex.specs.Bytes.{begins, line_end}
@@ -53,3 +53,9 @@ second-is text first rest behind line n o r here bare after ends next second nam
     ∙ ap (λ k. from_place (length first + k) (coding_of_line (line_of (drop (length first + k) text)))) (ends ∙ ap line_end after)
     ∙ ap (λ xs. from_place (length xs + line_end (drop (length xs) text)) (coding_of_line (line_of (drop (length xs + line_end (drop (length xs) text)) text)))) here
     ∙ chosen (Option Named) (is_bare (line_of text)) (from_place at (coding_of_line (line_of (drop at text)))) None (ap is_bare (sym here) ∙ sym bare)
+
+-- a name that lies in a line lies in the text
+pub place-within : (o r : Option Named) (n len all : ℕ) → r ≡ from_place n o → IfSome o (λ m. m.from + m.size ≤ len) → n + len ≤ all → IfSome r (λ m. m.from + m.size ≤ all)
+place-within None r n len all e inside fits = subst (λ (q : Option Named). IfSome q (λ m. m.from + m.size ≤ all)) (sym e) tt
+place-within (Some m) r n len all e inside fits =
+    subst (λ (q : Option Named). IfSome q (λ m. m.from + m.size ≤ all)) (sym e) (omega (arith, inside, fits))
