@@ -1,5 +1,5 @@
 -- The search for the closing quotes of a literal, step by step.
-use Rattle.std.proofs.Common.{◌≡◌, ℕ, zero, suc, ◌+◌, ◌-◌, ◌<◌, Bool, true, false, cond, ◌&&◌, List, [], ◌∷◌, length, drop, refl, ap, sym, ◌∙◌, arith, Some, None, Option, subst}
+use Rattle.std.proofs.Common.{◌≡◌, ◌⊎◌, inl, inr, ℕ, zero, suc, ◌+◌, ◌-◌, ◌<◌, Bool, true, false, cond, ◌&&◌, List, [], ◌∷◌, length, drop, refl, ap, sym, ◌∙◌, arith, Some, None, Option, subst}
 use Rattle.std.specs.Prelude.{option_map, ◌==◌, nat_eq}
 use Rattle.std.specs.List.{prefix_len}
 use Rattle.std.proofs.lemmas.Bool.Decides.{nat_tests}
@@ -121,6 +121,39 @@ long_skip count quote n xs triple e =
 
 pub plain_skip : (count quote n : ℕ) (xs : List ℕ) → 0 < count → is_quote quote ≡ true → n ≡ prefix_len is_plain xs → Skips count quote n xs
 plain_skip count quote n xs some q e = subst (λ (m : ℕ). Skips count quote m xs) (sym e) (Skips-plain count quote xs some q)
+
+chosen : (A : Type 0) (b : Bool) (x y : A) → b ≡ true → cond b x y ≡ x
+chosen A b x y e = rw e refl
+
+middle : (A : Type 0) (b c : Bool) (x y z : A) → b ≡ false → c ≡ true → cond b x (cond c y z) ≡ y
+middle A b c x y z e f = rw (e, f) refl
+
+pub some-count : (n : ℕ) → (n ≡ 1) ⊎ (n ≡ 3) → 0 < n
+some-count n (inl e) = omega (arith, e)
+some-count n (inr e) = omega (arith, e)
+
+-- closing quotes stand at the front
+pub close-here : (count quote : ℕ) (xs : List ℕ) → 0 < length xs → true ≡ quotes_at count quote xs → close_from count quote 0 xs ≡ Some count
+close-here count quote [] some here = absurd (omega arith)
+close-here count quote (x ∷ xs) some here =
+    chosen (Option ℕ) (quotes_at count quote (x ∷ xs)) (Some count) (cond (count == 1 && ends_line x) None (option_map suc (close_from count quote (unit_size (x ∷ xs) - 1) xs))) (sym here)
+
+-- a line ends there that may not
+pub close-none : (count quote : ℕ) (xs : List ℕ) → 0 < length xs → false ≡ quotes_at count quote xs → true ≡ (count == 1 && has_at ends_line 0 xs) → close_from count quote 0 xs ≡ None
+close-none count quote [] some other breaks = absurd (omega arith)
+close-none count quote (x ∷ xs) some other breaks =
+    middle (Option ℕ) (quotes_at count quote (x ∷ xs)) (count == 1 && ends_line x) (Some count) None (option_map suc (close_from count quote (unit_size (x ∷ xs) - 1) xs)) (sym other) (sym breaks)
+
+-- the search from a place on, of which what stands before is passed
+pub close-on : (count quote at : ℕ) (body rest : List ℕ) (o : Option ℕ) → Skips count quote at body → rest ≡ drop at body → close_from count quote 0 rest ≡ o
+    → option_map (λ m. at + m) o ≡ close_from count quote 0 body
+close-on count quote at body rest o skips here closes =
+    sym (skips ∙ ap (λ ys. option_map (λ m. at + m) (close_from count quote 0 ys)) (sym here) ∙ ap (option_map (λ m. at + m)) closes)
+
+-- one step more
+pub skips-on : (count quote at n : ℕ) (body rest : List ℕ) → Skips count quote at body → rest ≡ drop at body → Skips count quote n rest → Skips count quote (at + n) body
+skips-on count quote at n body rest skips here more =
+    Skips-then count quote at n body skips (subst (λ (ys : List ℕ). Skips count quote n ys) here more)
 
 pub ruleset runs = (long_skip, plain_skip)
 

@@ -18,3 +18,5 @@ mod Examples
 mod Words
 mod RunPieces
 mod Without
+mod CodingLines
+mod Depths

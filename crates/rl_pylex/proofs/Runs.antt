@@ -3,9 +3,6 @@ use Rattle.std.proofs.Common.{◌≡◌, ℕ, ◌+◌, ◌≤◌, Bool, true, fa
 use Rattle.std.specs.Prelude.{position, unwrap_or}
 use Rattle.std.specs.List.{prefix_len}
 use Rattle.std.proofs.lemmas.Bool.Decides.{nat_tests}
-use Rattle.rl_pylex.specs.Bytes.{in_line, in_name, in_number, is_blank}
-use Rattle.rl_pylex.specs.Coding.{is_gap, in_coding}
-use Rattle.rl_pylex.specs.internal.Bodies.{is_long_plain, is_plain}
 
 not-not : (b : Bool) → not (not b) ≡ b
 not-not true = refl
@@ -24,32 +21,8 @@ prefix_len-within p (x ∷ xs) =
 pub place-or-end : (n m : ℕ) → n ≤ m → unwrap_or (cond (ltb n m) (Some n) None) m ≡ n
 place-or-end n m h = grind (arith, nat_tests)
 
-run : (p : ℕ → Bool) (xs : List ℕ) → unwrap_or (position (λ c. not (p c)) xs) (length xs) ≡ prefix_len p xs
+pub run : (p : ℕ → Bool) (xs : List ℕ) → unwrap_or (position (λ c. not (p c)) xs) (length xs) ≡ prefix_len p xs
 run p xs =
     place-or-end (prefix_len (λ x. not (not (p x))) xs) (length xs) (prefix_len-within (λ x. not (not (p x))) xs) ∙ prefix_len-not-not p xs
-
-pub line_run : (xs : List ℕ) → unwrap_or (position (λ c. not (in_line c)) xs) (length xs) ≡ prefix_len in_line xs
-line_run xs = run in_line xs
-
-pub name_run : (xs : List ℕ) → unwrap_or (position (λ c. not (in_name c)) xs) (length xs) ≡ prefix_len in_name xs
-name_run xs = run in_name xs
-
-pub number_run : (xs : List ℕ) → unwrap_or (position (λ c. not (in_number c)) xs) (length xs) ≡ prefix_len in_number xs
-number_run xs = run in_number xs
-
-pub blank_run : (xs : List ℕ) → unwrap_or (position (λ c. not (is_blank c)) xs) (length xs) ≡ prefix_len is_blank xs
-blank_run xs = run is_blank xs
-
-pub gap_run : (xs : List ℕ) → unwrap_or (position (λ c. not (is_gap c)) xs) (length xs) ≡ prefix_len is_gap xs
-gap_run xs = run is_gap xs
-
-pub coding_run : (xs : List ℕ) → unwrap_or (position (λ c. not (in_coding c)) xs) (length xs) ≡ prefix_len in_coding xs
-coding_run xs = run in_coding xs
-
-pub plain_run : (xs : List ℕ) → unwrap_or (position (λ c. not (is_plain c)) xs) (length xs) ≡ prefix_len is_plain xs
-plain_run xs = run is_plain xs
-
-pub long_run : (quote : ℕ) (xs : List ℕ) → unwrap_or (position (λ c. not (is_long_plain quote c)) xs) (length xs) ≡ prefix_len (is_long_plain quote) xs
-long_run quote xs = run (is_long_plain quote) xs
 
 pub ruleset runs = (prefix_len-within)

@@ -23,13 +23,11 @@ fn free_size(text: &[u8], name: &[u8]) -> usize
     }
 }
 
+#[tactic(auto, using(crate::proofs::Fronts::reads))]
 fn has_name_byte(text: &[u8], at: usize) -> bool
     ensures { result ≡ has_at in_name at text.now }
 {
-    match text.get(at) {
-        None => false,
-        Some(byte) => in_name(*byte),
-    }
+    at < text.len() && in_name(text[at])
 }
 
 /// Whether a byte of a name stands before the place.
@@ -55,14 +53,12 @@ fn is_word(text: &[u8], at: usize, name: &[u8]) -> bool
     !is_inside(text, at) && word_at(rest_from(text, at), name)
 }
 
+#[tactic(auto, using(crate::proofs::Fronts::reads))]
 fn has_ordinary(text: &[u8], at: usize) -> bool
     ensures value { result ≡ has_at is_ordinary at text.now }
     ensures within { IsTrue result → at < length text.now }
 {
-    match text.get(at) {
-        None => false,
-        Some(byte) => is_ordinary(*byte),
-    }
+    at < text.len() && is_ordinary(text[at])
 }
 
 /// How many ordinary bytes stand at the front of the text, if no word there is the name.

@@ -1,5 +1,5 @@
 // Classes of bytes, line ends, and the front of a text.
-ghost use Rattle.std.specs.Prelude.{◌≡◌, ℕ, ◌+◌, ◌≤◌, not, ◌||◌, drop, length, position};
+ghost use Rattle.std.specs.Prelude.{◌≡◌, ℕ, ◌+◌, ◌≤◌, ◌||◌, drop, length};
 ghost use Rattle.std.specs.List.{prefix_len};
 ghost use Rattle.rl_pylex.specs.Bytes.{has_at, is_blank, is_backslash, is_quote, ends_line, in_line, starts_name, in_name, in_number, is_operator, opens_bracket, closes_bracket, line_end, text_start};
 ghost use Rattle.rl_pylex.specs.internal.Rows.{is_plain_operator};
@@ -113,18 +113,12 @@ pub fn text_start(source: &[u8]) -> usize
     }
 }
 
-fn after_line(text: &[u8]) -> Option<usize>
-    ensures { result ≡ position (λ c. not (in_line c)) text.now }
-{
-    memchr2(b'\n', b'\r', text)
-}
-
-#[tactic(auto, using(crate::proofs::Runs::line_run, crate::proofs::Runs::runs))]
+#[tactic(auto, using(crate::proofs::Runs::runs))]
 fn line_size_slowly(text: &[u8]) -> usize
     ensures value { result ≡ prefix_len in_line text.now }
     ensures within { result ≤ length text.now }
 {
-    after_line(text).unwrap_or(text.len())
+    memchr2(b'\n', b'\r', text).unwrap_or(text.len())
 }
 
 /// How many bytes there are up to the next line end or the end of the text.
@@ -143,17 +137,13 @@ pub fn line_size(text: &[u8]) -> usize
     at + line_size_slowly(rest_from(text, at))
 }
 
-fn after_blanks(text: &[u8]) -> Option<usize>
-    ensures { result ≡ position (λ c. not (is_blank c)) text.now }
-{
-    text.iter().position(|byte| !is_blank(*byte))
-}
-
 /// How many spaces, tabs and form feeds stand at the front of the text.
-#[tactic(auto, using(crate::proofs::Runs::blank_run, crate::proofs::Runs::runs))]
+#[tactic(auto, using(crate::proofs::Runs::runs))]
 pub fn blank_size(text: &[u8]) -> usize
     ensures value { result ≡ prefix_len is_blank text.now }
     ensures within { result ≤ length text.now }
 {
-    after_blanks(text).unwrap_or(text.len())
+    text.iter()
+        .position(|byte| !is_blank(*byte))
+        .unwrap_or(text.len())
 }

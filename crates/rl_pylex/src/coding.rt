@@ -1,5 +1,5 @@
 // The coding line of a source: the name of its coding, and whether the source is then read as UTF-8.
-ghost use Rattle.std.specs.Prelude.{◌≡◌, ℕ, ◌+◌, ◌^◌, ◌<◌, ◌≤◌, length, drop, take, take_while, not, position, Option, Some, IfSome, IsTrue, ◌==◌, ◌||◌, ◌&&◌};
+ghost use Rattle.std.specs.Prelude.{◌≡◌, ℕ, ◌+◌, ◌^◌, ◌<◌, ◌≤◌, length, drop, take, take_while, Option, Some, IfSome, IsTrue, ◌==◌, ◌||◌, ◌&&◌};
 ghost use Rattle.std.specs.Option.{ForSome};
 ghost use Rattle.std.specs.List.{prefix_len};
 ghost use Rattle.rl_pylex.specs.Bytes.{begins, in_line};
@@ -8,7 +8,7 @@ ghost use Rattle.rl_pylex.specs.Coding.{is_gap, in_coding, named_here, from_plac
 use crate::bytes::{blank_size, line_end, line_size, rest_from};
 
 /// A coding's name in a text: where it begins, and how many bytes it has.
-#[derive(Clone, Copy, Debug, PartialEq, Eq)]
+#[derive(Clone, Copy)]
 pub struct Named {
     pub from: usize,
     pub size: usize,
@@ -26,32 +26,24 @@ fn in_coding(byte: u8) -> bool
     byte.is_ascii_alphanumeric() || matches!(byte, b'-' | b'_' | b'.')
 }
 
-fn after_gap(text: &[u8]) -> Option<usize>
-    ensures { result ≡ position (λ c. not (is_gap c)) text.now }
-{
-    text.iter().position(|byte| !is_gap(*byte))
-}
-
-#[tactic(auto, using(crate::proofs::Runs::gap_run, crate::proofs::Runs::runs))]
+#[tactic(auto, using(crate::proofs::Runs::runs))]
 fn gap_size(text: &[u8]) -> usize
     ensures value { result ≡ prefix_len is_gap text.now }
     ensures within { result ≤ length text.now }
 {
-    after_gap(text).unwrap_or(text.len())
+    text.iter()
+        .position(|byte| !is_gap(*byte))
+        .unwrap_or(text.len())
 }
 
-fn after_coding(text: &[u8]) -> Option<usize>
-    ensures { result ≡ position (λ c. not (in_coding c)) text.now }
-{
-    text.iter().position(|byte| !in_coding(*byte))
-}
-
-#[tactic(auto, using(crate::proofs::Runs::coding_run, crate::proofs::Runs::runs))]
+#[tactic(auto, using(crate::proofs::Runs::runs))]
 fn coding_size(text: &[u8]) -> usize
     ensures value { result ≡ prefix_len in_coding text.now }
     ensures within { result ≤ length text.now }
 {
-    after_coding(text).unwrap_or(text.len())
+    text.iter()
+        .position(|byte| !in_coding(*byte))
+        .unwrap_or(text.len())
 }
 
 fn begins_coding(text: &[u8]) -> bool

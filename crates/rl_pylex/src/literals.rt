@@ -1,5 +1,5 @@
 // A literal: its prefix, its quotes, and the search for the quotes that close it.
-ghost use Rattle.std.specs.Prelude.{◌≡◌, ℕ, ◌+◌, ◌<◌, ◌≤◌, ◌⊎◌, IsTrue, [], ◌∷◌, length, drop, IfSome, option_map, false, true, not, ◌&&◌, ◌==◌, position};
+ghost use Rattle.std.specs.Prelude.{◌≡◌, ℕ, ◌+◌, ◌<◌, ◌≤◌, ◌⊎◌, IsTrue, [], ◌∷◌, length, drop, IfSome, option_map, false, true, ◌&&◌, ◌==◌};
 ghost use Rattle.std.specs.List.{prefix_len};
 ghost use Rattle.std.specs.Str.{str_to_ascii_lowercase};
 ghost use Rattle.rl_pylex.specs.Bytes.{has_at, is_quote, ends_line};
@@ -89,18 +89,14 @@ fn is_plain(byte: u8) -> bool
     !(is_quote(byte) || byte == b'\\' || ends_line(byte))
 }
 
-fn after_plain(text: &[u8]) -> Option<usize>
-    ensures { result ≡ position (λ c. not (is_plain c)) text.now }
-{
-    text.iter().position(|byte| !is_plain(*byte))
-}
-
-#[tactic(auto, using(crate::proofs::Runs::plain_run, crate::proofs::Runs::runs))]
+#[tactic(auto, using(crate::proofs::Runs::runs))]
 fn plain_size_slowly(text: &[u8]) -> usize
     ensures value { result ≡ prefix_len is_plain text.now }
     ensures within { result ≤ length text.now }
 {
-    after_plain(text).unwrap_or(text.len())
+    text.iter()
+        .position(|byte| !is_plain(*byte))
+        .unwrap_or(text.len())
 }
 
 /// How many bytes at the front of a literal's body are passed one by one.
@@ -119,19 +115,13 @@ fn plain_size(text: &[u8]) -> usize
     at + plain_size_slowly(rest_from(text, at))
 }
 
-fn after_long_plain(text: &[u8], quote: u8) -> Option<usize>
-    ensures { result ≡ position (λ c. not (is_long_plain quote c)) text.now }
-{
-    memchr2(quote, b'\\', text)
-}
-
 /// How many bytes at the front of a body between triple quotes are passed one by one.
-#[tactic(auto, using(crate::proofs::Runs::long_run, crate::proofs::Runs::runs))]
+#[tactic(auto, using(crate::proofs::Runs::runs))]
 fn long_plain_size(text: &[u8], quote: u8) -> usize
     ensures value { result ≡ prefix_len (is_long_plain quote) text.now }
     ensures within { result ≤ length text.now }
 {
-    after_long_plain(text, quote).unwrap_or(text.len())
+    memchr2(quote, b'\\', text).unwrap_or(text.len())
 }
 
 /// How many bytes at the front of a body, each of them a unit, to pass.

@@ -1,5 +1,5 @@
 // The rules of tokens, each on the text that is left.
-ghost use Rattle.std.specs.Prelude.{◌≡◌, ℕ, ◌+◌, ◌^◌, ◌<◌, ◌≤◌, length, drop, not, ◌&&◌, ◌||◌, position, Option};
+ghost use Rattle.std.specs.Prelude.{◌≡◌, ℕ, ◌+◌, ◌^◌, ◌<◌, ◌≤◌, length, drop, not, ◌&&◌, ◌||◌, Option};
 ghost use Rattle.std.specs.List.{prefix_len};
 ghost use Rattle.rl_pylex.specs.Bytes.{has_at, is_backslash, starts_name, in_name, in_number};
 ghost use Rattle.rl_pylex.specs.Rules.{takes_if, blank, joined_line, new_line, comment, literal, name, number, operator, reading_by, first_of_rows, reading, depth_after};
@@ -14,7 +14,7 @@ use crate::literals::{prefix_size, size_after, starts_literal};
 use crate::tables::PLAIN_NAME_STARTS;
 
 /// What a rule takes at the front of a text.
-#[derive(Clone, Copy, Debug, PartialEq, Eq)]
+#[derive(Clone, Copy)]
 pub enum Fit {
     /// The rule doesn't fit.
     Passes,
@@ -25,7 +25,7 @@ pub enum Fit {
 }
 
 /// What is read at the front of a text.
-#[derive(Clone, Copy, Debug, PartialEq, Eq)]
+#[derive(Clone, Copy)]
 pub enum Reading {
     /// So many bytes, a token of this kind or none.
     Piece(Option<TokenKind>, usize),
@@ -95,17 +95,12 @@ fn literal(text: &[u8]) -> Fit
     }
 }
 
-fn after_name(text: &[u8]) -> Option<usize>
-    ensures { result ≡ position (λ c. not (in_name c)) text.now }
-{
-    text.iter().position(|byte| !in_name(*byte))
-}
-
-#[tactic(auto, using(crate::proofs::Runs::name_run, crate::proofs::Runs::runs))]
 fn name_size(text: &[u8]) -> usize
     ensures { result ≡ prefix_len in_name text.now }
 {
-    after_name(text).unwrap_or(text.len())
+    text.iter()
+        .position(|byte| !in_name(*byte))
+        .unwrap_or(text.len())
 }
 
 #[tactic(auto, unfolding(crate::specs::Rules::name))]
@@ -124,17 +119,12 @@ fn starts_plain_name(byte: u8) -> bool
     PLAIN_NAME_STARTS[byte as usize]
 }
 
-fn after_number(text: &[u8]) -> Option<usize>
-    ensures { result ≡ position (λ c. not (in_number c)) text.now }
-{
-    text.iter().position(|byte| !in_number(*byte))
-}
-
-#[tactic(auto, using(crate::proofs::Runs::number_run, crate::proofs::Runs::runs))]
 fn number_size(text: &[u8]) -> usize
     ensures { result ≡ prefix_len in_number text.now }
 {
-    after_number(text).unwrap_or(text.len())
+    text.iter()
+        .position(|byte| !in_number(*byte))
+        .unwrap_or(text.len())
 }
 
 #[tactic(auto, unfolding(crate::specs::Rules::number))]
