@@ -322,14 +322,18 @@ fn made_by(
     ensures told { (limit : Limit) → result ≡ Err (CertError.Undecided limit) → ⊥ }
     ensures too_large { result ≡ Err CertError.TooLarge → IsLarge a.now g.now }
 {
-    match twin_over(alloc, g.graph(), &components)? {
-        Some(twin) => {
+    match twin_over(alloc, g.graph(), &components) {
+        Ok(Some(twin)) => {
             drop(components);
             let certificate = exponential(alloc, a, g, &twin);
             drop(twin);
             certificate
         }
-        None => polynomial(alloc, a, g, components),
+        Ok(None) => polynomial(alloc, a, g, components),
+        Err(OutOfMemory) => {
+            drop(components);
+            Err(CertError::OutOfMemory)
+        }
     }
 }
 

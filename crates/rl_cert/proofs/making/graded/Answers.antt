@@ -54,3 +54,18 @@ returns-clause-made c =
     graded-made c.args.a.now c.args.g.now c.args.chain.now c.requires.longest c.graph.result.now c.graph.result.now splits c.in-Ok.ranks c.as_slice.result.now c.in_ok-family.family c.in-Ok.anchors c.in-Ok-numbers_of.numbers.0 c.in-Ok-numbers_of.numbers.1
     alone (length splits + 1) c.in_ok-family.ensures.0 c.in_ok-family.ensures.1 c.graph.ensures c.graph.ensures c.as_slice-splits.ensures c.in-Ok.ensures.ranks (c.as_slice.ensures ∙ sym c.in-Ok.ensures.ranks) c.requires.no_twin
     c.in_ok-family.ensures.2 c.in_ok-family.ensures.3 refl anchors c.in-Ok-numbers_of.ensures.doubles c.in-Ok-numbers_of.ensures.triples c.in-Ok-numbers_of.ensures.few
+
+pub chain_family-requires-clause-stands : goal.chain_family-requires-clause-stands
+chain_family-requires-clause-stands c = c.requires.stands
+
+pub chain_family-requires-clause-led : goal.chain_family-requires-clause-led
+chain_family-requires-clause-led c = c.requires.led
+
+pub chain_family-requires-clause-state_in : goal.chain_family-requires-clause-state_in
+chain_family-requires-clause-state_in c = c.requires.state_in
+
+pub chain_family-requires-clause-some : goal.chain_family-requires-clause-some
+chain_family-requires-clause-some c = c.requires.some
+
+pub chain_family-requires-clause-cycle : goal.chain_family-requires-clause-cycle
+chain_family-requires-clause-cycle c = c.requires.cycle
