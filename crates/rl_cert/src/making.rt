@@ -212,11 +212,7 @@ fn places_of(alloc: Global, chain: &Chain, alone: u32) -> Result<(Anchors, Ranks
 }
 
 /// The doubles and the triples of a graph, by its ranks.
-fn numbers_of(
-    alloc: Global,
-    g: &Multigraph,
-    ranks: &[u32],
-) -> Result<(Doubles, Triples), CertError>
+fn numbers_of(alloc: Global, g: &Multigraph, ranks: &[u32]) -> Result<(Doubles, Triples), CertError>
     requires few_states { g.now.states < 65536 }
     requires no_twin { HasNoTwin (edges_of g.now) }
     requires size { length ranks.now ≡ g.now.states }
