@@ -1,4 +1,4 @@
-use Rattle.std.proofs.Common.{◌≡◌, ◌∙◌, List, map, codes, IfOk, ap, subst}
+use Rattle.std.proofs.Common.{◌∙◌, map, codes, ap}
 use Rattle.std.proofs.lemmas.Result.{on_ok_weaker}
 use Rattle.serde_json.specs.Data.{put}
 use Rattle.rl_cert.specs.Form.{whole, row_data, rows_data, anchor_row, double_row, triple_row}
