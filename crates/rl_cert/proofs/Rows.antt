@@ -1,10 +1,14 @@
 -- Rows put one behind the other in a loop.
-use Rattle.std.proofs.Common.{◌≡◌, ◌∙◌, ℕ, ◌+◌, ◌<◌, ◌≤◌, List, [], ◌∷◌, ◌++◌, length, get_or, take, map, ap, ap₂, sym, refl, Vec, Global}
+use Rattle.std.proofs.Common.{◌≡◌, ◌∙◌, ℕ, ◌+◌, ◌<◌, ◌≤◌, List, [], ◌∷◌, ◌++◌, length, get_or, take, map, ap, ap₂, sym, refl, subst, Result, IfOk, Vec, Global}
 use Rattle.std.proofs.lemmas.List.{map-append, take_more, take_all}
 use Rattle.serde_json.specs.Data.{Data, array}
 use Rattle.serde_json.specs.View.{items_of, view}
 use Rattle.serde_json.specs.declared.value.Value.{Value, Array}
 use Rattle.serde_json.proofs.Views.{view-Array}
+
+-- the value that was made, of what another name stands for
+pub value-of : {X E : Type 0} (f : X → Data) (made : Result Value E) (x y : X) → x ≡ y → IfOk made (λ v. view v ≡ f x) → IfOk made (λ v. view v ≡ f y)
+value-of f made x y same h = subst (λ z. IfOk made (λ v. view v ≡ f z)) same h
 
 -- the values of the items so far, and one more
 pub row_more : {X : Type 0} (f : X → Data) (vs ws : List Value) (xs : List X) (i : ℕ) (x d : X) (v : Value) → i < length xs → x ≡ get_or xs i d → view v ≡ f x

@@ -1,10 +1,15 @@
 //! Certificates made.
 
-ghost use Rattle.std.specs.Prelude.{◌≡◌, ℕ, ◌+◌, ◌<◌, ◌≤◌, [], ◌∷◌, List, length, IfOk, IfErr};
+ghost use Rattle.std.specs.Prelude.{◌≡◌, ℕ, ◌+◌, ◌<◌, ◌≤◌, [], ◌∷◌, List, length, slice_index, IfOk, IfErr, OnOk};
+ghost use Rattle.rl_graph.specs.Graph.{edges_of};
 ghost use Rattle.rl_graph.specs.Parts.{IsParts};
 ghost use Rattle.rl_graph.specs.Paths.{paths};
 ghost use Rattle.rl_graph.specs.Twins.{HasNoTwin, IsTwin};
 ghost use Rattle.rl_degree.specs.Chains.{links_of, HasNoCycle};
+ghost use Rattle.rl_degree.specs.Leavers.{HasNoEqualSplit};
+ghost use Rattle.rl_numbers.specs.Doubled.{AreDoubles};
+ghost use Rattle.rl_numbers.specs.Least.{LeastTriple, AreMoreThan};
+ghost use Rattle.rl_numbers.specs.Numbered.{AreTriples};
 ghost use Rattle.rl_pairs.specs.PairTable.{moves_in, pair_in};
 ghost use Rattle.rl_growth.specs.Questions.{StandsForSome, IsLed};
 ghost use Rattle.rl_growth.specs.Routes.{state_after, IsRoute, IsLongest};
@@ -29,10 +34,12 @@ ghost use Rattle.rl_cert.specs.TooLarge.{IsTooLarge};
 use crate::certificate::{Anchor, Anchors, Certificate};
 use rl_degree::{Chain, Loop, Split, degree_over};
 use rl_expo::{TwinPaths, twin_over};
-use rl_graph::Components;
+use rl_graph::{Components, Multigraph};
 use rl_growth::spelling::family_of;
 use rl_growth::words::{chain_words, twin_words};
-use rl_lists::{Items, OutOfMemory};
+use rl_lists::{Items, OutOfMemory, Ranks};
+use rl_numbers::double::Doubles;
+use rl_numbers::triple::Triples;
 use rl_numbers::{TriplesError, doubles_of, triples_of};
 use rl_pairs::{PairGraph, PairsError, pairs};
 use rl_prio::{Prio, PrioError};
@@ -75,8 +82,9 @@ fn twin_family(
         × IsTwinWords a.now (moves_in g.now) (pair_in g.now) twin.now.state heads pumps × Spells a.now f heads pumps) }
 {
     let words = twin_words(alloc, g, twin)?;
-    let family = family_of(alloc, a, &words)?;
-    Ok(family)
+    let family = family_of(alloc, a, &words);
+    drop(words);
+    family
 }
 
 /// The anchor on the loop of a state, alone in a list.
@@ -188,8 +196,40 @@ fn chain_family(
         × IsChainWords a.now (moves_in g.now) (pair_in g.now) splits.now cycle.now.state heads pumps × Spells a.now f heads pumps) }
 {
     let words = chain_words(alloc, g, splits, cycle)?;
-    let family = family_of(alloc, a, &words)?;
-    Ok(family)
+    let family = family_of(alloc, a, &words);
+    drop(words);
+    family
+}
+
+/// The anchors and the ranks of a chain that ends on a cycle, which stands on the given state where the chain has no split.
+fn places_of(alloc: Global, chain: &Chain, alone: u32) -> Result<(Anchors, Ranks), OutOfMemory>
+    ensures anchors { IfOk result (λ p. p.0 ≡ chain_anchors (links_of chain.now.links) (state_after chain.now.links alone)) }
+    ensures ranks { IfOk result (λ p. p.1 ≡ chain.now.ranks) }
+{
+    let anchors = anchors_of(alloc, chain.links.as_slice(), alone)?;
+    let ranks = Items::from_slice(alloc, chain.ranks.as_slice())?;
+    Ok((anchors, ranks))
+}
+
+/// The doubles and the triples of a graph, by its ranks.
+fn numbers_of(alloc: Global, g: &Multigraph, ranks: &[u32]) -> Result<(Doubles, Triples), CertError>
+    requires few_states { g.now.states < 65536 }
+    requires no_twin { HasNoTwin (edges_of g.now) }
+    requires size { length ranks.now ≡ g.now.states }
+    requires no_split { HasNoEqualSplit (edges_of g.now) g.now.states (slice_index ranks.now) }
+    ensures doubles { IfOk result (λ n. AreDoubles (edges_of g.now) g.now.states n.0) }
+    ensures triples { IfOk result (λ n. AreTriples (edges_of g.now) g.now.states (slice_index ranks.now) n.1) }
+    ensures few { OnOk result (AreMoreThan 1000000 (LeastTriple (edges_of g.now) g.now.states (slice_index ranks.now)) → ⊥) }
+    ensures told { IfErr result (λ e. (limit : Limit) → e ≡ CertError.Undecided limit → ⊥) }
+    ensures too_many { IfErr result (λ e. e ≡ CertError.TooLarge → AreMoreThan 1000000 (LeastTriple (edges_of g.now) g.now.states (slice_index ranks.now))) }
+{
+    let triples = match triples_of(alloc, g, ranks) {
+        Ok(triples) => triples,
+        Err(TriplesError::TooMany) => return Err(CertError::TooLarge),
+        Err(TriplesError::OutOfMemory) => return Err(CertError::OutOfMemory),
+    };
+    let doubles = doubles_of(alloc, g)?;
+    Ok((doubles, triples))
 }
 
 /// The certificate of a longest chain of splits and a cycle.
@@ -212,16 +252,19 @@ fn graded(
     ensures too_large { result ≡ Err CertError.TooLarge → IsLarge a.now g.now }
 {
     let splits = chain.links.as_slice();
-    let anchors = anchors_of(alloc, splits, cycle.state)?;
-    let ranks = Items::from_slice(alloc, chain.ranks.as_slice())?;
     let family = chain_family(alloc, a, g, splits, cycle)?;
-    let doubles = doubles_of(alloc, g.graph())?;
-    let triples = match triples_of(alloc, g.graph(), ranks.as_slice()) {
-        Ok(triples) => triples,
-        Err(TriplesError::TooMany) => return Err(CertError::TooLarge),
-        Err(TriplesError::OutOfMemory) => return Err(CertError::OutOfMemory),
-    };
     let power = splits.len() as u32 + 1;
+    let Ok((anchors, ranks)) = places_of(alloc, chain, cycle.state) else {
+        drop(family);
+        return Err(CertError::OutOfMemory);
+    };
+    let (doubles, triples) = match numbers_of(alloc, g.graph(), chain.ranks.as_slice()) {
+        Ok(numbers) => numbers,
+        Err(error) => {
+            drop(family);
+            return Err(error);
+        }
+    };
     Ok(Certificate {
         verdict: Verdict::Degree(power, family),
         anchors,
@@ -275,14 +318,18 @@ fn made_by(
     ensures told { (limit : Limit) → result ≡ Err (CertError.Undecided limit) → ⊥ }
     ensures too_large { result ≡ Err CertError.TooLarge → IsLarge a.now g.now }
 {
-    match twin_over(alloc, g.graph(), &components)? {
-        Some(twin) => {
+    match twin_over(alloc, g.graph(), &components) {
+        Ok(Some(twin)) => {
             drop(components);
             let certificate = exponential(alloc, a, g, &twin);
             drop(twin);
             certificate
         }
-        None => polynomial(alloc, a, g, components),
+        Ok(None) => polynomial(alloc, a, g, components),
+        Err(OutOfMemory) => {
+            drop(components);
+            Err(CertError::OutOfMemory)
+        }
     }
 }
 

@@ -5,8 +5,8 @@ ghost use Rattle.serde_json.specs.Find.{get, as_str};
 ghost use Rattle.serde_json.specs.Read.{read};
 ghost use Rattle.serde_json.specs.View.{items_view, view};
 ghost use Rattle.rl_cert.specs.declared.certificate.Certificate.{Certificate};
-ghost use Rattle.rl_cert.specs.internal.FormParts.{numbers_read};
-ghost use Rattle.rl_cert.specs.Form.{number_read, row_read, rows_read, anchor_of, double_of, triple_of, anchors_read, doubles_read, triples_read, items_read, all_of, read_at, family_read, member_count, verdict_of, verdict_read, is_version, lists_read, certificate_read, IsForm};
+ghost use Rattle.rl_cert.specs.internal.FormParts.{places_read, numbers_read};
+ghost use Rattle.rl_cert.specs.Form.{number_read, row_read, rows_read, anchor_of, double_of, triple_of, anchors_read, doubles_read, triples_read, items_read, all_of, read_at, family_read, member_count, verdict_of, verdict_read, is_version, certificate_read, IsForm};
 
 use crate::certificate::{Anchor, Anchors, Certificate};
 use rl_lists::{Bytes, Items, OutOfMemory, Ranks, Word};
@@ -288,22 +288,25 @@ fn kind_at(value: &Value) -> Option<&str>
     value.get("kind").and_then(Value::as_str)
 }
 
-/// The verdict of a kind with a family.
-fn verdict_of(value: &Value, kind: &str, family: Family) -> Option<Verdict>
-    ensures { result ≡ verdict_of kind.now family (view value.now) }
+/// The verdict of a kind with the family of a certificate.
+fn verdict_of(alloc: Global, value: &Value, kind: &str) -> Result<Verdict, ReadError>
+    ensures verdict { IfOk result (λ v. option_and_then (λ f. verdict_of kind.now f (view value.now)) (family_read (view value.now)) ≡ Some v) }
+    ensures refused { result ≡ Err ReadError.Refused → option_and_then (λ f. verdict_of kind.now f (view value.now)) (family_read (view value.now)) ≡ None }
 {
     if kind == "degree" {
         if member_count(value) != 9 {
-            return None;
+            return Err(ReadError::Refused);
         }
-        match number_at(value, "degree") {
-            Some(degree) => Some(Verdict::Degree(degree, family)),
-            None => None,
-        }
+        let Some(degree) = number_at(value, "degree") else {
+            return Err(ReadError::Refused);
+        };
+        let family = family_at(alloc, value)?;
+        Ok(Verdict::Degree(degree, family))
     } else if kind == "exponential" && member_count(value) == 8 {
-        Some(Verdict::Expo(family))
+        let family = family_at(alloc, value)?;
+        Ok(Verdict::Expo(family))
     } else {
-        None
+        Err(ReadError::Refused)
     }
 }
 
@@ -315,11 +318,7 @@ fn verdict_at(alloc: Global, value: &Value) -> Result<Verdict, ReadError>
     let Some(kind) = kind_at(value) else {
         return Err(ReadError::Refused);
     };
-    let family = family_at(alloc, value)?;
-    match verdict_of(value, kind, family) {
-        Some(verdict) => Ok(verdict),
-        None => Err(ReadError::Refused),
-    }
+    verdict_of(alloc, value, kind)
 }
 
 /// Whether the version is 1.
@@ -332,36 +331,24 @@ fn has_version(value: &Value) -> bool
     }
 }
 
-/// The certificate of a value, behind its ranks.
-fn numbers_at(
-    alloc: Global,
-    value: &Value,
-    verdict: Verdict,
-    anchors: Anchors,
-    ranks: Ranks,
-) -> Result<Certificate, ReadError>
-    ensures certificate { IfOk result (λ c. numbers_read verdict anchors ranks (view value.now) ≡ Some c) }
-    ensures refused { result ≡ Err ReadError.Refused → numbers_read verdict anchors ranks (view value.now) ≡ None }
-{
-    let doubles = doubles_at(alloc, value)?;
-    let triples = triples_at(alloc, value)?;
-    Ok(Certificate {
-        verdict,
-        anchors,
-        ranks,
-        doubles,
-        triples,
-    })
-}
-
-/// The lists of a certificate, behind its verdict.
-fn lists_at(alloc: Global, value: &Value, verdict: Verdict) -> Result<Certificate, ReadError>
-    ensures certificate { IfOk result (λ c. lists_read verdict (view value.now) ≡ Some c) }
-    ensures refused { result ≡ Err ReadError.Refused → lists_read verdict (view value.now) ≡ None }
+/// The anchors and the ranks of a certificate.
+fn places_at(alloc: Global, value: &Value) -> Result<(Anchors, Ranks), ReadError>
+    ensures places { IfOk result (λ p. places_read (view value.now) ≡ Some p) }
+    ensures refused { result ≡ Err ReadError.Refused → places_read (view value.now) ≡ None }
 {
     let anchors = anchors_at(alloc, value)?;
     let ranks = ranks_at(alloc, value)?;
-    numbers_at(alloc, value, verdict, anchors, ranks)
+    Ok((anchors, ranks))
+}
+
+/// The doubles and the triples of a certificate.
+fn numbers_at(alloc: Global, value: &Value) -> Result<(Doubles, Triples), ReadError>
+    ensures numbers { IfOk result (λ n. numbers_read (view value.now) ≡ Some n) }
+    ensures refused { result ≡ Err ReadError.Refused → numbers_read (view value.now) ≡ None }
+{
+    let doubles = doubles_at(alloc, value)?;
+    let triples = triples_at(alloc, value)?;
+    Ok((doubles, triples))
 }
 
 /// The certificate that a value is.
@@ -372,8 +359,16 @@ fn certificate_of(alloc: Global, value: &Value) -> Result<Certificate, ReadError
     if !has_version(value) {
         return Err(ReadError::Refused);
     }
+    let (anchors, ranks) = places_at(alloc, value)?;
+    let (doubles, triples) = numbers_at(alloc, value)?;
     let verdict = verdict_at(alloc, value)?;
-    lists_at(alloc, value, verdict)
+    Ok(Certificate {
+        verdict,
+        anchors,
+        ranks,
+        doubles,
+        triples,
+    })
 }
 
 /// The most bytes of a certificate.

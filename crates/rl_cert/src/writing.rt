@@ -1,9 +1,8 @@
 //! Certificates written.
 
 ghost use Rattle.std.specs.Prelude.{◌≡◌, codes, false, map, IfOk, OnOk};
-ghost use Rattle.serde_json.specs.Data.{put, no_members, object, string};
+ghost use Rattle.serde_json.specs.Data.{Data, put, no_members, object, string};
 ghost use Rattle.serde_json.specs.View.{members_view, view};
-ghost use Rattle.rl_cert.specs.internal.FormParts.{pairs_put, family_put, ranks_put};
 ghost use Rattle.rl_cert.specs.Form.{row_data, rows_data, anchor_row, double_row, triple_row, common_members, form_members, form_text, IsTold};
 
 use crate::certificate::{Anchor, Certificate};
@@ -81,61 +80,42 @@ fn doubles_value(alloc: Global, doubles: &[Double]) -> Result<Value, OutOfMemory
     Ok(Value::Array(values))
 }
 
-/// Puts the anchors and the doubles of a certificate.
-fn put_pairs(members: &mut Members, alloc: Global, c: &Certificate) -> Result<(), OutOfMemory>
-    ensures { OnOk result (members_view members.new.entries ≡ pairs_put c.now (members_view members.old.entries)) }
+/// Puts a value that was made at a key.
+fn put_made(
+    members: &mut Members,
+    alloc: Global,
+    key: &str,
+    made: Result<Value, OutOfMemory>,
+) -> Result<(), OutOfMemory>
+    ensures { OnOk result ((d : Data) → IfOk made (λ v. view v ≡ d) → members_view members.new.entries ≡ put key.now d (members_view members.old.entries)) }
 {
-    let anchors = anchors_value(alloc, c.anchors.as_slice())?;
-    put(members, alloc, "anchors", anchors)?;
-    let doubles = doubles_value(alloc, c.doubles.as_slice())?;
-    put(members, alloc, "doubles", doubles)?;
+    let value = made?;
+    put(members, alloc, key, value)?;
     Ok(())
 }
 
-/// Puts the heads and the pumps of a family.
-fn put_family(members: &mut Members, alloc: Global, f: &Family) -> Result<(), OutOfMemory>
-    ensures { OnOk result (members_view members.new.entries ≡ family_put f.now (members_view members.old.entries)) }
+/// Puts the members that each certificate has, but for its kind.
+fn put_common(
+    members: &mut Members,
+    alloc: Global,
+    c: &Certificate,
+    f: &Family,
+) -> Result<(), OutOfMemory>
+    ensures { OnOk result (members_view members.old.entries ≡ no_members → members_view members.new.entries ≡ common_members c.now f.now) }
 {
-    let heads = rows_value(alloc, f.heads.as_slice())?;
-    put(members, alloc, "heads", heads)?;
-    let pumps = rows_value(alloc, f.pumps.as_slice())?;
-    put(members, alloc, "pumps", pumps)?;
-    Ok(())
-}
-
-/// Puts the ranks and the triples of a certificate.
-fn put_ranks(members: &mut Members, alloc: Global, c: &Certificate) -> Result<(), OutOfMemory>
-    ensures { OnOk result (members_view members.new.entries ≡ ranks_put c.now (members_view members.old.entries)) }
-{
-    let ranks = row_value(alloc, c.ranks.as_slice())?;
-    put(members, alloc, "ranks", ranks)?;
-    let triples = triples_value(alloc, c.triples.as_slice())?;
-    put(members, alloc, "triples", triples)?;
-    Ok(())
-}
-
-/// The members that each certificate has, but for its kind.
-fn common(alloc: Global, c: &Certificate, f: &Family) -> Result<Members, OutOfMemory>
-    ensures { IfOk result (λ m. members_view m.entries ≡ common_members c.now f.now) }
-{
-    let mut members = Map::new(alloc);
-    let Ok(()) = put_pairs(&mut members, alloc, c) else {
-        drop(members);
-        return Err(OutOfMemory);
-    };
-    let Ok(()) = put_family(&mut members, alloc, f) else {
-        drop(members);
-        return Err(OutOfMemory);
-    };
-    let Ok(()) = put_ranks(&mut members, alloc, c) else {
-        drop(members);
-        return Err(OutOfMemory);
-    };
-    let Ok(()) = put(&mut members, alloc, "version", Value::from(1u32)) else {
-        drop(members);
-        return Err(OutOfMemory);
-    };
-    Ok(members)
+    let anchors = anchors_value(alloc, c.anchors.as_slice());
+    put_made(members, alloc, "anchors", anchors)?;
+    let doubles = doubles_value(alloc, c.doubles.as_slice());
+    put_made(members, alloc, "doubles", doubles)?;
+    let heads = rows_value(alloc, f.heads.as_slice());
+    put_made(members, alloc, "heads", heads)?;
+    let pumps = rows_value(alloc, f.pumps.as_slice());
+    put_made(members, alloc, "pumps", pumps)?;
+    let ranks = row_value(alloc, c.ranks.as_slice());
+    put_made(members, alloc, "ranks", ranks)?;
+    let triples = triples_value(alloc, c.triples.as_slice());
+    put_made(members, alloc, "triples", triples)?;
+    put_made(members, alloc, "version", Ok(Value::from(1u32)))
 }
 
 /// Puts the kind of a certificate.
@@ -147,33 +127,37 @@ fn put_kind(members: &mut Members, alloc: Global, kind: &str) -> Result<(), OutO
     Ok(())
 }
 
+/// Puts the members of a certificate.
+fn put_form(members: &mut Members, alloc: Global, c: &Certificate) -> Result<(), OutOfMemory>
+    requires { IsTold c.now.verdict }
+    ensures { OnOk result (members_view members.old.entries ≡ no_members → members_view members.new.entries ≡ form_members c.now c.now.verdict) }
+{
+    match &c.verdict {
+        Verdict::Degree(degree, family) => {
+            put_common(members, alloc, c, family)?;
+            put_made(members, alloc, "degree", Ok(Value::from(*degree)))?;
+            put_kind(members, alloc, "degree")
+        }
+        Verdict::Expo(family) => {
+            put_common(members, alloc, c, family)?;
+            put_kind(members, alloc, "exponential")
+        }
+        Verdict::Undecided(_) => unreachable!(),
+    }
+}
+
 /// The object of a certificate.
 fn object_of(alloc: Global, c: &Certificate) -> Result<Value, OutOfMemory>
     requires { IsTold c.now.verdict }
     ensures { IfOk result (λ v. view v ≡ object (form_members c.now c.now.verdict)) }
 {
-    match &c.verdict {
-        Verdict::Degree(degree, family) => {
-            let mut members = common(alloc, c, family)?;
-            let Ok(()) = put(&mut members, alloc, "degree", Value::from(*degree)) else {
-                drop(members);
-                return Err(OutOfMemory);
-            };
-            let Ok(()) = put_kind(&mut members, alloc, "degree") else {
-                drop(members);
-                return Err(OutOfMemory);
-            };
-            Ok(Value::Object(members))
+    let mut members = Map::new(alloc);
+    match put_form(&mut members, alloc, c) {
+        Ok(()) => Ok(Value::Object(members)),
+        Err(error) => {
+            drop(members);
+            Err(error)
         }
-        Verdict::Expo(family) => {
-            let mut members = common(alloc, c, family)?;
-            let Ok(()) = put_kind(&mut members, alloc, "exponential") else {
-                drop(members);
-                return Err(OutOfMemory);
-            };
-            Ok(Value::Object(members))
-        }
-        Verdict::Undecided(_) => unreachable!(),
     }
 }
 

@@ -1,27 +1,17 @@
 -- Parts of the form of a certificate.
-use Rattle.std.specs.Prelude.{ℕ, List, map, Option, option_map, option_and_then, codes}
-use Rattle.serde_json.specs.Data.{Data, Members, put}
-use Rattle.rl_syntax.specs.declared.verdict.Family.{Family}
-use Rattle.rl_syntax.specs.declared.verdict.Verdict.{Verdict}
+use Rattle.std.specs.Prelude.{ℕ, List, Option, option_map, option_and_then, codes}
+use Rattle.serde_json.specs.Data.{Data}
+use Rattle.rl_numbers.specs.declared.double.Double.{Double}
+use Rattle.rl_numbers.specs.declared.triple.Triple.{Triple}
 use Rattle.rl_cert.specs.declared.certificate.Anchor.{Anchor}
-use Rattle.rl_cert.specs.declared.certificate.Certificate.{Certificate}
-use Rattle.rl_cert.specs.Form.{row_data, rows_data, anchor_row, double_row, triple_row, doubles_read, triples_read, read_at}
+use Rattle.rl_cert.specs.Form.{row_read, anchors_read, doubles_read, triples_read, read_at}
 
--- members, with the anchors and the doubles
-abbrev pub pairs_put : Certificate → Members → Members
-pairs_put c ms = put (codes "doubles") (rows_data (map double_row c.doubles)) (put (codes "anchors") (rows_data (map anchor_row c.anchors)) ms)
+-- the anchors and the ranks that are read
+abbrev pub places_read : Data → Option (List Anchor × List ℕ)
+places_read d =
+    option_and_then (λ anchors. option_map (λ ranks. (anchors, ranks)) (read_at row_read (codes "ranks") d)) (read_at anchors_read (codes "anchors") d)
 
--- members, with the heads and the pumps
-abbrev pub family_put : Family → Members → Members
-family_put f ms = put (codes "pumps") (rows_data f.pumps) (put (codes "heads") (rows_data f.heads) ms)
-
--- members, with the ranks and the triples
-abbrev pub ranks_put : Certificate → Members → Members
-ranks_put c ms = put (codes "triples") (rows_data (map triple_row c.triples)) (put (codes "ranks") (row_data c.ranks) ms)
-
--- the certificate that is read behind its ranks
-abbrev pub numbers_read : Verdict → List Anchor → List ℕ → Data → Option Certificate
-numbers_read verdict anchors ranks d =
-    option_and_then (λ doubles. option_map (λ triples.
-    record { verdict = verdict; anchors = anchors; ranks = ranks; doubles = doubles; triples = triples })
-    (read_at triples_read (codes "triples") d)) (read_at doubles_read (codes "doubles") d)
+-- the doubles and the triples that are read
+abbrev pub numbers_read : Data → Option (List Double × List Triple)
+numbers_read d =
+    option_and_then (λ doubles. option_map (λ triples. (doubles, triples)) (read_at triples_read (codes "triples") d)) (read_at doubles_read (codes "doubles") d)

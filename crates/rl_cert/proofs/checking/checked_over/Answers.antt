@@ -20,3 +20,12 @@ pub returns-in-Err-Pairs : goal.returns-in-Err-Pairs
 returns-in-Err-Pairs c =
     none-holds (question_of c.args.l.now c.args.u c.args.max_pairs) c.args.c.now Pairs
     (c.args.a.now, record { stands = c.requires.stands; same_codes = c.requires.codes }, c.in-Err-Pairs.ensures.too_many_pairs c.in-Err-Pairs.field-0-is)
+
+pub pairs-requires-clause-some : goal.pairs-requires-clause-some
+pairs-requires-clause-some c = c.requires.some
+
+pub pairs-requires-clause-few : goal.pairs-requires-clause-few
+pairs-requires-clause-few c = c.requires.few
+
+pub shown-holds-requires-clause-codes : goal.shown-holds-requires-clause-codes
+shown-holds-requires-clause-codes c = c.requires.codes

@@ -1,4 +1,4 @@
-use Rattle.std.proofs.Common.{◌<◌, ◌∙◌, ℕ, List, All, sym, ap, subst}
+use Rattle.std.proofs.Common.{◌<◌, ◌∙◌, ℕ, All, sym, ap, subst}
 use Rattle.std.proofs.lemmas.List.{take_all}
 use Rattle.std.proofs.lemmas.List.Elements.{All-same, All-push}
 use Rattle.rl_prio.specs.Automaton.{letters_count}

@@ -7,3 +7,15 @@ returns-clause-made c =
     let g = c.args.g.now in
     λ q field within. twin-made q c.args.a.now (moves_in g) (pair_in g) g.graph.states field within c.in_ok-family.family _ c.args.twin.now.state c.in_ok-family.ensures.0 c.in_ok-family.ensures.1 c.requires.state_in
     c.in_ok-family.ensures.2 c.in_ok-family.ensures.3 c.in_ok-anchors.ensures
+
+pub twin_family-requires-clause-stands : goal.twin_family-requires-clause-stands
+twin_family-requires-clause-stands c = c.requires.stands
+
+pub twin_family-requires-clause-led : goal.twin_family-requires-clause-led
+twin_family-requires-clause-led c = c.requires.led
+
+pub twin_family-requires-clause-state_in : goal.twin_family-requires-clause-state_in
+twin_family-requires-clause-state_in c = c.requires.state_in
+
+pub twin_family-requires-clause-twin : goal.twin_family-requires-clause-twin
+twin_family-requires-clause-twin c = c.requires.twin

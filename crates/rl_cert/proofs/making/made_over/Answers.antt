@@ -38,3 +38,9 @@ pub returns-in-Ok-clause-too_large : goal.returns-in-Ok-clause-too_large
 returns-in-Ok-clause-too_large c =
     let q = question_of c.args.l.now c.args.u c.args.max_pairs in
     made-large q c.args.a.now c.in-Ok.g _ c.requires.stands c.requires.codes c.states-states.ensures.automaton c.requires.small c.requires.within.0 c.requires.within.1 c.in-Ok.ensures.graph c.in-Ok.ensures.numbered c.in-Ok.ensures.few_pairs c.in-Ok.ensures.few_sets c.made-certificate.ensures.too_large
+
+pub pairs-requires-clause-some : goal.pairs-requires-clause-some
+pairs-requires-clause-some c = c.requires.some
+
+pub pairs-requires-clause-few : goal.pairs-requires-clause-few
+pairs-requires-clause-few c = c.requires.few

@@ -59,3 +59,64 @@ returns c =
 
 pub loop-place-init : goal.loop-place-init
 loop-place-init c = record { inside = c.requires.some; there = λ w. w; back = λ w. w }
+
+pub bounds-anchors-place : goal.bounds-anchors-place
+bounds-anchors-place c =
+    let f : Fits (length c.args.anchors.now) (length c.args.heads.now) (length c.args.pumps.now) = c.fits.ensures.0 c.if-not-fits.false in
+    omega (arith, c.loop-place-test.true, f.0)
+
+pub bounds-heads-place : goal.bounds-heads-place
+bounds-heads-place c =
+    let f : Fits (length c.args.anchors.now) (length c.args.heads.now) (length c.args.pumps.now) = c.fits.ensures.0 c.if-not-fits.false in
+    omega (arith, c.loop-place-test.true, f.0, f.2)
+
+pub bounds-pumps-place : goal.bounds-pumps-place
+bounds-pumps-place c =
+    let f : Fits (length c.args.anchors.now) (length c.args.heads.now) (length c.args.pumps.now) = c.fits.ensures.0 c.if-not-fits.false in
+    omega (arith, c.loop-place-test.true, f.0, f.1)
+
+pub bounds-anchors-count : goal.bounds-anchors-count
+bounds-anchors-count c =
+    let f : Fits (length c.args.anchors.now) (length c.args.heads.now) (length c.args.pumps.now) = c.fits.ensures.0 c.if-not-fits.false in
+    omega (arith, f.0)
+
+pub bounds-heads-count : goal.bounds-heads-count
+bounds-heads-count c =
+    let f : Fits (length c.args.anchors.now) (length c.args.heads.now) (length c.args.pumps.now) = c.fits.ensures.0 c.if-not-fits.false in
+    omega (arith, f.0, f.2)
+
+pub bounds-pumps-count : goal.bounds-pumps-count
+bounds-pumps-count c =
+    let f : Fits (length c.args.anchors.now) (length c.args.heads.now) (length c.args.pumps.now) = c.fits.ensures.0 c.if-not-fits.false in
+    omega (arith, f.0, f.1)
+
+pub bounds-heads-count-2 : goal.bounds-heads-count-2
+bounds-heads-count-2 c =
+    let f : Fits (length c.args.anchors.now) (length c.args.heads.now) (length c.args.pumps.now) = c.fits.ensures.0 c.if-not-fits.false in
+    omega (arith, f.2)
+
+pub overflow_sub-place-end : goal.overflow_sub-place-end
+overflow_sub-place-end c =
+    let f : Fits (length c.args.anchors.now) (length c.args.heads.now) (length c.args.pumps.now) = c.fits.ensures.0 c.if-not-fits.false in
+    omega (arith, f.0)
+
+pub overflow_sub-count : goal.overflow_sub-count
+overflow_sub-count c =
+    let f : Fits (length c.args.anchors.now) (length c.args.heads.now) (length c.args.pumps.now) = c.fits.ensures.0 c.if-not-fits.false in
+    omega (arith, f.0)
+
+pub overflow_sub-count-2 : goal.overflow_sub-count-2
+overflow_sub-count-2 c =
+    let f : Fits (length c.args.anchors.now) (length c.args.heads.now) (length c.args.pumps.now) = c.fits.ensures.0 c.if-not-fits.false in
+    omega (arith, f.0)
+
+pub overflow_sub-count-3 : goal.overflow_sub-count-3
+overflow_sub-count-3 c =
+    let f : Fits (length c.args.anchors.now) (length c.args.heads.now) (length c.args.pumps.now) = c.fits.ensures.0 c.if-not-fits.false in
+    omega (arith, f.0)
+
+pub end_holds-requires-clause-letters : goal.end_holds-requires-clause-letters
+end_holds-requires-clause-letters c = c.requires.letters
+
+pub end_holds-requires-clause-from_in : goal.end_holds-requires-clause-from_in
+end_holds-requires-clause-from_in c = c.loop-place.invariant.inside
