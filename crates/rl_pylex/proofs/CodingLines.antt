@@ -1,8 +1,9 @@
 -- The coding of the second line, by what is read of both lines.
-use Rattle.std.proofs.Common.{◌≡◌, ℕ, ◌+◌, ◌≤◌, arith, subst, Bool, true, false, cond, not, ◌&&◌, ◌||◌, List, length, drop, refl, ap, sym, ◌∙◌, Some, None, Option}
+use Rattle.std.proofs.Common.{◌≡◌, ℕ, zero, suc, ◌+◌, ◌≤◌, arith, subst, Bool, true, false, cond, not, ◌&&◌, ◌||◌, List, length, drop, refl, ap, sym, ◌∙◌, Some, None, Option}
 use Rattle.std.specs.Prelude.{◌==◌, IfSome}
 use Rattle.std.specs.List.{prefix_len}
 use Rattle.std.proofs.lemmas.Bool.{false≢true}
+use Rattle.std.proofs.lemmas.Bool.Decides.{nat_tests}
 use Rattle.rl_pylex.specs.Bytes.{begins, line_end}
 use Rattle.rl_pylex.specs.declared.coding.Named.{Named}
 use Rattle.rl_pylex.specs.Coding.{is_gap, in_coding, named_here, from_place, coding_of_line, is_bare, line_of, second_coding}
@@ -35,6 +36,15 @@ named-is text rest behind gap size e after gaps next sizes =
     turned (Option Named) here (size == 0) (Some (record { from = 7 + gap; size = size })) None e
     ∙ ap (λ (n : ℕ). cond (here && not (n == 0)) (Some (record { from = 7 + gap; size = n })) None) (sizes ∙ ap (prefix_len in_coding) next)
     ∙ ap (λ (k : ℕ). cond (here && not (prefix_len in_coding (drop (7 + k) text) == 0)) (Some (record { from = 7 + k; size = prefix_len in_coding (drop (7 + k) text) })) None) (gaps ∙ ap (prefix_len is_gap) after)
+
+not-zero : (n : ℕ) → (n ≡ 0 → ⊥) → (n == 0) ≡ false
+not-zero zero some = absurd (some refl)
+not-zero (suc n) some = grind (arith, nat_tests)
+
+pub named-some : (text rest behind : List ℕ) (gap size : ℕ) → true ≡ (begins "coding:" text || begins "coding=" text) → rest ≡ drop 7 text → gap ≡ prefix_len is_gap rest
+    → behind ≡ drop (7 + gap) text → size ≡ prefix_len in_coding behind → (size ≡ 0 → ⊥) → Some (record { from = 7 + gap; size = size }) ≡ named_here text
+named-some text rest behind gap size e after gaps next sizes some =
+    other (Option Named) (size == 0) None (Some (record { from = 7 + gap; size = size })) (not-zero size some) ∙ named-is text rest behind gap size e after gaps next sizes
 
 -- the first line has text
 pub second-none : (text first : List ℕ) → first ≡ line_of text → false ≡ is_bare first → None ≡ second_coding text

@@ -1,5 +1,5 @@
 -- Each step passes a run of ordinary bytes and what stands behind it.
-use Rattle.std.proofs.Common.{arith, length, ◌≤◌, ◌+◌, sym, ap, subst, ℕ}
+use Rattle.std.proofs.Common.{◌≡◌, arith, length, ◌≤◌, ◌+◌, sym, ap, subst, ℕ}
 use Rattle.std.proofs.lemmas.List.{length-drop}
 use Rattle.rl_pylex.specs.internal.Absence.{ReachesWithout}
 use Rattle.rl_pylex.proofs.Without.{without-start, without-run}
@@ -18,3 +18,16 @@ loop-at-preserved c =
       without-run s c.args.name.now c.rest_from.result.now c.rest_from-in-loop-at.result.now c.loop-at.at c.in-Some.run' c.in-Some-size_between.size c.requires.word
           c.rest_from.ensures c.in-Some.ensures.free c.loop-at.invariant.1 c.rest_from-in-loop-at.ensures c.in-Some-size_between.ensures.value,
     )
+
+pub run_without-requires : goal.run_without-requires
+run_without-requires c = c.requires.word
+
+pub rest_from-requires-in-loop-at : goal.rest_from-requires-in-loop-at
+rest_from-requires-in-loop-at c =
+    omega (arith, c.loop-at-test.true, c.in-Some.ensures.within, ap length c.rest_from.ensures, length-drop c.loop-at.at c.args.source.now)
+
+pub returns : goal.returns
+returns c _ =
+    let s = c.args.source.now in
+    let end : c.loop-at.at ≡ length s = omega (arith, c.loop-at-test.false, c.loop-at.invariant.0) in
+    subst (λ (n : ℕ). ReachesWithout s c.args.name.now n) end c.loop-at.invariant.1
