@@ -4,6 +4,7 @@ use Rattle.rl_words.specs.Call.{said}
 use Rattle.rl_lint.specs.Endings.{refuses, unreadable}
 use Rattle.rl_lint.specs.Refusals.{IsRefused, invalid}
 use Rattle.rl_lint.specs.RunEnding.{IsRunEnding, asks_tree}
+use Rattle.rl_lint.specs.internal.Reads.{AreFit}
 use Rattle.rl_lint.proofs.CauseLemmas.{plans-failed, plans-refused, run-refused}
 use Rattle.rl_lint.proofs.RunLemmas.{asks-none, call-refused, call-unreadable, run-given, run-taken}
 use Rattle.rl_lint.proofs.plan.plan_of.Goals as goal
@@ -65,3 +66,23 @@ pub returns-in-Ok-Taken-clause-trail : goal.returns-in-Ok-Taken-clause-trail
 returns-in-Ok-Taken-clause-trail g c = λ asks.
     let none = asks-none c.in-Ok.words (subst (λ o. asks_tree o ≡ false) c.in-Ok.ensures.ok asks) in
     c.action_plan.ensures.trail none.0 ∙ c.in-Ok-Taken.ensures.still none.1
+
+pub returns-in-Ok-Unreadable-clause-trail : goal.returns-in-Ok-Unreadable-clause-trail
+returns-in-Ok-Unreadable-clause-trail g c = λ asks.
+    c.in-Ok-Unreadable.ensures.still (asks-none c.in-Ok.words (subst (λ o. asks_tree o ≡ false) c.in-Ok.ensures.ok asks)).1
+
+pub returns-in-Ok-Refused-clause-trail : goal.returns-in-Ok-Refused-clause-trail
+returns-in-Ok-Refused-clause-trail g c = λ asks.
+    c.in-Ok-Refused.ensures.still (asks-none c.in-Ok.words (subst (λ o. asks_tree o ≡ false) c.in-Ok.ensures.ok asks)).1
+
+pub with_values-settings-requires-clause-ranges : goal.with_values-settings-requires-clause-ranges
+with_values-settings-requires-clause-ranges g c = c.in-Ok.ensures.ranges.values
+
+pub with_values-settings-requires-clause-valid : goal.with_values-settings-requires-clause-valid
+with_values-settings-requires-clause-valid g c = subst AreFit c.in-Ok-Taken.field-0-is c.in-Ok-Taken.ensures.fit
+
+pub action_plan-requires-clause-ranges : goal.action_plan-requires-clause-ranges
+action_plan-requires-clause-ranges g c = c.in-Ok.ensures.ranges.action
+
+pub action_plan-requires-clause-valid : goal.action_plan-requires-clause-valid
+action_plan-requires-clause-valid g c = c.with_values-settings.ensures.valid
