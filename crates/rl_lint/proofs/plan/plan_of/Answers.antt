@@ -5,7 +5,7 @@ use Rattle.rl_lint.specs.Endings.{refuses, unreadable}
 use Rattle.rl_lint.specs.Refusals.{IsRefused, invalid}
 use Rattle.rl_lint.specs.RunEnding.{IsRunEnding, asks_tree}
 use Rattle.rl_lint.specs.internal.Reads.{AreFit}
-use Rattle.rl_lint.proofs.CauseLemmas.{plans-failed, plans-refused, run-refused}
+use Rattle.rl_lint.proofs.CauseLemmas.{plans-failed, plans-refused, run-failed, run-refused}
 use Rattle.rl_lint.proofs.RunLemmas.{asks-none, call-refused, call-unreadable, run-given, run-taken}
 use Rattle.rl_lint.proofs.plan.plan_of.Goals as goal
 
@@ -15,6 +15,14 @@ returns-in-Ok-Unreadable-clause-ending g c =
     let old = moment_of g.T.Tree.told g.T.Tree.fault_count c.args.tree.now in
     let mid = moment_of g.T.Tree.told g.T.Tree.fault_count c.read_config.new.tree in
     subst (λ o. IsRunEnding o old mid (unreadable (codes "relint: settings unreadable\n"))) (sym c.in-Ok.ensures.ok)
+    (call-unreadable call call.options.settings old mid c.in-Ok-Unreadable.field-0 c.in-Ok-Unreadable.ensures.read c.in-Ok-Unreadable.field-0-is)
+
+pub returns-in-Ok-Unreadable-clause-cause : goal.returns-in-Ok-Unreadable-clause-cause
+returns-in-Ok-Unreadable-clause-cause g c =
+    let call = said c.in-Ok.words in
+    let old = moment_of g.T.Tree.told g.T.Tree.fault_count c.args.tree.now in
+    let mid = moment_of g.T.Tree.told g.T.Tree.fault_count c.read_config.new.tree in
+    run-failed call old mid (unreadable (codes "relint: settings unreadable\n"))
     (call-unreadable call call.options.settings old mid c.in-Ok-Unreadable.field-0 c.in-Ok-Unreadable.ensures.read c.in-Ok-Unreadable.field-0-is)
 
 pub returns-in-Ok-Refused-clause-ending : goal.returns-in-Ok-Refused-clause-ending
