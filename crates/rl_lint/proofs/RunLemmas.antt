@@ -1,5 +1,6 @@
 -- The endings of `cost`, `prove` and `compare`, and that of a call by what its settings file gives.
-use Rattle.std.proofs.Common.{◌≡◌, ◌∙◌, option_map, Bor, Option, Result, Ok, Err, IfOk, codes, Some, None, subst, sym, refl}
+use Rattle.std.proofs.Common.{◌≡◌, ◌∙◌, Bool, true, false, option_map, Bor, Option, Result, Ok, Err, IfOk, codes, Some, None, subst, sym, refl}
+use Rattle.std.specs.Prelude.{◌||◌, is_some}
 use Rattle.std.specs.Str.{chars}
 use Rattle.rl_syntax.specs.declared.re.Mode.{Mode}
 use Rattle.rl_syntax.specs.declared.re.Mode.TheVariants.{Fullmatch}
@@ -17,7 +18,7 @@ use Rattle.rl_lint.specs.Files.{whole_bytes}
 use Rattle.rl_lint.specs.Options.{GivesSettings, default_settings, mode_given, with_values}
 use Rattle.rl_lint.specs.Patterns.{ParsesThen, text_question}
 use Rattle.rl_lint.specs.ProveEnding.{ProveEnds}
-use Rattle.rl_lint.specs.RunEnding.{IsActionEnding, IsCallEnding, IsRunEnding}
+use Rattle.rl_lint.specs.RunEnding.{IsActionEnding, IsCallEnding, IsRunEnding, asks_itself, asks_tree}
 use Rattle.rl_report.specs.Names.{Text}
 use Rattle.rl_lint.specs.declared.plan.Plan.{Plan}
 use Rattle.rl_lint.specs.declared.files.FileRead.{FileRead}
@@ -93,3 +94,13 @@ run-taken result words old mid new found start s read is same ends =
 pub run-given : {E : Type 0} (result : Result Plan E) (given : Option Call) (call : Call) (old new : Moment) → given ≡ Some call
     → IfOk result (λ plan. IsRunEnding (Some call) old new (ending_of plan)) → IfOk result (λ plan. IsRunEnding given old new (ending_of plan))
 run-given result given call old new is ends = subst (λ o. IfOk result (λ plan. IsRunEnding o old new (ending_of plan))) (sym is) ends
+
+-- ---- words that don't ask the tree
+
+pub asks-none : (words : Words) → asks_tree (Some (said words)) ≡ false → (asks_itself (asked words.action) ≡ false) × (words.options.settings ≡ None)
+asks-none words asks = by_path (asks_itself (asked words.action)) words.options.settings asks
+  where
+    by_path : (itself : Bool) (path : Option (Bor Text)) → (itself || is_some (option_map (λ p. p.now) path)) ≡ false → (itself ≡ false) × (path ≡ None)
+    by_path false None none = (refl, refl)
+    by_path false (Some path) none = let never : true ≡ false = none in cc
+    by_path true path none = let never : true ≡ false = none in cc

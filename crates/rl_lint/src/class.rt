@@ -23,8 +23,13 @@ fn with_family(alloc: Global, line: Bytes, family: &Family) -> Result<Bytes, Out
     ensures { IfOk result (λ text. text ≡ line ++ family_text_line Str family.now) }
 {
     let mut text = line.into_vec();
-    let more = family_line(alloc, family, Universe::Str)?;
-    text.extend_from_slice(more.as_slice())?;
+    let Ok(more) = family_line(alloc, family, Universe::Str) else {
+        drop(text);
+        return Err(OutOfMemory);
+    };
+    let appended = text.extend_from_slice(more.as_slice());
+    drop(more);
+    appended?;
     Ok(Bytes::from_vec(text))
 }
 

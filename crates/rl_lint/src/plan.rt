@@ -126,14 +126,22 @@ pub fn plan_of<T: Tree>(
         Err(WordsError::Invalid) => return Ok(Plan::Refuses(Message::Fixed(usage_text()))),
         Err(WordsError::OutOfMemory) => return Err(OutOfMemory),
     };
-    match read_config(alloc, words.options.settings, tree)? {
-        FileRead::Unreadable => Ok(Plan::Unreadable(Message::Fixed(
-            "relint: settings unreadable\n",
-        ))),
-        FileRead::Refused => Ok(Plan::Refuses(Message::Fixed("relint: settings refused\n"))),
-        FileRead::Taken(start) => {
+    match read_config(alloc, words.options.settings, tree) {
+        Ok(FileRead::Unreadable) => {
+            drop(words);
+            Ok(Plan::Unreadable(Message::Fixed("relint: settings unreadable\n")))
+        }
+        Ok(FileRead::Refused) => {
+            drop(words);
+            Ok(Plan::Refuses(Message::Fixed("relint: settings refused\n")))
+        }
+        Ok(FileRead::Taken(start)) => {
             let settings = with_values(&words.options.values, &start);
             action_plan(alloc, words.action, &words.options, settings, tree)
+        }
+        Err(error) => {
+            drop(words);
+            Err(error)
         }
     }
 }

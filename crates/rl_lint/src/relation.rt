@@ -1,5 +1,5 @@
 //! How two patterns are related, and the lines that `compare` writes on it.
-ghost use Rattle.std.specs.Prelude.{◌≡◌, ◌++◌, Some, IfOk, IfSome, OnOk};
+ghost use Rattle.std.specs.Prelude.{◌≡◌, ◌++◌, Some, IfOk, IfSome, OnOk, codes};
 ghost use Rattle.std.specs.String.{string_bytes};
 ghost use Rattle.rl_ranges.specs.Text.{IsText};
 ghost use Rattle.rl_ranges.specs.declared.universe.Universe.TheVariants.{Str};
@@ -112,6 +112,18 @@ fn push_region(
     }
 }
 
+/// Appends the end of the first line, and the lines of the regions.
+fn push_regions(alloc: Global, out: &mut Vec<u8>, compared: &Compared) -> Result<(), OutOfMemory>
+    requires { AreTexts compared.now }
+    ensures { OnOk result (out.new.items ≡ out.old.items ++ (codes "\n" ++ (region_line (codes "first") compared.now.first
+        ++ (region_line (codes "second") compared.now.second ++ region_line (codes "both") compared.now.both)))) }
+{
+    out.push(b'\n')?;
+    push_region(alloc, out, "first", &compared.first)?;
+    push_region(alloc, out, "second", &compared.second)?;
+    push_region(alloc, out, "both", &compared.both)
+}
+
 /// The lines on what was found of two patterns.
 ///
 /// # Errors
@@ -126,9 +138,6 @@ pub fn compared_text(
     ensures { IfOk result (λ text. text ≡ compared_text compared.now) }
 {
     let mut out = relation.name(alloc)?.into_bytes();
-    out.push(b'\n')?;
-    push_region(alloc, &mut out, "first", &compared.first)?;
-    push_region(alloc, &mut out, "second", &compared.second)?;
-    push_region(alloc, &mut out, "both", &compared.both)?;
+    push_regions(alloc, &mut out, compared)?;
     Ok(Bytes::from_vec(out))
 }

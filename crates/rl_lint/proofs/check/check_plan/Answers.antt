@@ -7,6 +7,15 @@ use Rattle.rl_lint.specs.Filter.{hidden_count, visible_entries}
 use Rattle.rl_lint.proofs.CheckLemmas.{check-refused, check-taken, check-unreadable, is-finding, reports-walk, walked-first}
 use Rattle.rl_lint.proofs.check.check_plan.Goals as goal
 
+pub new-checker-requires : goal.new-checker-requires
+new-checker-requires g c = c.requires
+
+pub report_in-text-requires-clause-valid : goal.report_in-text-requires-clause-valid
+report_in-text-requires-clause-valid g c = c.requires
+
+pub report_in-text-requires-clause-universe : goal.report_in-text-requires-clause-universe
+report_in-text-requires-clause-universe g c = c.in_ok-visible.ensures.universe
+
 pub returns-in-Unreadable-clause-ending : goal.returns-in-Unreadable-clause-ending
 returns-in-Unreadable-clause-ending g c =
     check-unreadable c.args.settings _ _ _ _ c.in_ok-read_baseline.field-0 c.in_ok-read_baseline.ensures.read c.in-Unreadable.is
