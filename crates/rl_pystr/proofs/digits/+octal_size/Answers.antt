@@ -1,5 +1,5 @@
 -- A digit more than behind it.
-use Rattle.std.proofs.Common.{◌-◌, ◌∙◌, sym, ap, arith}
+use Rattle.std.proofs.Common.{◌-◌, ◌∙◌, sym, ap}
 use Rattle.std.specs.Prelude.{min}
 use Rattle.std.specs.List.{prefix_len}
 use Rattle.std.proofs.lemmas.List.{get_or_read}
