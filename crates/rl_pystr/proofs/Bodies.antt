@@ -132,4 +132,4 @@ pub rest_read : (s : List ℕ) (run : List Token) → All (IsReadAt s) run → A
 rest_read s [] h = h
 rest_read s (x ∷ xs) h = λ k d l. h (suc k) d (omega arith)
 
-pub ruleset runs = (front_refused, IsRefused-memory, before-empty, empty-before)
+pub ruleset runs = (IsRefused-memory, before-empty, empty-before)
