@@ -1,9 +1,9 @@
 -- Values one behind the other, and the first refusal.
-use Rattle.std.proofs.Common.{◌≡◌, ℕ, zero, suc, ◌+◌, ◌-◌, ◌<◌, ◌≤◌, Bool, List, [], ◌∷◌, length, get_or, drop, refl, ap, ap₂, sym, ◌∙◌, arith, append_assoc, subst}
+use Rattle.std.proofs.Common.{◌≡◌, ℕ, zero, suc, ◌+◌, ◌-◌, ◌<◌, ◌≤◌, Bool, List, [], ◌∷◌, length, get_or, drop, take, refl, ap, ap₂, sym, ◌∙◌, arith, append_assoc, subst}
 use Rattle.std.specs.Prelude.{Result, Ok, Err, All}
 use Rattle.rl_pylex.specs.declared.token_list.Token.{Token}
 use Rattle.rl_pylex.specs.Source.{IsReadAt}
-use Rattle.std.proofs.lemmas.List.{append-nil}
+use Rattle.std.proofs.lemmas.List.{append-nil, length-drop, take_all}
 use Rattle.std.specs.Char.{len_utf8}
 use Rattle.rl_pystr.specs.declared.escapes.Cause.{Cause}
 use Rattle.rl_pystr.specs.declared.escapes.Cause.TheVariants as cause
@@ -52,6 +52,10 @@ pub IsRefused-memory : (r : Result Placed StrError) (e : StrError) → e ≡ err
 IsRefused-memory r e h = subst (λ x. IsRefused r x) (sym h) tt
 
 pub ruleset refusals = (IsRefused-refusal, IsRefused-memory, before-empty)
+
+-- what stands behind the first
+pub behind_first : {A : Type 0} (xs : List A) → take (length xs - 1) (drop 1 xs) ≡ drop 1 xs
+behind_first xs = take_all (length xs - 1) (drop 1 xs) (omega (arith, length-drop 1 xs))
 
 -- a code that is passed
 pub value-skip : (raw bytes : Bool) (place skip : ℕ) (text : List ℕ) → 0 < skip → 0 < length text
@@ -128,6 +132,4 @@ pub rest_read : (s : List ℕ) (run : List Token) → All (IsReadAt s) run → A
 rest_read s [] h = h
 rest_read s (x ∷ xs) h = λ k d l. h (suc k) d (omega arith)
 
-pub ruleset fronts = (front_done, front_refused, front_read, rest_read)
-
-pub ruleset runs = (token_done, token_refused, IsRefused-memory, before-empty, empty-before)
+pub ruleset runs = (IsRefused-memory, before-empty, empty-before)

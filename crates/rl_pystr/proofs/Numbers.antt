@@ -1,6 +1,9 @@
--- The number of a few digits is small.
-use Rattle.std.proofs.Common.{◌≡◌, ℕ, zero, suc, ◌+◌, ◌*◌, ◌^◌, ◌<◌, ◌≤◌, ◌-◌, arith, ap, le_refl, le_of_eq}
+-- The number of a few digits is small, and few of them are counted.
+use Rattle.std.proofs.Common.{◌≡◌, ℕ, zero, suc, ◌+◌, ◌*◌, ◌^◌, ◌<◌, ◌≤◌, ◌-◌, true, false, cond, List, [], ◌∷◌, length, get_or, drop, arith, ap, le_refl, le_of_eq}
+use Rattle.std.specs.Prelude.{min}
+use Rattle.std.specs.List.{prefix_len}
 use Rattle.std.proofs.lemmas.Nat.{mul-le, pow-add}
+use Rattle.rl_pystr.specs.Escapes.{is_octal}
 
 -- a number of so many digits in a base of at most 16, of which each counts at most 36
 abbrev pub IsSmall : ℕ → ℕ → Type 0
@@ -21,3 +24,21 @@ pub small_bound : (number count : ℕ) → count ≤ 8 → IsSmall count number 
 small_bound number count few h =
     let e : count + (8 - count) ≡ 8 = omega arith in
     omega (arith, grows count (8 - count), ap (λ k. 16 ^ k) e)
+
+-- one octal digit more
+pub octal_more : (most n : ℕ) (text : List ℕ) → 0 < most → 0 < length text → is_octal (get_or text 0 0) ≡ true → n ≡ min (most - 1) (prefix_len is_octal (drop 1 text))
+    → 1 + n ≡ min most (prefix_len is_octal text)
+octal_more most n [] some one h e = absurd (omega arith)
+octal_more zero n (c ∷ cs) some one h e = absurd (omega arith)
+octal_more (suc most) n (c ∷ cs) some one h e =
+    let long : prefix_len is_octal (c ∷ cs) ≡ 1 + prefix_len is_octal cs = ap (λ b. cond b (1 + prefix_len is_octal cs) 0) h in
+    let fewer : n ≡ min (suc most - 1) (prefix_len is_octal cs) = e in
+    omega (arith, fewer, long)
+
+pub octal_none : (most : ℕ) (text : List ℕ) → is_octal (get_or text 0 0) ≡ false → 0 ≡ min most (prefix_len is_octal text)
+octal_none most [] h = omega arith
+octal_none most (c ∷ cs) h =
+    let none : prefix_len is_octal (c ∷ cs) ≡ 0 = ap (λ b. cond b (1 + prefix_len is_octal cs) 0) h in
+    omega (arith, none)
+
+pub ruleset octals = (octal_more, octal_none)

@@ -53,8 +53,6 @@ plain_at [] i d h l = absurd (omega arith)
 plain_at (x ∷ xs) zero d h l = plain_small x (left-of (is_plain x) (list_all is_plain xs) h)
 plain_at (x ∷ xs) (suc i) d h l = plain_at xs i d (right-of (is_plain x) (list_all is_plain xs) h) (omega arith)
 
-pub ruleset pieces = (escaped_more, plain_more, plain_at)
-
 pub is_last : (xs : List ℕ) (c : ℕ) → Some c ≡ slice_get xs (length xs - 1) → (c == 92) ≡ ends_in_backslash xs
 is_last xs c e = ap (λ (o : Option ℕ). option_map_or (λ x. x == 92) o false) e
 

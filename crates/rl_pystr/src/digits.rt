@@ -30,16 +30,15 @@ fn is_hex(code: char) -> bool
     code.is_digit(16)
 }
 
-/// How many octal digits, at most three, stand at the front of the text.
-pub fn octal_size(text: &[char]) -> usize
-    ensures value { result ≡ min 3 (prefix_len is_octal text.now) }
+/// How many octal digits, at most `most`, stand at the front of the text.
+#[tactic(auto, using(crate::proofs::Numbers::octals))]
+pub fn octal_size(most: usize, text: &[char]) -> usize
+    ensures value { result ≡ min most (prefix_len is_octal text.now) }
     ensures within { result ≤ length text.now }
-    ensures few { result ≤ 3 }
+    ensures few { result ≤ most }
 {
     match text {
-        [a, b, c, ..] if is_octal(*a) && is_octal(*b) && is_octal(*c) => 3,
-        [a, b, ..] if is_octal(*a) && is_octal(*b) => 2,
-        [a, ..] if is_octal(*a) => 1,
+        [digit, rest @ ..] if most > 0 && is_octal(*digit) => 1 + octal_size(most - 1, rest),
         _ => 0,
     }
 }

@@ -6,7 +6,7 @@ ghost use Rattle.rl_pystr.specs.Escapes.{octal, hexadecimal, named_code, byte_es
 use crate::digits::{has_hex, is_octal, line_end, number_of, octal_size};
 
 /// Why an escape or a code has no value.
-#[derive(Clone, Copy, Debug, PartialEq, Eq)]
+#[derive(Clone, Copy)]
 pub enum Cause {
     BadEscape,
     NamedEscape,
@@ -14,7 +14,7 @@ pub enum Cause {
 }
 
 /// What a unit of a body gives.
-#[derive(Clone, Copy, Debug, PartialEq, Eq)]
+#[derive(Clone, Copy)]
 pub enum Gives {
     /// No code; the unit has so many codes.
     Nothing(usize),
@@ -31,7 +31,7 @@ pub enum Gives {
 fn octal(text: &[char]) -> Gives
     ensures { result ≡ octal text.now }
 {
-    let count = octal_size(text);
+    let count = octal_size(3, text);
     let number = number_of(8, &text[..count]);
     if number > 255 {
         Gives::Refuses(Cause::BadEscape, 0)

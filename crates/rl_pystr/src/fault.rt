@@ -6,7 +6,7 @@ use rl_lists::OutOfMemory;
 use std::alloc::AllocError;
 
 /// Why a run of literals has no value. The places are byte places in the source.
-#[derive(Clone, Copy, Debug, PartialEq, Eq)]
+#[derive(Clone, Copy)]
 pub enum StrError {
     /// A literal is an f-string.
     FString,

@@ -99,7 +99,6 @@ fn push_escaped(out: &mut Vec<u8>, bytes: bool, code: u32) -> Result<(), OutOfMe
 }
 
 /// Appends the codes with escapes.
-#[tactic(auto, using(crate::proofs::Quotes::pieces))]
 fn push_all_escaped(out: &mut Vec<u8>, bytes: bool, codes: &[u32]) -> Result<(), OutOfMemory>
     ensures { OnOk result (out.new.items ≡ out.old.items ++ flat_map (escaped bytes) codes.now) }
 {
@@ -110,7 +109,6 @@ fn push_all_escaped(out: &mut Vec<u8>, bytes: bool, codes: &[u32]) -> Result<(),
 }
 
 /// Appends the codes themselves.
-#[tactic(auto, using(crate::proofs::Quotes::pieces))]
 fn push_all_plain(out: &mut Vec<u8>, codes: &[u32]) -> Result<(), OutOfMemory>
     requires { IsTrue (list_all is_plain codes.now) }
     ensures { OnOk result (out.new.items ≡ out.old.items ++ codes.now) }

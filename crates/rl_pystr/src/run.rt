@@ -119,27 +119,6 @@ fn push_token(
     push_literal(alloc, out, bytes, token.from, text_of(source, token))
 }
 
-/// Appends the value of the first of the tokens.
-#[tactic(auto, using(crate::proofs::Bodies::fronts))]
-fn push_front(
-    alloc: Global,
-    out: &mut Placed,
-    bytes: bool,
-    source: &[u8],
-    run: &[Token],
-) -> Result<(), StrError>
-    requires some { 0 < length run.now }
-    requires read { All (IsReadAt source.now) run.now }
-    requires utf8 { IsUtf8 source.now }
-    requires short { length source.now ≤ 4194304 }
-    ensures ok { OnOk result (before (Ok out.old) (values bytes source.now run.now) ≡ before (Ok out.new) (values bytes source.now (drop 1 run.now))) }
-    ensures err { IfErr result (IsRefused (before (Ok out.old) (values bytes source.now run.now))) }
-    ensures rest { All (IsReadAt source.now) (drop 1 run.now) }
-{
-    push_token(alloc, out, bytes, source, run[0])?;
-    Ok(())
-}
-
 /// Appends the values of the tokens.
 #[tactic(auto, using(crate::proofs::Bodies::runs))]
 fn push_values(
@@ -156,8 +135,8 @@ fn push_values(
     ensures err { IfErr result (IsRefused (before (Ok out.old) (values bytes source.now run.now))) }
 {
     let mut rest = run;
-    while let [_, after @ ..] = rest {
-        push_front(alloc, out, bytes, source, rest)?;
+    while let [token, after @ ..] = rest {
+        push_token(alloc, out, bytes, source, *token)?;
         rest = after;
     }
     Ok(())
