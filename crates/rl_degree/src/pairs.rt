@@ -227,9 +227,21 @@ pub(crate) fn table_of(
     requires parts { IsParts (edges_of g.now) g.now.states components }
     ensures { IfOk result (IsTable g.now) }
 {
-    let kernel = kernel_of(alloc, &components, g.states())?;
-    let inner = inner_graph(alloc, g, &components, &kernel)?;
-    let walked = walked_of(alloc, g, &inner, &kernel.levels)?;
+    let Ok(kernel) = kernel_of(alloc, &components, g.states()) else {
+        drop(components);
+        return Err(OutOfMemory);
+    };
+    let Ok(inner) = inner_graph(alloc, g, &components, &kernel) else {
+        drop(kernel);
+        drop(components);
+        return Err(OutOfMemory);
+    };
+    let Ok(walked) = walked_of(alloc, g, &inner, &kernel.levels) else {
+        drop(inner);
+        drop(kernel);
+        drop(components);
+        return Err(OutOfMemory);
+    };
     let Walked {
         parts,
         placed,

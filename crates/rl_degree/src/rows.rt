@@ -2,10 +2,10 @@
 //! letters. The outer two are a pair of a part of the product; for each of these pairs a row of bits holds the middle states
 //! that were met beside it. What was met at once stays together, so that a step moves a whole row.
 
-ghost use Rattle.std.specs.Prelude.{◌≡◌, ℕ, ◌<◌, ◌≤◌, ◌+◌, ◌*◌, ◌/◌, ◌%◌, [], true, false, length, replicate, slice_index_or, IfOk, OnOk, IfSome, IfNone};
+ghost use Rattle.std.specs.Prelude.{◌≡◌, ℕ, ◌<◌, ◌≤◌, ◌+◌, ◌*◌, ◌/◌, ◌%◌, [], ◌∷◌, true, false, length, replicate, slice_index_or, IfOk, OnOk, IfSome, IfNone};
 ghost use Rattle.rl_graph.specs.Paths.{Has};
 ghost use Rattle.rl_degree.specs.internal.Pairs.{IsTable};
-ghost use Rattle.rl_degree.specs.internal.Rows.{field_of, stand_of, start_stand, number_of_new, steps_with, has_middle, outer_of, outer_moves, behind, word_at, IsRooted, IsReached, IsSearching, IsImage, IsMet, IsFurther, IsFollowedOn, IsFollowedUpTo};
+ghost use Rattle.rl_degree.specs.internal.Rows.{field_of, stand_of, row_with, start_stand, number_of_new, steps_with, has_middle, outer_of, outer_moves, behind, word_at, IsRooted, IsReached, IsSearching, IsImage, IsMet, IsFurther, IsFollowedOn, IsFollowedUpTo};
 
 use crate::pairs::{PairTable, pair_of};
 use rl_graph::Multigraph;
@@ -55,6 +55,27 @@ fn empty_rows(alloc: Global, rows: usize, len: usize) -> Result<Vec<BitRow>, Out
     Ok(seen)
 }
 
+/// The queue of a search's start: the pair at a place and one middle state.
+fn first_queue(
+    alloc: Global,
+    states: usize,
+    place: usize,
+    from: u32,
+) -> Result<VecDeque<Found>, OutOfMemory>
+    requires { from < states }
+    ensures { IfOk result (λ q. q.items ≡ record { step = 0; place = place; middle = row_with states from } ∷ []) }
+{
+    let mut middle = BitRow::zeros(alloc, states)?;
+    middle.set(from as usize, true);
+    let mut queue = VecDeque::new(alloc);
+    queue.push_back(Found {
+        step: 0,
+        place,
+        middle,
+    })?;
+    Ok(queue)
+}
+
 impl Search {
     /// A search over a part of so many pairs of a graph with so many states. It begins with the pair at a place and the middle
     /// state `from`, and looks for that pair with the middle state `to`.
@@ -77,14 +98,10 @@ impl Search {
         let len = states as usize;
         let mut seen = empty_rows(alloc, pairs, len)?;
         seen[place].set(from as usize, true);
-        let mut middle = BitRow::zeros(alloc, len)?;
-        middle.set(from as usize, true);
-        let mut queue = VecDeque::new(alloc);
-        queue.push_back(Found {
-            step: 0,
-            place,
-            middle,
-        })?;
+        let Ok(queue) = first_queue(alloc, len, place, from) else {
+            drop(seen);
+            return Err(OutOfMemory);
+        };
         Ok(Search {
             keeps,
             place,

@@ -68,14 +68,28 @@ fn search_for(
     let place = table.placed.places[pair as usize] as usize;
     let pairs = table.members_of(part).len();
     let mut search = Search::new(alloc, keeps, g.states(), pairs, place, from, to)?;
-    let mut image = BitRow::zeros(alloc, g.states() as usize)?;
+    let Ok(mut image) = BitRow::zeros(alloc, g.states() as usize) else {
+        drop(search);
+        return Err(OutOfMemory);
+    };
     while let Some(found) = search.next() {
         if search.is_goal(&found) {
-            let word = search.word_to(alloc, &found)?;
-            return Ok(Some(word));
+            let word = search.word_to(alloc, &found);
+            drop(found);
+            drop(image);
+            drop(search);
+            return Ok(Some(word?));
         }
-        search.follow(g, table, part, &found, &mut image)?;
+        let followed = search.follow(g, table, part, &found, &mut image);
+        drop(found);
+        let Ok(()) = followed else {
+            drop(image);
+            drop(search);
+            return Err(OutOfMemory);
+        };
     }
+    drop(image);
+    drop(search);
     Ok(None)
 }
 

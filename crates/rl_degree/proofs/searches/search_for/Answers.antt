@@ -24,7 +24,7 @@ loop-found-init c =
       keeps = ap (λ (z : Stand). z.keeps) c.in_ok-search.ensures;
       from = ap (λ (z : Stand). z.from) c.in_ok-search.ensures;
       to = ap (λ (z : Stand). z.to) c.in_ok-search.ensures;
-      wide = ap length c.in_ok-image.ensures ∙ (length-replicate c.states-2.result false ∙ c.states-2.ensures.number);
+      wide = ap length c.in-Ok.ensures ∙ (length-replicate c.states-2.result false ∙ c.states-2.ensures.number);
     }
 
 pub is_goal-requires : goal.is_goal-requires
@@ -35,8 +35,8 @@ is_goal-requires c =
     let h : IsSearching d (behind f s) = subst (IsSearching d) c.in-Some.ensures.found c.loop-found.invariant.searching in
     omega (arith, sym (ap (λ (z : Stand). z.to) c.in-Some.ensures.found) ∙ c.loop-found.invariant.to, c.requires.to_in, (h.found f (inl refl)).wide)
 
-pub word_to-requires-clause-step_in : goal.word_to-requires-clause-step_in
-word_to-requires-clause-step_in c =
+pub word_to-word-requires-clause-step_in : goal.word_to-word-requires-clause-step_in
+word_to-word-requires-clause-step_in c =
     let d = field_of c.args.g.now c.args.table.now c.of-part.result in
     let h : IsSearching d (behind c.in-Some.found (stand_of c.next.new.self)) = subst (IsSearching d) c.in-Some.ensures.found c.loop-found.invariant.searching in
     (h.found c.in-Some.found (inl refl)).step_in
@@ -56,8 +56,8 @@ returns-then-is_goal-clause-word c =
     let yes = c.is_goal.ensures.yes c.if-is_goal.true in
     let from : s.from ≡ c.args.from = sym (ap (λ (z : Stand). z.from) e) ∙ i.from in
     let to : s.to ≡ c.args.to = sym (ap (λ (z : Stand). z.to) e) ∙ i.to in
-    λ keeps. subst (λ (z : ℕ). IsSplit (edges_of g) z c.args.to c.in_ok-word.word) from (subst (λ (z : ℕ). IsSplit (edges_of g) s.from z c.in_ok-word.word) to
-    (search-word g t c.states-states.ensures.whole c.requires.table c.args.pair part s f c.in_ok-word.word is h yes.0 yes.1
+    λ keeps. subst (λ (z : ℕ). IsSplit (edges_of g) z c.args.to c.in_ok-word.field-0) from (subst (λ (z : ℕ). IsSplit (edges_of g) s.from z c.in_ok-word.field-0) to
+    (search-word g t c.states-states.ensures.whole c.requires.table c.args.pair part s f c.in_ok-word.field-0 is h yes.0 yes.1
     (sym (ap (λ (z : Stand). z.keeps) e) ∙ (i.keeps ∙ keeps)) c.in_ok-word.ensures))
 
 pub returns-then-is_goal-clause-found : goal.returns-then-is_goal-clause-found
@@ -88,36 +88,15 @@ loop-found-preserved c =
     let i = c.loop-found.invariant in
     let e = c.in-Some.ensures.found in
     let is = for-behind g t c.args.pair part s (stand_of c.loop-found.search) f e i.asked in
-    let o = c.in_ok-follow.ensures in
-    let both = search-further g t c.states-states.ensures.whole c.requires.table c.args.pair part s (stand_of c.follow.new.self) f is o.further o.followed (c.is_goal.ensures.no c.if-is_goal.false) in
+    let o = c.in-Ok-followed.ensures in
+    let both = search-further g t c.states-states.ensures.whole c.requires.table c.args.pair part s (stand_of c.follow-followed.new.self) f is o.further o.followed (c.is_goal.ensures.no c.if-is_goal.false) in
     record {
       searching = both.0;
       asked = both.1;
       keeps = o.further.keeps ∙ (sym (ap (λ (z : Stand). z.keeps) e) ∙ i.keeps);
       from = o.further.from ∙ (sym (ap (λ (z : Stand). z.from) e) ∙ i.from);
       to = o.further.to ∙ (sym (ap (λ (z : Stand). z.to) e) ∙ i.to);
-      wide = c.follow.ensures.same_width ∙ i.wide;
-    }
-
-pub loop-found-preserved-in_ok-follow : goal.loop-found-preserved-in_ok-follow
-loop-found-preserved-in_ok-follow c =
-    let g = c.args.g.now in
-    let t = c.args.table.now in
-    let f = c.in-Some.found in
-    let part = c.of-part.result in
-    let s = stand_of c.next.new.self in
-    let i = c.loop-found.invariant in
-    let e = c.in-Some.ensures.found in
-    let is = for-behind g t c.args.pair part s (stand_of c.loop-found.search) f e i.asked in
-    let o = c.in_ok-follow.ensures in
-    let both = search-further g t c.states-states.ensures.whole c.requires.table c.args.pair part s (stand_of c.follow.new.self) f is o.further o.followed (c.is_goal.ensures.no c.if-is_goal.false) in
-    record {
-      searching = both.0;
-      asked = both.1;
-      keeps = o.further.keeps ∙ (sym (ap (λ (z : Stand). z.keeps) e) ∙ i.keeps);
-      from = o.further.from ∙ (sym (ap (λ (z : Stand). z.from) e) ∙ i.from);
-      to = o.further.to ∙ (sym (ap (λ (z : Stand). z.to) e) ∙ i.to);
-      wide = c.follow.ensures.same_width ∙ i.wide;
+      wide = c.follow-followed.ensures.same_width ∙ i.wide;
     }
 
 pub returns-clause-none : goal.returns-clause-none
@@ -125,7 +104,7 @@ returns-clause-none c =
     let g = c.args.g.now in
     let i = c.loop-found.invariant in
     let s = stand_of c.loop-found.search in
-    λ split. search-none g c.args.table.now c.states-states.ensures.whole c.requires.table c.requires.no_twin c.args.pair c.of-part.result s i.asked i.searching c.in_default.ensures.none
+    λ split. search-none g c.args.table.now c.states-states.ensures.whole c.requires.table c.requires.no_twin c.args.pair c.of-part.result s i.asked i.searching c.in_default-next.ensures.none
     (subst (λ (z : ℕ). HasSplit (edges_of g) z s.to) (sym i.from) (subst (λ (z : ℕ). HasSplit (edges_of g) c.args.from z) (sym i.to) split))
 
 pub index-requires : goal.index-requires
@@ -134,9 +113,9 @@ index-requires c = omega (arith, c.requires.pair.within, c.requires.table.placed
 pub members_of-pairs-requires : goal.members_of-pairs-requires
 members_of-pairs-requires c = omega (arith, c.of-part.ensures, c.requires.table.parts.below c.args.pair c.requires.pair.within, c.requires.table.placed.numbered)
 
-pub follow-requires-clause-part_in : goal.follow-requires-clause-part_in
-follow-requires-clause-part_in c = omega (arith, c.of-part.ensures, c.requires.table.parts.below c.args.pair c.requires.pair.within)
+pub follow-followed-requires-clause-part_in : goal.follow-followed-requires-clause-part_in
+follow-followed-requires-clause-part_in c = omega (arith, c.of-part.ensures, c.requires.table.parts.below c.args.pair c.requires.pair.within)
 
-pub follow-requires-clause-searching : goal.follow-requires-clause-searching
-follow-requires-clause-searching c =
+pub follow-followed-requires-clause-searching : goal.follow-followed-requires-clause-searching
+follow-followed-requires-clause-searching c =
     subst (IsSearching (field_of c.args.g.now c.args.table.now c.of-part.result)) c.in-Some.ensures.found c.loop-found.invariant.searching

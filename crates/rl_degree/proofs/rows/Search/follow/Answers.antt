@@ -36,3 +36,15 @@ returns-clause-followed c =
     let g = c.args.g.now in
     let e : c.loop-letter.letter ≡ g.letters = omega (arith, c.letters-letter-end.ensures) in
     subst (λ (z : ℕ). IsFollowedUpTo (field_of g c.args.table.now c.args.part) c.args.found.now z (stand_of c.loop-letter.self)) e c.loop-letter.invariant.followed
+
+pub follow_on-requires-clause-table : goal.follow_on-requires-clause-table
+follow_on-requires-clause-table c = c.requires.table
+
+pub follow_on-requires-clause-part_in : goal.follow_on-requires-clause-part_in
+follow_on-requires-clause-part_in c = c.requires.part_in
+
+pub follow_on-requires-clause-searching : goal.follow_on-requires-clause-searching
+follow_on-requires-clause-searching c = c.loop-letter.invariant.further.searching
+
+pub follow_on-requires-clause-wide : goal.follow_on-requires-clause-wide
+follow_on-requires-clause-wide c = c.loop-letter.invariant.wide ∙ c.requires.wide

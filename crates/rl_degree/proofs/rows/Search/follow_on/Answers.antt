@@ -3,7 +3,7 @@ use Rattle.std.proofs.lemmas.Result.{on_ok_weaker}
 use Rattle.rl_lanes.specs.Tables.{image as rows_image}
 use Rattle.rl_graph.specs.Graph.{edges_of}
 use Rattle.rl_degree.specs.internal.Rows.{field_of, stand_of, outer_of, IsMet}
-use Rattle.rl_degree.proofs.RowLaws.{image-of, tables-there, used-there, table-at, has-long, outer-has, outer-only, met-all}
+use Rattle.rl_degree.proofs.RowLaws.{further-self, image-of, tables-there, used-there, table-at, has-long, outer-has, outer-only, met-all}
 use Rattle.rl_degree.proofs.rows.Search.follow_on.Goals as goal
 use Rattle.rl_degree.proofs.rows.Search.follow_on.Goals.{then-is_empty-via-then-is_empty, then-is_empty-via-else-is_empty+then-is_empty-2}
 
@@ -68,3 +68,18 @@ returns-clause-followed c =
     on_ok_weaker c.spread.result
     (λ o. met-all d f c.args.letter c.image.new.into new image (λ y h. let a = only y h in subst (IsMet d c.image.new.into new) (sym a.4) (o.1 a.0 a.1 a.2 a.3)))
     c.spread.ensures
+
+pub spread-requires-clause-table : goal.spread-requires-clause-table
+spread-requires-clause-table c = c.requires.table
+
+pub spread-requires-clause-part_in : goal.spread-requires-clause-part_in
+spread-requires-clause-part_in c = c.requires.part_in
+
+pub spread-requires-clause-searching : goal.spread-requires-clause-searching
+spread-requires-clause-searching c = c.requires.searching
+
+pub returns-clause-further : goal.returns-clause-further
+returns-clause-further c = on_ok_weaker c.spread.result (λ o. o.0) c.spread.ensures
+
+pub returns-then-is_empty-clause-further : goal.returns-then-is_empty-clause-further
+returns-then-is_empty-clause-further c = further-self (field_of c.args.g.now c.args.table.now c.args.part) c.args.found.now (stand_of c.args.self.now) c.requires.searching
