@@ -15,7 +15,7 @@ use rl_syntax::Re;
 use std::alloc::Global;
 
 /// What a trial finds.
-#[derive(Clone, Copy, Debug, PartialEq, Eq)]
+#[derive(Clone, Copy)]
 pub(crate) enum Trial {
     /// The languages are equal.
     Equal,

@@ -21,9 +21,9 @@ returns-in-Equal-clause-tried c =
     let body = body_of c.args.p.now in
     let more = c.args.branch ∷ c.args.tries.now.dropped in
     let h : may_go (among c.in_ok-more.more) body ≡ true = grind (arith, common_steps) in
-    let v = verdict_found u u c.args.limit body c.args.tries.now.dropped c.in_ok-more.more more (without c.args.tries.now.dropped body) (without more body) c.in_ok-trial_of.field-0 Equal refl refl refl (sym e) c.in-Equal.is c.in_ok-trial_of.ensures.verdict in
-    let told = told_found u u c.args.limit body c.args.tries.now.dropped c.in_ok-more.more more (without c.args.tries.now.dropped body) (without more body) c.in_ok-trial_of.field-0 Equal refl refl refl (sym e) c.in-Equal.is c.in_ok-trial_of.ensures.told in
-    λ bs t. subst (AreTried u c.args.limit body (c.args.branch ∷ bs) c.in_ok-more.more) (sym c.in_ok-trial_of.ensures.passed) (equal_one u c.args.limit body c.args.branch c.args.tries.now.dropped c.in_ok-more.more e h v told c.args.tries.now.passed bs t)
+    let v = verdict_found u u c.args.limit body c.args.tries.now.dropped c.in_ok-more.more more (without c.args.tries.now.dropped body) (without more body) c.in-Ok.trial Equal refl refl refl (sym e) c.in-Equal.is c.in-Ok.ensures.verdict in
+    let told = told_found u u c.args.limit body c.args.tries.now.dropped c.in_ok-more.more more (without c.args.tries.now.dropped body) (without more body) c.in-Ok.trial Equal refl refl refl (sym e) c.in-Equal.is c.in-Ok.ensures.told in
+    λ bs t. subst (AreTried u c.args.limit body (c.args.branch ∷ bs) c.in_ok-more.more) (sym c.in-Ok.ensures.passed) (equal_one u c.args.limit body c.args.branch c.args.tries.now.dropped c.in_ok-more.more e h v told c.args.tries.now.passed bs t)
 
 pub returns-in-Apart-clause-tried : goal.returns-in-Apart-clause-tried
 returns-in-Apart-clause-tried c =
@@ -32,9 +32,9 @@ returns-in-Apart-clause-tried c =
     let body = body_of c.args.p.now in
     let more = c.args.branch ∷ c.args.tries.now.dropped in
     let h : may_go (among c.in_ok-more.more) body ≡ true = grind (arith, common_steps) in
-    let v = verdict_found u u c.args.limit body c.args.tries.now.dropped c.in_ok-more.more more (without c.args.tries.now.dropped body) (without more body) c.in_ok-trial_of.field-0 Apart refl refl refl (sym e) c.in-Apart.is c.in_ok-trial_of.ensures.verdict in
-    λ bs t. subst (AreTried u c.args.limit body (c.args.branch ∷ bs) c.trial_of.new.tries.dropped) (sym c.in_ok-trial_of.ensures.passed)
-    (subst (λ ds. AreTried u c.args.limit body (c.args.branch ∷ bs) ds c.args.tries.now.passed) (sym c.in_ok-trial_of.ensures.dropped)
+    let v = verdict_found u u c.args.limit body c.args.tries.now.dropped c.in_ok-more.more more (without c.args.tries.now.dropped body) (without more body) c.in-Ok.trial Apart refl refl refl (sym e) c.in-Apart.is c.in-Ok.ensures.verdict in
+    λ bs t. subst (AreTried u c.args.limit body (c.args.branch ∷ bs) c.trial_of.new.tries.dropped) (sym c.in-Ok.ensures.passed)
+    (subst (λ ds. AreTried u c.args.limit body (c.args.branch ∷ bs) ds c.args.tries.now.passed) (sym c.in-Ok.ensures.dropped)
     (apart_one u c.args.limit body c.args.branch c.args.tries.now.dropped c.in_ok-more.more e h v c.args.tries.now.passed bs t))
 
 pub returns-in_ok-passed-in-Passed-clause-tried : goal.returns-in_ok-passed-in-Passed-clause-tried
@@ -44,8 +44,8 @@ returns-in_ok-passed-in-Passed-clause-tried c =
     let body = body_of c.args.p.now in
     let more = c.args.branch ∷ c.args.tries.now.dropped in
     let h : may_go (among c.in_ok-more.more) body ≡ true = grind (arith, common_steps) in
-    let v = verdict_found u u c.args.limit body c.args.tries.now.dropped c.in_ok-more.more more (without c.args.tries.now.dropped body) (without more body) c.in_ok-trial_of.field-0 Passed refl refl refl (sym e) c.in-Passed.is c.in_ok-trial_of.ensures.verdict in
+    let v = verdict_found u u c.args.limit body c.args.tries.now.dropped c.in_ok-more.more more (without c.args.tries.now.dropped body) (without more body) c.in-Ok.trial Passed refl refl refl (sym e) c.in-Passed.is c.in-Ok.ensures.verdict in
     let f : c.in_ok-passed-in-Passed.passed ≡ c.args.branch ∷ c.args.tries.now.passed =
-    c.in_ok-passed-in-Passed.ensures ∙ ap (λ d. c.args.branch ∷ d) (c.as_slice-in-Passed.ensures ∙ c.in_ok-trial_of.ensures.passed) in
-    λ bs t. subst (λ ds. AreTried u c.args.limit body (c.args.branch ∷ bs) ds c.in_ok-passed-in-Passed.passed) (sym c.in_ok-trial_of.ensures.dropped)
+    c.in_ok-passed-in-Passed.ensures ∙ ap (λ d. c.args.branch ∷ d) (c.as_slice-in-Passed.ensures ∙ c.in-Ok.ensures.passed) in
+    λ bs t. subst (λ ds. AreTried u c.args.limit body (c.args.branch ∷ bs) ds c.in_ok-passed-in-Passed.passed) (sym c.in-Ok.ensures.dropped)
     (passed_next u c.args.limit body c.args.branch c.args.tries.now.dropped c.in_ok-more.more e h v c.args.tries.now.passed c.in_ok-passed-in-Passed.passed bs f t)
