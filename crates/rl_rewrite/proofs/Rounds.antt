@@ -1,5 +1,5 @@
 -- One more round of a loop over parts.
-use Rattle.std.proofs.Common.{◌≡◌, ℕ, suc, ◌+◌, ◌<◌, Bool, true, false, ◌&&◌, List, [], ◌∷◌, ◌++◌, length, get_or, drop, map, refl, sym, ap, ◌∙◌, append_assoc, add-one, drop-cons}
+use Rattle.std.proofs.Common.{◌≡◌, ℕ, suc, ◌+◌, ◌<◌, Bool, true, false, ◌&&◌, ◌||◌, List, [], ◌∷◌, ◌++◌, length, get_or, drop, map, refl, sym, ap, ◌∙◌, append_assoc, add-one, drop-cons}
 use Rattle.std.proofs.lemmas.List.{map-append, append-nil}
 use Rattle.rl_syntax.specs.declared.span.Span.{Span}
 use Rattle.rl_syntax.specs.declared.pat.Pat.{Pat}
@@ -42,6 +42,17 @@ and_false false = refl
 
 pub and_ends : (all next one rest from whole : Bool) → next ≡ false → one ≡ false → from ≡ (one && rest) → (all && from) ≡ whole → (next && rest) ≡ whole
 and_ends all next one rest from whole n o f h = ap (λ x. x && rest) n ∙ (sym (ap (λ x. all && x) (f ∙ ap (λ x. x && rest) o) ∙ and_false all) ∙ h)
+
+-- and a test that some pass
+pub or_stays : (all next one rest from whole : Bool) → next ≡ all → one ≡ false → from ≡ (one || rest) → (all || from) ≡ whole → (next || rest) ≡ whole
+or_stays all next one rest from whole n o f h = ap (λ x. x || rest) n ∙ (sym (ap (λ x. all || x) (f ∙ ap (λ x. x || rest) o)) ∙ h)
+
+or_true : (b : Bool) → (b || true) ≡ true
+or_true true = refl
+or_true false = refl
+
+pub or_ends : (all next one rest from whole : Bool) → next ≡ true → one ≡ true → from ≡ (one || rest) → (all || from) ≡ whole → (next || rest) ≡ whole
+or_ends all next one rest from whole n o f h = ap (λ x. x || rest) n ∙ (sym (ap (λ x. all || x) (f ∙ ap (λ x. x || rest) o) ∙ or_true all) ∙ h)
 
 -- the span and the tree of a branch
 pub branch_is : (b : Branch) → branch_tree b ≡ (b.span, pat_of b.body)
