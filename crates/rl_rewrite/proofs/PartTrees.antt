@@ -1,12 +1,13 @@
 -- The trees of sequences and of choices, and of what is left of them.
-use Rattle.std.proofs.Common.{◌≡◌, Bool, List, map, sym, ap, ◌∙◌}
+use Rattle.std.proofs.Common.{◌≡◌, ℕ, Bool, List, Option, Box, Global, map, sym, ap, ◌∙◌}
+use Rattle.rl_ranges.specs.Codes.{has}
 use Rattle.rl_syntax.specs.declared.span.Span.{Span}
 use Rattle.rl_syntax.specs.declared.pat.Pat.{Pat}
 use Rattle.rl_syntax.specs.declared.pat.Branch.{Branch}
 use Rattle.rl_syntax.specs.declared.pat.Pat.TheVariants as V
 use Rattle.rl_syntax.specs.declared.pat.Pat.TheFolds.{fold-roll-Pat}
 use Rattle.rl_syntax.specs.declared.pat.Pat.{Pat-F}
-use Rattle.rl_syntax.specs.PatTree.{PatTree, seq, choice, items_of, branches_of, pat_of, layer_of, branch_of}
+use Rattle.rl_syntax.specs.PatTree.{PatTree, class, seq, choice, repeat, group, items_of, branches_of, pat_of, layer_of, branch_of}
 use Rattle.rl_syntax.specs.Counting.{branch_tree}
 use Rattle.rl_pattern.specs.Cut.{choice_of, left}
 use Rattle.rl_pattern.specs.Suggested.{no_span}
@@ -18,6 +19,19 @@ seq-tree s ps = ap pat_of (sym (V.rolls-Seq s ps)) ∙ fold-roll-Pat PatTree (Sp
 
 pub choice-tree : (s : Span) (bs : List Branch) → pat_of (V.Choice s bs) ≡ choice s (branches_of (map branch_tree bs))
 choice-tree s bs = ap pat_of (sym (V.rolls-Choice s bs)) ∙ fold-roll-Pat PatTree (Span × PatTree) layer_of branch_of (Pat-F.Choice s bs)
+
+pub class-tree : (s : Span) (set : List (ℕ × ℕ)) → pat_of (V.Class s set) ≡ class s (has set)
+class-tree s set = ap pat_of (sym (V.rolls-Class s set)) ∙ fold-roll-Pat PatTree (Span × PatTree) layer_of branch_of (Pat-F.Class s set)
+
+pub repeat-tree : (s m : Span) (least : ℕ) (most : Option ℕ) (g : Bool) (b : Box Pat Global) → pat_of (V.Repeat s m least most g b) ≡ repeat s m least most g (pat_of b.value)
+repeat-tree s m least most g b = ap pat_of (sym (V.rolls-Repeat s m least most g b)) ∙ fold-roll-Pat PatTree (Span × PatTree) layer_of branch_of (Pat-F.Repeat s m least most g b)
+
+pub group-tree : (s : Span) (captures : Bool) (b : Box Pat Global) → pat_of (V.Group s captures b) ≡ group s captures (pat_of b.value)
+group-tree s captures b = ap pat_of (sym (V.rolls-Group s captures b)) ∙ fold-roll-Pat PatTree (Span × PatTree) layer_of branch_of (Pat-F.Group s captures b)
+
+-- what is left of a part that holds no other
+pub leaf_left : (drop : Span → Bool) (p : Pat) (t : PatTree) (part : Pat) → part ≡ p → pat_of p ≡ t → left drop no_span t ≡ t → pat_of p ≡ left drop no_span (pat_of part)
+leaf_left drop p t part e f g = f ∙ sym (ap (left drop no_span) (ap pat_of e ∙ f) ∙ g)
 
 -- a sequence of what is left of the items is what is left of the sequence
 pub seq_left : (drop : Span → Bool) (s : Span) (ps found : List Pat) (part : Pat) → part ≡ V.Seq s ps → map pat_of found ≡ all_left drop (map pat_of ps) → pat_of (V.Seq s found) ≡ left drop no_span (pat_of part)

@@ -150,11 +150,11 @@ mutual
 none_text : (text : List ℕ) → None ≡ Some text → ⊥
 none_text text e = cc
 
--- a list of no length, which was put behind none
-pub none_found : (found more all : List Span) → found ≡ [] → all ≡ found ++ more → (length all == 0) ≡ true → (all ≡ []) × (more ≡ [])
-none_found found more all f e l =
+-- a list of no length, which is another
+pub none_found : (more all : List Span) → all ≡ more → (length all == 0) ≡ true → (all ≡ []) × (more ≡ [])
+none_found more all e l =
     let none = nil_from_length all (eqb-true (length all) 0 l) in
-    (none, none_last found more (sym e ∙ none))
+    (none, sym e ∙ none)
 
 -- of a plain pattern nothing goes
 pub plain_right : (flags : Flags) (found : Pattern) (codes : List ℕ) (limit : ℕ) → IsPlain (body_of found) → IsRightSuggestion flags found codes limit empty_suggestion
@@ -169,6 +169,13 @@ plain_right flags found codes limit h = record {
 }
 
 -- the same for lists that are empty
+-- no lists are the empty suggestion
+pub empty_by : (dropped merged passed : List Span) → dropped ≡ [] → merged ≡ [] → passed ≡ [] → record { text = None; dropped = dropped; merged = merged; passed = passed } ≡ empty_suggestion
+empty_by dropped merged passed d m p =
+    subst (λ ds. record { text = None; dropped = ds; merged = merged; passed = passed } ≡ empty_suggestion) (sym d)
+    (subst (λ ms. record { text = None; dropped = []; merged = ms; passed = passed } ≡ empty_suggestion) (sym m)
+    (subst (λ ps. record { text = None; dropped = []; merged = []; passed = ps } ≡ empty_suggestion) (sym p) refl))
+
 pub plain_by : (flags : Flags) (found : Pattern) (codes : List ℕ) (limit : ℕ) (dropped merged passed : List Span) → IsPlain (body_of found) → dropped ≡ [] → merged ≡ [] → passed ≡ []
     → IsRightSuggestion flags found codes limit (record { text = None; dropped = dropped; merged = merged; passed = passed })
 plain_by flags found codes limit dropped merged passed h d m p =

@@ -1,5 +1,5 @@
 -- One more branch tried.
-use Rattle.std.proofs.Common.{◌≡◌, ℕ, true, false, List, [], ◌∷◌, ◌++◌, sym, ap, ◌∙◌, subst, append_assoc}
+use Rattle.std.proofs.Common.{◌≡◌, ℕ, true, false, List, [], ◌∷◌, ◌++◌, Option, Some, None, IfSome, Result, Ok, Err, IfOk, sym, ap, ◌∙◌, subst, append_assoc}
 use Rattle.rl_ranges.specs.declared.universe.Universe.{Universe}
 use Rattle.rl_syntax.specs.declared.span.Span.{Span}
 use Rattle.rl_syntax.specs.PatTree.{PatTree}
@@ -39,6 +39,16 @@ module _ (u : Universe) (limit : ℕ) (body : PatTree) where
       goes = t.goes;
       language = t.language;
     })
+
+-- what holds of a result where another fact does
+pub ok_by : {A E : Type 0} {P Q : A → Type 0} (r : Result A E) → ((a : A) → P a → Q a) → IfOk r P → IfOk r Q
+ok_by (Ok a) f h = f a h
+ok_by (Err e) f h = h
+
+-- what holds of the value that there is holds of none
+pub none_some : {A : Type 0} (P : A → Type 0) (o : Option A) → o ≡ None → IfSome o P
+none_some P None e = tt
+none_some P (Some x) e = cc
 
 pub last_of : (rest less bs all : List Span) (b : Span) → rest ≡ less ++ b ∷ [] → rest ++ bs ≡ all → less ++ b ∷ bs ≡ all
 last_of rest less bs all b e f = sym (append_assoc less (b ∷ []) bs) ∙ sym (ap (λ r. r ++ bs) e) ∙ f

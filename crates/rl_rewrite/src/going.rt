@@ -1,6 +1,6 @@
 //! Which branches there are, and whether some of them may be dropped.
 
-ghost use Rattle.std.specs.Prelude.{◌≡◌, ◌∷◌, [], ◌++◌, map, IfOk};
+ghost use Rattle.std.specs.Prelude.{◌≡◌, ◌∷◌, [], ◌++◌, map, IfOk, OnOk};
 ghost use Rattle.rl_syntax.specs.PatTree.{pat_of, items_of, branches_of};
 ghost use Rattle.rl_syntax.specs.Counting.{branch_tree};
 ghost use Rattle.rl_pattern.specs.Suggested.{among as lies_among};
@@ -12,49 +12,52 @@ use rl_lists::OutOfMemory;
 use rl_syntax::{Branch, Pat, Span, Spans};
 use std::alloc::Global;
 
-/// These spans, and those of the branches of a part by rising place.
+/// Appends the spans of the branches of a part by rising place.
 #[cycle(branches)]
-pub(crate) fn with_branches(alloc: Global, part: &Pat, found: Spans) -> Result<Spans, OutOfMemory>
-    ensures { IfOk result (λ all. all ≡ found ++ branches_in (pat_of part.now)) }
+fn put_branches(part: &Pat, found: &mut Spans) -> Result<(), OutOfMemory>
+    ensures { OnOk result (found.new ≡ found.old ++ branches_in (pat_of part.now)) }
 {
     match part {
         Pat::Nothing { .. }
         | Pat::Class { .. }
         | Pat::Anchor { .. }
         | Pat::Boundary { .. }
-        | Pat::Outside { .. } => Ok(found),
-        Pat::Seq { items, .. } => with_items_branches(alloc, items.as_slice(), found),
-        Pat::Choice { branches, .. } => with_choice_branches(alloc, branches.as_slice(), found),
-        Pat::Repeat { body, .. } | Pat::Group { body, .. } => with_branches(alloc, body, found),
+        | Pat::Outside { .. } => Ok(()),
+        Pat::Seq { items, .. } => put_items_branches(items.as_slice(), found),
+        Pat::Choice { branches, .. } => put_choice_branches(branches.as_slice(), found),
+        Pat::Repeat { body, .. } | Pat::Group { body, .. } => put_branches(body, found),
     }
 }
 
-/// These spans, and those of the branches of items.
+/// Appends those of the branches of items.
 #[cycle(branches)]
-fn with_items_branches(alloc: Global, items: &[Pat], found: Spans) -> Result<Spans, OutOfMemory>
-    ensures { IfOk result (λ all. all ≡ found ++ items_branches (items_of (map pat_of items.now))) }
+fn put_items_branches(items: &[Pat], found: &mut Spans) -> Result<(), OutOfMemory>
+    ensures { OnOk result (found.new ≡ found.old ++ items_branches (items_of (map pat_of items.now))) }
 {
-    let mut all = found;
     for item in items {
-        all = with_branches(alloc, item, all)?;
+        put_branches(item, found)?;
     }
-    Ok(all)
+    Ok(())
 }
 
-/// These spans, and those of the branches of a choice and of the branches in them.
+/// Appends those of the branches of a choice and of the branches in them.
 #[cycle(branches)]
-fn with_choice_branches(
-    alloc: Global,
-    branches: &[Branch],
-    found: Spans,
-) -> Result<Spans, OutOfMemory>
-    ensures { IfOk result (λ all. all ≡ found ++ choice_branches (branches_of (map branch_tree branches.now))) }
+fn put_choice_branches(branches: &[Branch], found: &mut Spans) -> Result<(), OutOfMemory>
+    ensures { OnOk result (found.new ≡ found.old ++ choice_branches (branches_of (map branch_tree branches.now))) }
 {
-    let mut all = found;
     for branch in branches {
-        all.push(branch.span)?;
-        all = with_branches(alloc, &branch.body, all)?;
+        found.push(branch.span)?;
+        put_branches(&branch.body, found)?;
     }
+    Ok(())
+}
+
+/// The spans of the branches of a part by rising place.
+pub(crate) fn all_branches(alloc: Global, part: &Pat) -> Result<Spans, OutOfMemory>
+    ensures { IfOk result (λ all. all ≡ branches_in (pat_of part.now)) }
+{
+    let mut all = Spans::new(alloc);
+    put_branches(part, &mut all)?;
     Ok(all)
 }
 

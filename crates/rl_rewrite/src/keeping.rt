@@ -175,22 +175,31 @@ fn put_flags(
     ensures { OnOk result (found.new.items ≡ found.old.items ++ flags_in (lies_among dropped.now) gone keep (pat_of part.now)) }
 {
     match part {
-        Pat::Nothing { .. } | Pat::Anchor { .. } | Pat::Boundary { .. } | Pat::Outside { .. } => {}
-        Pat::Class { .. } => found.push(keep)?,
+        Pat::Nothing { .. } | Pat::Anchor { .. } | Pat::Boundary { .. } | Pat::Outside { .. } => Ok(
+            (),
+        ),
+        Pat::Class { .. } => {
+            found.push(keep)?;
+            Ok(())
+        }
         Pat::Seq { items, .. } => {
-            put_items_flags(alloc, items.as_slice(), dropped, gone, keep, found)?;
+            put_items_flags(alloc, items.as_slice(), dropped, gone, keep, found)
         }
         Pat::Choice { branches, .. } => {
-            put_branches_flags(alloc, branches.as_slice(), dropped, gone, keep, found)?;
+            put_branches_flags(alloc, branches.as_slice(), dropped, gone, keep, found)
         }
         Pat::Repeat { min, max, body, .. } => {
             let mut flags = Vec::new(alloc);
-            put_flags(alloc, body, dropped, gone, keep, &mut flags)?;
-            put_copies(flags.as_slice(), copies(*min, *max), found)?;
+            let Ok(()) = put_flags(alloc, body, dropped, gone, keep, &mut flags) else {
+                drop(flags);
+                return Err(OutOfMemory);
+            };
+            let copied = put_copies(flags.as_slice(), copies(*min, *max), found);
+            drop(flags);
+            copied
         }
-        Pat::Group { body, .. } => put_flags(alloc, body, dropped, gone, keep, found)?,
+        Pat::Group { body, .. } => put_flags(alloc, body, dropped, gone, keep, found),
     }
-    Ok(())
 }
 
 /// Appends the flags of items.

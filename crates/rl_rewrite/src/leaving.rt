@@ -1,6 +1,6 @@
 //! A pattern without some of its branches.
 
-ghost use Rattle.std.specs.Prelude.{◌≡◌, ◌≤◌, false, map, IfOk};
+ghost use Rattle.std.specs.Prelude.{◌≡◌, ◌≤◌, ◌++◌, false, map, IfOk, OnOk};
 ghost use Rattle.rl_syntax.specs.PatTree.{pat_of, branches_of};
 ghost use Rattle.rl_syntax.specs.PatTree as p;
 ghost use Rattle.rl_syntax.specs.Counting.{branch_tree};
@@ -84,12 +84,23 @@ pub(crate) fn left_part(alloc: Global, part: &Pat, dropped: &[Span]) -> Result<P
             Ok(Pat::Class { span: *span, set })
         }
         Pat::Seq { span, items } => {
-            let items = items_left(alloc, items.as_slice(), dropped)?;
-            Ok(Pat::Seq { span: *span, items })
+            let mut left: Pats = Pats::new(alloc);
+            let Ok(()) = put_items_left(alloc, items.as_slice(), dropped, &mut left) else {
+                drop(left);
+                return Err(OutOfMemory);
+            };
+            Ok(Pat::Seq {
+                span: *span,
+                items: left,
+            })
         }
         Pat::Choice { span, branches } => {
-            let branches = branches_left(alloc, branches.as_slice(), dropped)?;
-            Ok(choice_of(*span, branches))
+            let mut left: Branches = Branches::new(alloc);
+            let Ok(()) = put_branches_left(alloc, branches.as_slice(), dropped, &mut left) else {
+                drop(left);
+                return Err(OutOfMemory);
+            };
+            Ok(choice_of(*span, left))
         }
         Pat::Repeat {
             span,
@@ -135,36 +146,40 @@ pub(crate) fn left_part(alloc: Global, part: &Pat, dropped: &[Span]) -> Result<P
     }
 }
 
-/// What is left of items.
+/// Appends what is left of items.
 #[cycle(leaving)]
-fn items_left(alloc: Global, items: &[Pat], dropped: &[Span]) -> Result<Pats, OutOfMemory>
-    ensures { IfOk result (λ found. map pat_of found ≡ all_left (lies_among dropped.now) (map pat_of items.now)) }
+fn put_items_left(
+    alloc: Global,
+    items: &[Pat],
+    dropped: &[Span],
+    found: &mut Pats,
+) -> Result<(), OutOfMemory>
+    ensures { OnOk result (map pat_of found.new ≡ map pat_of found.old ++ all_left (lies_among dropped.now) (map pat_of items.now)) }
 {
-    let mut found: Pats = Pats::new(alloc);
     for item in items {
-        let item = left_part(alloc, item, dropped)?;
-        found.push(item)?;
+        let left = left_part(alloc, item, dropped)?;
+        found.push(left)?;
     }
-    Ok(found)
+    Ok(())
 }
 
-/// The branches that are left, each as what is left of it.
+/// Appends the branches that are left, each as what is left of it.
 #[cycle(leaving)]
-fn branches_left(
+fn put_branches_left(
     alloc: Global,
     branches: &[Branch],
     dropped: &[Span],
-) -> Result<Branches, OutOfMemory>
-    ensures { IfOk result (λ found. map branch_tree found ≡ some_left (lies_among dropped.now) (map branch_tree branches.now)) }
+    found: &mut Branches,
+) -> Result<(), OutOfMemory>
+    ensures { OnOk result (map branch_tree found.new ≡ map branch_tree found.old ++ some_left (lies_among dropped.now) (map branch_tree branches.now)) }
 {
-    let mut found: Branches = Branches::new(alloc);
     for branch in branches {
         if !among(dropped, branch.span) {
             let body = left_part(alloc, &branch.body, dropped)?;
             found.push(branch_at(branch.span, body))?;
         }
     }
-    Ok(found)
+    Ok(())
 }
 
 /// The tree of a pattern's body without the branches of these spans, as fullmatch.
@@ -176,7 +191,9 @@ pub(crate) fn tree_without(alloc: Global, p: &Pattern, dropped: &[Span]) -> Resu
 {
     let body = left_part(alloc, p.body(), dropped)?;
     let left = Pattern::new(body, p.leading(), p.trailing(), p.universe());
-    match lower(alloc, &left, Mode::Fullmatch) {
+    let lowered = lower(alloc, &left, Mode::Fullmatch);
+    drop(left);
+    match lowered {
         Ok(lowered) => Ok(lowered.tree),
         Err(LowerError::OutOfMemory) => Err(OutOfMemory),
         Err(LowerError::TooLarge) => unreachable!(),

@@ -1,9 +1,9 @@
 //! Which quantifiers are taken out.
 
-ghost use Rattle.std.specs.Prelude.{◌≡◌, ◌++◌, map, IfOk};
+ghost use Rattle.std.specs.Prelude.{◌≡◌, ◌++◌, map, IfOk, OnOk};
 ghost use Rattle.rl_syntax.specs.PatTree.{pat_of, items_of, branches_of};
 ghost use Rattle.rl_syntax.specs.Counting.{branch_tree};
-ghost use Rattle.rl_pattern.specs.Suggested.{is_allowed as allowed_pair, goes_out, content, merged_at, items_merged, branches_merged};
+ghost use Rattle.rl_pattern.specs.Suggested.{is_allowed as allowed_pair, goes_out, content, merged_at, merged_in, items_merged, branches_merged};
 ghost use Rattle.rl_rewrite.specs.internal.Merges.{around_of};
 
 use crate::parts::holds_capture;
@@ -13,16 +13,16 @@ use std::alloc::Global;
 
 /// How often a repeat takes its body.
 #[derive(Clone, Copy)]
-pub(crate) struct Times {
+struct Times {
     /// The least number of times.
-    pub(crate) least: u32,
+    least: u32,
     /// The greatest number of times, if there is one.
-    pub(crate) most: Option<u32>,
+    most: Option<u32>,
 }
 
 /// Where a part stands.
 #[derive(Clone, Copy)]
-pub(crate) enum Place {
+enum Place {
     /// Neither of the others.
     Elsewhere,
     /// It is the body of this repeat.
@@ -65,30 +65,20 @@ fn inside(place: Place, captures: bool) -> Place
     }
 }
 
-/// These spans, and the marks of the quantifiers that are taken out of a part at a place.
+/// Appends the marks of the quantifiers that are taken out of a part at a place.
 #[cycle(merging)]
-pub(crate) fn with_merged(
-    alloc: Global,
-    part: &Pat,
-    place: Place,
-    found: Spans,
-) -> Result<Spans, OutOfMemory>
-    ensures { IfOk result (λ all. all ≡ found ++ merged_at (around_of place) (pat_of part.now)) }
+fn put_merged(part: &Pat, place: Place, found: &mut Spans) -> Result<(), OutOfMemory>
+    ensures { OnOk result (found.new ≡ found.old ++ merged_at (around_of place) (pat_of part.now)) }
 {
     match part {
         Pat::Nothing { .. }
         | Pat::Class { .. }
         | Pat::Anchor { .. }
         | Pat::Boundary { .. }
-        | Pat::Outside { .. } => Ok(found),
-        Pat::Seq { items, .. } => with_items_merged(alloc, items.as_slice(), found),
-        Pat::Choice { branches, .. } => with_branches_merged(alloc, branches.as_slice(), found),
-        Pat::Group { captures, body, .. } => with_merged(
-            alloc,
-            body,
-            inside(place, *captures),
-            found,
-        ),
+        | Pat::Outside { .. } => Ok(()),
+        Pat::Seq { items, .. } => put_items_merged(items.as_slice(), found),
+        Pat::Choice { branches, .. } => put_branches_merged(branches.as_slice(), found),
+        Pat::Group { captures, body, .. } => put_merged(body, inside(place, *captures), found),
         Pat::Repeat {
             mark,
             min,
@@ -100,39 +90,42 @@ pub(crate) fn with_merged(
                 least: *min,
                 most: *max,
             };
-            let mut all = with_merged(alloc, body, Place::Under(times), found)?;
+            put_merged(body, Place::Under(times), found)?;
             if goes(place, times, body) {
-                all.push(*mark)?;
+                return found.push(*mark);
             }
-            Ok(all)
+            Ok(())
         }
     }
 }
 
-/// These spans, and the marks of those that are taken out of items.
+/// Appends the marks of those that are taken out of items.
 #[cycle(merging)]
-fn with_items_merged(alloc: Global, items: &[Pat], found: Spans) -> Result<Spans, OutOfMemory>
-    ensures { IfOk result (λ all. all ≡ found ++ items_merged (items_of (map pat_of items.now))) }
+fn put_items_merged(items: &[Pat], found: &mut Spans) -> Result<(), OutOfMemory>
+    ensures { OnOk result (found.new ≡ found.old ++ items_merged (items_of (map pat_of items.now))) }
 {
-    let mut all = found;
     for item in items {
-        all = with_merged(alloc, item, Place::Elsewhere, all)?;
+        put_merged(item, Place::Elsewhere, found)?;
     }
-    Ok(all)
+    Ok(())
 }
 
-/// These spans, and the marks of those that are taken out of branches.
+/// Appends the marks of those that are taken out of branches.
 #[cycle(merging)]
-fn with_branches_merged(
-    alloc: Global,
-    branches: &[Branch],
-    found: Spans,
-) -> Result<Spans, OutOfMemory>
-    ensures { IfOk result (λ all. all ≡ found ++ branches_merged (branches_of (map branch_tree branches.now))) }
+fn put_branches_merged(branches: &[Branch], found: &mut Spans) -> Result<(), OutOfMemory>
+    ensures { OnOk result (found.new ≡ found.old ++ branches_merged (branches_of (map branch_tree branches.now))) }
 {
-    let mut all = found;
     for branch in branches {
-        all = with_merged(alloc, &branch.body, Place::Elsewhere, all)?;
+        put_merged(&branch.body, Place::Elsewhere, found)?;
     }
+    Ok(())
+}
+
+/// The marks of the quantifiers that are taken out of a body.
+pub(crate) fn all_merged(alloc: Global, body: &Pat) -> Result<Spans, OutOfMemory>
+    ensures { IfOk result (λ all. all ≡ merged_in (pat_of body.now)) }
+{
+    let mut all = Spans::new(alloc);
+    put_merged(body, Place::Elsewhere, &mut all)?;
     Ok(all)
 }

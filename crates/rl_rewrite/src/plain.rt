@@ -8,7 +8,7 @@ ghost use Rattle.rl_rewrite.specs.RightSuggestion.{IsRightSuggestion};
 ghost use Rattle.rl_rewrite.specs.Plain.{IsPlain, empty_suggestion};
 ghost use Rattle.rl_rewrite.specs.internal.Choices.{holds_branch as branch_in, items_hold_branch as branch_among};
 
-use crate::merging::{Place, with_merged};
+use crate::merging::all_merged;
 use rl_lists::OutOfMemory;
 use rl_syntax::{Pat, Pattern, Spans, Suggestion};
 use std::alloc::Global;
@@ -57,7 +57,7 @@ pub fn plain_suggestion(alloc: Global, p: &Pattern) -> Result<Option<Suggestion>
     if holds_branch(p.body()) {
         return Ok(None);
     }
-    let merged = with_merged(alloc, p.body(), Place::Elsewhere, Spans::new(alloc))?;
+    let merged = all_merged(alloc, p.body())?;
     if !merged.is_empty() {
         return Ok(None);
     }

@@ -1,6 +1,6 @@
 //! The codes of a pattern without what was dropped and taken out.
 
-ghost use Rattle.std.specs.Prelude.{◌≡◌, ◌++◌, false, not, map, IfOk};
+ghost use Rattle.std.specs.Prelude.{◌≡◌, ◌++◌, false, not, map, IfOk, OnOk};
 ghost use Rattle.rl_syntax.specs.PatTree.{pat_of, items_of, branches_of};
 ghost use Rattle.rl_syntax.specs.Counting.{branch_tree};
 ghost use Rattle.rl_pattern.specs.Suggested.{among as lies_among, text_if as is_text_if};
@@ -49,78 +49,72 @@ fn mark_hole(mark: Span) -> Hole
     }
 }
 
-/// These holes, and those of a part.
+/// Appends the holes of a part.
 #[cycle(holes)]
-fn with_holes(
-    alloc: Global,
+fn put_holes(
     part: &Pat,
     dropped: &[Span],
     merged: &[Span],
-    found: Items<Hole>,
-) -> Result<Items<Hole>, OutOfMemory>
-    ensures { IfOk result (λ all. all ≡ found ++ holes_in (lies_among dropped.now) (lies_among merged.now) (pat_of part.now)) }
+    found: &mut Items<Hole>,
+) -> Result<(), OutOfMemory>
+    ensures { OnOk result (found.new ≡ found.old ++ holes_in (lies_among dropped.now) (lies_among merged.now) (pat_of part.now)) }
 {
     match part {
         Pat::Nothing { .. }
         | Pat::Class { .. }
         | Pat::Anchor { .. }
         | Pat::Boundary { .. }
-        | Pat::Outside { .. } => Ok(found),
-        Pat::Seq { items, .. } => with_items_holes(alloc, items.as_slice(), dropped, merged, found),
+        | Pat::Outside { .. } => Ok(()),
+        Pat::Seq { items, .. } => put_items_holes(items.as_slice(), dropped, merged, found),
         Pat::Choice { branches, .. } => {
-            with_branches_holes(alloc, branches.as_slice(), dropped, merged, found)
+            put_branches_holes(branches.as_slice(), dropped, merged, found)
         }
         Pat::Repeat { mark, body, .. } => {
-            let mut all = found;
             if among(merged, *mark) {
-                all.push(mark_hole(*mark))?;
+                found.push(mark_hole(*mark))?;
             }
-            with_holes(alloc, body, dropped, merged, all)
+            put_holes(body, dropped, merged, found)
         }
-        Pat::Group { body, .. } => with_holes(alloc, body, dropped, merged, found),
+        Pat::Group { body, .. } => put_holes(body, dropped, merged, found),
     }
 }
 
-/// These holes, and those of items.
+/// Appends the holes of items.
 #[cycle(holes)]
-fn with_items_holes(
-    alloc: Global,
+fn put_items_holes(
     items: &[Pat],
     dropped: &[Span],
     merged: &[Span],
-    found: Items<Hole>,
-) -> Result<Items<Hole>, OutOfMemory>
-    ensures { IfOk result (λ all. all ≡ found ++ items_holes (lies_among dropped.now) (lies_among merged.now) (items_of (map pat_of items.now))) }
+    found: &mut Items<Hole>,
+) -> Result<(), OutOfMemory>
+    ensures { OnOk result (found.new ≡ found.old ++ items_holes (lies_among dropped.now) (lies_among merged.now) (items_of (map pat_of items.now))) }
 {
-    let mut all = found;
     for item in items {
-        all = with_holes(alloc, item, dropped, merged, all)?;
+        put_holes(item, dropped, merged, found)?;
     }
-    Ok(all)
+    Ok(())
 }
 
-/// These holes, and those of the branches of a choice.
+/// Appends the holes of the branches of a choice.
 #[cycle(holes)]
-fn with_branches_holes(
-    alloc: Global,
+fn put_branches_holes(
     branches: &[Branch],
     dropped: &[Span],
     merged: &[Span],
-    found: Items<Hole>,
-) -> Result<Items<Hole>, OutOfMemory>
-    ensures { IfOk result (λ all. all ≡ found ++ branches_holes (lies_among dropped.now) (lies_among merged.now) (branches_of (map branch_tree branches.now)) false) }
+    found: &mut Items<Hole>,
+) -> Result<(), OutOfMemory>
+    ensures { OnOk result (found.new ≡ found.old ++ branches_holes (lies_among dropped.now) (lies_among merged.now) (branches_of (map branch_tree branches.now)) false) }
 {
-    let mut all = found;
     let mut some_before = false;
     for branch in branches {
         if among(dropped, branch.span) {
-            all.push(branch_hole(branch.span, some_before))?;
+            found.push(branch_hole(branch.span, some_before))?;
         } else {
-            all = with_holes(alloc, &branch.body, dropped, merged, all)?;
+            put_holes(&branch.body, dropped, merged, found)?;
             some_before = true;
         }
     }
-    Ok(all)
+    Ok(())
 }
 
 /// Whether a place lies in a hole.
@@ -160,7 +154,8 @@ pub(crate) fn text_of(
     if dropped.is_empty() && merged.is_empty() {
         return Ok(None);
     }
-    let holes = with_holes(alloc, body, dropped, merged, Items::new(alloc))?;
+    let mut holes = Items::new(alloc);
+    put_holes(body, dropped, merged, &mut holes)?;
     let text = without_holes(alloc, codes.as_slice(), holes.as_slice())?;
     Ok(Some(text))
 }

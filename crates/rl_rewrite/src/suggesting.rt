@@ -16,9 +16,9 @@ ghost use Rattle.rl_syntax.specs.declared.limits.TheConstants.{MOST_SET_PAIRS};
 
 use crate::leaving::left_part;
 use crate::limits::baseline_of;
-use crate::merging::{Place, with_merged};
+use crate::merging::all_merged;
 use crate::spelling::text_of;
-use crate::trying::tries_of;
+use crate::trying::{Tried, tries_of};
 use rl_lists::OutOfMemory;
 use rl_pattern::Flags;
 use rl_ranges::Codes;
@@ -50,7 +50,7 @@ fn merged_of(alloc: Global, p: &Pattern, dropped: &[Span]) -> Result<Spans, OutO
     ensures { IfOk result (λ all. all ≡ merged_in (left (among dropped.now) no_span (body_of p.now))) }
 {
     let left = left_part(alloc, p.body(), dropped)?;
-    let merged = with_merged(alloc, &left, Place::Elsewhere, Spans::new(alloc));
+    let merged = all_merged(alloc, &left);
     drop(left);
     merged
 }
@@ -79,18 +79,27 @@ pub fn suggest(
 {
     let base = baseline_of(alloc, p)?;
     let tries = tries_of(alloc, p, base, limit)?;
-    let merged = merged_of(alloc, p, tries.dropped.as_slice())?;
-    let text = text_of(
+    let Ok(merged) = merged_of(alloc, p, tries.dropped.as_slice()) else {
+        drop(tries);
+        return Err(SuggestError::OutOfMemory);
+    };
+    let spelled = text_of(
         alloc,
         p.body(),
         codes,
         tries.dropped.as_slice(),
         merged.as_slice(),
-    )?;
+    );
+    let Ok(text) = spelled else {
+        drop(merged);
+        drop(tries);
+        return Err(SuggestError::OutOfMemory);
+    };
+    let Tried { dropped, passed } = tries;
     Ok(Suggestion {
         text,
-        dropped: tries.dropped,
+        dropped,
         merged,
-        passed: tries.passed,
+        passed,
     })
 }

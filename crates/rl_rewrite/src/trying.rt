@@ -12,7 +12,7 @@ ghost use Rattle.rl_rewrite.specs.Verdicts.{IsVerdict};
 ghost use Rattle.rl_rewrite.specs.internal.Trials.{verdict_of, trial_told, IsTold, AreTried};
 ghost use Rattle.rl_syntax.specs.declared.limits.TheConstants.{MOST_SET_PAIRS};
 
-use crate::going::{may_go, with_branches};
+use crate::going::{all_branches, may_go};
 use crate::keeping::kept_places;
 use crate::leaving::tree_without;
 use crate::parts::holds_guard;
@@ -115,7 +115,9 @@ fn judge_branch(
     let Some(keep) = kept_places(alloc, p.body(), dropped, branch)? else {
         return Ok(None);
     };
-    let Some(found) = trimmer.judge(alloc, keep.as_slice(), limit)? else {
+    let judged = trimmer.judge(alloc, keep.as_slice(), limit);
+    drop(keep);
+    let Some(found) = judged? else {
         return Ok(None);
     };
     Ok(Some(told(found)))
@@ -143,9 +145,12 @@ fn compare_branch(
     ensures unchanged { base.new ≡ base.old }
 {
     let more = with_first(alloc, branch, dropped)?;
-    let after = tree_without(alloc, p, more.as_slice())?;
-    let trial = run_trial(alloc, base, &after, limit)?;
-    Ok(trial)
+    let without_it = tree_without(alloc, p, more.as_slice());
+    drop(more);
+    let after = without_it?;
+    let trial = run_trial(alloc, base, &after, limit);
+    drop(after);
+    trial
 }
 
 /// The tree of a body without some of its branches, as the one to compare with.
@@ -250,16 +255,25 @@ fn try_branch(
 {
     let more = with_first(alloc, branch, tries.dropped.as_slice())?;
     if !may_go(p.body(), more.as_slice()) {
+        drop(more);
         return Ok(());
     }
-    match trial_of(alloc, p, branch, tries, trimmer, limit)? {
+    let Ok(trial) = trial_of(alloc, p, branch, tries, trimmer, limit) else {
+        drop(more);
+        return Err(OutOfMemory);
+    };
+    match trial {
         Trial::Equal => {
             tries.dropped = more;
             drop(tries.base.take());
             Ok(())
         }
-        Trial::Apart => Ok(()),
+        Trial::Apart => {
+            drop(more);
+            Ok(())
+        }
         Trial::Passed => {
+            drop(more);
             let passed = with_first(alloc, branch, tries.passed.as_slice())?;
             tries.passed = passed;
             Ok(())
@@ -336,7 +350,7 @@ fn try_all(alloc: Global, p: &Pattern, tries: &mut Tries, limit: u32) -> Result<
     requires low { limit ≤ MOST_SET_PAIRS }
     ensures { OnOk result (AreTried (universe_of p.now) limit (body_of p.now) (branches_in (body_of p.now)) tries.new.dropped tries.new.passed) }
 {
-    let branches = with_branches(alloc, p.body(), Spans::new(alloc))?;
+    let branches = all_branches(alloc, p.body())?;
     let is_quick = branches.len() >= QUICK_FROM;
     let mut trimmer = trimmer_of(alloc, p, tries.dropped.as_slice(), is_quick)?;
     let Ok(()) = try_each(alloc, p, branches.as_slice(), tries, &mut trimmer, limit) else {

@@ -6,8 +6,8 @@ use Rattle.rl_pattern.specs.Suggested.{among}
 use Rattle.rl_rewrite.specs.internal.LeftLists.{all_left, some_left}
 use Rattle.rl_rewrite.proofs.leaving.+leaving.Given as goal
 
-abbrev pub invariant-items_left-loop-item : goal.invariant-items_left-loop-item
-invariant-items_left-loop-item l = map pat_of l.found ++ all_left (among l.dropped) (map pat_of (drop l.item-index l.items)) ≡ all_left (among l.dropped) (map pat_of l.items)
+abbrev pub invariant-put_items_left-loop-item : goal.invariant-put_items_left-loop-item
+invariant-put_items_left-loop-item l = map pat_of l.found ++ all_left (among l.dropped) (map pat_of (drop l.item-index l.items)) ≡ map pat_of l.fn.found ++ all_left (among l.dropped) (map pat_of l.items)
 
-abbrev pub invariant-branches_left-loop-branch : goal.invariant-branches_left-loop-branch
-invariant-branches_left-loop-branch l = map branch_tree l.found ++ some_left (among l.dropped) (map branch_tree (drop l.branch-index l.branches)) ≡ some_left (among l.dropped) (map branch_tree l.branches)
+abbrev pub invariant-put_branches_left-loop-branch : goal.invariant-put_branches_left-loop-branch
+invariant-put_branches_left-loop-branch l = map branch_tree l.found ++ some_left (among l.dropped) (map branch_tree (drop l.branch-index l.branches)) ≡ map branch_tree l.fn.found ++ some_left (among l.dropped) (map branch_tree l.branches)

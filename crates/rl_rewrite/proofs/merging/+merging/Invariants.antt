@@ -5,8 +5,8 @@ use Rattle.rl_syntax.specs.Counting.{branch_tree}
 use Rattle.rl_pattern.specs.Suggested.{items_merged, branches_merged}
 use Rattle.rl_rewrite.proofs.merging.+merging.Given as goal
 
-abbrev pub invariant-with_branches_merged-loop-branch : goal.invariant-with_branches_merged-loop-branch
-invariant-with_branches_merged-loop-branch l = l.all ++ branches_merged (branches_of (map branch_tree (drop l.branch-index l.branches))) ≡ l.fn.found ++ branches_merged (branches_of (map branch_tree l.branches))
+abbrev pub invariant-put_branches_merged-loop-branch : goal.invariant-put_branches_merged-loop-branch
+invariant-put_branches_merged-loop-branch l = l.found ++ branches_merged (branches_of (map branch_tree (drop l.branch-index l.branches))) ≡ l.fn.found ++ branches_merged (branches_of (map branch_tree l.branches))
 
-abbrev pub invariant-with_items_merged-loop-item : goal.invariant-with_items_merged-loop-item
-invariant-with_items_merged-loop-item l = l.all ++ items_merged (items_of (map pat_of (drop l.item-index l.items))) ≡ l.fn.found ++ items_merged (items_of (map pat_of l.items))
+abbrev pub invariant-put_items_merged-loop-item : goal.invariant-put_items_merged-loop-item
+invariant-put_items_merged-loop-item l = l.found ++ items_merged (items_of (map pat_of (drop l.item-index l.items))) ≡ l.fn.found ++ items_merged (items_of (map pat_of l.items))

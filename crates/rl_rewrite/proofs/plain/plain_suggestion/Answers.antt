@@ -1,9 +1,9 @@
-use Rattle.std.proofs.Common.{◌≡◌, [], ◌++◌, sym, ap, ◌∙◌}
+use Rattle.std.proofs.Common.{◌≡◌, [], sym, ap, ◌∙◌}
 use Rattle.rl_syntax.specs.Pattern.{body_of}
 use Rattle.rl_pattern.specs.Suggested.{merged_in}
 use Rattle.rl_rewrite.specs.Plain.{IsPlain}
 use Rattle.rl_rewrite.specs.internal.Choices.{holds_branch}
-use Rattle.rl_rewrite.proofs.PlainParts.{branches_none, branches_some, none_found, plain_by}
+use Rattle.rl_rewrite.proofs.PlainParts.{branches_none, branches_some, none_found, empty_by, plain_by}
 use Rattle.rl_rewrite.proofs.plain.plain_suggestion.Goals as goal
 
 pub returns-then-holds_branch-clause-other : goal.returns-then-holds_branch-clause-other
@@ -11,12 +11,11 @@ returns-then-holds_branch-clause-other c h =
     branches_some (body_of c.args.p.now) (ap holds_branch (sym c.body.ensures.same) ∙ (sym c.holds_branch.ensures ∙ c.if-holds_branch.true)) h.branches
 
 -- none is taken out, neither by the program nor by the rule
-none : (c : goal.After-new-3) → (c.in_ok-merged.merged ≡ []) × (merged_in (body_of c.args.p.now) ≡ [])
+none : (c : goal.After-new-2) → (c.in_ok-merged.merged ≡ []) × (merged_in (body_of c.args.p.now) ≡ [])
 none c =
-    none_found c.new.result (merged_in (body_of c.args.p.now)) c.in_ok-merged.merged c.new.ensures
-    (c.in_ok-merged.ensures ∙ ap (λ p. c.new.result ++ merged_in p) c.body-2.ensures.same) (sym c.is_empty.ensures ∙ c.if-not-is_empty.false)
+    none_found (merged_in (body_of c.args.p.now)) c.in_ok-merged.merged (c.in_ok-merged.ensures ∙ ap merged_in c.body-2.ensures.same) (sym c.is_empty.ensures ∙ c.if-not-is_empty.false)
 
-is_plain : (c : goal.After-new-3) → IsPlain (body_of c.args.p.now)
+is_plain : (c : goal.After-new-2) → IsPlain (body_of c.args.p.now)
 is_plain c = record {
   branches = branches_none (body_of c.args.p.now) (ap holds_branch (sym c.body.ensures.same) ∙ (sym c.holds_branch.ensures ∙ c.if-holds_branch.false));
   quantifiers = (none c).1;
@@ -27,4 +26,7 @@ returns-clause-plain c = is_plain c
 
 pub returns-clause-right : goal.returns-clause-right
 returns-clause-right c flags codes limit =
-    plain_by flags c.args.p.now codes limit c.new-2.result c.in_ok-merged.merged c.new-3.result (is_plain c) c.new-2.ensures (none c).0 c.new-3.ensures
+    plain_by flags c.args.p.now codes limit c.new.result c.in_ok-merged.merged c.new-2.result (is_plain c) c.new.ensures (none c).0 c.new-2.ensures
+
+pub returns-clause-empty : goal.returns-clause-empty
+returns-clause-empty c = empty_by c.new.result c.in_ok-merged.merged c.new-2.result c.new.ensures (none c).0 c.new-2.ensures

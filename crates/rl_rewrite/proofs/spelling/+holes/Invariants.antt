@@ -6,8 +6,8 @@ use Rattle.rl_pattern.specs.Suggested.{among}
 use Rattle.rl_rewrite.specs.internal.Holes.{items_holes, branches_holes}
 use Rattle.rl_rewrite.proofs.spelling.+holes.Given as goal
 
-abbrev pub invariant-with_branches_holes-loop-branch : goal.invariant-with_branches_holes-loop-branch
-invariant-with_branches_holes-loop-branch l = l.all ++ branches_holes (among l.dropped) (among l.merged) (branches_of (map branch_tree (drop l.branch-index l.branches))) l.some_before ≡ l.fn.found ++ branches_holes (among l.dropped) (among l.merged) (branches_of (map branch_tree l.branches)) false
+abbrev pub invariant-put_branches_holes-loop-branch : goal.invariant-put_branches_holes-loop-branch
+invariant-put_branches_holes-loop-branch l = l.found ++ branches_holes (among l.dropped) (among l.merged) (branches_of (map branch_tree (drop l.branch-index l.branches))) l.some_before ≡ l.fn.found ++ branches_holes (among l.dropped) (among l.merged) (branches_of (map branch_tree l.branches)) false
 
-abbrev pub invariant-with_items_holes-loop-item : goal.invariant-with_items_holes-loop-item
-invariant-with_items_holes-loop-item l = l.all ++ items_holes (among l.dropped) (among l.merged) (items_of (map pat_of (drop l.item-index l.items))) ≡ l.fn.found ++ items_holes (among l.dropped) (among l.merged) (items_of (map pat_of l.items))
+abbrev pub invariant-put_items_holes-loop-item : goal.invariant-put_items_holes-loop-item
+invariant-put_items_holes-loop-item l = l.found ++ items_holes (among l.dropped) (among l.merged) (items_of (map pat_of (drop l.item-index l.items))) ≡ l.fn.found ++ items_holes (among l.dropped) (among l.merged) (items_of (map pat_of l.items))

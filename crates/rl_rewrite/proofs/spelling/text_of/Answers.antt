@@ -20,6 +20,6 @@ returns c =
       | else-is_empty-via-then-is_empty+else-is_empty-2 w ↦ λ e f. some_span m _ w.is_empty-then-is_empty.ensures w.if-is_empty-2.false f
       | else-is_empty-via-else-is_empty w ↦ λ e f. some_span d _ c.is_empty.ensures w.if-is_empty.false e
     ] in
-    text_made (pat_of c.args.body.now) d m c.args.codes.now c.in_ok-text.text c.in_ok-holes.holes some
-    (c.in_ok-holes.ensures ∙ ap (λ hs. hs ++ holes_in (among d) (among m) (pat_of c.args.body.now)) c.new.ensures)
-    (c.in_ok-text.ensures ∙ ap (λ hs. kept_from (λ t. not (in_holes hs t)) 0 c.as_slice.result.now) c.as_slice-2.ensures ∙ ap (kept_from (λ t. not (in_holes c.in_ok-holes.holes t)) 0) c.as_slice.ensures)
+    text_made (pat_of c.args.body.now) d m c.args.codes.now c.in_ok-text.text c.put_holes.new.found some
+    (c.in_ok-put_holes.ensures ∙ ap (λ hs. hs ++ holes_in (among d) (among m) (pat_of c.args.body.now)) c.new-holes.ensures)
+    (c.in_ok-text.ensures ∙ ap (λ hs. kept_from (λ t. not (in_holes hs t)) 0 c.as_slice.result.now) c.as_slice-2.ensures ∙ ap (kept_from (λ t. not (in_holes c.put_holes.new.found t)) 0) c.as_slice.ensures)

@@ -1,11 +1,12 @@
-use Rattle.std.proofs.Common.{◌≡◌, ◌∷◌, true, false, refl, sym, ap, ◌∙◌, subst}
+use Rattle.std.proofs.Common.{◌≡◌, ◌∷◌, true, false, IfSome, refl, sym, ap, ◌∙◌, subst}
 use Rattle.std.proofs.Common.{arith}
 use Rattle.std.proofs.lemmas.Grind.{common_steps}
 use Rattle.rl_syntax.specs.Pattern.{body_of, universe_of}
+use Rattle.rl_syntax.specs.Tree.{tree_of}
 use Rattle.rl_pattern.specs.Suggested.{among, may_go, without}
 use Rattle.rl_rewrite.specs.declared.trial.Trial.TheVariants.{Equal, Apart, Passed}
 use Rattle.rl_rewrite.specs.internal.Trials.{AreTried}
-use Rattle.rl_rewrite.proofs.TriedOne.{alone, equal_one, apart_one, passed_next, verdict_found, told_found}
+use Rattle.rl_rewrite.proofs.TriedOne.{none_some, alone, equal_one, apart_one, passed_next, verdict_found, told_found}
 use Rattle.rl_rewrite.proofs.trying.try_branch.Goals as goal
 
 pub returns-then-not-may_go-clause-tried : goal.returns-then-not-may_go-clause-tried
@@ -21,9 +22,9 @@ returns-in-Equal-clause-tried c =
     let body = body_of c.args.p.now in
     let more = c.args.branch ∷ c.args.tries.now.dropped in
     let h : may_go (among c.in_ok-more.more) body ≡ true = grind (arith, common_steps) in
-    let v = verdict_found u u c.args.limit body c.args.tries.now.dropped c.in_ok-more.more more (without c.args.tries.now.dropped body) (without more body) c.in_ok-trial_of.field-0 Equal refl refl refl (sym e) c.in-Equal.is c.in_ok-trial_of.ensures.verdict in
-    let told = told_found u u c.args.limit body c.args.tries.now.dropped c.in_ok-more.more more (without c.args.tries.now.dropped body) (without more body) c.in_ok-trial_of.field-0 Equal refl refl refl (sym e) c.in-Equal.is c.in_ok-trial_of.ensures.told in
-    λ bs t. subst (AreTried u c.args.limit body (c.args.branch ∷ bs) c.in_ok-more.more) (sym c.in_ok-trial_of.ensures.passed) (equal_one u c.args.limit body c.args.branch c.args.tries.now.dropped c.in_ok-more.more e h v told c.args.tries.now.passed bs t)
+    let v = verdict_found u u c.args.limit body c.args.tries.now.dropped c.in_ok-more.more more (without c.args.tries.now.dropped body) (without more body) c.in-Ok.trial Equal refl refl refl (sym e) c.in-Equal.is c.in-Ok.ensures.verdict in
+    let told = told_found u u c.args.limit body c.args.tries.now.dropped c.in_ok-more.more more (without c.args.tries.now.dropped body) (without more body) c.in-Ok.trial Equal refl refl refl (sym e) c.in-Equal.is c.in-Ok.ensures.told in
+    λ bs t. subst (AreTried u c.args.limit body (c.args.branch ∷ bs) c.in_ok-more.more) (sym c.in-Ok.ensures.passed) (equal_one u c.args.limit body c.args.branch c.args.tries.now.dropped c.in_ok-more.more e h v told c.args.tries.now.passed bs t)
 
 pub returns-in-Apart-clause-tried : goal.returns-in-Apart-clause-tried
 returns-in-Apart-clause-tried c =
@@ -32,9 +33,9 @@ returns-in-Apart-clause-tried c =
     let body = body_of c.args.p.now in
     let more = c.args.branch ∷ c.args.tries.now.dropped in
     let h : may_go (among c.in_ok-more.more) body ≡ true = grind (arith, common_steps) in
-    let v = verdict_found u u c.args.limit body c.args.tries.now.dropped c.in_ok-more.more more (without c.args.tries.now.dropped body) (without more body) c.in_ok-trial_of.field-0 Apart refl refl refl (sym e) c.in-Apart.is c.in_ok-trial_of.ensures.verdict in
-    λ bs t. subst (AreTried u c.args.limit body (c.args.branch ∷ bs) c.trial_of.new.tries.dropped) (sym c.in_ok-trial_of.ensures.passed)
-    (subst (λ ds. AreTried u c.args.limit body (c.args.branch ∷ bs) ds c.args.tries.now.passed) (sym c.in_ok-trial_of.ensures.dropped)
+    let v = verdict_found u u c.args.limit body c.args.tries.now.dropped c.in_ok-more.more more (without c.args.tries.now.dropped body) (without more body) c.in-Ok.trial Apart refl refl refl (sym e) c.in-Apart.is c.in-Ok.ensures.verdict in
+    λ bs t. subst (AreTried u c.args.limit body (c.args.branch ∷ bs) c.trial_of.new.tries.dropped) (sym c.in-Ok.ensures.passed)
+    (subst (λ ds. AreTried u c.args.limit body (c.args.branch ∷ bs) ds c.args.tries.now.passed) (sym c.in-Ok.ensures.dropped)
     (apart_one u c.args.limit body c.args.branch c.args.tries.now.dropped c.in_ok-more.more e h v c.args.tries.now.passed bs t))
 
 pub returns-in_ok-passed-in-Passed-clause-tried : goal.returns-in_ok-passed-in-Passed-clause-tried
@@ -44,8 +45,19 @@ returns-in_ok-passed-in-Passed-clause-tried c =
     let body = body_of c.args.p.now in
     let more = c.args.branch ∷ c.args.tries.now.dropped in
     let h : may_go (among c.in_ok-more.more) body ≡ true = grind (arith, common_steps) in
-    let v = verdict_found u u c.args.limit body c.args.tries.now.dropped c.in_ok-more.more more (without c.args.tries.now.dropped body) (without more body) c.in_ok-trial_of.field-0 Passed refl refl refl (sym e) c.in-Passed.is c.in_ok-trial_of.ensures.verdict in
+    let v = verdict_found u u c.args.limit body c.args.tries.now.dropped c.in_ok-more.more more (without c.args.tries.now.dropped body) (without more body) c.in-Ok.trial Passed refl refl refl (sym e) c.in-Passed.is c.in-Ok.ensures.verdict in
     let f : c.in_ok-passed-in-Passed.passed ≡ c.args.branch ∷ c.args.tries.now.passed =
-    c.in_ok-passed-in-Passed.ensures ∙ ap (λ d. c.args.branch ∷ d) (c.as_slice-in-Passed.ensures ∙ c.in_ok-trial_of.ensures.passed) in
-    λ bs t. subst (λ ds. AreTried u c.args.limit body (c.args.branch ∷ bs) ds c.in_ok-passed-in-Passed.passed) (sym c.in_ok-trial_of.ensures.dropped)
+    c.in_ok-passed-in-Passed.ensures ∙ ap (λ d. c.args.branch ∷ d) (c.as_slice-in-Passed.ensures ∙ c.in-Ok.ensures.passed) in
+    λ bs t. subst (λ ds. AreTried u c.args.limit body (c.args.branch ∷ bs) ds c.in_ok-passed-in-Passed.passed) (sym c.in-Ok.ensures.dropped)
     (passed_next u c.args.limit body c.args.branch c.args.tries.now.dropped c.in_ok-more.more e h v c.args.tries.now.passed c.in_ok-passed-in-Passed.passed bs f t)
+
+pub returns-in-Equal-clause-universe : goal.returns-in-Equal-clause-universe
+returns-in-Equal-clause-universe c = none_some (λ b. b.universe ≡ universe_of c.args.p.now) c.take.new.self c.take.ensures.after
+
+pub returns-in-Apart-clause-tree : goal.returns-in-Apart-clause-tree
+returns-in-Apart-clause-tree c =
+    subst (λ d. IfSome c.trial_of.new.tries.base (λ b. tree_of b.tree ≡ without d (body_of c.args.p.now))) (sym c.in-Ok.ensures.dropped) c.in-Ok.ensures.tree
+
+pub returns-in_ok-passed-in-Passed-clause-tree : goal.returns-in_ok-passed-in-Passed-clause-tree
+returns-in_ok-passed-in-Passed-clause-tree c =
+    subst (λ d. IfSome c.trial_of.new.tries.base (λ b. tree_of b.tree ≡ without d (body_of c.args.p.now))) (sym c.in-Ok.ensures.dropped) c.in-Ok.ensures.tree

@@ -10,3 +10,6 @@ try_all-requires-clause-tried c = rw (c.new.ensures, c.new-2.ensures) (none (uni
 
 pub try_all-requires-clause-tree : goal.try_all-requires-clause-tree
 try_all-requires-clause-tree c = c.requires.tree ∙ sym (none_left (body_of c.args.p.now)) ∙ ap (λ d. without d (body_of c.args.p.now)) (sym c.new.ensures)
+
+pub returns : goal.returns
+returns c = c.in-Ok.ensures
