@@ -4,15 +4,31 @@
 # sha256sum; neither git nor Python.
 #
 # release/INFO, and crates/relint/out/sum beside a program that was built here, hold lines `KEY VALUE`:
-#   sum      the sum of the tree that the program was built from, as tree_sum gives it
-#   program  the SHA-256 of the program
-#   kit      the line of `rt version` of the kit that built it
+#   sum              the sum of the tree that the program was built from, as tree_sum gives it
+#   program          the SHA-256 of the program that was built here
+#   program-MACHINE  the SHA-256 of the program of release/ for this machine: x86_64 or aarch64
+#   kit              the line of `rt version` of the kit that built it
+# release/README.md has the other lines of release/INFO.
 
 built=crates/relint/out/relint
 built_info=crates/relint/out/sum
 build_log=crates/relint/out/build.log
-released=release/relint
 released_info=release/INFO
+machines="x86_64 aarch64"
+
+# machine_here: the machine at hand as release/ names it. Fails if it is of another kind.
+machine_here() {
+    case $(uname -sm) in
+        "Linux x86_64" | "Linux amd64") echo x86_64 ;;
+        "Linux aarch64" | "Linux arm64") echo aarch64 ;;
+        *) return 1 ;;
+    esac
+}
+
+# released_for MACHINE: the program of release/ for this machine.
+released_for() {
+    echo "release/$1/relint"
+}
 
 # tree_rows names|lines: the crates that the program is built from, in the order of crates.txt: their names, or their lines.
 tree_rows() {
@@ -79,16 +95,21 @@ value_of() {
     return 1
 }
 
-# is_of_sum SUM PROGRAM INFO: whether INFO says that PROGRAM, as it stands, was built from the tree with this sum.
-is_of_sum() {
-    [ -n "$1" ] && [ -f "$top/$2" ] && [ "$(value_of sum "$top/$3")" = "$1" ] && [ "$(value_of program "$top/$3")" = "$(file_sum "$top/$2")" ]
+# is_named KEY PROGRAM INFO: whether the line KEY of INFO has the SHA-256 of the program as it is.
+is_named() {
+    [ -f "$top/$2" ] && named=$(value_of "$1" "$top/$3") && [ -n "$named" ] && [ "$named" = "$(file_sum "$top/$2")" ]
+}
+
+# is_built_of SUM: whether the program that was built here is of the tree with this sum.
+is_built_of() {
+    [ -n "$1" ] && [ "$(value_of sum "$top/$built_info")" = "$1" ] && is_named program "$built" "$built_info"
 }
 
 # tree_record SUM: records that the program that stands in crates/relint/out was built from the tree with this sum.
 tree_record() {
-    kit=$(rt version 2>/dev/null | head -n 1)
+    kit_line=$(rt version 2>/dev/null | head -n 1)
     part=$top/$built_info.$$
-    printf 'sum %s\nprogram %s\nkit %s\n' "$1" "$(file_sum "$top/$built")" "$kit" >"$part" && mv -f "$part" "$top/$built_info"
+    printf 'sum %s\nprogram %s\nkit %s\n' "$1" "$(file_sum "$top/$built")" "$kit_line" >"$part" && mv -f "$part" "$top/$built_info"
 }
 
 # is_kept CRATE: whether the crate is built, and none of its files has changed since

@@ -6,9 +6,10 @@ import concurrent.futures
 import subprocess
 import sys
 import time
+from functools import partial
 from typing import Callable, Dict, List, Tuple
 
-from runner import code, examples, hook, outside, pages, rows, versions
+from runner import arm64, code, examples, hardening, hook, hostile, outside, pages, release, rows, versions
 from runner.programs import TREE, Program, behind_launcher, tested_program
 from runner.results import Failed, Result
 
@@ -20,25 +21,40 @@ PARTS: Dict[str, Callable[[Program], Result]] = {
     "launcher": outside.launcher,
     "packaging": outside.packaging,
     "hook": hook.run,
+    "hostile": hostile.run,
+    "fuzz": outside.fuzz,
+    "faults": outside.faults,
+    "valgrind": outside.valgrind,
+    "hardening": hardening.run,
     "versions": versions.run,
+    "release": release.run,
+    "arm64": arm64.run,
 }
 if (TREE / "tools" / "crosscheck").exists():
     PARTS["crosscheck"] = outside.crosscheck
 
+# the parts of which some tests can be run alone, by a part of their names
+FILTERED: Dict[str, Callable[..., Result]] = {"rows": rows.run_some, "python": code.run_some}
+
 # how many parts run at the same time, and which are begun first, since they take longest
 _AT_ONCE = 4
-_FIRST = ("packaging", "python", "launcher", "hook")
+_FIRST = ("arm64", "packaging", "python", "launcher", "hook", "hostile")
 
 
 def parsed(words: List[str]) -> argparse.Namespace:
     """The options of the call."""
     reader = argparse.ArgumentParser(
-        prog="./test", description="Runs the tests that need no proof, in a minute or two.",
+        prog="./test", description="Runs the tests that need no proof, in some minutes.",
         epilog="RELINT=program ./test tries another program than ./relint. The parts: " + ", ".join(PARTS) + ".")
     reader.add_argument("--only", metavar="PART", choices=list(PARTS), action="append",
                         help="only this part; you can give it several times")
+    reader.add_argument("filter", metavar="FILTER", nargs="?",
+                        help="with --only %s: only the tests that have FILTER in their names" % " or ".join(FILTERED))
     reader.add_argument("--list", action="store_true", help="print the names of the parts")
-    return reader.parse_args(words)
+    options = reader.parse_args(words)
+    if options.filter is not None and (len(options.only or []) != 1 or options.only[0] not in FILTERED):
+        reader.error("FILTER goes with --only %s" % " or --only ".join(FILTERED))
+    return options
 
 
 def problem_of(program: Program) -> str:
@@ -58,10 +74,17 @@ def problem_of(program: Program) -> str:
     return ""
 
 
-def timed(name: str, program: Program) -> Tuple[Result, float]:
+def timed(run: Callable[[Program], Result], program: Program) -> Tuple[Result, float]:
     """Runs a part, and says how many seconds it took."""
     start = time.monotonic()
-    return PARTS[name](program), time.monotonic() - start
+    return run(program), time.monotonic() - start
+
+
+def part(name: str, options: argparse.Namespace) -> Callable[[Program], Result]:
+    """The part of this name, or some of its tests."""
+    if options.filter is None:
+        return PARTS[name]
+    return partial(FILTERED[name], wanted=options.filter)
 
 
 def show(name: str, result: Result, seconds: float) -> None:
@@ -89,7 +112,8 @@ def main(words: List[str]) -> int:
     whole = Result()
     names = [name for name in PARTS if name in (options.only or PARTS)]
     with concurrent.futures.ThreadPoolExecutor(_AT_ONCE) as pool:
-        runs = {name: pool.submit(timed, name, program) for name in sorted(names, key=lambda name: name not in _FIRST)}
+        begun = sorted(names, key=lambda name: name not in _FIRST)
+        runs = {name: pool.submit(timed, part(name, options), program) for name in begun}
         for name in names:
             result, seconds = runs[name].result()
             show(name, result, seconds)

@@ -1,6 +1,7 @@
 """Builds the wheel and the sdist of relint: a build backend (PEP 517, PEP 660) on Python's standard library alone.
 
-The wheel holds release/relint as it is, the Python package python/relint with its commands, and the man page.
+A wheel holds the program of release/ for one machine as it is, the Python package python/relint with its commands, the man
+page, and what says where the program comes from.
 """
 from __future__ import annotations
 
@@ -8,13 +9,24 @@ import sys
 from pathlib import Path
 from typing import Any, Dict, List, NoReturn, Optional
 
-from .archive import Entry, sdist_entries, write_sdist, write_wheel
+from .archive import LIST, Entry, entries_of, files_of, write_sdist, write_wheel
 from .metadata import Project, read_project
-from .program import Program, Refusal, is_of_tree, program_here
+from .program import MACHINES, Program, Refusal, check_release, machine_here, read_program
 
 Settings = Optional[Dict[str, Any]]
 TOP = Path(__file__).resolve().parents[2]
 MAN_PAGE = "docs/relint.1"
+# What the dist-info folder has of the repository, by its name there.
+COPIED = {
+    "LICENSE": "LICENSE",
+    "LICENSE-linked": "release/LICENSES.md",
+    "provenance.json": "release/provenance.json",
+    "sboms/relint.cdx.json": "release/sbom.cdx.json",
+}
+# Where each shell looks for completions, below the folder share.
+COMPLETIONS = {
+    "bash": "bash-completion/completions", "zsh": "zsh/site-functions", "fish": "fish/vendor_completions.d",
+}
 
 
 def stop(why: Refusal) -> NoReturn:
@@ -23,44 +35,61 @@ def stop(why: Refusal) -> NoReturn:
     raise SystemExit(1)
 
 
-def checked_program() -> Program:
-    """The program of release/. Ends the build where it can't be installed here."""
+def checked_program(machine: str = "") -> Program:
+    """The program of release/ for a machine, or for the one at hand. Ends the build if it can't be installed."""
     try:
-        program = program_here(TOP)
+        program = read_program(TOP, machine or machine_here())
+        check_release(TOP)
     except Refusal as why:
         stop(why)
-    if not is_of_tree(TOP):
-        print("relint: note: release/relint is of another tree than this one; tools/release makes it anew", file=sys.stderr)
     return program
 
 
 def about(project: Project, program: Program) -> List[Entry]:
     """The files of the dist-info folder, without RECORD."""
     folder = f"{project.full_name}.dist-info"
-    wheel = f"Wheel-Version: 1.0\nGenerator: relint_build\nRoot-Is-Purelib: false\nTag: {program.tag}\n"
+    tags = "".join(f"Tag: {it}\n" for it in program.tags)
+    wheel = f"Wheel-Version: 1.0\nGenerator: relint_build\nRoot-Is-Purelib: false\n{tags}"
     texts = {"METADATA": project.metadata(), "WHEEL": wheel, "entry_points.txt": project.entry_points()}
     entries = [Entry(f"{folder}/{name}", text.encode()) for name, text in texts.items() if text]
-    return [*entries, Entry(f"{folder}/LICENSE", (TOP / "LICENSE").read_bytes())]
+    return entries + [Entry(f"{folder}/{name}", (TOP / source).read_bytes()) for name, source in COPIED.items()]
 
 
 def data(project: Project, program: Program) -> List[Entry]:
-    """What the installer puts outside of the Python packages: the program, and the man page where there is one."""
+    """What the installer puts outside of the Python packages: the program, the man page, and completions for shells."""
     folder = f"{project.full_name}.data"
     entries = [Entry(f"{folder}/scripts/relint", program.content, is_program=True)]
     if (TOP / MAN_PAGE).is_file():
         entries.append(Entry(f"{folder}/data/share/man/man1/relint.1", (TOP / MAN_PAGE).read_bytes()))
+    for shell, place in COMPLETIONS.items():
+        for file in sorted((TOP / "packaging/completions" / shell).glob("*relint*")):
+            entries.append(Entry(f"{folder}/data/share/{place}/{file.name}", file.read_bytes()))
     return entries
 
 
 def modules() -> List[Entry]:
-    """The files of the Python package."""
-    files = sorted(it for it in (TOP / "python/relint").rglob("*") if it.is_file() and "__pycache__" not in it.parts)
-    return [Entry(it.relative_to(TOP / "python").as_posix(), it.read_bytes()) for it in files]
+    """The files of the Python package, and the pages, which lie in the folder `docs` of the package."""
+    names = listed()
+    package = [it for it in names if it.startswith("python/relint/")]
+    found = [Entry(it.path[len("python/"):], it.content) for it in entries_of(TOP, package)]
+    pages = [it for it in names if it.startswith("docs/") and it.endswith(".md")]
+    return [*found, *(Entry(f"relint/{it.path}", it.content) for it in entries_of(TOP, pages))]
 
 
-def make_wheel(folder: str, contents: Optional[List[Entry]] = None) -> str:
-    """Writes the wheel with these files in place of the Python package, if they are given, and returns its name."""
-    project, program = read_project(TOP), checked_program()
+def listed() -> List[str]:
+    """The files that a wheel or an sdist may hold. Ends the build if they can't be told."""
+    names = files_of(TOP)
+    if not names:
+        stop(Refusal(f"no file may be packed: git tracks none here, and {LIST} names none"))
+    return names
+
+
+def make_wheel(folder: str, contents: Optional[List[Entry]] = None, machine: str = "") -> str:
+    """Writes the wheel for a machine, or for the one at hand, and returns its name.
+
+    Given `contents`, it holds these files in place of the Python package.
+    """
+    project, program = read_project(TOP), checked_program(machine)
     name = f"{project.full_name}-{program.tag}.whl"
     entries = [*(modules() if contents is None else contents), *data(project, program), *about(project, program)]
     write_wheel(Path(folder) / name, entries, f"{project.full_name}.dist-info/RECORD")
@@ -91,9 +120,14 @@ def build_sdist(sdist_directory: str, config_settings: Settings = None) -> str:
     """Writes the sdist, and returns its name."""
     project = read_project(TOP)
     name = f"{project.full_name}.tar.gz"
-    entries = [*sdist_entries(TOP), Entry("PKG-INFO", project.metadata().encode())]
-    write_sdist(Path(sdist_directory) / name, entries, project.full_name)
+    entries = [it for it in entries_of(TOP, listed()) if it.path != "PKG-INFO"]
+    write_sdist(Path(sdist_directory) / name, [*entries, Entry("PKG-INFO", project.metadata().encode())], project.full_name)
     return name
+
+
+def build_all(folder: str) -> List[str]:
+    """Writes the wheel for each machine and the sdist, on whatever machine, and returns their names."""
+    return [*(make_wheel(folder, machine=it) for it in MACHINES), build_sdist(folder)]
 
 
 def get_requires_for_build_wheel(config_settings: Settings = None) -> List[str]:

@@ -12,12 +12,14 @@ import time
 import zipfile
 from dataclasses import dataclass
 from pathlib import Path
-from typing import Iterator, List, Optional
+from typing import List, Optional
 
 # The first second that a zip archive can name: 1980-01-01.
 FIRST_TIME = 315532800
-# Folders that no source lies in: at the top, and anywhere.
-MADE_AT_TOP, MADE = (".git", "dist", "build"), ("out", "__pycache__")
+# What keeps git from running a program that the repository names; python/relint/git.py has the same.
+SETTINGS = ("safe.bareRepository=explicit", "core.fsmonitor=", "core.hooksPath=/dev/null", "protocol.allow=never")
+# What may be packed if git can't say, and the folder that Python makes, which may not.
+LIST, MADE = "packaging/FILES", "__pycache__"
 
 
 @dataclass(frozen=True)
@@ -60,31 +62,50 @@ def write_wheel(file: Path, entries: List[Entry], record: str) -> None:
 
 
 def tracked_files(top: Path) -> Optional[List[str]]:
-    """The files that git tracks or would add, or None where this folder is no git repository of its own."""
+    """The files that git tracks, without links and submodules, or None if this folder is no git repository of its own.
+
+    Git is told to run nothing that the repository names.
+    """
     if not (top / ".git").exists():
         return None
-    words = ["git", "-C", str(top), "ls-files", "-z", "--cached", "--others", "--exclude-standard"]
+    settings = [it for name in SETTINGS for it in ("-c", name)]
+    words = ["git", *settings, "-C", str(top), "ls-files", "-z", "--cached", "--stage"]
+    # (a hook of git's sets variables that name another repository)
+    env = {name: value for name, value in os.environ.items() if not name.startswith("GIT_")}
     try:
-        ran = subprocess.run(words, stdout=subprocess.PIPE, stderr=subprocess.DEVNULL)
+        ran = subprocess.run(words, env=env, stdin=subprocess.DEVNULL, stdout=subprocess.PIPE, stderr=subprocess.DEVNULL)
     except OSError:
         return None
-    return None if ran.returncode else [os.fsdecode(it) for it in ran.stdout.split(b"\0") if it]
+    if ran.returncode:
+        return None
+    lines = [it.partition("\t") for it in os.fsdecode(ran.stdout).split("\0") if it]
+    return [name for about, _, name in lines if about.startswith("100")]
 
 
-def walked_files(top: Path) -> Iterator[str]:
-    """The files below the top folder that aren't made by a build."""
-    for folder, folders, names in os.walk(top):
-        unwanted = {*MADE, *(MADE_AT_TOP if Path(folder) == top else ())}
-        folders[:] = [it for it in folders if it not in unwanted]
-        yield from (os.path.relpath(os.path.join(folder, name), top) for name in names)
+def listed_files(top: Path) -> List[str]:
+    """The files that a pattern of the list names. A `*` of a pattern stands for a part of one name."""
+    lines = (top / LIST).read_text(encoding="utf-8").splitlines()
+    patterns = [line.strip() for line in lines if line.strip() and not line.startswith("#")]
+    found = {it.relative_to(top).as_posix() for pattern in patterns for it in top.glob(pattern)}
+    return [name for name in found if MADE not in name.split("/")]
 
 
-def sdist_entries(top: Path) -> List[Entry]:
-    """All files of the repository."""
+def files_of(top: Path) -> List[str]:
+    """The files that may be packed, sorted: what git tracks, or without git, what the list names; never links."""
     tracked = tracked_files(top)
-    names = {*(walked_files(top) if tracked is None else tracked)} - {"PKG-INFO"}
-    files = [(name, top / name) for name in sorted(names)]
-    return [Entry(name, it.read_bytes(), os.access(str(it), os.X_OK)) for name, it in files if it.is_file()]
+    names = {*(listed_files(top) if tracked is None else tracked)}
+    return sorted(name for name in names if is_plain(top, name))
+
+
+def is_plain(top: Path, name: str) -> bool:
+    """Whether a name leads to a regular file below the top folder, through no link."""
+    steps = [top.joinpath(*Path(name).parts[:count + 1]) for count in range(len(Path(name).parts))]
+    return ".." not in Path(name).parts and not any(it.is_symlink() for it in steps) and steps[-1].is_file()
+
+
+def entries_of(top: Path, names: List[str]) -> List[Entry]:
+    """The entries of these files."""
+    return [Entry(name, (top / name).read_bytes(), os.access(str(top / name), os.X_OK)) for name in names]
 
 
 def write_sdist(file: Path, entries: List[Entry], folder: str) -> None:

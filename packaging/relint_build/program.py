@@ -1,15 +1,16 @@
-"""The program of release/: whether it is there, whole, and runs on this platform."""
+"""The programs of release/: whether they are there, whole and of the sources, and which of them this machine runs."""
 from __future__ import annotations
 
 import hashlib
-import os
 import subprocess
 import sysconfig
 from dataclasses import dataclass
 from pathlib import Path
-from typing import Dict, Optional, Tuple
+from typing import Dict, List
 
-PLATFORM = "linux-x86_64"
+MACHINES = ("x86_64", "aarch64")
+# What a static program runs with: any glibc since the oldest that pip has a name for with both machines, and any musl.
+PLATFORMS = ("manylinux_2_17", "manylinux2014", "musllinux_1_1")
 
 
 class Refusal(Exception):
@@ -18,20 +19,20 @@ class Refusal(Exception):
 
 @dataclass(frozen=True)
 class Program:
-    """A program, with the oldest glibc that it runs with."""
+    """A program, with the machine that runs it."""
 
     content: bytes
-    glibc: str
+    machine: str
 
     @property
     def tag(self) -> str:
-        """The tag of a wheel that holds it: any Python, no ABI, and the lowest manylinux that is true."""
-        return f"py3-none-manylinux_{self.glibc.replace('.', '_')}_x86_64"
+        """The tag of a wheel that holds it, as in the wheel's name: any Python, no ABI, and each platform."""
+        return "py3-none-" + ".".join(f"{it}_{self.machine}" for it in PLATFORMS)
 
-
-def version_of(text: str) -> Tuple[int, ...]:
-    """The numbers of a version, to compare by."""
-    return tuple(int(it) for it in text.split("."))
+    @property
+    def tags(self) -> List[str]:
+        """The same tag, spelled out: one for each platform."""
+        return [f"py3-none-{it}_{self.machine}" for it in PLATFORMS]
 
 
 def platform_here() -> str:
@@ -39,13 +40,14 @@ def platform_here() -> str:
     return sysconfig.get_platform()
 
 
-def glibc_here() -> Optional[str]:
-    """The version of glibc that Python runs with, or None where the C library is another one."""
-    try:
-        name, _, version = (os.confstr("CS_GNU_LIBC_VERSION") or "").partition(" ")
-    except (AttributeError, OSError, ValueError):
-        return None
-    return version if name == "glibc" else None
+def machine_here() -> str:
+    """The machine whose program this Python's wheels hold. Raises `Refusal`."""
+    platform = platform_here()
+    for machine in MACHINES:
+        if platform == f"linux-{machine}":
+            return machine
+    raise Refusal(f"relint runs on Linux on {' and '.join(MACHINES)}, and this Python is for {platform}: "
+                  "use a Linux container, or on Windows also WSL")
 
 
 def read_info(file: Path) -> Dict[str, str]:
@@ -54,35 +56,26 @@ def read_info(file: Path) -> Dict[str, str]:
     return {key: value for key, _, value in pairs}
 
 
-def read_program(top: Path) -> Program:
-    """Reads release/relint, which has to be the file that release/INFO names."""
+def read_program(top: Path, machine: str) -> Program:
+    """Reads the program for a machine, which has to be the file that release/INFO names. Raises `Refusal`."""
+    name = f"release/{machine}/relint"
     try:
-        content, info = (top / "release/relint").read_bytes(), read_info(top / "release/INFO")
-    except FileNotFoundError as error:
-        raise Refusal(f"{error.filename} isn't there, so there is no program to install: tools/release makes it") from error
-    if hashlib.sha256(content).hexdigest() != info.get("program"):
-        raise Refusal("release/relint isn't the file that release/INFO names: tools/release makes both anew")
-    return Program(content, info["glibc"])
+        content, info = (top / name).read_bytes(), read_info(top / "release/INFO")
+    except OSError as error:
+        raise Refusal(f"{error.filename} can't be read, so there is no program to install: {error.strerror}") from error
+    if hashlib.sha256(content).hexdigest() != info.get("program-" + machine):
+        raise Refusal(f"{name} isn't the file that release/INFO names, so one of the two is damaged: get both anew")
+    return Program(content, machine)
 
 
-def program_here(top: Path) -> Program:
-    """The program of release/, which has to run on this platform."""
-    program = read_program(top)
-    platform, glibc = platform_here(), glibc_here()
-    needs = f"relint runs on {PLATFORM} with glibc {program.glibc} or later"
-    if platform != PLATFORM:
-        raise Refusal(f"{needs}, and this Python is for {platform}")
-    if glibc is None:
-        raise Refusal(f"{needs}, and this system has another C library")
-    if version_of(glibc) < version_of(program.glibc):
-        raise Refusal(f"{needs}, and this system has glibc {glibc}")
-    return program
-
-
-def is_of_tree(top: Path) -> bool:
-    """Whether release/ is of the sources as they stand; true where that can't be told."""
+def check_release(top: Path) -> None:
+    """Raises `Refusal` if release/ isn't whole and of the sources as they are, or if that can't be told."""
     try:
-        ran = subprocess.run([str(top / "tools/release"), "--check"], stdout=subprocess.DEVNULL, stderr=subprocess.DEVNULL)
-    except OSError:
-        return True
-    return ran.returncode != 1
+        ran = subprocess.run([str(top / "tools/release"), "--check"], stdin=subprocess.DEVNULL, stdout=subprocess.PIPE,
+                             stderr=subprocess.STDOUT)
+    except OSError as error:
+        raise Refusal(f"tools/release can't be run to check release/: {error.strerror}") from error
+    if ran.returncode != 0:
+        said = ran.stdout.decode("utf-8", "backslashreplace").strip().splitlines()
+        why = said[-1].partition(": ")[2] if said else f"tools/release --check ended with status {ran.returncode}"
+        raise Refusal(f"no wheel is built, because {why}")

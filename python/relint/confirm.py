@@ -7,19 +7,31 @@ from __future__ import annotations
 
 import argparse
 import json
+import math
+import os
 import platform
+import re
 import signal
 import subprocess
 import sys
 import threading
+import time
 from concurrent.futures import ThreadPoolExecutor
 from dataclasses import dataclass
 from pathlib import Path
 from typing import Any, Dict, Iterable, Iterator, List, NamedTuple, Optional, Sequence, Set, Tuple
 
-from .program import REFUSED, TREE_FAULT, ProgramError, run
-from .reports import Entry, Report, ReportError, Text, read_report
-from .sites import Site, Source, SourceError
+from . import gather, judging, plain
+from .causes import TIME
+from .command_line import Parser, number, one_of
+from .facts import Sources, hidden_findings, uses_of
+from .judging import Judge
+from .program import TREE_FAULT
+from .reports import Entry, Text
+from .sites import Site, Source
+from .spawning import python_environment, python_words
+from .used.classes import AsUsed
+from .writing import line, visible
 
 CONFIRMED, NOT_SEEN, NOT_TRIED = "confirmed", "not seen", "not tried"
 TRIAL = str(Path(__file__).with_name("trial.py"))
@@ -44,21 +56,26 @@ class Limits:
 
 @dataclass(frozen=True)
 class Outcome:
-    """What came of a finding. `length` and `seconds` are those of the longest text whose match was begun; `why` says more."""
+    """What came of a finding. `length` and `seconds` are those of the longest text whose match was begun; `why` says more.
+
+    `times` has the length of each text whose match came to its end, with the seconds that it took.
+    """
 
     result: str
     length: Optional[int] = None
     seconds: Optional[float] = None
     k: Optional[int] = None
     why: str = ""
+    times: Tuple[Tuple[int, float], ...] = ()
 
 
 class Job(NamedTuple):
-    """A finding with what is behind it in the source, or why that isn't known."""
+    """A finding as the code uses its pattern, with its mode and what is behind it in the source, or why that isn't known."""
 
     entry: Entry
     site: Optional[Site]
     why: str = ""
+    mode: str = "search"
 
 
 class Run(NamedTuple):
@@ -69,52 +86,41 @@ class Run(NamedTuple):
     timed_out: bool
 
 
-def mode_of(call: Optional[str], compile_as: str) -> str:
-    """Returns the method of a compiled pattern that has the mode of the call."""
-    if call == "compile":
-        return compile_as
-    return call if call in ("match", "fullmatch") else "search"
-
-
-def jobs_of(findings: Sequence[Entry], changed: Set[Entry]) -> Iterator[Job]:
-    """Yields a job for each finding, in order."""
-    sources: Dict[str, Optional[Source]] = {}
+def jobs_of(given: gather.Gathered, findings: Sequence[Entry], changed: Set[Entry], sources: Sources) -> Iterator[Job]:
+    """Yields a job for each of these findings, in order: the call that the code makes, where that is known."""
+    used = uses_of(given, findings, sources)
     for entry in findings:
-        if entry.path not in sources:
-            sources.clear()
-            sources[entry.path] = _read_source(entry.path)
-        source = sources[entry.path]
-        if source is None:
+        source = sources.get(entry.path)
+        if entry.beyond is not None:
+            yield Job(entry, Site((), entry.beyond.pattern, entry.beyond.flags), mode=entry.beyond.mode)
+        elif source is None:
             yield Job(entry, None, "the source can't be read")
         elif entry in changed:
             yield Job(entry, None, CHANGED)
         else:
-            yield _job(entry, source)
+            yield _job(given, entry, source, used.get(entry))
 
 
-def _job(entry: Entry, source: Source) -> Job:
+def _job(given: gather.Gathered, entry: Entry, source: Source, used: Optional[AsUsed]) -> Job:
+    verdict = entry.verdict()
+    if used is not None and verdict is not None and used.is_cleared(given.max_degree):
+        return Job(entry, None, f"not as used here: {used.words(verdict, given.mode(entry))}")
+    own = used.entry or entry if used else entry
     site = source.site(entry.place, entry.call) if entry.place else None
-    if site is None or entry.family is None or isinstance(site.value, bytes) != isinstance(entry.family.heads[0], bytes):
+    if site is None or own.family is None or isinstance(site.value, bytes) != isinstance(own.family.heads[0], bytes):
         return Job(entry, None, CHANGED)
     if site.flags is None:
         return Job(entry, None, "its flags aren't written with the names of re")
-    return Job(entry, site)
+    return Job(own, site, mode=used.mode if used else given.mode(entry))
 
 
-def _read_source(path: str) -> Optional[Source]:
-    try:
-        return Source(Path(path).read_bytes())
-    except (OSError, SourceError, ValueError):
-        return None
-
-
-def changed_since(findings: Sequence[Entry], options: Sequence[str]) -> Set[Entry]:
+def changed_since(findings: Sequence[Entry], judge: Judge) -> Set[Entry]:
     """Returns the findings that relint doesn't give again for the sources as they are now."""
     again: Set[Tuple[Any, ...]] = set()
-    for paths in _groups(sorted({it.path for it in findings if Path(it.path).is_file()})):
-        answer = run(["check", "--format", "json", *options, "--", *paths])
-        again.update(_key(it) for it in read_report(answer.out).entries)
-    return {it for it in findings if _key(it) not in again}
+    for paths in _groups(sorted({it.path for it in findings if os.path.isfile(it.path)})):
+        for answer in judge.answers(paths, paths):
+            again.update(_key(it) for it in answer.report.entries)
+    return {it for it in findings if it.beyond is None and _key(it) not in again}
 
 
 def _key(entry: Entry) -> Tuple[Any, ...]:
@@ -137,9 +143,9 @@ def _groups(paths: Iterable[str]) -> Iterator[List[str]]:
 class Trials:
     """Tries findings, each in a process of its own; `stop` ends all that go on, and none begins after it."""
 
-    def __init__(self, compile_as: str, limits: Limits) -> None:
-        self._compile_as = compile_as
-        self._limits = limits
+    def __init__(self, limits: Limits, until: float = math.inf) -> None:
+        """No trial begins after `until`, a value of `time.monotonic`."""
+        self._limits, self._until = limits, until
         self._lock = threading.Lock()
         self._running: Set["subprocess.Popen[bytes]"] = set()
         self._stopped = False
@@ -148,7 +154,9 @@ class Trials:
         """Tries a finding."""
         if job.site is None or job.entry.family is None:
             return Outcome(NOT_TRIED, why=job.why)
-        return _outcome(self._run(_task(job.entry, job.site, self._compile_as, self._limits)), self._limits)
+        if time.monotonic() > self._until:
+            return Outcome(NOT_TRIED, why="the seconds of --total-seconds are over")
+        return _outcome(self._run(_task(job.entry, job.site, job.mode, self._limits)), self._limits)
 
     def stop(self) -> None:
         """Ends all trials."""
@@ -158,11 +166,12 @@ class Trials:
                 process.kill()
 
     def _run(self, task: Dict[str, Any]) -> Run:
-        words = [sys.executable, "-I", TRIAL]
+        words = [*python_words(), TRIAL]
         with self._lock:
             if self._stopped:
                 return Run(0, [], True)
-            process = subprocess.Popen(words, stdin=subprocess.PIPE, stdout=subprocess.PIPE, stderr=subprocess.DEVNULL)
+            process = subprocess.Popen(words, stdin=subprocess.PIPE, stdout=subprocess.PIPE, stderr=subprocess.DEVNULL,
+                                       env=python_environment())
             self._running.add(process)
         try:
             patience = (self._limits.seconds * 40 + 60) * PATIENCE
@@ -177,14 +186,14 @@ class Trials:
                 self._running.discard(process)
 
 
-def _task(entry: Entry, site: Site, compile_as: str, limits: Limits) -> Dict[str, Any]:
+def _task(entry: Entry, site: Site, mode: str, limits: Limits) -> Dict[str, Any]:
     family = entry.family
     assert family is not None
     return {
         "pattern": _as_str(site.value),
         "flags": site.flags,
         "bytes": isinstance(site.value, bytes),
-        "mode": mode_of(entry.call, compile_as),
+        "mode": mode,
         "heads": [_as_str(it) for it in family.heads],
         "pumps": [_as_str(it) for it in family.pumps],
         "exponential": entry.kind == "exponential",
@@ -202,15 +211,17 @@ def _outcome(ran: Run, limits: Limits) -> Outcome:
     if ran.timed_out:
         return Outcome(NOT_TRIED, why="the machine was too busy to end the trial")
     k, length, seconds, matching = 0, 0, 0.0, False
-    for line in ran.lines:
-        first, _, rest = line.partition(" ")
+    times: List[Tuple[int, float]] = []
+    for it in ran.lines:
+        first, _, rest = it.partition(" ")
         if first == "took":
             seconds, matching = float(rest), False
+            times.append((length, seconds))
         elif first.isdigit():
             k, length, matching = int(first), int(rest), True
     last = ran.lines[-1] if ran.lines else ""
     if (matching and ran.status == -signal.SIGPROF) or seconds >= limits.seconds:
-        return Outcome(CONFIRMED, length, max(seconds, limits.seconds), k)
+        return Outcome(CONFIRMED, length, max(seconds, limits.seconds), k, times=tuple(times))
     if last.startswith("refused "):
         return Outcome(NOT_TRIED, why="this Python doesn't take the pattern: " + last[len("refused "):])
     if last == "memory":
@@ -269,83 +280,69 @@ def _json_of(entry: Entry, outcome: Outcome) -> Dict[str, Any]:
     return {key: value for key, value in found.items() if value is not None}
 
 
-def _options() -> argparse.ArgumentParser:
-    options = argparse.ArgumentParser(
-        prog="relint-confirm",
-        description="Tries the findings of a report of relint on the Python that runs it, each in a process of its own.",
-        epilog="Without PATH, a report (relint check --format json) is read from standard input.",
-        allow_abbrev=False,
-    )
-    options.add_argument("paths", metavar="PATH", nargs="*", help="files and folders that relint check judges first")
-    options.add_argument("--seconds", type=_positive, default=1.0,
-                         help="the processor time, in seconds, that a match must exceed (default: 1)")
-    options.add_argument("--longest", type=_count, default=100_000,
-                         help="the longest text to try, in characters (default: 100000)")
-    options.add_argument("--memory", type=_count, default=1024, help="the megabytes that a trial may take (default: 1024)")
-    options.add_argument("--jobs", type=_count, default=1, help="the number of trials at the same time (default: 1)")
-    options.add_argument("--format", choices=("text", "json"), default="text")
-    options.add_argument("--mode", choices=("search", "match", "fullmatch"), default="search", help="what compile counts as")
-    options.add_argument("--max-degree", type=_degree, default=2, help="degrees above this are findings (default: 2)")
-    return options
+def parser() -> Parser:
+    """Returns the reader of the tool's words."""
+    found = Parser("relint-confirm",
+                   "Tries the findings of a report of relint on the Python that runs it, each in a process of its own.",
+                   "The exit status is 0 if all findings were tried; otherwise 2 to 6.")
+    gather.add_options(found, "how many trials go on at a time (1)")
+    found.add_argument("--seconds", type=_positive, default=1.0,
+                       help="the processor time, in seconds, that a match must exceed (default: 1)")
+    found.add_argument("--file-seconds", type=number(1, judging.MOST_SECONDS), metavar="N",
+                       help=f"how long relint may take for a file ({judging.SECONDS})")
+    found.add_argument("--total-seconds", type=number(1, judging.MOST_SECONDS), metavar="N",
+                       help=f"after how many seconds no trial begins ({judging.TOTAL_SECONDS})")
+    found.add_argument("--longest", type=_count, default=100_000,
+                       help="the longest text to try, in characters (default: 100000)")
+    found.add_argument("--memory", type=_count, default=1024, help="the megabytes that a trial may take (default: 1024)")
+    found.add_argument("--format", type=one_of("text", "json"), default="text", metavar="FORMAT",
+                       help="text or json (text)")
+    return found
 
 
 def _positive(text: str) -> float:
-    value = float(text)
-    if not 0.01 <= value <= 3600:
-        raise argparse.ArgumentTypeError("from 0.01 to 3600 seconds")
-    return value
+    if not re.fullmatch(r"[0-9]{1,4}(\.[0-9]{1,9})?", text) or not 0.01 <= float(text) <= 3600:
+        raise argparse.ArgumentTypeError("a number of seconds from 0.01 to 3600 is wanted")
+    return float(text)
 
 
 def _count(text: str) -> int:
-    value = int(text)
-    if not 1 <= value <= 1_000_000_000:
-        raise argparse.ArgumentTypeError("from 1 to 1000000000")
-    return value
+    if not re.fullmatch("[0-9]{1,10}", text) or not 1 <= int(text) <= 1_000_000_000:
+        raise argparse.ArgumentTypeError("a number from 1 to 1000000000 is wanted")
+    return int(text)
 
 
-def _degree(text: str) -> int:
-    value = int(text)
-    if not 0 <= value <= 999_999:
-        raise argparse.ArgumentTypeError("from 0 to 999999")
-    return value
+class Stopped(BaseException):
+    """A signal asked for the end; its number is the argument."""
 
 
-class Failed(Exception):
-    """There is no report to try; the message says why, and `status` is the status to end with."""
-
-    def __init__(self, message: str, status: int = REFUSED) -> None:
-        super().__init__(message)
-        self.status = status
+def _stop(number: int, _: Any) -> None:
+    raise Stopped(number)
 
 
-def _report(given: argparse.Namespace) -> Tuple[Report, int]:
-    if not given.paths:
-        if sys.stdin is None or sys.stdin.isatty():
-            raise Failed("give a PATH, or a report in JSON on standard input")
-        return read_report(sys.stdin.buffer.read()), 0
-    answer = run(["check", "--format", "json", *_relint_options(given), "--", *given.paths])
-    if not answer.out:
-        raise Failed(answer.err.decode("utf-8", "replace").strip() or "relint wrote no report", answer.status)
-    return read_report(answer.out), answer.status
-
-
-def _relint_options(given: argparse.Namespace) -> List[str]:
-    return ["--mode", given.mode, "--max-degree", str(given.max_degree)]
-
-
-def confirm(given: argparse.Namespace) -> int:
+def confirm(words: argparse.Namespace) -> int:
     """Tries the findings, writes what came of them, and returns the status."""
-    report, status = _report(given)
-    findings = [it for it in report.entries if it.is_finding(given.max_degree)]
-    changed = set() if given.paths else changed_since(findings, _relint_options(given))
-    limits = Limits(given.seconds, given.longest, given.memory * 1_000_000)
+    until = time.monotonic() + (words.total_seconds or judging.TOTAL_SECONDS)
+    given = gather.gathered(words)
+    gather.tell("relint-confirm", given)
+    sources = Sources(given.folders)
+    findings = (*given.findings, *hidden_findings(given, sources))
+    options = ["--mode", given.compile_as, "--max-degree", str(given.max_degree)]
+    judge = Judge(options, None, judging.Limits(words.file_seconds or judging.SECONDS, judging.TOTAL_SECONDS))
+    changed = set() if given.selection else changed_since(findings, judge)
+    limits = Limits(words.seconds, words.longest, words.memory * 1_000_000)
+    jobs = jobs_of(given, findings, changed, sources)
     outcomes: List[Outcome] = []
-    for entry, outcome in zip(findings, _outcomes(jobs_of(findings, changed), Trials(given.mode, limits), given.jobs)):
+    for entry, outcome in zip(findings, _outcomes(jobs, Trials(limits, until), words.jobs or 1)):
         outcomes.append(outcome)
-        if given.format == "text":
-            print(_printable(line_of(entry, outcome, limits)), flush=True)
-    print(as_json(findings, outcomes, limits) if given.format == "json" else sum_line(outcomes), flush=True)
-    return TREE_FAULT if status == TREE_FAULT else 0
+        if words.format == "text":
+            gather.write(line(line_of(entry, outcome, limits)) + "\n")
+            gather.flush()
+    for it in (it for it in given.report.entries if it.call is None or it.kind == TIME):
+        place = f":{it.place.line}:{it.place.column}" if it.place else ""
+        print(f"relint-confirm: {visible(it.path)}{place}: {plain.outcome_words(it)}", file=sys.stderr)
+    gather.write((as_json(findings, outcomes, limits) if words.format == "json" else sum_line(outcomes)) + "\n")
+    return TREE_FAULT if given.status == TREE_FAULT else 0
 
 
 def _outcomes(jobs: Iterable[Job], trials: Trials, at_a_time: int) -> Iterator[Outcome]:
@@ -359,27 +356,17 @@ def _outcomes(jobs: Iterable[Job], trials: Trials, at_a_time: int) -> Iterator[O
             trials.stop()
 
 
-def _printable(line: str) -> str:
-    coding = sys.stdout.encoding or "utf-8"
-    return line.encode(coding, "backslashreplace").decode(coding)
-
-
 def main() -> int:
     """Runs the tool on the words of the command line, and returns its status."""
-    given = _options().parse_args()
+    given = gather.parsed(parser(), None)
+    for it in (signal.SIGTERM, signal.SIGHUP):
+        # (one that was to be passed over from the start, as by nohup, stays so)
+        if signal.getsignal(it) != signal.SIG_IGN:
+            signal.signal(it, _stop)
     try:
-        return confirm(given)
-    except Failed as error:
-        print(f"relint-confirm: {error}", file=sys.stderr)
-        return error.status
-    except (ProgramError, ReportError) as error:
-        print(f"relint-confirm: {error}", file=sys.stderr)
-        return REFUSED
-    except BrokenPipeError:
-        sys.stderr.close()
-        return 4
-    except KeyboardInterrupt:
-        return 128 + signal.SIGINT
+        return gather.ended("relint-confirm", lambda: gather.show_config(given) if given.show_config else confirm(given))
+    except Stopped as stopped:
+        return 128 + int(stopped.args[0])
 
 
 if __name__ == "__main__":

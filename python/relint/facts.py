@@ -3,39 +3,38 @@ from __future__ import annotations
 
 import importlib
 import os
+import time
 from concurrent.futures import ThreadPoolExecutor
-from dataclasses import dataclass
-from pathlib import Path
-from typing import Any, Callable, Dict, List, Optional, Sequence, Tuple
+from dataclasses import dataclass, replace
+from typing import TYPE_CHECKING, Dict, Optional, Sequence, Tuple
 
 from . import plain, program, pump
-from .gather import Gathered
 from .growth import Growth, Meter, as_word, measure
-from .reports import Entry, Place, Text, Verdict
+from .opening import HERE, OpenError, read_below
+from .reports import Entry, Place, Text
 from .sites import Site, Source, SourceError, code_offsets, inner_span
+from .used.classes import AsUsed
+from .used.report import as_used
+from .used.run import Run
+from .writing import visible
 
-LARGEST_SOURCE = 4_194_304
+if TYPE_CHECKING:  # (relint.mend takes this module)
+    from .gather import Gathered
+    from .mend.offers import Offer
+
 MOST_SOURCES = 16
 MOST_AT_ONCE = 4
-MOST_PARTS = 4
-
-
-@dataclass(frozen=True)
-class Cure:
-    """A pattern that `relint.mend` gives in place of a finding's, its class, and what is known to stay the same."""
-
-    pattern: Text
-    becomes: str
-    promise: str
-
-    def words(self) -> str:
-        """Returns the class that it has, and what stays the same."""
-        return f"{self.becomes}; {self.promise}"
+# No cure is looked for once so many seconds went into cures.
+SECONDS_OF_CURES = 600
 
 
 @dataclass(frozen=True)
 class Finding:
-    """An entry that is a finding, with what is known of it; what isn't known is None or empty."""
+    """An entry that is a finding, with what is known of it; what isn't known is None or empty.
+
+    `mode` is that of its costliest use, where the uses are known, else the one in which relint judged it. `offers` are
+    patterns to put in its place: fixes, and advice.
+    """
 
     entry: Entry
     mode: str
@@ -43,7 +42,26 @@ class Finding:
     site: Optional[Site] = None
     growth: Optional[Growth] = None
     at_fault: Tuple[Tuple[int, int], ...] = ()
-    cure: Optional[Cure] = None
+    inner: Optional[Tuple[int, int]] = None
+    shared: Optional[Text] = None
+    used: Optional[AsUsed] = None
+    offers: Tuple["Offer", ...] = ()
+
+    @property
+    def judged(self) -> Entry:
+        """The entry as the pattern is used, where that is known, else the one of the report."""
+        return self.used.entry or self.entry if self.used else self.entry
+
+    def is_cleared(self, max_degree: int) -> bool:
+        """Returns whether no use of the pattern is a finding."""
+        return self.used is not None and self.used.is_cleared(max_degree)
+
+    def used_words(self, whole_mode: str) -> str:
+        """Returns the class in the mode of the report and that of the uses, where they aren't the same; else ""."""
+        verdict = self.entry.verdict()
+        if self.used is None or verdict is None or whole_mode in self.used.entries or self.used.verdict == verdict:
+            return ""
+        return self.used.words(verdict, whole_mode)
 
     def place(self) -> Place:
         """Returns the place of the pattern's first literal."""
@@ -51,7 +69,9 @@ class Finding:
 
     def words(self) -> str:
         """Returns the class in plain words, with figures where relint gave them."""
-        verdict = self.entry.verdict()
+        verdict, beyond = self.judged.verdict(), self.entry.beyond
+        if beyond is not None and beyond.seen is not None:
+            return beyond.seen_words()
         if verdict is None:
             return plain.outcome_words(self.entry)
         if self.growth is None:
@@ -61,52 +81,70 @@ class Finding:
         words = f"a text of {plain.codes(told.length, text)} costs {plain.big(told.steps)} steps"
         if verdict.kind != "exponential":
             return f"{words}; {plain.growth_words(verdict)}"
-        if self.growth.rate is None or self.growth.rate < 1.05 or self.entry.family is None:
+        if self.growth.rate is None or self.growth.rate < 1.05 or self.judged.family is None:
             return words
-        more = plain.codes(sum(map(len, self.entry.family.pumps)), text)
+        more = plain.codes(sum(map(len, self.judged.family.pumps)), text)
         return f"{words}; {more} more make that {plain.times(self.growth.rate)} as much"
 
     def code(self) -> Optional[str]:
         """Returns Python code in one line that shows the slow match, or None where the pattern isn't known."""
-        family = self.entry.family
-        if self.site is None or self.site.flags is None or family is None or self.growth is None:
+        family, most = self.judged.family, self._k_to_show()
+        if self.site is None or self.site.flags is None or family is None or most is None:
             return None
-        return plain.python_code(self.site.value, self.site.flags, self.mode, family, self.growth.k_to_show)
+        return plain.python_code(self.site.value, self.site.flags, self.mode, family, most)
+
+    def _k_to_show(self) -> Optional[int]:
+        """The number of the text that shows the hang; None where no growth is known."""
+        if self.entry.beyond is not None and self.entry.beyond.seen is not None:
+            return self.entry.beyond.seen.k
+        return self.growth.k_to_show if self.growth else None
 
     def snippet(self) -> Optional[str]:
         """Returns Python code that prints the time of longer and longer texts, or None where the pattern isn't known."""
-        family = self.entry.family
-        if self.site is None or self.site.flags is None or family is None or self.growth is None:
+        family, most = self.judged.family, self._k_to_show()
+        if self.site is None or self.site.flags is None or family is None or most is None:
             return None
-        most = self.growth.k_to_show
         counts = f"range(1, {most + 1})"
-        if self.entry.kind != "exponential":
+        if self.judged.kind != "exponential":
             halved = [most]
             while halved[-1] > 1 and len(halved) < 8:
                 halved.append(halved[-1] // 2)
             counts = f"({', '.join(map(str, reversed(halved)))},)"
         return plain.snippet(self.site.value, self.site.flags, self.mode, family, counts)
 
+    def part(self, span: Tuple[int, int]) -> str:
+        """Returns a part of the pattern as it stands there."""
+        value = self.site.value if self.site else ""
+        text = value.decode("latin-1") if isinstance(value, bytes) else value
+        return text[span[0]:span[1]]
+
     def parts_at_fault(self) -> Tuple[str, ...]:
         """Returns the parts at fault as they stand in the pattern."""
-        if self.site is None:
-            return ()
-        value = self.site.value
-        text = value.decode("latin-1") if isinstance(value, bytes) else value
-        return tuple(dict.fromkeys(text[start:end] for start, end in self.at_fault))
+        return tuple(dict.fromkeys(map(self.part, self.at_fault)))
 
     def fault_words(self) -> str:
-        """Returns what is known of the parts at fault, in one line; "" where nothing is."""
-        parts, family = self.parts_at_fault(), self.entry.family
-        if not parts or family is None:
+        """Returns which loops share a text and what follows, in one sentence; "" where that isn't known."""
+        family = self.judged.family
+        if not self.at_fault or self.site is None or family is None:
             return ""
-        named = ", ".join(plain.visible(it) for it in parts[:MOST_PARTS]) + (" .." if len(parts) > MOST_PARTS else "")
-        pumps = list(dict.fromkeys(plain.quoted(it) for it in family.pumps if it))
-        taken = pumps[0] if len(pumps) == 1 else "one of " + ", ".join(pumps)
-        if self.entry.kind == "exponential":
-            return f"{named} takes repeats of {taken} in more and more ways"
-        subject = f"each marked part ({named})" if len(self.at_fault) > 1 else named
-        return f"{subject} takes repeats of {taken}"
+        loops = [visible(self.part(it)) for it in self.at_fault]
+        text = plain.quoted(self.shared if self.shared is not None else next((it for it in family.pumps if it), ""))
+        if self.judged.kind == "exponential":
+            inner = visible(self.part(self.inner)) if self.inner else None
+            return plain.exponential_fault(loops[0], inner, text)
+        return plain.polynomial_fault(loops, text, self.shared is not None, self.mode == "search")
+
+    def code_spans(self) -> Tuple[Tuple[int, int], ...]:
+        """Returns what gives the pattern in the source, as offsets: its literals, or what relint-wide names."""
+        if self.site is None:
+            return ()
+        if self.site.literals:
+            return tuple((it.start, it.end) for it in self.site.literals)
+        if self.source is None or self.entry.beyond is None:
+            return ()
+        start = self.source.offset(self.place())
+        end = self.source.offset(Place(*self.entry.beyond.end))
+        return ((start, end),) if start < end <= len(self.source.text) else ()
 
     def spans_at_fault(self) -> Tuple[Tuple[int, int], ...]:
         """Returns the parts at fault as offsets in the source's text, without the quotes of literals that are joined."""
@@ -125,7 +163,9 @@ class Finding:
 class Sources:
     """The sources that entries name. The last ones are kept, as the entries of a source follow one another."""
 
-    def __init__(self) -> None:
+    def __init__(self, folders: Sequence[str] = HERE) -> None:
+        """Takes the folders that the sources lie in; what lies elsewhere isn't opened."""
+        self._folders = folders
         self._known: Dict[str, Optional[Source]] = {}
 
     def get(self, path: str) -> Optional[Source]:
@@ -133,23 +173,29 @@ class Sources:
         if path not in self._known:
             if len(self._known) >= MOST_SOURCES:
                 del self._known[next(iter(self._known))]
-            self._known[path] = _read(path)
+            self._known[path] = self._read(path)
         return self._known[path]
 
-
-def _read(path: str) -> Optional[Source]:
-    try:
-        found = Path(path)
-        if not found.is_file() or found.stat().st_size > LARGEST_SOURCE:
+    def data(self, path: str) -> Optional[bytes]:
+        """Returns the bytes of a source, or None where it can't be read or lies elsewhere. They aren't kept."""
+        try:
+            return read_below(path, self._folders)
+        except OpenError:
             return None
-        return Source(found.read_bytes())
-    except (OSError, ValueError, SourceError):
-        return None
+
+    def _read(self, path: str) -> Optional[Source]:
+        data = self.data(path)
+        try:
+            return Source(data) if data is not None else None
+        except SourceError:
+            return None
 
 
 def site_of(sources: Sources, entry: Entry) -> Tuple[Optional[Source], Optional[Site]]:
     """Returns the source of an entry and the pattern in it, as far as they are there."""
     source = sources.get(entry.path)
+    if entry.beyond is not None:
+        return source, Site((), entry.beyond.pattern, entry.beyond.flags)
     if source is None or entry.place is None:
         return source, None
     try:
@@ -158,54 +204,132 @@ def site_of(sources: Sources, entry: Entry) -> Tuple[Optional[Source], Optional[
         return source, None
 
 
-def findings(given: Gathered, entries: Sequence[Entry], sources: Sources, mend: bool = False) -> Tuple[Finding, ...]:
-    """Returns what can be told of some findings of a report, in order. Several are asked for at the same time."""
-    cures = _cures() if mend else None
-    found = [(it, *site_of(sources, it)) for it in entries]
-    meter = Meter()
+def worst_first(entry: Entry) -> Tuple[bool, int]:
+    """Returns what entries are sorted by so that the worst class comes first."""
+    return entry.kind != "exponential", -(entry.degree or 0)
 
-    def known(one: Tuple[Entry, Optional[Source], Optional[Site]]) -> Finding:
-        return _known(given.mode(one[0]), one, meter, cures)
+
+def findings(
+    given: "Gathered", entries: Sequence[Entry], sources: Sources, mend: bool = False, most: Optional[int] = None,
+) -> Tuple[Finding, ...]:
+    """Returns what can be told of some findings of a report, in order: of `most` at most, the worst, more than the class.
+
+    As many of those that relint-wide found are told in full too. Several are asked for at the same time.
+    """
+    found = [(it, *site_of(sources, it)) for it in entries]
+    used = uses_of(given, entries, sources)
+    meter = Meter()
+    bare = [Finding(*_first(given, one, used.get(one[0])), used=used.get(one[0])) for one in found]
+    until = time.monotonic() + SECONDS_OF_CURES
+    ranked = sorted(bare, key=lambda it: worst_first(it.judged))
+    own, beyond = ([it for it in ranked if (it.entry.beyond is not None) is found_so] for found_so in (False, True))
+    worst = {id(it) for it in (*own[:most], *beyond[:most])}
+
+    def known(one: Finding) -> Finding:
+        return _known(one, meter, mend and time.monotonic() < until) if id(one) in worst else one
 
     with ThreadPoolExecutor(max_workers=min(MOST_AT_ONCE, os.cpu_count() or 1)) as pool:
-        return tuple(pool.map(known, found))
+        return tuple(pool.map(known, bare))
 
 
-def _known(
-    mode: str,
-    one: Tuple[Entry, Optional[Source], Optional[Site]],
-    meter: Meter,
-    cures: Optional[Callable[..., Sequence[Any]]],
-) -> Finding:
-    entry, source, site = one
-    verdict = entry.verdict()
+def uses_of(given: "Gathered", entries: Sequence[Entry], sources: Sources) -> Dict[Entry, AsUsed]:
+    """Returns how the patterns of some entries are used, with their classes so; those that aren't followed are missing.
+
+    What relint-wide found isn't followed.
+    """
+    entries = [it for it in entries if it.beyond is None]
+    run = Run([*(it.path for it in entries), *(given.selection.files if given.selection else ())], sources.data)
+    return as_used(entries, given.compile_as, lambda it: site_of(sources, it), run, given.max_pairs)
+
+
+@dataclass(frozen=True)
+class Looked:
+    """The findings of a report as the code uses their patterns: those that a use reaches, and those that none does.
+
+    `status` is the exit status for them: that of relint, except that only findings which a use reaches count.
+    """
+
+    reached: Tuple[Finding, ...]
+    unused: Tuple[Finding, ...]
+    status: int
+
+    def every(self) -> Tuple[Finding, ...]:
+        """Returns all of them."""
+        return (*self.reached, *self.unused)
+
+
+def looked_at(given: "Gathered", sources: Sources, mend: bool = False, most: Optional[int] = None) -> Looked:
+    """Returns the findings of a report as the code uses their patterns, and what is only warned of among those reached.
+
+    Under `strict` those count too that no use reaches. Raises ProgramError where relint can't be asked.
+    """
+    hidden = hidden_findings(given, sources)
+    shown = {id(it) for it in (*given.findings, *given.warned, *hidden)}
+    found = findings(given, [it for it in given.report.entries if id(it) in shown], sources, mend, most)
+    warned = {id(it) for it in given.warned}
+    unused = tuple(it for it in found if it.is_cleared(given.max_degree) and id(it.entry) not in warned)
+    apart = {id(it) for it in unused}
+    reached = tuple(it for it in found if id(it) not in apart)
+    return Looked(reached, unused, _status(given, len(reached) > len(given.warned), bool(unused)))
+
+
+def _status(given: "Gathered", is_reached: bool, is_unused: bool) -> int:
+    if given.status not in (0, program.FINDING):
+        return given.status
+    others = any(it.kind not in ("degree", "exponential") for it in given.report.entries)
+    return program.FINDING if is_reached or given.strict and (is_unused or others) else 0
+
+
+def hidden_findings(given: "Gathered", sources: Sources) -> Tuple[Entry, ...]:
+    """Returns the entries that are no findings in the mode of the report, and are as they are used: by `fullmatch`."""
+    compiled = [it for it in given.report.entries
+                if it.call == "compile" and it.beyond is None and it.is_judged() and not it.is_finding(given.max_degree)]
+    suspect = [it for it in compiled if _is_matched_whole(sources.get(it.path))]
+    used = uses_of(given, suspect, sources)
+    return tuple(it for it in suspect if it in used and used[it].is_finding(given.max_degree))
+
+
+def _is_matched_whole(source: Optional[Source]) -> bool:
+    """Whether a source may match a pattern as a whole: only so can a use cost more than a search."""
+    return source is not None and "fullmatch" in source.text
+
+
+def _first(given: "Gathered", one: Tuple[Entry, Optional[Source], Optional[Site]], used: Optional[AsUsed]
+           ) -> Tuple[Entry, str, Optional[Source], Optional[Site]]:
+    """The entry, its mode, its source and its pattern."""
+    return one[0], used.mode if used else given.mode(one[0]), one[1], one[2]
+
+
+def _known(found: Finding, meter: Meter, mend: bool) -> Finding:
+    """The finding with its growth, its parts at fault, and what is offered."""
+    entry, site, verdict = found.judged, found.site, found.judged.verdict()
     if site is None or site.flags is None or entry.family is None or verdict is None:
-        return Finding(entry, mode, source, site)
+        return found
     word = as_word(site.value, site.flags)
     if word is None:
-        return Finding(entry, mode, source, site)
-    growth = measure(meter, word, mode, entry.family, verdict)
-    at_fault = pump.culprits(meter, site.value, site.flags, mode, verdict, entry.family)
-    cure = _cure(cures, site, mode, entry.call or "compile") if cures else None
-    return Finding(entry, mode, source, site, growth, at_fault, cure)
+        return found
+    growth = measure(meter, word, found.mode, entry.family, verdict)
+    at_fault = pump.culprits(meter, site.value, site.flags, found.mode, verdict, entry.family)
+    inner = shared = None
+    if at_fault and entry.kind == "exponential":
+        inner = pump.inner_loop(meter, site.value, site.flags, entry.family, at_fault[0])
+    elif at_fault:
+        shared = pump.shared_text(meter, site.value, site.flags, entry.family, at_fault)
+    return replace(found, growth=growth, at_fault=at_fault, inner=inner, shared=shared, offers=_offers(found, mend))
 
 
-def _cures() -> Callable[..., Sequence[Any]]:
+def _offers(found: Finding, mend: bool) -> Tuple["Offer", ...]:
+    """What is offered for a finding: relint's suggestion, and with `mend` the cures that a search finds.
+
+    Nothing is offered where no literal of the source is the pattern.
+    """
+    if found.entry.beyond is not None:
+        return ()
     try:
-        found = importlib.import_module("relint.mend")
-        cures: Callable[..., Sequence[Any]] = getattr(found, "cures")
-        return cures
-    except (ImportError, AttributeError) as error:
-        raise program.ProgramError("--mend needs relint-mend, which isn't installed here") from error
-
-
-def _cure(cures: Callable[..., Sequence[Any]], site: Site, mode: str, call: str) -> Optional[Cure]:
-    try:
-        found: List[Any] = sorted(cures(site.value, site.flags, mode, (call,)), key=lambda it: str(it.tier))
-    except Exception:  # (whatever a cure fails on, the finding is still shown)
-        return None
-    if not found:
-        return None
-    best = found[0]
-    becomes = plain.class_word(best.verdict) if isinstance(best.verdict, Verdict) else str(best.verdict)
-    return Cure(best.pattern, becomes, str(best.words()))
+        offers = importlib.import_module("relint.mend.offers")
+        made: Tuple["Offer", ...] = tuple(offers.offers_for(found, mend))
+        return made
+    except program.ProgramError:
+        raise
+    except Exception:  # (whatever a search for cures fails on, the finding is still shown)
+        return ()

@@ -1,34 +1,49 @@
-"""The report that a tool shows: read from standard input, or made by runs of relint over the paths that were named."""
+"""The report that a tool shows: read from standard input, or made by runs of relint over the paths that were named.
+
+What counts comes from the words, then from a settings file that they name, then from the configuration.
+"""
 from __future__ import annotations
 
 import argparse
-import fnmatch
+import array
+import fcntl
+import importlib
 import os
-import re
-import subprocess
+import stat
 import sys
-from dataclasses import dataclass, replace
-from pathlib import Path
-from typing import Callable, Dict, Iterable, Iterator, List, NoReturn, Optional, Sequence, Tuple
+import termios
+from concurrent.futures import ThreadPoolExecutor
+from dataclasses import dataclass, field, replace
+from typing import Any, Callable, Iterator, List, Mapping, Optional, Sequence, Tuple, Union
 
-from . import plain, program
-from .reports import Entry, Report, ReportError, read_report
+from . import config, git, known, program
+from .baseline import BaselineError, Split
+from .causes import MOST_PAIRS
+from .command_line import not_there, number, one_of
+from .config import Config, ConfigError
+from .exclusions import Exclusions
+from .facts import Sources
+from .judging import MOST_SECONDS, SECONDS, TOTAL_SECONDS, Answered, Judge, JudgeError, Limits, joined, unjudged
+from .opening import HERE, OpenError, read_named
+from .reports import Entry, Report, ReportError, check_paths, own_of, read_report, read_stream
+from .selection import Selection, selected
+from .used.follow import mode_of
+from .writing import WriteError, replace_file, visible
 
-# Where several statuses hold, the first of these is that of the whole.
-STATUS_ORDER = (2, 5, 4, 3, 1, 0)
-STATUS_WORDS = {
-    2: "relint refused its words, its settings or its baseline",
-    3: "a file of the settings or the baseline can't be read",
-    4: "relint couldn't write its report",
-    5: "relint is out of memory",
-    6: "a word isn't UTF-8, so relint can't be given it",
-}
-ENVIRONMENTS = (".venv", ".tox", ".nox", "site-packages")
+JOBS = "how many runs of relint go on at a time (as many as processors)"
 INTERRUPTED = 130
+# How many files a run has: each run takes as long to begin as some files take to judge.
+LEAST_OF_A_PART, MOST_OF_A_PART, PARTS_A_JOB = 16, 512, 4
+MOST_SETTINGS = 1_048_576
 MOST_WORD_BYTES = 1_000_000
 # What the system keeps for a pointer and the end of each word, with room to spare.
 BYTES_A_WORD = 16
-COMPILE_AS = re.compile(r"^\s*\"?compile-as\"?\s*=\s*[\"'](fullmatch|match|search)[\"']", re.M)
+# What a settings file of relint may hold.
+SETTINGS_KEYS = {
+    **{it: config.KEYS[it] for it in ("compile-as", "max-degree", "max-pairs")},
+    "format": config.one_of(("text", "brief", "json", "sarif")),
+    "report": config.whole(1, 2),
+}
 
 
 class GatherError(Exception):
@@ -39,54 +54,102 @@ class GatherError(Exception):
         self.status = status
 
 
-class OneLineParser(argparse.ArgumentParser):
-    """A parser of words that tells a mistake in one line."""
+@dataclass(frozen=True)
+class Rules:
+    """What the words, the settings and the configuration ask for, in this order."""
 
-    def error(self, message: str) -> NoReturn:
-        """Ends the program with status 2."""
-        self.exit(2, f"{self.prog}: {message} (--help lists the options)\n")
+    config: Config
+    compile_as: str
+    max_degree: Optional[int]
+    warn_degree: Optional[int]
+    max_pairs: int
+    strict: bool
+    jobs: int
+    limits: Limits
+    baseline: Optional[str]
+
+
+class Finder:
+    """Finds entries beyond those of relint: as relint-wide does. `kinds` are those of the entries that it may find."""
+
+    kinds: Tuple[str, ...] = ()
+
+    def entries(self, own: Sequence[Entry], selection: Selection, rules: Rules, folders: Tuple[str, ...]) -> Tuple[Entry, ...]:
+        """Returns what is found beyond relint's own entries in what was selected; the files lie in one of the folders."""
+        raise NotImplementedError
 
 
 @dataclass(frozen=True)
 class Gathered:
-    """A report with its findings, the exit status that relint has for it, and the mode that `compile` counts as."""
+    """A report with its findings, the exit status that goes with it, and the mode that `compile` counts as.
+
+    The report has no entry that the baseline accepts; `split` says which those are. `warned` are the entries that are shown
+    and don't fail. Its sources lie in one of the folders, or are among them. `max_pairs` is that of the run, if there was one.
+    `kinds` are those of relint-wide that were looked for.
+    """
 
     report: Report
     findings: Tuple[Entry, ...]
     status: int
     compile_as: str
-    files: Optional[int]
+    folders: Tuple[str, ...] = HERE
+    max_degree: int = 2
+    warned: Tuple[Entry, ...] = ()
+    split: Optional[Split] = None
+    baseline: Optional[str] = None
+    selection: Optional[Selection] = None
+    notes: Tuple[str, ...] = field(default=())
+    max_pairs: Optional[int] = None
+    strict: bool = False
+    kinds: Tuple[str, ...] = ()
 
     def mode(self, entry: Entry) -> str:
         """Returns the mode in which relint judged an entry."""
-        if entry.call in ("match", "fullmatch"):
-            return entry.call
-        return self.compile_as if entry.call == "compile" else "search"
+        if entry.beyond is not None:
+            return entry.beyond.mode
+        return mode_of(entry.call, self.compile_as)
+
+    def hidden(self) -> int:
+        """Returns how many findings the baseline accepts."""
+        return len(self.split.known) if self.split else 0
 
 
-def number(least: int, most: int) -> Callable[[str], int]:
-    """Returns a reader of a number in a range, for an option."""
-    def read(text: str) -> int:
-        if not re.fullmatch("[0-9]{1,6}", text) or not least <= int(text) <= most:
-            raise argparse.ArgumentTypeError(f"a number from {least} to {most} is wanted, not {text!r}")
-        return int(text)
-    return read
-
-
-def add_options(parser: argparse.ArgumentParser) -> None:
-    """Adds the paths and the options that say which report is shown."""
+def add_options(parser: argparse.ArgumentParser, jobs: str = JOBS) -> None:
+    """Adds the paths and the options that say which report is shown; `jobs` says what --jobs is for."""
     parser.add_argument("paths", nargs="*", metavar="PATH",
-                        help="files and folders for relint check; without any, or with -, a JSON report on standard input")
+                        help="files and folders, by default those of the configuration; - is a JSON report on standard input")
     parser.add_argument("--tracked", action="store_true",
                         help="only the Python files that git tracks below the paths, or below this folder")
     parser.add_argument("--exclude", action="append", default=[], metavar="GLOB",
                         help="leave out what GLOB matches, such as build or '*/migrations/*'; you can give it several times")
-    parser.add_argument("--mode", choices=("fullmatch", "match", "search"), help="what compile counts as (search)")
-    parser.add_argument("--max-degree", type=number(0, 999999), metavar="N",
+    parser.add_argument("--no-default-exclude", action="store_true",
+                        help="look into folders such as build and .venv too, which are left out otherwise")
+    parser.add_argument("--mode", type=one_of(*config.MODES), metavar="MODE",
+                        help="what compile counts as: search, match or fullmatch (search)")
+    parser.add_argument("--max-degree", type=number(0, config.MOST_NUMBER), metavar="N",
                         help="the highest degree that isn't a finding (2)")
-    parser.add_argument("--max-pairs", type=number(1, 1000), metavar="N", help="how many live pairs relint explores (600)")
+    parser.add_argument("--warn-degree", type=number(0, config.MOST_NUMBER), metavar="N",
+                        help="show degrees above N too, without failing (none)")
+    parser.add_argument("--max-pairs", type=number(1, MOST_PAIRS), metavar="N",
+                        help=f"how many live pairs relint explores ({config.TOOLS_PAIRS})")
+    parser.add_argument("--strict", action="store_true",
+                        help="fail on what is undecided, not analysed or not read, too")
+    parser.add_argument("--jobs", type=number(1, config.MOST_NUMBER), metavar="N", help=jobs)
     parser.add_argument("--settings", metavar="FILE", help="a settings file of relint")
-    parser.add_argument("--baseline", metavar="FILE", help="a report whose entries are hidden")
+    parser.add_argument("--baseline", metavar="FILE", help="a file of relint-baseline, whose findings are hidden")
+    parser.add_argument("--within", metavar="FOLDER",
+                        help="the folder that the sources of a report on standard input lie in (the current folder)")
+    parser.add_argument("--config", metavar="FILE", help="the configuration, instead of the nearest")
+    parser.add_argument("--no-config", action="store_true", help="take no configuration")
+    parser.add_argument("--show-config", action="store_true", help="show the configuration and where it comes from, and exit")
+
+
+def add_time_options(parser: argparse.ArgumentParser) -> None:
+    """Adds the options that say how long relint may take."""
+    parser.add_argument("--seconds", dest="file_seconds", type=number(1, MOST_SECONDS), metavar="N",
+                        help=f"how long relint may take for a file ({SECONDS}); what takes longer is tried call by call")
+    parser.add_argument("--total-seconds", type=number(1, MOST_SECONDS), metavar="N",
+                        help=f"how long relint may take for all files ({TOTAL_SECONDS})")
 
 
 def parsed(parser: argparse.ArgumentParser, words: Optional[Sequence[str]]) -> argparse.Namespace:
@@ -98,34 +161,178 @@ def parsed(parser: argparse.ArgumentParser, words: Optional[Sequence[str]]) -> a
     return found
 
 
-def gathered(given: argparse.Namespace) -> Gathered:
-    """Returns the report that the words ask for. Raises GatherError, or ProgramError where relint isn't there."""
-    if given.paths == ["-"] or not (given.paths or given.tracked):
-        return _from_input(given)
-    if "" in given.paths or "-" in given.paths:
-        raise GatherError("a path is empty" if "" in given.paths else "- stands alone: it is a report on standard input")
-    if not (given.tracked or given.exclude):
-        return _from_runs(given, [given.paths], None)
-    files = _distinct(_tracked(given.paths or ["."]) if given.tracked else _walked(given.paths))
-    files = [it for it in files if not _is_excluded(it, given.exclude)]
-    named = [it for it in files if _is_utf8(it)]
-    found = _from_runs(given, list(batches(named)), len(files))
-    return _with_unreadable(found, [it for it in files if not _is_utf8(it)])
+def found_config(given: argparse.Namespace) -> Config:
+    """Returns the configuration for the words. Raises GatherError."""
+    paths = [it for it in given.paths if it != "-"]
+    try:
+        if given.config is not None and given.no_config:
+            raise ConfigError("give either --config or --no-config")
+        return config.load(paths, given.config, given.no_config)
+    except ConfigError as error:
+        raise GatherError(str(error), error.status) from error
 
 
-def _from_input(given: argparse.Namespace) -> Gathered:
-    for name in ("exclude", "baseline", "max_pairs"):
+def rules_of(given: argparse.Namespace, found: Config) -> Rules:
+    """Returns what the words ask for, with the settings and the configuration behind them. Raises GatherError."""
+    settings = _settings(given.settings) if given.settings else {}
+    is_set = given.max_degree is not None or "max-degree" in settings or "max-degree" in found.given
+    max_degree = _first(given.max_degree, settings.get("max-degree"), found.max_degree)
+    warn_degree = _first(given.warn_degree, found.warn_degree)
+    try:
+        config.check_tiers(max_degree, warn_degree)
+    except ConfigError as error:
+        raise GatherError(str(error)) from error
+    baseline = given.baseline
+    if baseline is None and found.baseline is not None:
+        baseline = found.from_here(found.baseline)
+    # (relint-baseline asks for none)
+    baseline = baseline or None
+    return Rules(
+        found, _first(given.mode, settings.get("compile-as"), found.compile_as), max_degree if is_set else None, warn_degree,
+        _first(given.max_pairs, settings.get("max-pairs"), found.max_pairs), given.strict or found.strict,
+        _first(given.jobs, found.jobs, processors()), _limits(given, found), baseline,
+    )
+
+
+def _limits(given: argparse.Namespace, found: Config) -> Limits:
+    """How long relint may take; a tool without these options has those of the configuration."""
+    seconds = _first(getattr(given, "file_seconds", None), found.seconds, SECONDS)
+    return Limits(seconds, max(seconds, _first(getattr(given, "total_seconds", None), TOTAL_SECONDS)))
+
+
+def _first(*values: Any) -> Any:
+    return next((it for it in values if it is not None), None)
+
+
+def processors() -> int:
+    """Returns how many processors this process may use."""
+    return len(os.sched_getaffinity(0)) if hasattr(os, "sched_getaffinity") else os.cpu_count() or 1
+
+
+def _settings(path: str) -> Mapping[str, Any]:
+    """What a settings file of relint holds. Raises GatherError where relint would refuse it."""
+    try:
+        table = config.read_toml(read_named(path, MOST_SETTINGS).decode("utf-8"))
+        config.check_table(table, SETTINGS_KEYS, visible(path))
+        return table
+    except OpenError as error:
+        raise GatherError(f"the settings {path} can't be read: {error}", program.TREE_FAULT) from error
+    except (ValueError, ConfigError) as error:
+        raise GatherError(str(error) if isinstance(error, ConfigError) else f"{path}: no TOML: {error}") from error
+
+
+def gathered(given: argparse.Namespace, finder: Optional[Finder] = None) -> Gathered:
+    """Returns the report that the words ask for, with what a finder finds beyond it.
+
+    Without a finder, `wide` of the configuration says whether one looks. Raises GatherError, or ProgramError where relint
+    isn't there.
+    """
+    _check_paths(given)
+    found = found_config(given)
+    rules = rules_of(given, found)
+    notes = [*found.warnings]
+    if reads_input(given, found):
+        return ruled(_from_input(given), rules, None, (given.within or ".",), notes)
+    if given.within:
+        raise GatherError("--within goes with a report on standard input: the paths say themselves where the sources lie")
+    paths = given.paths or (["."] if given.tracked and "paths" not in found.given else found.named_paths())
+    missing = [it for it in paths if not os.path.lexists(it)]
+    if len(missing) == len(paths):
+        raise GatherError("; ".join(map(not_there, missing)), program.TREE_FAULT)
+    notes += map(not_there, missing)
+    finder = finder or _finder(given, found, notes)
+    selection = _selection(given, found, paths, finder is not None)
+    notes += [f"the glob {visible(it)} matches nothing" for it in selection.exclusions.unused(not given.paths)]
+    _check_selection(selection, paths)
+    report, status = _run(selection, rules)
+    if finder is not None:
+        beyond = finder.entries(report.entries, selection, rules, tuple(paths))
+        report = replace(report, entries=(*report.entries, *beyond))
+    if not given.paths and _waiting_input():
+        notes.append("standard input isn't read: give - to read a report from it")
+    return ruled(report, rules, selection, tuple(paths), notes, status, finder.kinds if finder else ())
+
+
+def _finder(given: argparse.Namespace, found: Config, notes: List[str]) -> Optional[Finder]:
+    """What looks beyond literals for a tool that shows what it finds, where the configuration asks for that."""
+    if not found.wide or not getattr(given, "shows_beyond", True):
+        return None
+    made: Tuple[Finder, List[str]] = importlib.import_module("relint.wide.finder").by_reading(found)
+    notes += made[1]
+    return made[0]
+
+
+def reads_input(given: argparse.Namespace, found: Config) -> bool:
+    """Returns whether the words ask for a report on standard input: by -, or by no path where there is no configuration."""
+    if given.paths == ["-"]:
+        return True
+    return not (given.paths or given.tracked or found.file) and _has_input()
+
+
+def _has_input() -> bool:
+    """Whether standard input is a pipe or a file, from which a report may come."""
+    try:
+        mode = os.fstat(sys.stdin.fileno()).st_mode
+    except (AttributeError, OSError, ValueError):
+        return False
+    return stat.S_ISFIFO(mode) or stat.S_ISREG(mode) or stat.S_ISSOCK(mode)
+
+
+def _waiting_input() -> bool:
+    """Whether there is something to read on standard input, which nobody asked for."""
+    if not _has_input():
+        return False
+    found = array.array("i", [0])
+    try:
+        fcntl.ioctl(sys.stdin.fileno(), termios.FIONREAD, found)
+    except OSError:
+        return False
+    return found[0] > 0
+
+
+def _check_paths(given: argparse.Namespace) -> None:
+    if "" in given.paths:
+        raise GatherError("a path is empty")
+    if "-" in given.paths and given.paths != ["-"]:
+        raise GatherError("- stands alone: it is a report on standard input")
+
+
+def _selection(given: argparse.Namespace, found: Config, paths: Sequence[str], notebooks: bool) -> Selection:
+    exclusions = Exclusions(found, given.exclude, not given.no_default_exclude)
+    try:
+        return selected(paths, exclusions, given.tracked, not given.paths, notebooks)
+    except git.GitError as error:
+        raise GatherError(f"git can't list the files: {error}") from error
+
+
+def _check_selection(selection: Selection, paths: Sequence[str]) -> None:
+    """Raises GatherError where there is no Python file among what is named, unless globs leave out each file that is."""
+    if not selection.is_empty() or (selection.named_left_out and selection.named_left_out == len(paths)):
+        return
+    more = selection.unlooked()
+    raise GatherError(f"no Python file among what was named: {' '.join(paths)}" + (f" ({more})" if more else ""))
+
+
+def _from_input(given: argparse.Namespace) -> Report:
+    for name in ("exclude", "max_pairs", "tracked"):
         if getattr(given, name):
             raise GatherError(f"--{name.replace('_', '-')} needs a PATH: this report is made already")
     if sys.stdin is None or sys.stdin.isatty():
-        raise GatherError("name a path, or give a report: relint check --format json PATH | ..")
-    text = sys.stdin.buffer.read()
-    if not text.strip():
-        raise GatherError("standard input is empty: name a path, or give a report of relint check --format json")
-    report = joined(_reports(text))
-    findings = _findings(report, given.max_degree)
-    unread = any(it.kind == "unreadable" for it in report.entries)
-    return Gathered(report, findings, 3 if unread else 1 if findings else 0, _compile_as(given), None)
+        raise GatherError("- is a report on standard input: relint check --format json PATH | ..")
+    return joined([Answered(it, 0) for it in _read_input((given.within or ".",))]).report
+
+
+def _read_input(folders: Sequence[str]) -> List[Report]:
+    try:
+        text = read_stream(sys.stdin.buffer)
+        if not text.strip():
+            raise GatherError("standard input is empty: name a path, or give a report of relint check --format json")
+        found = _reports(text)
+        for it in found:
+            check_paths(it, folders)
+        return found
+    except ReportError as error:
+        raise GatherError(str(error)) from error
 
 
 def _reports(text: bytes) -> List[Report]:
@@ -142,84 +349,83 @@ def _reports(text: bytes) -> List[Report]:
             raise GatherError(str(error)) from error
 
 
-def joined(reports: Sequence[Report]) -> Report:
-    """Returns one report with the entries of all, in order."""
-    entries = tuple(entry for report in reports for entry in report.entries)
-    return Report(
-        entries,
-        sum(it.findings for it in reports),
-        sum(it.refused for it in reports),
-        sum(it.undecided for it in reports),
-        max((it.version for it in reports), default=2),
-    )
+def counted_degree(report: Report) -> int:
+    """Returns the highest degree that isn't a finding, by how many findings the report itself counts.
+
+    Entries of relint-wide aren't among those that a report counts.
+    """
+    own = own_of(report.entries)
+    rest = report.findings - sum(it.kind == "exponential" for it in own)
+    degrees = sorted((it.degree or 0 for it in own if it.kind == "degree"), reverse=True)
+    return degrees[rest - 1] - 1 if 0 < rest <= len(degrees) else max([2, *degrees])
 
 
-def _findings(report: Report, max_degree: Optional[int]) -> Tuple[Entry, ...]:
-    """The entries that are findings: above `max_degree`, or as many of the worst as the report itself counts."""
-    if max_degree is None:
-        rest = report.findings - sum(it.kind == "exponential" for it in report.entries)
-        degrees = sorted((it.degree or 0 for it in report.entries if it.kind == "degree"), reverse=True)
-        max_degree = degrees[rest - 1] - 1 if 0 < rest <= len(degrees) else max([2, *degrees])
-    return tuple(it for it in report.entries if it.is_finding(max_degree))
-
-
-def _from_runs(given: argparse.Namespace, parts: Sequence[Sequence[str]], files: Optional[int]) -> Gathered:
-    options = ["--format", "json", "--report", "2"]
-    for name in ("mode", "max_degree", "max_pairs", "settings", "baseline"):
-        value = getattr(given, name)
-        if value is not None:
-            options.append(f"--{name.replace('_', '-')}={value}")
-    answers = [_run(options, part) for part in parts]
-    status = next((it for it in STATUS_ORDER if any(found == it for _, found in answers)), 0)
-    report = joined([it for it, _ in answers])
-    return Gathered(report, _findings(report, given.max_degree), status, _compile_as(given), files)
-
-
-def _run(options: Sequence[str], paths: Sequence[str]) -> Tuple[Report, int]:
-    answer = program.run(["check", *options, "--", *paths])
-    if answer.out and answer.status in STATUS_ORDER:
-        try:
-            return read_report(answer.out), answer.status
-        except ReportError as error:
-            raise GatherError(f"relint's report can't be read: {error}", answer.status or 2) from error
-    said = answer.err.decode("utf-8", "replace").strip().splitlines()
-    told = said[-1] if said and not said[0].startswith("usage:") else STATUS_WORDS.get(answer.status, "")
-    raise GatherError(told or f"relint ended with status {answer.status}", answer.status or 2)
-
-
-def _compile_as(given: argparse.Namespace) -> str:
-    """The mode that compile counts as: that of --mode, else that of the settings, else search."""
-    if given.mode:
-        return str(given.mode)
-    if given.settings:
-        try:
-            found = COMPILE_AS.search(Path(given.settings).read_text(encoding="utf-8"))
-        except (OSError, ValueError):
-            found = None
-        if found:
-            return found.group(1)
-    return "search"
-
-
-def _is_utf8(path: str) -> bool:
+def _run(selection: Selection, rules: Rules) -> Tuple[Report, int]:
+    """The report on the files, by as many runs as are asked for, and its status."""
+    judge = judge_of(rules)
+    answers: List[Answered] = []
     try:
-        path.encode("utf-8")
-        return True
-    except UnicodeEncodeError:
-        return False
+        with ThreadPoolExecutor(rules.jobs) as pool:
+            for found in pool.map(lambda part: list(judge.answers(part, part)), parts(selection.files, rules.jobs)):
+                answers += found
+    except JudgeError as error:
+        raise GatherError(str(error), error.status) from error
+    lost = [Entry(visible(it), "unreadable") for it in selection.lost]
+    deep = [Entry(it, "too-deep-folder") for it in selection.too_deep]
+    answers += [unjudged(lost)] if lost else []
+    answers += [Answered(unjudged(deep).report, 0)] if deep else []
+    whole = joined(answers)
+    return whole.report, whole.status
 
 
-def _with_unreadable(found: Gathered, paths: Sequence[str]) -> Gathered:
-    """The report with the files that relint can't be given, as their names aren't UTF-8."""
-    if not paths:
-        return found
-    lost = tuple(Entry(plain.visible(it), "unreadable") for it in paths)
-    report = replace(found.report, entries=found.report.entries + lost, refused=found.report.refused + len(lost))
-    return replace(found, report=report, status=next(it for it in STATUS_ORDER if it in (found.status, 3)))
+def judge_of(rules: Rules) -> Judge:
+    """Returns what runs relint by the rules."""
+    options = ["--report=2", f"--mode={rules.compile_as}", f"--max-pairs={rules.max_pairs}"]
+    return Judge(options, None, rules.limits)
 
 
-def _distinct(paths: Iterable[str]) -> List[str]:
-    return list(dict.fromkeys(paths))
+def parts(paths: Sequence[str], jobs: int) -> Iterator[List[str]]:
+    """Gives the paths in parts for so many runs at a time, each of which the system takes as the words of one command."""
+    size = max(LEAST_OF_A_PART, min(MOST_OF_A_PART, -(-len(paths) // (jobs * PARTS_A_JOB))))
+    for at in range(0, len(paths), size):
+        yield from batches(paths[at:at + size])
+
+
+def ruled(
+    report: Report, rules: Rules, selection: Optional[Selection], folders: Tuple[str, ...], notes: List[str], status: int = 0,
+    kinds: Tuple[str, ...] = (), sources: Optional[Sources] = None,
+) -> Gathered:
+    """Returns the report without what the baseline accepts, with its findings and the status that follows.
+
+    Its sources are those of the folders, unless they are given. Raises GatherError.
+    """
+    max_degree = rules.max_degree
+    if max_degree is None:
+        max_degree = counted_degree(report) if selection is None else config.Config.max_degree
+    findings = tuple(it for it in report.entries if it.is_finding(max_degree))
+    split = None
+    kinds = kinds or tuple(sorted({it.beyond.kind for it in report.entries if it.beyond is not None}))
+    if rules.baseline is not None:
+        try:
+            split = known.split_of(rules.baseline, report, findings, selection, sources or Sources(folders), kinds)
+        except BaselineError as error:
+            raise GatherError(str(error), error.status) from error
+        accepted = {id(it.entry) for it, _ in split.known}
+        findings = tuple(it for it in findings if id(it) not in accepted)
+        report = replace(report, entries=tuple(it for it in report.entries if id(it) not in accepted))
+    warned = tuple(it for it in report.entries if rules.warn_degree is not None and it.kind == "degree"
+                   and rules.warn_degree < (it.degree or 0) <= max_degree)
+    is_unread = status == program.TREE_FAULT or any(it.kind == "unreadable" for it in report.entries)
+    is_strict = rules.strict and any(it.kind not in ("degree", "exponential") for it in report.entries)
+    ends = [program.TREE_FAULT] if is_unread else [program.FINDING] if findings or is_strict else [0]
+    return Gathered(report, findings, ends[0], rules.compile_as, folders, max_degree, warned, split, rules.baseline, selection,
+                    tuple(notes), rules.max_pairs if selection else None, rules.strict, kinds)
+
+
+def show_config(given: argparse.Namespace) -> int:
+    """Writes the configuration that the words go by, and answers the exit status. Raises GatherError."""
+    write("".join(f"{it}\n" for it in config.shown(found_config(given))))
+    return 0
 
 
 def batches(paths: Sequence[str]) -> Iterator[List[str]]:
@@ -247,84 +453,83 @@ def _word_bytes() -> int:
     return max(8_000, min(MOST_WORD_BYTES, system // 2 - taken))
 
 
-def _is_excluded(path: str, globs: Sequence[str]) -> bool:
-    """Whether a glob names the path, a folder above it, or the name of one of these."""
-    plain = path[2:] if path.startswith("./") else path
-    names = plain.split("/")
-    whole = ["/".join(names[:it]) for it in range(1, len(names) + 1)]
-    return any(fnmatch.fnmatchcase(it, glob.rstrip("/")) for glob in globs for it in (*names, *whole, path))
-
-
-def _walked(paths: Sequence[str]) -> Iterator[str]:
-    """The files that relint reads below the paths, in its order; a folder that can't be listed is left for relint to tell."""
-    for path in paths:
-        yield from _below(path) if os.path.isdir(path) and not os.path.islink(path) else [path]
-
-
-def _below(folder: str) -> Iterator[str]:
+def put(name: str, output: str, data: bytes) -> int:
+    """Puts what the tool of this name made in the place of a file, and answers the exit status."""
     try:
-        names = sorted(os.listdir(folder), key=os.fsencode)
-    except OSError:
-        yield folder
-        return
-    for name in names:
-        path = folder + name if folder.endswith("/") else f"{folder}/{name}"
-        if os.path.islink(path):
-            continue
-        if os.path.isdir(path):
-            yield from _below(path)
-        elif name.endswith(".py") and os.path.isfile(path):
-            yield path
+        for lost in replace_file(output, data):
+            print(f"{name}: {visible(output)}: {lost}", file=sys.stderr)
+        return 0
+    except WriteError as error:
+        print(f"{name}: {visible(output)} can't be written: {error}", file=sys.stderr)
+        return program.WRITE_FAULT
 
 
-def _tracked(paths: Sequence[str]) -> Iterator[str]:
-    """The Python files that git tracks below the paths, without virtual environments, links and what was deleted."""
-    environments: Dict[str, bool] = {}
-    for path in paths:
-        for found in _git_files(path):
-            if not found.endswith(".py") or os.path.islink(found) or not os.path.isfile(found):
-                continue
-            if not _in_environment(os.path.dirname(found), environments):
-                yield found
+def tell(name: str, given: Gathered) -> None:
+    """Says on standard error what isn't part of the report: warnings, and the entries of the baseline that are stale."""
+    lines = [*given.notes, *(known.stale_lines(given.baseline or "", given.split) if given.split else [])]
+    for it in lines:
+        print(f"{name}: {it}", file=sys.stderr)
 
 
-def _git_files(path: str) -> Iterator[str]:
-    is_folder = os.path.isdir(path)
-    if not is_folder and not os.path.lexists(path):
-        raise GatherError(f"{path} isn't there", 3)
-    folder = path if is_folder else os.path.dirname(path)
-    asked = "." if is_folder else os.path.basename(path)
-    words = ["git", "--literal-pathspecs", "-C", folder or ".", "ls-files", "-z", "--", asked]
+class Unwritten(Exception):
+    """Standard output takes nothing more; the message says why, and is empty if its reader has gone away, as `head` does."""
+
+
+def write(text: Union[str, bytes]) -> None:
+    """Writes to standard output: text with what it can't hold as escapes, or bytes as they are. Raises Unwritten."""
+    out = sys.stdout
+    if out is None:
+        raise Unwritten("it is closed")
     try:
-        ran = subprocess.run(words, stdin=subprocess.DEVNULL, stdout=subprocess.PIPE, stderr=subprocess.PIPE)
-    except OSError as error:
-        raise GatherError("--tracked needs git, which can't be run") from error
-    if ran.returncode != 0:
-        said = ran.stderr.decode("utf-8", "replace").strip().splitlines()
-        raise GatherError(f"git can't list {path}: {said[-1] if said else 'no reason given'}")
-    front = "" if folder in ("", ".") else folder if folder.endswith("/") else folder + "/"
-    for name in ran.stdout.split(b"\0"):
-        if name:
-            yield front + os.fsdecode(name)
+        if isinstance(text, bytes):
+            out.flush()
+            out.buffer.write(text)
+            out.buffer.flush()
+        else:
+            coding = out.encoding or "utf-8"
+            out.write(text.encode(coding, "backslashreplace").decode(coding))
+    except (OSError, ValueError) as error:
+        raise _unwritten(error) from error
 
 
-def _in_environment(folder: str, known: Dict[str, bool]) -> bool:
-    if folder not in known:
-        above = os.path.dirname(folder)
-        here = os.path.basename(folder) in ENVIRONMENTS or os.path.isfile(os.path.join(folder, "pyvenv.cfg"))
-        known[folder] = here or (above != folder and folder != "" and _in_environment(above, known))
-    return known[folder]
+def flush() -> None:
+    """Hands on what was written to standard output so far. Raises Unwritten."""
+    try:
+        if sys.stdout is not None:
+            sys.stdout.flush()
+    except (OSError, ValueError) as error:
+        raise _unwritten(error) from error
+
+
+def _unwritten(error: Exception) -> Unwritten:
+    try:
+        # (so that Python's own flush at the end says nothing)
+        os.dup2(os.open(os.devnull, os.O_WRONLY), sys.stdout.fileno())
+    except (OSError, ValueError, AttributeError):
+        pass
+    if isinstance(error, BrokenPipeError):
+        return Unwritten()
+    return Unwritten(error.strerror or str(error) if isinstance(error, OSError) else str(error))
+
+
+def _flushed(status: int) -> int:
+    flush()
+    return status
 
 
 def ended(name: str, work: Callable[[], int]) -> int:
     """Runs the work of the tool of this name, and answers the exit status. An error goes to standard error in one line."""
     try:
-        return work()
-    except GatherError as error:
-        print(f"{name}: {error}", file=sys.stderr)
+        return _flushed(work())
+    except (GatherError, ConfigError, BaselineError) as error:
+        print(f"{name}: {visible(str(error))}", file=sys.stderr)
         return error.status
     except program.ProgramError as error:
-        print(f"{name}: {error}", file=sys.stderr)
+        print(f"{name}: {visible(str(error))}", file=sys.stderr)
         return program.REFUSED
+    except Unwritten as error:
+        if str(error):
+            print(f"{name}: standard output can't be written: {error}", file=sys.stderr)
+        return program.WRITE_FAULT
     except KeyboardInterrupt:
         return INTERRUPTED

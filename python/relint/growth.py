@@ -3,18 +3,21 @@ from __future__ import annotations
 
 import re
 import threading
+import time
 from dataclasses import dataclass
 from typing import Dict, List, Optional, Tuple
 
 from . import program
 from .reports import Family, Text, Verdict
 
-BILLION = 10**9
+# The text that is told has about so many steps, which take Python half a minute or so, or as many as the longest text has.
+TOLD_STEPS = 10**9
+LONGEST_TOLD = 65_000
+# The points are those of texts up to these steps or this length.
+LAST_STEPS = 10**18
+# How long relint may take for a question, and for all that a tool asks.
+SECONDS_OF_A_QUESTION, SECONDS_OF_ALL = 5, 300
 LONGEST_TEXT = 1000
-USUAL_TEXT = 1000
-HANG_STEPS = 10**18
-SLOW_STEPS = 10**11
-LONGEST_SLOW_TEXT = 1_000_000
 COST = re.compile(r"steps (?:over )?(\d+) (matched|refused)\n")
 NUL = re.compile(r"\\(.)|\x00", re.S)
 FLAG_LETTERS = (("a", re.A), ("i", re.I), ("m", re.M), ("s", re.S), ("x", re.X))
@@ -32,12 +35,16 @@ class Point:
 
 @dataclass(frozen=True)
 class Growth:
-    """Points by rising k, that one whose figure is told, and by how much the steps grow from it to the next k."""
+    """Points by rising k, that one which is told and shown, and by how much the steps grow from it to the next k."""
 
     points: Tuple[Point, ...]
     told: Point
     rate: Optional[float]
-    k_to_show: int
+
+    @property
+    def k_to_show(self) -> int:
+        """The k of the text that is told: what is shown to run has the same text."""
+        return self.told.k
 
 
 def front_flags(flags: int, is_bytes: bool) -> str:
@@ -66,21 +73,32 @@ def _is_word(word: str) -> bool:
 
 
 class Meter:
-    """Asks `relint cost` and `relint class`, each question once. It may be shared by threads."""
+    """Asks `relint cost` and `relint class`, each question once. It may be shared by threads.
 
-    def __init__(self) -> None:
+    A question that takes too long has no answer, and no question has one once the time of all is over.
+    """
+
+    def __init__(self, seconds: float = SECONDS_OF_A_QUESTION, total: float = SECONDS_OF_ALL) -> None:
         self._known: Dict[Tuple[str, ...], str] = {}
         self._lock = threading.Lock()
+        self._seconds, self._until = seconds, time.monotonic() + total
 
     def _asked(self, *words: str) -> str:
         with self._lock:
             known = self._known.get(words)
         if known is None:
-            answer = program.run(words)
-            known = answer.out.decode("utf-8", "replace") if answer.status in (0, 1) else ""
+            known = self._answer(words)
             with self._lock:
                 self._known[words] = known
         return known
+
+    def _answer(self, words: Tuple[str, ...]) -> str:
+        left = min(self._seconds, self._until - time.monotonic())
+        try:
+            answer = program.run(words, seconds=left) if left > 0 else program.Answer(program.TREE_FAULT, b"", b"")
+        except program.TookLong:
+            return ""
+        return answer.out.decode("utf-8", "replace") if answer.status in (0, 1) else ""
 
     def cost(self, word: str, mode: str, text: Text) -> Optional[Tuple[int, bool]]:
         """Returns the steps of a text and whether it is matched, or None where relint has no answer."""
@@ -152,26 +170,23 @@ def measure(meter: Meter, word: str, mode: str, family: Family, verdict: Verdict
 
 
 def _exponential(measured: _Measured) -> Optional[Growth]:
-    if not measured.doubled(HANG_STEPS):
+    if not measured.doubled(LAST_STEPS):
         return None
-    told = measured.least(BILLION)
+    told = measured.least(TOLD_STEPS)
     more = measured.at(told.k + 1)
     rate = more.steps / told.steps if more else None
-    return Growth(_rising(measured), told, rate, measured.least(HANG_STEPS).k)
+    return Growth(_rising(measured), told, rate)
 
 
 def _polynomial(measured: _Measured, degree: int) -> Optional[Growth]:
-    family = measured.family
-    if not measured.doubled(HANG_STEPS):
+    if not measured.doubled(LAST_STEPS):
         return None
-    usual = max(1, (USUAL_TEXT - _length(family, 0)) // sum(map(len, family.pumps)))
-    told = measured.at(usual)
-    if told is None:
-        return None
-    last = measured.points[max(measured.points)]
-    longer = (SLOW_STEPS / last.steps) ** (1 / max(1, degree)) if last.steps < SLOW_STEPS else 1.0
-    longest = max(1, LONGEST_SLOW_TEXT // sum(map(len, family.pumps)))
-    return Growth(_rising(measured), told, None, min(longest, max(told.k, round(last.k * longer))))
+    points = _rising(measured)
+    last = points[-1]
+    longest = max(1, (LONGEST_TOLD - _length(measured.family, 0)) // sum(map(len, measured.family.pumps)))
+    times_longer = (TOLD_STEPS / max(1, last.steps)) ** (1 / max(1, degree))
+    told = measured.at(max(1, min(longest, round(last.k * times_longer))))
+    return Growth(points, told or last, None)
 
 
 def _rising(measured: _Measured) -> Tuple[Point, ...]:

@@ -11,8 +11,9 @@ import stat
 import sys
 
 from .joining import JoinError, Piece, join, status_of, take_apart
+from .opening import OpenError, read_named
 from .parts import MORE_WITH_A_BASELINE, NotJoined, run_parts
-from .program import REFUSED, WRITE_FAULT, Answer, ProgramError, program
+from .program import REFUSED, WRITE_FAULT, Answer, ProgramError, first_answer, program
 from .spawning import STOPPING, Held, end, spawn
 from .walking import NotListed, TooDeep, walk
 
@@ -34,10 +35,13 @@ Writes the report of `relint check` on the paths, but several runs make it at th
   --list N       write the paths of the files to at most N lists of about the same work, and print the names of the lists
   --into FOLDER  the folder for the lists (default: relint-lists); it is made if it isn't there, and must be empty
   --join         join reports of relint check, in the order given, into the one report of all
+  --version      show the version
   --help         show this text
 """
 RELINT_OPTIONS = ("--mode", "--format", "--max-degree", "--max-pairs", "--settings", "--report", "--baseline")
 OWN_OPTIONS = ("--jobs", "--list", "--into", "--from")
+# The most bytes of a list of paths, and of a report to join.
+LARGEST = 1 << 30
 # What a file costs besides its bytes, in bytes, where lists of the same work are made.
 COST_OF_A_FILE = 8192
 
@@ -61,7 +65,7 @@ class Given:
         self.relint: List[str] = []
         self.own: Dict[str, str] = {}
         self.options: Dict[str, str] = {}
-        self.joins = self.helps = False
+        self.joins = self.helps = self.asks_version = False
         self.plain = True
 
     def number(self, option: str, default: int) -> int:
@@ -82,8 +86,9 @@ def read_words(words: Sequence[str]) -> Given:
             rest = list(left)
             given.paths += rest
             given.relint += ["--", *rest]
-        elif word in ("--join", "--help"):
+        elif word in ("--join", "--help", "--version"):
             given.joins, given.helps = given.joins or word == "--join", given.helps or word == "--help"
+            given.asks_version = given.asks_version or word == "--version"
         elif name in OWN_OPTIONS:
             given.own[name] = value if equals else next(left, "")
         elif name in RELINT_OPTIONS:
@@ -119,7 +124,7 @@ def check(given: Given) -> int:
     """Writes the report on the paths, and returns the status of one run."""
     jobs = given.number("--jobs", len(os.sched_getaffinity(0)) if hasattr(os, "sched_getaffinity") else os.cpu_count() or 1)
     named = _names(given)
-    ready = _ready_program()
+    ready = ready_program()
     options = [f"{name}={value}" for name, value in given.options.items()]
     alone = jobs == 1 and "--from" not in given.own
     if alone or not named or not given.plain or not _can_be_read_again(given):
@@ -146,20 +151,19 @@ def _names(given: Given) -> List[bytes]:
 
 def _read_names(source: str) -> List[bytes]:
     try:
-        data = sys.stdin.buffer.read() if source == "-" else _bytes_of(source)
+        # (it may be a pipe)
+        with sys.stdin.buffer if source == "-" else open(source, "rb") as stream:
+            data = stream.read(LARGEST + 1)
     except OSError as error:
         raise WordsError(f"{source} can't be read: {error.strerror or error}") from error
+    if len(data) > LARGEST:
+        raise WordsError(f"{source} has more than {LARGEST:,} bytes")
     if data and not data.endswith(b"\0"):
         raise WordsError(f"{source} doesn't end with a byte 0: each path in it must")
     names = data.split(b"\0")[:-1]
     if b"" in names:
         raise WordsError(f"{source} holds an empty path")
     return names
-
-
-def _bytes_of(path: str) -> bytes:
-    with open(path, "rb") as file:
-        return file.read()
 
 
 def _can_be_read_again(given: Given) -> bool:
@@ -174,20 +178,13 @@ def _can_be_read_again(given: Given) -> bool:
     return True
 
 
-def _ready_program() -> str:
-    """The program to run. The script of a clone is run once, and builds it where need be; then it is the one behind it."""
+def ready_program() -> str:
+    """The program to run. The script of a clone builds it where need be as it is first asked; then it is the one behind it."""
     found = program()
     top, name = os.path.split(found)
-    if name != "relint" or not os.path.isfile(os.path.join(top, "crates.txt")):
+    if name != "relint" or not os.path.isfile(os.path.join(top, "crates.txt")) or first_answer(found).err:
         return found
-    import subprocess
-
-    try:
-        silent = subprocess.DEVNULL
-        ran = subprocess.run([found, "cost", "", ""], stdin=silent, stdout=silent, stderr=subprocess.PIPE, check=False)
-    except OSError as error:
-        raise ProgramError(f"{found} can't be run: {error.strerror or error}") from error
-    return found if ran.returncode or ran.stderr else _noted_program(top) or found
+    return _noted_program(top) or found
 
 
 def _noted_program(top: str) -> Optional[str]:
@@ -253,6 +250,8 @@ def write_lists(given: Given) -> int:
         raise WordsError("--list takes paths and no options of relint: give those where the lists are checked")
     from pathlib import Path
 
+    from .writing import WriteError, replace_file
+
     count = given.number("--list", 1)
     folder = Path(given.own.get("--into", "relint-lists"))
     try:
@@ -265,10 +264,12 @@ def write_lists(given: Given) -> int:
             raise WordsError(f"{folder} isn't empty: name another folder by --into")
         for number, part in enumerate(_evenly(paths, count), 1):
             name = folder / f"part-{number:06}.list"
-            name.write_bytes(b"".join(it + b"\0" for it in part))
+            replace_file(str(name), b"".join(it + b"\0" for it in part))
             print(name)
     except OSError as error:
         raise WordsError(f"{error.filename or folder} can't be written: {error.strerror or error}") from error
+    except WriteError as error:
+        raise WordsError(f"{folder} can't be written: {error}") from error
     return 0
 
 
@@ -308,9 +309,9 @@ def join_reports(given: Given) -> int:
 
 def _read_piece(path: str) -> Piece:
     try:
-        return take_apart(_bytes_of(path))
-    except OSError as error:
-        raise WordsError(f"{path} can't be read: {error.strerror or error}") from error
+        return take_apart(read_named(path, LARGEST))
+    except OpenError as error:
+        raise WordsError(f"{path} can't be read: {error}") from error
     except JoinError as error:
         raise WordsError(f"{path}: {error}") from error
 
@@ -322,6 +323,11 @@ def _stop(number: int, _: Optional[FrameType]) -> None:
 def _act(given: Given) -> int:
     if given.helps:
         sys.stdout.write(USAGE)
+        return 0
+    if given.asks_version:
+        from .command_line import version
+
+        print(f"relint-many {version()}")
         return 0
     if given.joins:
         return join_reports(given)
@@ -341,7 +347,9 @@ def main() -> int:
     try:
         return _act(read_words(sys.argv[1:]))
     except (WordsError, ProgramError) as error:
-        print(f"relint-many: {error}", file=sys.stderr)
+        from .writing import visible
+
+        print(visible(f"relint-many: {error}"), file=sys.stderr)
         return REFUSED
     except Stopped as stopped:
         return 128 + int(stopped.args[0])

@@ -13,13 +13,17 @@ from html import escape
 from typing import Dict, Iterator, List, Optional, Sequence, Tuple
 from urllib.parse import quote
 
-from . import gather, plain, program
-from .facts import Finding, Sources, findings
+from . import causes, gather, plain, program, rules, summary
+from .beyond import KIND_WORDS, TITLES
+from .command_line import Parser, number
+from .facts import Finding, Sources, findings, worst_first
+from .mend.offers import Offer
 from .page_chart import chart
 from .page_script import SCRIPT
 from .page_style import STYLE
-from .reports import Entry, Place, Text
+from .reports import Entry, Place, Text, own_of
 from .sites import Source
+from .writing import escaped, visible
 
 LINES_AROUND = 2
 MOST_LINES = 16
@@ -31,10 +35,7 @@ LINK = re.compile(r"(?!(?:javascript|data|vbscript):)[a-z][a-z0-9+.-]*:[^\s\x00-
 
 def shown(text: str) -> str:
     """Returns a text as markup that shows it: what can't be seen, or turns the direction of writing, is an escape."""
-    seen = "".join(
-        it if it in "\n\t" or it.isprintable() else it.encode("unicode_escape", "surrogatepass").decode("ascii") for it in text
-    )
-    return escape(seen, quote=True)
+    return escape(escaped(text, but="\n\t"), quote=True)
 
 
 def _pinned(text: str) -> str:
@@ -106,10 +107,11 @@ def _cut(text: str) -> str:
 
 
 def _source(found: Finding) -> str:
-    source, site = found.source, found.site
-    if source is None or site is None:
+    source, literals = found.source, found.code_spans()
+    if found.entry.beyond is not None and found.entry.beyond.cell is not None:
+        return '<p class="muted">The cell of the notebook isn\'t shown.</p>'
+    if source is None or not literals:
         return '<p class="muted">The source isn\'t there, or has changed since the report was made.</p>'
-    literals = [(it.start, it.end) for it in site.literals]
     faults = found.spans_at_fault()
     first = source.place(literals[0][0]).line
     last = source.place(literals[-1][1] - 1).line
@@ -146,34 +148,28 @@ def _difference(old: Text, new: Text) -> Tuple[str, str]:
     return "".join(left), "".join(right)
 
 
-def _instead(found: Finding, new: Text, title: str, becomes: str) -> Iterator[str]:
-    """A pattern in place of a finding's, as a difference, with its class."""
+def _instead(found: Finding, offer: Offer) -> Iterator[str]:
+    """A pattern in place of a finding's, as a difference, with its class and what is known of it."""
+    title = "Fix" if offer.kind == "fix" else "Advice: what your code sees may change"
     yield f"<h4>{shown(title)}</h4>"
-    if found.site:
-        old, other = _difference(found.site.value, new)
-        yield f'<div class="diff"><code><span class="muted">now </span>{old}</code>'
-        yield f'<code><span class="muted">new </span>{other}</code></div>'
-    else:
-        yield f"<code>{shown(plain.quoted(new))}</code>"
-    if becomes:
-        yield f'<p>It becomes <span class="better">{shown(becomes)}</span>.</p>'
+    old, other = _difference(found.site.value if found.site else offer.pattern, offer.pattern)
+    yield f'<div class="diff"><code><span class="muted">now </span>{old}</code>'
+    yield f'<code><span class="muted">new </span>{other}</code></div>'
+    word = "better" if offer.kind == "fix" else "kept"
+    yield f'<p>It becomes <span class="{word}">{shown(plain.class_word(offer.verdict))}</span>: {shown(offer.words)}.</p>'
 
 
 def _suggestion(found: Finding) -> Iterator[str]:
-    entry, cure = found.entry, found.cure
-    if entry.suggest is not None:
-        becomes = plain.class_word(entry.becomes) if entry.becomes else ""
-        yield from _instead(found, entry.suggest, "Suggestion: it matches the same texts (proved)", becomes)
-    if cure:
-        yield from _instead(found, cure.pattern, f"Cure: {cure.promise}", cure.becomes)
-    if entry.suggest is None and not cure:
-        yield '<p class="muted">The page docs/MENDING.md shows how such patterns are rewritten.</p>'
+    for it in found.offers:
+        yield from _instead(found, it)
+    if not found.offers:
+        yield '<p class="muted">relint-show --explain mending shows how such patterns are rewritten.</p>'
 
 
 def _texts(found: Finding, number: int) -> Iterator[str]:
-    if found.entry.family is None:
+    if found.judged.family is None:
         return
-    yield f"<h4>Texts that show it, for k = 1, 2, 3 ..</h4><code>{shown(plain.family_words(found.entry.family))}</code>"
+    yield f"<h4>Texts that show it, for k = 1, 2, 3 ..</h4><code>{shown(plain.family_words(found.judged.family))}</code>"
     snippet = found.snippet()
     if snippet:
         yield f'<div class="row"><button type="button" hidden data-copies="s{number}">Copy Python snippet</button>'
@@ -186,17 +182,40 @@ def _sentence(words: str) -> str:
     return words[:1].upper() + words[1:] + "."
 
 
-def card(found: Finding, number: int, link: Link) -> str:
-    """Returns the card of a finding."""
-    entry, verdict = found.entry, found.entry.verdict()
-    kind = "exponential" if entry.kind == "exponential" else "degree"
+def _beyond_badge(entry: Entry) -> str:
+    """What an entry of relint-wide has in place of a proof; nothing for others."""
+    if entry.beyond is None:
+        return ""
+    return f'<span class="origin">{shown(KIND_WORDS[entry.beyond.kind])}, {rules.code(entry)}</span>'
+
+
+def _beyond_words(found: Finding) -> Iterator[str]:
+    """The pattern of an entry of relint-wide, and where it comes from."""
+    beyond = found.entry.beyond
+    if beyond is None:
+        return
+    yield f"<p><code>{shown(plain.quoted(beyond.pattern) + plain.flags_code(beyond.flags))}</code></p>"
+    words = [it for it in (beyond.held_words(found.entry.path), *beyond.notes) if it]
+    if words:
+        yield f'<p class="muted kept">{shown(_sentence("; ".join(words)))}</p>'
+
+
+def card(found: Finding, number: int, link: Link, compile_as: str) -> str:
+    """Returns the card of a finding; `compile_as` is the mode that compile has in the report."""
+    entry, verdict = found.entry, found.judged.verdict()
+    kind = "exponential" if found.judged.kind == "exponential" else "degree"
+    is_beyond = f" {entry.beyond.kind}" if entry.beyond else ""
     parts = [
-        f'<article class="card {kind}" aria-labelledby="f{number}"><div class="head"><h3 id="f{number}">',
+        f'<article class="card {kind}{is_beyond}" aria-labelledby="f{number}"><div class="head"><h3 id="f{number}">',
         link(entry, place_words(entry)), "</h3>",
-        f'<code>{shown(entry.call or "")}</code>',
+        f'<code>{shown(entry.call or "")}</code>', _beyond_badge(entry),
         f'<span class="badge">{shown(plain.class_word(verdict)) if verdict else ""}</span></div>',
         f'<p class="words">{shown(_sentence(found.words()))}</p><div class="columns"><div>', _source(found),
+        *_beyond_words(found),
     ]
+    used = found.used_words(compile_as)
+    if used:
+        parts.append(f'<p class="kept">{shown(_sentence(used))}</p>')
     fault = found.fault_words()
     if fault:
         parts.append(f'<p class="muted kept">Part at fault: {shown(fault)}.</p>')
@@ -212,14 +231,16 @@ def _count(number: int, name: str, target: str, kind: str) -> str:
 
 
 def _counts(given: gather.Gathered) -> str:
-    found = given.findings
+    found, entries = own_of(given.findings), own_of(given.report.entries)
+    beyond = len(given.findings) - len(found)
     exponential = sum(it.kind == "exponential" for it in found)
-    undecided = sum(it.kind == "undecided" for it in given.report.entries)
-    lost = sum(not it.is_judged() for it in given.report.entries)
-    rest = len(given.report.entries) - len(found) - undecided - lost
+    undecided = sum(it.kind == "undecided" for it in entries)
+    lost = sum(not it.is_judged() for it in entries)
+    rest = len(entries) - len(found) - undecided - lost
     return '<ul class="counts">' + "".join((
         _count(exponential, "exponential", "findings", "bad" if exponential else ""),
         _count(len(found) - exponential, "of a high degree", "findings", "warn" if len(found) > exponential else ""),
+        _count(beyond, "beyond what is proved", "findings", "warn") if beyond else "",
         _count(lost, "not analysed", "refused", ""),
         _count(undecided, "undecided", "undecided", ""),
         _count(rest, "without a finding", "all", ""),
@@ -251,7 +272,7 @@ def _refused(entries: Sequence[Entry], link: Link) -> str:
             by_cause.setdefault(cause, []).append(entry)
     groups = []
     for cause, _ in plain.causes(tuple(entries)):
-        words, helps = plain.CAUSES.get(cause, ("a cause that this page has no words for", "docs/USAGE.md"))
+        words, helps = causes.words(cause) or ("a cause that this page has no words for", "relint-show --explain usage")
         groups.append(_group(cause, words, helps, by_cause[cause], link))
     title = f"Not analysed, by cause: {sum(map(len, by_cause.values())):,}"
     return _folded("refused", title, "".join(groups) or "<p>Every pattern was analysed.</p>")
@@ -262,8 +283,8 @@ def _undecided(entries: Sequence[Entry], link: Link) -> str:
     for entry in entries:
         if entry.kind == "undecided":
             by_limit.setdefault(f"{entry.limit} over {entry.over}", []).append(entry)
-    page = "docs/VERDICTS.md"
-    groups = [_group(name, plain.LIMITS.get(name.split()[0], ""), page, its, link) for name, its in by_limit.items()]
+    page = "relint-show --explain verdicts"
+    groups = [_group(name, causes.LIMITS.get(name.split()[0], ""), page, its, link) for name, its in by_limit.items()]
     title = f"Undecided, by limit: {sum(map(len, by_limit.values())):,}"
     return _folded("undecided", title, "".join(groups) or "<p>No pattern passed a limit.</p>")
 
@@ -287,7 +308,7 @@ def table_data(entries: Sequence[Entry]) -> Dict[str, object]:
         calls(call)
     rows = [
         [
-            paths(plain.visible(it.path)), it.place.line if it.place else 0, it.place.column if it.place else 0,
+            paths(visible(it.path)), it.place.line if it.place else 0, it.place.column if it.place else 0,
             calls(it.call or ""), kinds(_kind(it)),
         ]
         for it in entries
@@ -298,7 +319,7 @@ def table_data(entries: Sequence[Entry]) -> Dict[str, object]:
 def _kind(entry: Entry) -> str:
     verdict = entry.verdict()
     if verdict:
-        return plain.class_word(verdict)
+        return (f"{KIND_WORDS[entry.beyond.kind]}: " if entry.beyond else "") + plain.class_word(verdict)
     return f"not analysed: {plain.not_analysed(entry)}"
 
 
@@ -317,10 +338,15 @@ TABLE = """
 """
 
 
-def _cards(found: Sequence[Finding], all_found: int, link: Link) -> str:
+def _cards(found: Sequence[Finding], all_found: int, link: Link, compile_as: str) -> str:
     if not all_found:
         return "<p>No finding: no pattern that was analysed is above the limit.</p>"
-    cards = [card(it, number, link) for number, it in enumerate(found, 1)]
+    kinds = [it.entry.beyond.kind if it.entry.beyond else "" for it in found]
+    numbered = list(zip(kinds, (card(it, number, link, compile_as) for number, it in enumerate(found, 1))))
+    cards = [words for kind, words in numbered if not kind]
+    for kind, title in TITLES.items():
+        its = [one for of, one in numbered if of == kind]
+        cards += [f'<h2 class="beyond">{shown(title[:1].upper() + title[1:])}</h2>', *its] if its else []
     if len(found) < all_found:
         cards.append(f"<p>The first {plain.counted(len(found), 'finding')} are shown with a card, which --cards sets; all "
                      f"{all_found:,} are in the table below.</p>")
@@ -329,14 +355,20 @@ def _cards(found: Sequence[Finding], all_found: int, link: Link) -> str:
 
 def _head(title: str, findings_counted: str) -> str:
     allowed = f"style-src {_pinned(STYLE)}; script-src {_pinned(SCRIPT)}"
-    rules = f"default-src 'none'; {allowed}; base-uri 'none'; form-action 'none'"
+    policy = f"default-src 'none'; {allowed}; base-uri 'none'; form-action 'none'"
     return (
         '<!DOCTYPE html>\n<html lang="en"><head><meta charset="utf-8">\n'
-        f'<meta http-equiv="Content-Security-Policy" content="{rules}">\n'
+        f'<meta http-equiv="Content-Security-Policy" content="{policy}">\n'
         '<meta name="viewport" content="width=device-width, initial-scale=1">\n'
         '<meta name="color-scheme" content="light dark">\n'
         f"<title>{shown(title)}: {findings_counted}</title>\n<style>{STYLE}</style></head>\n"
     )
+
+
+def _unlooked(given: gather.Gathered) -> str:
+    """What lies there and isn't looked at, as a sentence."""
+    words = given.selection.unlooked() if given.selection else ""
+    return f" {words[0].upper()}{words[1:]}." if words else ""
 
 
 def page(given: gather.Gathered, found: Sequence[Finding], link: Link, title: str) -> str:
@@ -346,11 +378,13 @@ def page(given: gather.Gathered, found: Sequence[Finding], link: Link, title: st
     return "".join((
         _head(title, counted),
         f'<body>\n<a class="skip" href="#findings">Go to the findings</a>\n<header><h1>{shown(title)}</h1>\n',
-        f'<p class="muted">{plain.counted(len(entries), "entry", "entries")}, {counted}. A finding is a pattern that a ',
+        f'<p class="muted">{summary.line(entries, given.max_degree, given.hidden())}.{_unlooked(given)} ',
+        "A finding is a pattern that a ",
         f"chosen text can make extremely slow (ReDoS, CWE-1333).</p>{_counts(given)}</header>\n<main>\n",
         '<section id="findings" aria-labelledby="findings-h"><h2 id="findings-h">Findings</h2>\n',
-        _cards(found, len(given.findings), link), "</section>\n",
-        '<section aria-label="Other entries">\n', _refused(entries, link), _undecided(entries, link),
+        _cards(found, len(given.findings), link, given.compile_as), "</section>\n",
+        '<section aria-label="Other entries">\n', _refused(own_of(entries), link),
+        _undecided(own_of(entries), link),
         _folded("all", f"All entries: {len(entries):,}", TABLE), "</section>\n</main>\n",
         "<footer><p>Classes and steps are those of relint's defined machine, which backtracks as CPython's re does. ",
         "They are no measured times.</p></footer>\n",
@@ -360,53 +394,43 @@ def page(given: gather.Gathered, found: Sequence[Finding], link: Link, title: st
     ))
 
 
-def _parser() -> argparse.ArgumentParser:
-    parser = gather.OneLineParser(
-        prog="relint-page",
-        description="Writes the report of relint check as one HTML page that needs no other file.",
-        epilog="The exit status is 0 if the page was written, even if it shows findings; otherwise 2 to 6.",
-        allow_abbrev=False,
-    )
-    gather.add_options(parser)
-    parser.add_argument("--output", "-o", metavar="FILE", help="the file to write, instead of standard output")
-    parser.add_argument("--title", default="relint report", help="the page's heading")
-    parser.add_argument("--link", metavar="ADDRESS",
-                        help="what a place links to, for example 'vscode://file/{path}:{line}:{column}'")
-    parser.add_argument("--cards", type=gather.number(0, 999999), default=MOST_CARDS, metavar="N",
-                        help=f"how many findings get a card with source and chart ({MOST_CARDS})")
-    parser.add_argument("--mend", action="store_true", help="also show a cure that relint-mend finds")
-    return parser
+def parser() -> Parser:
+    """Returns the reader of the tool's words."""
+    found = Parser("relint-page", "Writes the report of relint check as one HTML page that needs no other file.",
+                   "The exit status is 0 if the page was written, even if it shows findings, 3 if it was written but "
+                   "something couldn't be read or wasn't judged in time; otherwise 2 to 6.")
+    gather.add_options(found)
+    gather.add_time_options(found)
+    found.add_argument("--output", "-o", metavar="FILE", help="the file to write, instead of standard output")
+    found.add_argument("--title", default="relint report", help="the page's heading")
+    found.add_argument("--link", metavar="ADDRESS",
+                       help="what a place links to, for example 'vscode://file/{path}:{line}:{column}'")
+    found.add_argument("--cards", type=number(0, 999999), default=MOST_CARDS, metavar="N",
+                       help=f"how many findings get a card with source and chart ({MOST_CARDS})")
+    found.add_argument("--mend", action="store_true", help="also show a cure that relint-mend finds")
+    return found
 
 
-def _made(words: argparse.Namespace) -> str:
+def _work(words: argparse.Namespace) -> int:
+    if words.show_config:
+        return gather.show_config(words)
     link = Link(words.link)
     given = gather.gathered(words)
-    worst = sorted(given.findings, key=lambda it: (it.kind != "exponential", -(it.degree or 0)))[:words.cards]
-    found = findings(given, worst, Sources(), words.mend)
-    return page(given, found, link, words.title)
-
-
-def _written(text: str, output: Optional[str]) -> int:
-    data = text.encode("utf-8", "backslashreplace")
-    try:
-        if output:
-            with open(output, "wb") as file:
-                file.write(data)
-        else:
-            sys.stdout.buffer.write(data)
-            sys.stdout.buffer.flush()
-        return 0
-    except OSError as error:
-        print(f"relint-page: {output or 'standard output'} can't be written: {error.strerror}", file=sys.stderr)
-        if not output:
-            os.dup2(os.open(os.devnull, os.O_WRONLY), sys.stdout.fileno())
-        return program.WRITE_FAULT
+    gather.tell("relint-page", given)
+    worst = sorted(given.findings, key=lambda it: (it.beyond is not None, *worst_first(it)))[:words.cards]
+    found = findings(given, worst, Sources(given.folders), words.mend)
+    status = program.TREE_FAULT if given.status == program.TREE_FAULT else 0
+    data = page(given, found, link, words.title).encode("utf-8", "backslashreplace")
+    if words.output:
+        return gather.put("relint-page", words.output, data) or status
+    gather.write(data)
+    return status
 
 
 def main(words: Optional[Sequence[str]] = None) -> int:
     """Runs the tool with the words of the command line, and answers the exit status."""
-    given = gather.parsed(_parser(), words)
-    return gather.ended("relint-page", lambda: _written(_made(given), given.output))
+    given = gather.parsed(parser(), words)
+    return gather.ended("relint-page", lambda: _work(given))
 
 
 if __name__ == "__main__":

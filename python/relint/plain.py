@@ -3,58 +3,19 @@ from __future__ import annotations
 
 import re
 import shlex
-from typing import Dict, List, Optional, Tuple
+from typing import Dict, List, Optional, Sequence, Tuple
 
+from .causes import LIMITS, MORE_PAIRS, MOST_PAIRS
+from .causes import words as words_of
 from .reports import Entry, Family, Text, Verdict
+from .writing import visible
 
 NAMES_OF_DEGREES = {0: "bounded", 1: "linear", 2: "quadratic", 3: "cubic"}
 SCALES = ((10**12, "trillion"), (10**9, "billion"), (10**6, "million"))
 FLAG_LETTERS = (("A", re.A), ("I", re.I), ("M", re.M), ("S", re.S), ("X", re.X))
 LAST_WITH_WORDS = 10**15
-PATTERN = "docs/USAGE.md, Patterns that aren't analysed"
-SOURCE = "docs/USAGE.md, Entries that aren't verdicts"
-
-# What each cause means, and the page that helps.
-CAUSES: Dict[str, Tuple[str, str]] = {
-    "not-utf8": ("the file isn't UTF-8: save it as UTF-8", SOURCE),
-    "coding": ("the file names a coding other than UTF-8: save it as UTF-8", SOURCE),
-    "unterminated": ("a string has no end by relint's rules, as with the same quotes nested in an f-string", SOURCE),
-    "file-too-long": ("the file has more than 4,194,304 bytes: split it", SOURCE),
-    "stray-code": ("a character that stands for nothing in Python", SOURCE),
-    "not-whole": ("the pattern is only partly a literal, as in \"a\" + b: write it out in the call", SOURCE),
-    "flags-unknown": ("the flags aren't written out in the call: write them there", SOURCE),
-    "f-string": ("the pattern is an f-string: write it as a plain literal", SOURCE),
-    "mixed": ("bytes and text joined in one literal", SOURCE),
-    "bad-escape": ("a string escape that relint doesn't read: write a raw literal", SOURCE),
-    "named-escape": ("a character given by its name: write the character itself", SOURCE),
-    "not-ascii": ("a character beyond ASCII in a bytes literal", SOURCE),
-    "syntax": ("no valid pattern of re by relint's rules", PATTERN),
-    "too-deep": ("more than 100 groups inside one another", PATTERN),
-    "too-long": ("the pattern has more than 10,000 characters", PATTERN),
-    "locale": ("the flag LOCALE", PATTERN),
-    "flag-clash": ("flags that can't stand together; re refuses them too", PATTERN),
-    "duplicate-name": ("two groups of one name; re refuses them too", PATTERN),
-    "code-too-large": ("an escape above the last character; re refuses it too", PATTERN),
-    "reversed-range": ("a range that runs backward; re refuses it too", PATTERN),
-    "repeat-too-large": ("a repeat count that is too large", PATTERN),
-    "repeat-order": ("a repeat whose least count is above its greatest; re refuses it too", PATTERN),
-    "possessive": ("a possessive quantifier, as a*+", PATTERN),
-    "backreference": ("a backreference, as \\1", PATTERN),
-    "lookaround": ("a lookahead or lookbehind, as (?=a)", PATTERN),
-    "conditional": ("a conditional group, as (?(1)a|b)", PATTERN),
-    "atomic": ("an atomic group, as (?>a)", PATTERN),
-    "inner-anchor": ("a $ before the end of the pattern, without MULTILINE", PATTERN),
-    "unreadable": ("the file or folder can't be read", SOURCE),
-    "too-deep-folder": ("a folder more than 64 levels below the named path", SOURCE),
-    "not-plain": ("neither a file nor a folder, as a symbolic link: name what it points to", SOURCE),
-}
-LIMITS = {
-    "size": "the pattern is too large",
-    "letters": "the pattern tells too many kinds of characters apart",
-    "moves": "too many ways on from one place of the pattern",
-    "sets": "too many sets of places were tried in vain",
-    "pairs": "too many pairs of places: a higher --max-pairs, up to 1000, may decide it",
-}
+# The highest degree whose power of two is written out.
+MOST_SPELLED_OUT = 40
 
 
 def counted(number: int, one: str, many: str = "") -> str:
@@ -104,8 +65,35 @@ def growth_words(verdict: Verdict) -> str:
             return "the steps have a bound, whatever the text"
         if verdict.degree == 1:
             return "the steps grow with the length of the text"
-        return f"twice the length costs up to {2 ** verdict.degree:,} times the steps"
-    return LIMITS.get(verdict.limit or "", "relint can't tell")
+        times = f"{2 ** verdict.degree:,}" if verdict.degree <= MOST_SPELLED_OUT else f"2^{verdict.degree}"
+        return f"twice the length costs up to {times} times the steps"
+    words = LIMITS.get(verdict.limit or "", "relint can't tell")
+    return f"{words}: {MORE_PAIRS}" if verdict.limit == "pairs" and (verdict.over or 0) < MOST_PAIRS else words
+
+
+def listed(parts: Sequence[str], most: int = 4) -> str:
+    """Returns the parts as a list in words, as "a, b and c"."""
+    if len(parts) > most:
+        return ", ".join(parts[:most]) + " and others"
+    return " and ".join([", ".join(parts[:-1]), parts[-1]] if len(parts) > 1 else parts)
+
+
+def exponential_fault(outer: str, inner: Optional[str], text: str) -> str:
+    """Returns why a loop is exponential, by a loop inside it that takes the same text, in one sentence."""
+    if inner is None:
+        return f"the loop {outer} can go over {text} in several ways, and each repeat of the text multiplies them"
+    loops = f"the loop {outer} and the loop {inner} inside it"
+    return f"{loops} can both go on with {text}, so a run of it can be cut in many ways"
+
+
+def polynomial_fault(loops: Sequence[str], text: str, is_shared: bool, is_search: bool) -> str:
+    """Returns why loops cost a power of the length, in one sentence; `is_shared` says that each of them takes the text."""
+    if len(loops) > 1:
+        shared = f"such as {text}, " if is_shared else ""
+        return f"the loops {listed(loops)} share characters, {shared}so a run of them can be divided in many ways"
+    if is_search:
+        return f"the loop {loops[0]} takes a run of {text}, and the search tries it anew from each character of the run"
+    return f"the loop {loops[0]} takes a run of {text}, in more ways the longer the run is"
 
 
 def not_analysed(entry: Entry) -> Optional[str]:
@@ -123,7 +111,7 @@ def outcome_words(entry: Entry) -> str:
     if verdict:
         return f"{class_word(verdict)}: {growth_words(verdict)}"
     cause = not_analysed(entry) or ""
-    words = CAUSES.get(cause, (cause, ""))[0]
+    words = (words_of(cause) or (cause, ""))[0]
     at = f", at {entry.fault.line}:{entry.fault.column}" if entry.fault else ""
     return f"not analysed ({cause}{at}): {words}"
 
@@ -165,8 +153,11 @@ def quoted(text: Text) -> str:
     found = [it if isinstance(it, int) else ord(it) for it in text]
     mark = "b" if is_bytes else ""
     if all(0x20 <= it <= 0x7E and it != 0x22 for it in found) and (not found or found[-1] != 0x5C):
-        return f'{mark}{"r" if 0x5C in found else ""}"{"".join(map(chr, found))}"'
-    return f'{mark}"{"".join(_escaped(it, is_bytes) for it in found)}"'
+        written = "".join(map(chr, found))
+        if visible(written) == written:
+            return f'{mark}{"r" if 0x5C in found else ""}"{written}"'
+    # (what a build server would obey is written otherwise too)
+    return f'{mark}"{visible("".join(_escaped(it, is_bytes) for it in found))}"'
 
 
 def family_code(family: Family, k: int) -> str:
@@ -215,10 +206,5 @@ def snippet(pattern: Text, flags: int, mode: str, family: Family, counts: str) -
 
 
 def shell_line(code: str) -> str:
-    """Returns a line for a shell that runs the Python code."""
-    return f"python3 -c {shlex.quote(code)}"
-
-
-def visible(text: str) -> str:
-    """Returns a text with everything that a terminal could take as a command written as an escape."""
-    return "".join(it if it.isprintable() else it.encode("unicode_escape").decode("ascii") for it in text)
+    """Returns a line for a shell that runs the Python code, and takes no module of the current folder for one of Python."""
+    return f"python3 -I -c {shlex.quote(code)}"

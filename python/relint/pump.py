@@ -154,6 +154,31 @@ def culprits(
     return _overlapping(asked, mode, verdict.degree or 0, family) if (verdict.degree or 0) > 1 else ()
 
 
+def inner_loop(
+    meter: Meter, pattern: Text, flags: int, family: Family, outer: Tuple[int, int],
+) -> Optional[Tuple[int, int]]:
+    """Returns the shortest repeated part inside an exponential one that takes the repeated text too, or None."""
+    asked = _Asked(meter, pattern, flags)
+    for part in asked.parts:
+        if outer[0] <= part.start and part.end <= outer[1] and (part.start, part.end) != outer:
+            word = asked.word(part)
+            if word is not None and asked.takes(word, [it for pump in family.pumps if pump for it in _rotated(pump)]):
+                return part.start, part.end
+    return None
+
+
+def shared_text(
+    meter: Meter, pattern: Text, flags: int, family: Family, parts: Sequence[Tuple[int, int]],
+) -> Optional[Text]:
+    """Returns a repeated text of the family that each of these parts takes, or None."""
+    asked = _Asked(meter, pattern, flags)
+    words = [asked.word(it) for it in asked.parts if (it.start, it.end) in parts]
+    for text in (it for it in family.pumps if it):
+        if words and all(it is not None and asked.takes(it, [text]) for it in words):
+            return text
+    return None
+
+
 def _exponential(asked: _Asked, family: Family) -> Tuple[Tuple[int, int], ...]:
     for part in asked.parts:
         word = asked.word(part)

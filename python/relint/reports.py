@@ -1,15 +1,31 @@
 """Reports of relint in JSON, read into values with names.
 
-`read_report` takes the text of `relint check --format json` (report version 1 or 2) and answers a `Report`.
+`read_report` takes the text of `relint check --format json` (report version 1 or 2) and answers a `Report`. Anyone may have
+written the text, so each part of it is checked: its size, its types, its numbers, and the names that relint has.
 """
 from __future__ import annotations
 
 import ast
 import json
-from dataclasses import dataclass
-from typing import Any, Dict, List, Optional, Tuple, Union
+import re
+from dataclasses import dataclass, replace
+from typing import IO, Any, Callable, Collection, List, Optional, Sequence, Tuple, Union
+
+from . import causes
+from .beyond import CELL, Beyond, BeyondError, read_beyond
+from .opening import is_below
 
 Text = Union[str, bytes]
+
+MOST_BYTES = 268_435_456
+# Lists and objects hold memory, so a report may have one for so many bytes, as relint's own have far fewer.
+BYTES_A_PART, PARTS_ANYHOW = 16, 10_000
+MOST_NUMBER, MOST_DEGREE, MOST_CODES = 4_294_967_295, 999_999, 1_000_000
+CALLS = ("compile", "match", "search", "fullmatch", "findall", "finditer", "split", "sub", "subn")
+CAUSES = frozenset((*causes.CAUSES, *causes.OLDER))
+# The two forms of a quoted text: raw without an escape, and with those escapes that relint writes.
+QUOTED = re.compile(
+    r'''b?(?:r"[^"\x00-\x1f]*"|"(?:[^"\\\x00-\x1f]|\\[\\"nrt]|\\x[0-9a-f]{2}|\\u[0-9a-f]{4}|\\U[0-9a-f]{8})*")''')
 
 KINDS = ("degree", "exponential", "undecided", "refused", "unreadable", "too-deep-folder", "not-plain")
 
@@ -63,7 +79,10 @@ class Verdict:
 
 @dataclass(frozen=True)
 class Entry:
-    """One entry of a report. `place` is that of the site's first literal; `fault` that of a refusal inside it."""
+    """One entry of a report. `place` is that of the site's first literal; `fault` that of a refusal inside it.
+
+    `beyond` is there for an entry of relint-wide, which isn't proved as the others are.
+    """
 
     path: str
     kind: str
@@ -80,6 +99,7 @@ class Entry:
     passed: Tuple[Place, ...] = ()
     suggest: Optional[Text] = None
     becomes: Optional[Verdict] = None
+    beyond: Optional[Beyond] = None
 
     def verdict(self) -> Optional[Verdict]:
         """Returns the entry's class, or None where it wasn't judged."""
@@ -117,70 +137,171 @@ class Report:
     version: int
 
 
-def read_text(quoted: str) -> Text:
+def read_text(quoted: Any) -> Text:
     """Returns the text or bytes that a quoted text of relint is, as r"00" or b"\\xff"."""
+    if not isinstance(quoted, str) or not QUOTED.fullmatch(quoted):
+        raise ReportError("a text that isn't quoted as relint quotes it")
     try:
-        value = ast.literal_eval(quoted)
+        value: Text = ast.literal_eval(quoted)
     except (ValueError, SyntaxError) as error:
-        raise ReportError(f"no quoted text: {quoted[:60]}") from error
-    if not isinstance(value, (str, bytes)):
-        raise ReportError(f"no quoted text: {quoted[:60]}")
+        raise ReportError("a text that isn't quoted as relint quotes it") from error
+    return value
+
+
+def _text(found: Any, key: str, known: Optional[Collection[str]] = None) -> str:
+    """A text of an object, one of the known ones where these are given."""
+    value = found[key]
+    if not isinstance(value, str) or not value or "\0" in value or (known is not None and value not in known):
+        raise ReportError(f"{key} is no text, or none that relint writes")
+    try:
+        value.encode("utf-8")
+    except UnicodeEncodeError as error:
+        raise ReportError(f"{key} is no text that UTF-8 has") from error
+    return value
+
+
+def _number(found: Any, key: str, least: int = 0, most: int = MOST_NUMBER) -> int:
+    value = found[key]
+    if type(value) is not int or not least <= value <= most:
+        raise ReportError(f"{key} is no number from {least} to {most}")
     return value
 
 
 def _place(found: Any) -> Place:
-    return Place(int(found["line"]), int(found["column"]))
+    return Place(_number(found, "line", 1), _number(found, "column", 1))
 
 
-def _places(found: Any) -> Tuple[Place, ...]:
-    return tuple(_place(it) for it in found)
+def _places(found: Any, key: str) -> Tuple[Place, ...]:
+    return tuple(_place(it) for it in _list(found.get(key, [])))
+
+
+def _list(value: Any) -> List[Any]:
+    if not isinstance(value, list):
+        raise ReportError("a list is no list")
+    return value
 
 
 def _family(found: Any) -> Family:
-    heads = tuple(read_text(it) for it in found["heads"])
-    pumps = tuple(read_text(it) for it in found["pumps"])
-    if len(heads) != len(pumps) + 1:
+    heads = tuple(read_text(it) for it in _list(found["heads"]))
+    pumps = tuple(read_text(it) for it in _list(found["pumps"]))
+    if len(heads) != len(pumps) + 1 or len({type(it) for it in (*heads, *pumps)}) != 1:
         raise ReportError("a family whose heads and pumps don't go together")
+    if sum(map(len, (*heads, *pumps))) > MOST_CODES:
+        raise ReportError(f"a family of more than {MOST_CODES:,} characters")
     return Family(heads, pumps)
 
 
 def _verdict(found: Any) -> Verdict:
-    return Verdict(found["kind"], found.get("degree"), found.get("limit"), found.get("over"))
+    kind = _text(found, "kind", KINDS[:3])
+    if kind == "degree":
+        return Verdict(kind, _number(found, "degree", 0, MOST_DEGREE))
+    if kind == "undecided":
+        return Verdict(kind, None, _text(found, "limit", causes.LIMITS), _number(found, "over"))
+    return Verdict(kind)
 
 
-def _entry(found: Dict[str, Any]) -> Entry:
-    kind = found["kind"]
-    if kind not in KINDS:
-        raise ReportError(f"an entry of a kind that relint doesn't have: {kind!r}")
+def _entry(found: Any) -> Entry:
+    kind = _text(found, "kind", KINDS)
+    verdict = _verdict(found) if kind in KINDS[:3] else Verdict(kind)
     return Entry(
-        path=found["path"],
+        path=_text(found, "path"),
         kind=kind,
-        place=_place(found) if "line" in found else None,
-        call=found.get("call"),
-        degree=found.get("degree"),
-        limit=found.get("limit"),
-        over=found.get("over"),
-        cause=found.get("cause"),
+        place=_place(found) if "line" in found or "column" in found else None,
+        call=_text(found, "call", CALLS) if "call" in found else None,
+        degree=verdict.degree,
+        limit=verdict.limit,
+        over=verdict.over,
+        cause=_text(found, "cause", CAUSES) if kind == "refused" else None,
         fault=_place(found["fault"]) if "fault" in found else None,
         family=_family(found["family"]) if "family" in found else None,
-        dropped=_places(found.get("dropped", ())),
-        merged=_places(found.get("merged", ())),
-        passed=_places(found.get("passed", ())),
+        dropped=_places(found, "dropped"),
+        merged=_places(found, "merged"),
+        passed=_places(found, "passed"),
         suggest=read_text(found["suggest"]) if "suggest" in found else None,
         becomes=_verdict(found["becomes"]) if "becomes" in found else None,
     )
 
 
-def read_report(text: Union[str, bytes]) -> Report:
-    """Returns the report that the JSON text is. Raises ReportError where it is none."""
+def _beyond(found: Any) -> Entry:
+    """An entry of relint-wide."""
     try:
-        found = json.loads(text)
-    except ValueError as error:
-        raise ReportError(f"the report is no JSON: {error}") from error
+        return replace(_entry(found), beyond=read_beyond(found["beyond"]))
+    except BeyondError as error:
+        raise ReportError(f"what relint-wide adds isn't in its form: {error}") from error
+
+
+def _entries(found: List[Any], read: Callable[[Any], Entry] = _entry) -> Tuple[Entry, ...]:
+    entries: List[Entry] = []
+    for it in found:
+        try:
+            entries.append(read(it))
+        except ReportError as error:
+            raise ReportError(f"entry {len(entries) + 1} of the report: {error}") from error
+        except (KeyError, TypeError, AttributeError) as error:
+            raise ReportError(f"entry {len(entries) + 1} of the report lacks what such an entry has") from error
+    return tuple(entries)
+
+
+def read_report(text: Text) -> Report:
+    """Returns the report that the JSON text is. Raises ReportError where it is none, or larger than any that relint writes."""
+    found = _json(text)
     if not isinstance(found, dict) or found.get("version") not in (1, 2) or not isinstance(found.get("entries"), list):
         raise ReportError("this JSON is no report of relint check --format json")
+    entries = _entries(found["entries"]) + _entries(_list(found.get("beyond", [])), _beyond)
     try:
-        entries = tuple(_entry(it) for it in found["entries"])
-        return Report(entries, int(found["findings"]), int(found["refused"]), int(found["undecided"]), found["version"])
-    except (KeyError, TypeError, AttributeError, ValueError) as error:
-        raise ReportError(f"an entry of the report lacks what every entry has: {error}") from error
+        counts = [_number(found, key) for key in ("findings", "refused", "undecided", "version")]
+    except KeyError as error:
+        raise ReportError(f"the report lacks the number of {error}") from error
+    return Report(entries, *counts)
+
+
+def _json(text: Text) -> Any:
+    """The value of a JSON text. Raises ReportError where it has none, or takes too much."""
+    data = text.encode("utf-8", "surrogatepass") if isinstance(text, str) else text
+    if len(data) > MOST_BYTES:
+        raise ReportError(f"the report has more than {MOST_BYTES:,} bytes")
+    if data.count(b"[") + data.count(b"{") > len(data) // BYTES_A_PART + PARTS_ANYHOW:
+        raise ReportError("the report has more lists and objects than any report of relint of its size")
+    try:
+        return json.loads(data.decode("utf-8"), parse_int=_whole, parse_float=_no_number, parse_constant=_no_number)
+    except RecursionError as error:
+        raise ReportError("the report is nested too deep") from error
+    except ValueError as error:
+        raise ReportError(f"the report is no JSON: {error}") from error
+
+
+def _whole(digits: str) -> int:
+    # (Python takes long for the value of a million digits)
+    return int(digits) if len(digits) < 20 else _no_number(digits)
+
+
+def _no_number(_: str) -> int:
+    raise ReportError("the report has a number that relint doesn't write")
+
+
+def read_stream(stream: IO[bytes]) -> bytes:
+    """Returns the bytes of a report from a stream. Raises ReportError where there are more than any report may have."""
+    data = stream.read(MOST_BYTES + 1)
+    if len(data) > MOST_BYTES:
+        raise ReportError(f"the report has more than {MOST_BYTES:,} bytes")
+    return data
+
+
+def check_paths(report: Report, folders: Sequence[str]) -> None:
+    """Raises ReportError where an entry names a path outside of all these folders, which a tool would then open."""
+    paths = dict.fromkeys(it.path for it in report.entries)
+    lost = next((it for it in paths if not is_below(it, folders)), None)
+    if lost is not None:
+        within = " and ".join("the current folder" if it == "." else it for it in folders)
+        raise ReportError(f"the report names {lost}, which lies outside of {within}")
+
+
+def own_of(entries: Sequence[Entry]) -> Tuple[Entry, ...]:
+    """Returns the entries that are relint's own: those that relint-wide found are left out."""
+    return tuple(it for it in entries if it.beyond is None)
+
+
+def file_of(entry: Entry) -> str:
+    """Returns the path of an entry's file: that of the notebook where the entry is in a cell."""
+    is_in_cell = entry.beyond is not None and entry.beyond.cell is not None
+    return entry.path.rpartition(CELL)[0] if is_in_cell else entry.path

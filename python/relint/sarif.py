@@ -7,73 +7,84 @@ import os
 from typing import Any, Dict, List, Optional, Sequence
 from urllib.parse import quote
 
-from . import plain
+from . import explain, plain, rules
+from .beyond import ELSEWHERE, HANG, KIND_WORDS
+from .command_line import version
 from .facts import Finding, Sources, site_of
 from .reports import Entry
 from .sites import Site, Source
 
 TAGS = ["security", "CWE-1333", "external/cwe/cwe-1333"]
-HELP = (
-    "relint counts the steps of a backtracking matcher such as CPython's re. {what} Whoever chooses the text can keep a "
-    "processor busy for as long as they like (ReDoS, CWE-1333). docs/MENDING.md shows how such patterns are rewritten, and "
-    "how relint compare tells whether the new one matches the same texts."
-)
-# For each kind of entry: its level, its name, one line, and more.
-RULES = {
-    "exponential": (
-        "error", "ExponentialPattern", "A pattern whose matching time doubles with every few characters of a text",
-        HELP.format(what="For this pattern every few characters more double the steps."), TAGS,
-    ),
-    "degree": (
-        "warning", "PolynomialPattern", "A pattern whose matching time grows with a high power of the text's length",
-        HELP.format(what="For this pattern the steps grow with the power of the length that the degree names."), TAGS,
-    ),
-    "undecided": (
-        "note", "UndecidedPattern", "A pattern that passes a limit of relint, so that nothing is said of its time",
-        "The message names the limit. Where it is pairs, a higher --max-pairs (up to 1000) may decide it. See docs/USAGE.md.",
-        ["CWE-1333"],
-    ),
-    "refused": (
-        "note", "NotAnalysed", "A pattern or file that relint doesn't analyse",
-        "The message names the cause, and docs/USAGE.md says for each cause what helps.", ["CWE-1333"],
-    ),
+NO_CLASS_TAGS = ["CWE-1333"]
+LEVELS = {"exponential": "error", "degree": "warning"}
+SEVERITIES = {"error": "7.5", "warning": "5.0"}
+SHORT = {
+    "exponential": "A pattern whose matching time doubles with every few characters of a text",
+    "degree": "A pattern whose matching time grows with a high power of the text's length",
+    "undecided": "A pattern that passes a limit of relint, so that nothing is said of its time",
+    "refused": "A pattern or file that relint doesn't analyse",
+    ELSEWHERE: "A pattern that is put together from parts, or isn't in a call of re, and whose matching can be extremely slow",
+    HANG: "A pattern that relint doesn't analyse, and that was seen to hang on a made text",
 }
-FILE_RULE = "refused"
 
 
-def _rule(kind: str) -> str:
-    return kind if kind in RULES else FILE_RULE
+def _kind(entry: Entry) -> str:
+    if entry.beyond is not None and entry.verdict() is not None:
+        return entry.beyond.kind
+    return entry.kind if entry.kind in SHORT else "refused"
 
 
-def _rules() -> List[Dict[str, Any]]:
-    rules = []
-    for kind, (level, name, short, text, tags) in RULES.items():
-        properties: Dict[str, Any] = {"precision": "very-high", "tags": tags}
-        if level != "note":
-            properties["problem.severity"] = level
-            properties["security-severity"] = "7.5" if level == "error" else "5.0"
-        rules.append({
-            "defaultConfiguration": {"level": level},
-            "fullDescription": {"text": short + "."},
-            "help": {"markdown": text, "text": text},
-            "id": kind,
-            "name": name,
-            "properties": properties,
-            "shortDescription": {"text": short},
-        })
-    return rules
+def _level(entry: Entry) -> str:
+    return LEVELS.get(entry.kind, "note")
+
+
+def _help(rule: int) -> str:
+    """What the page of rules says of a rule; a short word where the pages aren't installed."""
+    try:
+        return explain.rule(rule)[1]
+    except explain.NotExplained as error:
+        return str(error)
+
+
+def _rule(entry: Entry) -> Dict[str, Any]:
+    """The rule of an entry, with its full help."""
+    number, level, short = rules.number(entry), _level(entry), SHORT[_kind(entry)]
+    is_judged = entry.kind in LEVELS
+    precision = "very-high" if entry.beyond is None else "high"
+    properties: Dict[str, Any] = {"precision": precision, "tags": TAGS if is_judged else NO_CLASS_TAGS}
+    if is_judged:
+        properties["problem.severity"] = level
+        properties["security-severity"] = SEVERITIES[level]
+    text = _help(number)
+    return {
+        "defaultConfiguration": {"level": level},
+        "fullDescription": {"text": short + "."},
+        "help": {"markdown": text, "text": text},
+        "id": rules.code(entry),
+        "name": rules.name(number),
+        "properties": properties,
+        "shortDescription": {"text": short},
+    }
 
 
 def _uri(path: str) -> str:
-    coded = quote(path.encode("utf-8", "surrogateescape"), safe="/-._~")
+    # (a report may name what no file is called, with halves of characters: they are kept as they are)
+    coded = quote(path.encode("utf-8", "surrogatepass" if _has_half(path) else "surrogateescape"), safe="/-._~")
     return "file://" + coded if os.path.isabs(path) else coded
+
+
+def _has_half(path: str) -> bool:
+    """Whether a path has a surrogate that doesn't stand for a byte of a name."""
+    return any("\ud800" <= it < "\udc80" or "\udcff" < it <= "\udfff" for it in path)
 
 
 def _region(entry: Entry, source: Optional[Source], site: Optional[Site]) -> Optional[Dict[str, int]]:
     if entry.place is None:
         return None
     region = {"startColumn": entry.place.column, "startLine": entry.place.line}
-    if source and site:
+    if entry.beyond is not None:
+        region.update({"endLine": entry.beyond.end[0], "endColumn": entry.beyond.end[1]})
+    elif source and site:
         end = source.place(site.literals[-1].end)
         region.update({"endColumn": end.column, "endLine": end.line})
     return region
@@ -87,7 +98,8 @@ class _Prints:
 
     def of(self, entry: Entry, site: Optional[Site]) -> str:
         pattern = f"{plain.quoted(site.value)} {site.flags}" if site else ""
-        key = json.dumps([entry.path, entry.call, entry.kind, entry.degree, entry.limit, entry.cause, pattern])
+        beyond = [entry.beyond.kind] if entry.beyond else []
+        key = json.dumps([entry.path, entry.call, entry.kind, entry.degree, entry.limit, entry.cause, pattern, *beyond])
         count = self._seen[key] = self._seen.get(key, 0) + 1
         return hashlib.sha256(f"{key} {count}".encode("utf-8")).hexdigest()
 
@@ -95,49 +107,75 @@ class _Prints:
 def _message(entry: Entry, found: Optional[Finding]) -> str:
     if found is None:
         return plain.outcome_words(entry)
-    verdict = entry.verdict()
+    verdict = found.judged.verdict()
     parts = [f"{entry.call}: {plain.class_word(verdict)}: {found.words()}." if verdict else found.words()]
-    fault = found.parts_at_fault()
+    fault = found.fault_words()
     if fault:
-        parts.append("Part at fault: " + " and ".join(fault))
+        parts.append(f"Culprit: {fault}.")
+    if entry.beyond is not None:
+        parts.append(f"{KIND_WORDS[entry.beyond.kind].capitalize()}: {plain.quoted(entry.beyond.pattern)}")
+        parts += [it for it in (entry.beyond.held_words(entry.path), *entry.beyond.notes) if it]
     code = found.code()
     if code:
         parts.append("To see it: " + plain.shell_line(code))
-    if entry.suggest is not None:
-        becomes = f" ({plain.class_word(entry.becomes)})" if entry.becomes else ""
-        parts.append(f"The same texts are matched by {plain.quoted(entry.suggest)}{becomes}")
-    if found.cure:
-        parts.append(f"Cure: {plain.quoted(found.cure.pattern)} ({found.cure.words()})")
+    for offer in found.offers:
+        parts.append(f"{offer.kind.capitalize()}: {offer.shown()} ({plain.class_word(offer.verdict)}; {offer.words})")
     return "\n".join(parts)
 
 
-def _result(entry: Entry, found: Optional[Finding], sources: Sources, prints: _Prints) -> Dict[str, Any]:
+def _result(entry: Entry, found: Optional[Finding], sources: Sources, prints: _Prints, index: int) -> Dict[str, Any]:
     source, site = (found.source, found.site) if found else site_of(sources, entry)
     place: Dict[str, Any] = {"artifactLocation": {"uri": _uri(entry.path)}}
     region = _region(entry, source, site)
     if region:
         place["region"] = region
-    rule = _rule(entry.kind)
+    fixes = _fixes(found, region) if found and region else []
     return {
-        "level": RULES[rule][0],
+        **({"fixes": fixes} if fixes else {}),
+        "level": _level(_judged(entry, found)),
         "locations": [{"physicalLocation": place}],
         "message": {"text": _message(entry, found)},
         "partialFingerprints": {"relintPattern/v1": prints.of(entry, site)},
-        "ruleId": rule,
-        "ruleIndex": list(RULES).index(rule),
+        "ruleId": rules.code(_judged(entry, found)),
+        "ruleIndex": index,
     }
 
 
-def document(entries: Sequence[Entry], found: Sequence[Finding], sources: Sources) -> str:
-    """Returns the report in SARIF, on one line: the findings, and the entries that weren't decided or analysed."""
+def _judged(entry: Entry, found: Optional[Finding]) -> Entry:
+    return found.judged if found else entry
+
+
+def _fixes(found: Finding, region: Dict[str, int]) -> List[Dict[str, Any]]:
+    """The fixes of a finding, each of which puts other literals in the place of the pattern's; advice is none."""
+    where = {"uri": _uri(found.entry.path)}
+    return [{
+        "artifactChanges": [{
+            "artifactLocation": where,
+            "replacements": [{"deletedRegion": region, "insertedContent": {"text": it.literal}}],
+        }],
+        "description": {"text": f"{plain.class_word(it.verdict)}; {it.words}"},
+    } for it in found.offers if it.kind == "fix"]
+
+
+def document(
+    entries: Sequence[Entry], found: Sequence[Finding], sources: Sources, passed: str = ""
+) -> str:
+    """Returns the report in SARIF, on one line: the findings, and the entries that weren't decided or analysed.
+
+    Its rules are those of the results, each with its page as help; `passed` says what wasn't looked at.
+    """
     known = {id(it.entry): it for it in found}
+    shown = [it for it in entries if id(it) in known or it.kind != "degree"]
+    judged = [_judged(it, known.get(id(it))) for it in shown]
+    first = {rules.code(it): it for it in reversed(judged)}
+    order = {code: number for number, code in enumerate(sorted(first))}
     prints = _Prints()
-    results = [
-        _result(it, known.get(id(it)), sources, prints)
-        for it in entries
-        if id(it) in known or it.kind != "degree"
-    ]
-    driver = {"name": "relint", "rules": _rules()}
-    runs = [{"columnKind": "unicodeCodePoints", "results": results, "tool": {"driver": driver}}]
-    whole = {"$schema": "https://json.schemastore.org/sarif-2.1.0.json", "runs": runs, "version": "2.1.0"}
+    results = [_result(it, known.get(id(it)), sources, prints, order[rules.code(one)]) for it, one in zip(shown, judged)]
+    said = version()
+    driver = {"name": "relint", "rules": [_rule(first[it]) for it in order], "semanticVersion": said, "version": said}
+    run: Dict[str, Any] = {"columnKind": "unicodeCodePoints", "results": results, "tool": {"driver": driver}}
+    if passed:
+        notes = [{"level": "note", "message": {"text": passed}}]
+        run["invocations"] = [{"executionSuccessful": True, "toolExecutionNotifications": notes}]
+    whole = {"$schema": "https://json.schemastore.org/sarif-2.1.0.json", "runs": [run], "version": "2.1.0"}
     return json.dumps(whole, separators=(",", ":"), sort_keys=True)

@@ -5,17 +5,25 @@ import argparse
 import os
 import sys
 import unicodedata
-from typing import Iterator, List, Optional, Sequence, TextIO, Tuple
+from typing import Iterator, List, Mapping, Optional, Sequence, TextIO, Tuple
 
-from . import gather, github, plain, program, sarif
-from .facts import Finding, Sources, findings
+from . import explain, gather, github, plain, rules, sarif, summary
+from .beyond import KIND_WORDS, TITLES
+from .causes import TIME
+from .command_line import Parser, number, one_of
+from .facts import Finding, Looked, Sources, looked_at, worst_first
 from .reports import Entry, Place
 from .sites import Source
+from .writing import SERVER_COMMAND, is_seen, line, visible
 
 MOST_LINES = 8
+MOST_IN_FULL = 100
+# Entries that are no verdict because relint couldn't look or had no time: each is named, and the status is 3.
+ALWAYS_NAMED = (TIME, "unreadable")
 TAB = 4
 COLOURS = {"error": "1;31", "warning": "1;33", "place": "1", "dim": "2", "mark": "1;31", "part": "1;36", "good": "32"}
-MENDING = "docs/MENDING.md shows how such patterns are rewritten"
+UNSEEN = "\N{REPLACEMENT CHARACTER}"
+MENDING = "relint-show --explain mending shows how such patterns are rewritten"
 
 
 class Painter:
@@ -28,27 +36,38 @@ class Painter:
         return f"\x1b[{COLOURS[name]}m{text}\x1b[0m" if self.on and text else text
 
 
-def _parser() -> argparse.ArgumentParser:
-    parser = gather.OneLineParser(
-        prog="relint-show",
-        description="Shows the findings of relint check with their source lines, in plain words.",
-        epilog="The exit status is that of relint: 0 without a finding, 1 with findings, 2 to 6 for errors.",
-        allow_abbrev=False,
-    )
-    gather.add_options(parser)
-    parser.add_argument("--all", action="store_true", help="also name each entry that isn't a finding, in one line")
-    parser.add_argument("--format", choices=("terminal", "github", "sarif"), default="terminal",
-                        help="for a terminal, for build servers that show findings in place, or SARIF with rules (terminal)")
-    parser.add_argument("--color", choices=("always", "never", "auto"), default="auto",
-                        help="auto: on a terminal, unless NO_COLOR is set")
-    parser.add_argument("--mend", action="store_true", help="also show a cure that relint-mend finds")
-    return parser
+def parser() -> Parser:
+    """Returns the reader of the tool's words."""
+    found = Parser("relint-show", "Shows the findings of relint check with their source lines, in plain words.",
+                   "The exit status is 0 without a finding, 1 with findings, 2 to 6 for errors.")
+    gather.add_options(found)
+    gather.add_time_options(found)
+    add_view_options(found)
+    found.add_argument("--format", type=one_of("terminal", "github", "sarif"), default="terminal", metavar="FORMAT",
+                       help="terminal; github, which servers show in place; or sarif (terminal)")
+    found.add_argument("--mend", action="store_true", help="also show the cures that relint-mend finds")
+    found.add_argument("--explain", metavar="TOPIC",
+                       help="print what there is to say of a rule (RLT100), a cause or a page (mending), and exit")
+    return found
 
 
-def _is_coloured(choice: str, out: TextIO) -> bool:
+def add_view_options(found: argparse.ArgumentParser) -> None:
+    """Adds the options that say what is shown, in which order, and where."""
+    found.add_argument("--all", action="store_true", help="also name each entry that isn't a finding, in one line")
+    found.add_argument("--most", type=number(0, 999999), default=MOST_IN_FULL, metavar="N",
+                       help=f"how many findings are shown in full ({MOST_IN_FULL}); the others have one line each")
+    found.add_argument("--sort", type=one_of("worst", "place"), default="worst", metavar="ORDER",
+                       help="worst first, or by place (worst)")
+    found.add_argument("--color", type=one_of("always", "never", "auto"), default="auto", metavar="WHEN",
+                       help="always, never or auto: on a terminal, unless NO_COLOR is set (auto)")
+    found.add_argument("--output", "-o", metavar="FILE", help="the file to write, instead of standard output")
+
+
+def is_coloured(choice: str, out: Optional[TextIO]) -> bool:
+    """Returns whether there are colours on what is written to, for what --color says."""
     if choice != "auto":
         return choice == "always"
-    return out.isatty() and not os.environ.get("NO_COLOR") and os.environ.get("TERM") != "dumb"
+    return out is not None and out.isatty() and not os.environ.get("NO_COLOR") and os.environ.get("TERM") != "dumb"
 
 
 def _width(text: str) -> int:
@@ -64,7 +83,7 @@ def _cells(text: str) -> List[str]:
         if it == "\t":
             cells.append(" " * TAB)
         else:
-            cells.append(it if it.isprintable() or unicodedata.combining(it) else "\N{REPLACEMENT CHARACTER}")
+            cells.append(it if is_seen(it) else UNSEEN)
     return cells
 
 
@@ -90,35 +109,48 @@ def _spans_on(source: Source, number: int, spans: Sequence[Tuple[int, int, str]]
 
 
 def _source_lines(found: Finding, paint: Painter) -> Iterator[str]:
-    source, site = found.source, found.site
+    source = found.source
     if source is None:
         return
     first = found.place().line
     spans: List[Tuple[int, int, str]] = []
     last = first
-    if site:
-        spans = [(it.start, it.end, "~") for it in site.literals]
+    code = found.code_spans()
+    if code:
+        spans = [(start, end, "~") for start, end in code]
         spans += [(start, end, "^") for start, end in found.spans_at_fault()]
-        last = source.place(site.literals[-1].end - 1).line
+        last = source.place(code[-1][1] - 1).line
     size = len(str(min(last, first + MOST_LINES)))
-    for number in range(first, min(last, first + MOST_LINES - 1) + 1):
-        cells = _cells(source.line(number))
-        yield paint("dim", f"{number:>{size}} | ") + "".join(cells).rstrip()
-        marks = _marks(cells, _spans_on(source, number, spans))
+    for at in range(first, min(last, first + MOST_LINES - 1) + 1):
+        cells = _cells(source.line(at))
+        yield paint("dim", f"{at:>{size}} | ") + SERVER_COMMAND.sub(f"#{UNSEEN}", "".join(cells).rstrip())
+        marks = _marks(cells, _spans_on(source, at, spans))
         if marks:
             yield paint("dim", f"{'':>{size}} | ") + paint("mark", marks)
     if last > first + MOST_LINES - 1:
         yield paint("dim", f"{'':>{size}} | .. {plain.counted(last - first - MOST_LINES + 1, 'line')} more")
 
 
-def _head(entry: Entry, level: str, words: str, paint: Painter) -> str:
+def head(entry: Entry, level: str, words: str, paint: Painter) -> str:
+    """Returns the line that names an entry, with its place, its call, some words and its code."""
+    if entry.beyond is not None and entry.verdict() is not None:
+        words = f"{KIND_WORDS[entry.beyond.kind]}: {words}"
     at = f":{entry.place.line}:{entry.place.column}" if entry.place else ""
     call = f"{entry.call}: " if entry.call else ""
-    return f"{paint('place', plain.visible(entry.path) + at)}: {call}{paint(level, words)}"
+    return f"{paint('place', line(entry.path) + at)}: {call}{paint(level, words)} {paint('dim', f'[{rules.code(entry)}]')}"
 
 
-def _details(found: Finding, paint: Painter) -> Iterator[Tuple[str, str]]:
-    family = found.entry.family
+def _details(found: Finding, paint: Painter, compile_as: str) -> Iterator[Tuple[str, str]]:
+    family, beyond = found.judged.family, found.entry.beyond
+    if beyond is not None:
+        yield "pattern", plain.quoted(beyond.pattern) + plain.flags_code(beyond.flags)
+        if beyond.held:
+            yield "from", visible(beyond.held_words(found.entry.path))
+        for note in beyond.notes:
+            yield "note", visible(note)
+    used = found.used_words(compile_as)
+    if used:
+        yield "used", used
     if family and found.at_fault:
         yield "culprit", found.fault_words()
     code = found.code()
@@ -126,98 +158,165 @@ def _details(found: Finding, paint: Painter) -> Iterator[Tuple[str, str]]:
         yield "try", plain.shell_line(code)
     elif family:
         yield "texts", plain.family_words(family)
-    if found.entry.suggest is not None:
-        becomes = f"   {plain.class_word(found.entry.becomes)}" if found.entry.becomes else ""
-        yield "instead", paint("good", plain.quoted(found.entry.suggest)) + becomes
-    if found.cure:
-        yield "cure", f"{paint('good', plain.quoted(found.cure.pattern))}   {found.cure.words()}"
-    if found.entry.suggest is None and not found.cure:
+    for offer in found.offers:
+        yield offer.kind, paint("good", offer.shown()) + f"   {plain.class_word(offer.verdict)}; {offer.words}"
+    if not found.offers:
         yield "help", MENDING
 
 
-def finding_lines(found: Finding, paint: Painter) -> Iterator[str]:
-    """Gives the lines that show a finding on a terminal."""
-    verdict = found.entry.verdict()
-    level = "error" if found.entry.kind == "exponential" else "warning"
-    yield _head(found.entry, level, plain.class_word(verdict) if verdict else "", paint)
+def _level(entry: Entry) -> str:
+    return "error" if entry.kind == "exponential" else "warning"
+
+
+def finding_lines(found: Finding, paint: Painter, is_warning: bool = False, compile_as: str = "search") -> Iterator[str]:
+    """Gives the lines that show a finding on a terminal, or an entry that is only warned of."""
+    verdict = found.judged.verdict()
+    words = (plain.class_word(verdict) if verdict else "") + (", a warning" if is_warning else "")
+    yield head(found.judged, _level(found.judged), words, paint)
     yield from (f"  {it}" for it in _source_lines(found, paint))
     yield f"  {paint('dim', 'cost:   ')} {found.words()}"
-    for name, words in _details(found, paint):
-        yield f"  {paint('dim', f'{name + chr(58):<8}')} {words}"
+    for name, said in _details(found, paint, compile_as):
+        yield f"  {paint('dim', f'{name + chr(58):<8}')} {said}"
     yield ""
 
 
-def summary(given: gather.Gathered) -> str:
-    """Returns the line of counts: entries, findings, and what wasn't decided or analysed, by cause."""
-    entries = given.report.entries
-    if given.files == 0:
-        return "no Python files"
-    parts = [plain.counted(len(given.findings), "finding")]
-    undecided = plain.limits(entries)
-    if undecided:
-        parts.append(f"{sum(it for _, it in undecided):,} undecided ({_by_count(undecided)})")
-    causes = plain.causes(entries)
-    if causes:
-        parts.append(f"{sum(it for _, it in causes):,} not analysed ({_by_count(causes)})")
-    return f"{plain.counted(len(entries), 'entry', 'entries')}: {', '.join(parts)}"
+def sections(
+    full: Sequence[Finding], short: Sequence[Finding], paint: Painter, titles: Mapping[str, str] = TITLES,
+) -> Iterator[str]:
+    """Gives the lines of what relint-wide found, each kind below its heading: some in full, others in one line each."""
+    for kind, title in titles.items():
+        its = [[it for it in group if it.entry.beyond is not None and it.entry.beyond.kind == kind] for group in (full, short)]
+        if its[0] or its[1]:
+            yield paint("place", "=" * 8 + " " + title)
+            yield ""
+        for one in its[0]:
+            yield from finding_lines(one, paint)
+        yield from _short_lines(its[1], paint)
+        if its[1]:
+            yield ""
 
 
-def _by_count(counts: Sequence[Tuple[str, int]]) -> str:
-    return ", ".join(f"{count:,} {name}" for name, count in counts)
-
-
-def _others(given: gather.Gathered) -> List[Entry]:
-    shown = {id(it) for it in given.findings}
-    return [it for it in given.report.entries if id(it) not in shown]
-
-
-def _terminal(given: gather.Gathered, found: Sequence[Finding], every: bool, paint: Painter) -> Iterator[str]:
+def _short_lines(found: Sequence[Finding], paint: Painter) -> Iterator[str]:
     for it in found:
-        yield from finding_lines(it, paint)
-    if every:
-        for entry in _others(given):
-            yield _head(entry, "dim", plain.outcome_words(entry), paint)
-    yield summary(given)
+        yield head(it.judged, _level(it.judged), plain.outcome_words(it.judged), paint)
 
 
-def _lines(words: argparse.Namespace, out: TextIO) -> Tuple[Iterator[str], int]:
+def unused_lines(found: Sequence[Finding], paint: Painter, compile_as: str) -> Iterator[str]:
+    """Gives the lines of the findings that no use reaches: a group of their own."""
+    if found:
+        yield paint("dim", "not as used here:")
+    for it in found:
+        yield "  " + head(it.entry, "dim", it.used_words(compile_as), paint)
+    if found:
+        yield ""
+
+
+def end_lines(given: gather.Gathered, found: Looked, short: int) -> Iterator[str]:
+    """Gives the last lines: what isn't shown in full or not looked at, and the counts, each pattern by its class as used."""
+    if short:
+        yield f"{plain.counted(short, 'finding')} in one line each: --most N sets how many are shown in full"
+    unlooked = given.selection.unlooked() if given.selection else ""
+    if unlooked:
+        yield unlooked
+    own = {id(it.entry): it.judged for it in found.every()}
+    entries = tuple(own.get(id(it), it) for it in given.report.entries)
+    counts = summary.line(entries, given.max_degree, given.hidden())
+    yield counts + (f"; {len(found.unused):,} not as used here" if found.unused else "")
+
+
+def _others(given: gather.Gathered, found: Looked, every: bool) -> List[Entry]:
+    """The other entries that are named: all, or those of what wasn't read, analysed as a whole or judged in time."""
+    shown = {id(it.entry) for it in found.every()}
+    rest = [it for it in given.report.entries if id(it) not in shown]
+    return rest if every else [it for it in rest if it.call is None or it.kind == TIME]
+
+
+def parted(found: Sequence[Finding], most: int, sort: str) -> Tuple[List[Finding], List[Finding]]:
+    """Returns the findings that are shown in full, the worst ones, and those that have one line each."""
+    worst = sorted(found, key=lambda it: worst_first(it.judged))
+    full = {id(it) for it in worst[:most]}
+    order = worst if sort == "worst" else found
+    return [it for it in order if id(it) in full], [it for it in order if id(it) not in full]
+
+
+def _groups(found: Looked, words: argparse.Namespace) -> Tuple[List[Finding], List[Finding], List[Finding], List[Finding]]:
+    """relint's own findings in full and in one line, and those of relint-wide in full and in one line."""
+    own = [it for it in found.reached if it.entry.beyond is None]
+    beyond = [it for it in found.reached if it.entry.beyond is not None]
+    return (*parted(own, words.most, words.sort), *parted(beyond, words.most, words.sort))
+
+
+def terminal(given: gather.Gathered, found: Looked, words: argparse.Namespace, paint: Painter) -> Iterator[str]:
+    """Gives the lines for a terminal: relint's own findings, and below them those of relint-wide, by kind."""
+    warned = {id(it) for it in given.warned}
+    full, short, full_beyond, short_beyond = _groups(found, words)
+    for one in full:
+        yield from finding_lines(one, paint, id(one.entry) in warned, given.compile_as)
+    yield from _short_lines(short, paint)
+    yield from unused_lines(found.unused, paint, given.compile_as)
+    yield from sections(full_beyond, short_beyond, paint)
+    for entry in _others(given, found, words.all):
+        yield head(entry, "dim" if entry.call else "error", plain.outcome_words(entry), paint)
+    yield from end_lines(given, found, len(short) + len(short_beyond))
+
+
+def sarif_document(given: gather.Gathered, found: Looked, sources: Sources) -> str:
+    """Returns the report in SARIF, without the findings that no use reaches."""
+    unused = {id(it.entry) for it in found.unused}
+    entries = [it for it in given.report.entries if id(it) not in unused]
+    passed = given.selection.unlooked() if given.selection else ""
+    return sarif.document(entries, found.reached, sources, passed)
+
+
+def _lines(words: argparse.Namespace, out: Optional[TextIO]) -> Tuple[Iterator[str], int]:
     """What is written for the words, and the exit status."""
     given = gather.gathered(words)
-    sources = Sources()
-    found = findings(given, given.findings, sources, words.mend)
+    gather.tell("relint-show", given)
+    sources = Sources(given.folders)
+    found = looked_at(given, sources, words.mend, words.most)
     if words.format == "sarif":
-        return iter([sarif.document(given.report.entries, found, sources)]), given.status
+        return iter([sarif_document(given, found, sources)]), found.status
     if words.format == "github":
-        others = [it for it in _others(given) if it.kind != "degree"] if words.all else []
-        return iter([*github.lines(found, others), summary(given)]), given.status
-    return _terminal(given, found, words.all, Painter(_is_coloured(words.color, out))), given.status
+        own, own_short, beyond, beyond_short = _groups(found, words)
+        full, short = [*own, *beyond], [*own_short, *beyond_short]
+        notices = [it for it in _others(given, found, words.all) if it.kind != "degree"]
+        lines = github.lines(full, [it.judged for it in short], notices)
+        return iter([*lines, *end_lines(given, found, len(short))]), found.status
+    colour = "never" if words.output and words.color == "auto" else words.color
+    return terminal(given, found, words, Painter(is_coloured(colour, out))), found.status
 
 
-def _written(lines: Iterator[str], out: TextIO) -> bool:
-    """Writes the lines. Answers whether all were taken."""
+def _explain(topic: str) -> int:
     try:
-        for line in lines:
-            out.write(line + "\n")
-        out.flush()
-        return True
-    except OSError:
-        # (so that Python's own flush at the end says nothing)
-        os.dup2(os.open(os.devnull, os.O_WRONLY), out.fileno())
-        return False
+        gather.write(explain.explained(topic))
+        return 0
+    except explain.NotExplained as error:
+        raise gather.GatherError(str(error)) from error
+
+
+def _work(given: argparse.Namespace) -> int:
+    if given.explain is not None:
+        return _explain(given.explain)
+    if given.show_config:
+        return gather.show_config(given)
+    lines, status = _lines(given, sys.stdout)
+    return put_lines("relint-show", lines, given.output) or status
+
+
+def put_lines(name: str, lines: Iterator[str], output: Optional[str]) -> int:
+    """Writes the lines to a file or to standard output for the tool of this name, and answers the exit status."""
+    if output:
+        text = "".join(it + "\n" for it in lines)
+        return gather.put(name, output, text.encode("utf-8", "backslashreplace"))
+    for it in lines:
+        gather.write(it + "\n")
+    return 0
 
 
 def main(words: Optional[Sequence[str]] = None) -> int:
     """Runs the tool with the words of the command line, and answers the exit status."""
-    given = gather.parsed(_parser(), words)
-    out = sys.stdout
-    if hasattr(out, "reconfigure"):
-        out.reconfigure(errors="backslashreplace")
-
-    def work() -> int:
-        lines, status = _lines(given, out)
-        return status if _written(lines, out) else program.WRITE_FAULT
-
-    return gather.ended("relint-show", work)
+    given = gather.parsed(parser(), words)
+    return gather.ended("relint-show", lambda: _work(given))
 
 
 if __name__ == "__main__":

@@ -5,27 +5,25 @@ A report names the place of a pattern's first literal. `Source.site` finds what 
 from __future__ import annotations
 
 import ast
-import io
+import itertools
 import re
 import tokenize
 import warnings
 from dataclasses import dataclass
-from typing import Dict, Iterator, List, Optional, Tuple
+from typing import Iterator, List, Optional, Tuple
 
+from .calls import Call, Calls, calls_of, flags_of
 from .reports import Place, Text
 
 LINE_END = re.compile(r"\r\n|\r|\n")
-FLAG_LETTERS = {"A": re.A, "I": re.I, "M": re.M, "S": re.S, "U": re.U, "X": re.X}
-FLAG_WORDS = {"ASCII": re.A, "IGNORECASE": re.I, "MULTILINE": re.M, "DOTALL": re.S, "UNICODE": re.U, "VERBOSE": re.X}
-FLAG_NAMES: Dict[str, int] = {
-    **{name: int(value) for name, value in {**FLAG_LETTERS, **FLAG_WORDS}.items()},
-    "DEBUG": int(re.DEBUG),
-    "NOFLAG": 0,
-}
 ESCAPE = re.compile(r"\\(?:\r\n|[0-7]{1,3}|x[0-9a-fA-F]{2}|u[0-9a-fA-F]{4}|U[0-9a-fA-F]{8}|N\{[^}]*\}|.)|\r\n|.", re.S)
 BYTES_ESCAPE = re.compile(r"\\(?:\r\n|[0-7]{1,3}|x[0-9a-fA-F]{2}|.)|\r\n|.", re.S)
 RAW_CODE = re.compile(r"\r\n|.", re.S)
+# (an f-string holds code, which isn't read here)
+PREFIX = re.compile(r"[rRbBuU]*[\"']")
 LITERAL = re.compile(r"([A-Za-z]*)(\"\"\"|'''|\"|')")
+# More tokens are no names of flags, no run of literals that relint judges, and no rest of a call that is read for its flags.
+MOST_TOKENS_OF_FLAGS, MOST_TOKENS = 100, 100_000
 # The position of the argument flags of each call, where it may stand without its name.
 FLAGS_AT = {
     "compile": 1, "match": 2, "search": 2, "fullmatch": 2, "findall": 2, "finditer": 2, "split": 3, "sub": 4, "subn": 4,
@@ -58,15 +56,15 @@ class Source:
     """The text of a Python file, with what is asked of it by place."""
 
     def __init__(self, data: bytes) -> None:
-        """Takes the file's bytes. Raises SourceError where no coding that Python knows reads them."""
+        """Takes the file's bytes. Raises SourceError where they aren't UTF-8, as relint reads no other coding."""
         try:
-            coding, _ = tokenize.detect_encoding(io.BytesIO(data).readline)
-            text = data.decode(coding)
-        except (SyntaxError, UnicodeDecodeError, LookupError) as error:
-            raise SourceError(str(error)) from error
+            text = data.decode("utf-8")
+        except UnicodeDecodeError as error:
+            raise SourceError("it isn't UTF-8") from error
         self.text = text[1:] if text.startswith("\ufeff") else text
         self.starts = [0] + [it.end() for it in LINE_END.finditer(self.text)]
-        self._calls: Optional[Dict[Tuple[int, int], ast.Call]] = None
+        self._calls: Optional[Calls] = None
+        self._is_parsed = False
 
     def offset(self, place: Place) -> int:
         """Returns the offset in `text` of a place of a report."""
@@ -94,12 +92,12 @@ class Source:
         offsets = _Offsets(self, start)
         lines = self._lines_from(start)
         try:
-            for token in tokenize.generate_tokens(lambda: next(lines, "")):
+            for token in itertools.islice(tokenize.generate_tokens(lambda: next(lines, "")), MOST_TOKENS):
                 if token.type == tokenize.OP and token.string == "(" and token.start == (1, 0):
                     continue
                 if token.type in (tokenize.NL, tokenize.COMMENT):
                     continue
-                if token.type != tokenize.STRING:
+                if token.type != tokenize.STRING or not PREFIX.match(token.string):
                     break
                 begin, end = offsets(token.start), offsets(token.end)
                 found.append(Literal(self.text[begin:end], begin, end))
@@ -133,14 +131,16 @@ class Source:
             flags = self._flags_behind(literals[-1].end, call)
         return Site(literals, value, flags)
 
+    def call(self, place: Place) -> Optional[Call]:
+        """Returns the call whose pattern begins at the place, or None where the running Python doesn't find it."""
+        if not self._is_parsed:
+            self._is_parsed, self._calls = True, calls_of(self.text)
+        line = self.line(place.line)
+        return (self._calls or {}).get((place.line, len(line[: place.column - 1].encode("utf-8", "surrogatepass"))))
+
     def _flags(self, place: Place, call: Optional[str]) -> Optional[int]:
-        found = self._call_at(place)
-        if found is None or call is None:
-            return None
-        named = [it.value for it in found.keywords if it.arg == "flags"]
-        at = FLAGS_AT.get(call, 1)
-        given = named or found.args[at:at + 1]
-        return _flags_of(given[0]) if given else 0
+        found = self.call(place)
+        return None if found is None or call is None else found.flags(FLAGS_AT.get(call, 1))
 
     def _flags_behind(self, end: int, call: str) -> Optional[int]:
         """The flags by tokens alone, for a source that the running Python can't read whole, as one of Python 2."""
@@ -148,7 +148,7 @@ class Source:
         depth = 1
         lines = self._lines_from(end)
         try:
-            for number, token in enumerate(tokenize.generate_tokens(lambda: next(lines, ""))):
+            for number, token in enumerate(itertools.islice(tokenize.generate_tokens(lambda: next(lines, "")), MOST_TOKENS)):
                 if number == 0 or token.type in (tokenize.NL, tokenize.COMMENT):
                     continue
                 depth += (token.string in ("(", "[", "{")) - (token.string in (")", "]", "}"))
@@ -161,23 +161,6 @@ class Source:
         except (tokenize.TokenError, SyntaxError, IndentationError):
             return None
         return None if arguments[0] else _flags_in(arguments, FLAGS_AT.get(call, 1))
-
-    def _call_at(self, place: Place) -> Optional[ast.Call]:
-        if self._calls is None:
-            self._calls = {}
-            try:
-                with warnings.catch_warnings():
-                    warnings.simplefilter("ignore")
-                    tree = ast.parse(self.text)
-            except (SyntaxError, ValueError, RecursionError, MemoryError):
-                return None
-            for node in ast.walk(tree):
-                if isinstance(node, ast.Call):
-                    first = [*node.args[:1], *(it.value for it in node.keywords if it.arg == "pattern")]
-                    for it in first:
-                        self._calls[it.lineno, it.col_offset] = node
-        line = self.line(place.line)
-        return self._calls.get((place.line, len(line[: place.column - 1].encode("utf-8", "surrogatepass"))))
 
 
 class _Offsets:
@@ -239,17 +222,9 @@ def _flags_in(arguments: List[List[str]], at: int) -> Optional[int]:
     named = [it[2:] for it in arguments if it[:2] == ["flags", "="]]
     placed = [it for it in arguments[at:at + 1] if it and it[1:2] != ["="]]
     given = (named or placed or [["0"]])[0]
+    if len(given) > MOST_TOKENS_OF_FLAGS:
+        return None
     try:
-        return _flags_of(ast.parse("".join(given), mode="eval").body)
+        return flags_of(ast.parse("".join(given), mode="eval").body)
     except (SyntaxError, ValueError):
         return None
-
-
-def _flags_of(node: ast.AST) -> Optional[int]:
-    if isinstance(node, ast.BinOp) and isinstance(node.op, ast.BitOr):
-        left, right = _flags_of(node.left), _flags_of(node.right)
-        return None if left is None or right is None else left | right
-    if isinstance(node, ast.Constant) and node.value == 0:
-        return 0
-    name = node.attr if isinstance(node, ast.Attribute) else node.id if isinstance(node, ast.Name) else ""
-    return FLAG_NAMES.get(name)

@@ -3,6 +3,7 @@ from __future__ import annotations
 
 import os
 import signal
+import sys
 
 TYPE_CHECKING = False
 if TYPE_CHECKING:  # (it takes as long to import as thousands of files take to list)
@@ -12,6 +13,17 @@ if TYPE_CHECKING:  # (it takes as long to import as thousands of files take to l
 STOPPING = [getattr(signal, it) for it in ("SIGINT", "SIGTERM", "SIGHUP") if hasattr(signal, it)]
 # Those that Python passes over, and that others are to have as they are at first.
 PASSED_OVER = [getattr(signal, it) for it in ("SIGPIPE", "SIGXFZ", "SIGXFSZ") if hasattr(signal, it)]
+READ_AT_A_TIME = 1 << 16
+
+
+def python_words() -> List[str]:
+    """Returns the words that begin this Python for a script of the package, whatever lies in the current folder."""
+    return [sys.executable, "-I", "-B"]
+
+
+def python_environment() -> Dict[str, str]:
+    """Returns this process's environment without the variables of Python, which would change what such a script does."""
+    return {name: value for name, value in os.environ.items() if not name.startswith("PYTHON")}
 
 
 class Held:
@@ -50,6 +62,47 @@ def spawn_piped(words: List[bytes], environment: Dict[bytes, bytes], held: Set[i
     os.close(out_end)
     os.close(err_end)
     return pid, out, err
+
+
+def asked(words: List[bytes], most: int) -> Tuple[int, bytes, bytes]:
+    """Runs a command with an empty input; returns its status as a shell has it, and what it wrote to 1 and 2. Raises OSError.
+
+    A command that writes more than `most` bytes is ended.
+    """
+    with Held() as held:
+        pid, out, err = spawn_piped(words, dict(os.environb), held)
+    try:
+        written = _read_both(out, err, most)
+    except BaseException:
+        end([pid])
+        raise
+    finally:
+        os.close(out)
+        os.close(err)
+    if sum(map(len, written)) > most:
+        os.kill(pid, signal.SIGKILL)
+    _, status = os.waitpid(pid, 0)
+    return 128 + os.WTERMSIG(status) if os.WIFSIGNALED(status) else os.WEXITSTATUS(status), written[0], written[1]
+
+
+def _read_both(out: int, err: int, most: int) -> List[bytes]:
+    """Reads two pipes to their ends, or until there are more than so many bytes."""
+    import select
+
+    poll = select.poll()
+    kept: Dict[int, List[bytes]] = {out: [], err: []}
+    for it in kept:
+        poll.register(it, select.POLLIN)
+    is_open, size = set(kept), 0
+    while is_open and size <= most:
+        for it, _ in poll.poll():
+            data = os.read(it, READ_AT_A_TIME)
+            kept[it].append(data)
+            size += len(data)
+            if not data:
+                poll.unregister(it)
+                is_open.discard(it)
+    return [b"".join(kept[it]) for it in (out, err)]
 
 
 def _pipe(opened: List[int]) -> Tuple[int, int]:

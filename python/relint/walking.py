@@ -10,13 +10,36 @@ import stat
 
 TYPE_CHECKING = False
 if TYPE_CHECKING:  # (it takes as long to import as thousands of files take to list)
-    from typing import Iterator, List, Sequence, Set, Tuple
+    from typing import Iterator, List, Optional, Sequence, Set, Tuple
 
 DEEPEST = 64
 # The level of a path that is no folder.
 NO_FOLDER = -1
 # What was found is given on when there are so many paths, or when so many folders were entered since.
 PATHS_AT_A_TIME, FOLDERS_AT_A_TIME = 64, 16
+
+
+class Passed:
+    """What was passed over where Python files may be: counts of files and links, and the folders that lie too deep.
+
+    With `any_name`, a name that isn't UTF-8 is given on by itself. For relint the whole folder can't be listed then.
+    """
+
+    __slots__ = ("links", "environments", "deep", "any_name")
+
+    def __init__(self, any_name: bool = False) -> None:
+        self.links = self.environments = 0
+        self.deep: List[bytes] = []
+        self.any_name = any_name
+
+    def words(self) -> str:
+        """Returns the counts in words; "" where nothing was passed over."""
+        counts = (
+            (self.environments, "file{} of virtual environments"), (self.links, "link{}"),
+            (len(self.deep), f"folder{{}} below the {DEEPEST}th level"),
+        )
+        parts = [f"{count:,} {name.format('' if count == 1 else 's')}" for count, name in counts if count]
+        return ", ".join(parts) + " not looked at" if parts else ""
 
 
 class NotListed(Exception):
@@ -31,11 +54,12 @@ class NamedAgain(NotListed):
     """A path that isn't there, or is no file and no folder, is named twice, and has its entry each time."""
 
 
-def walk(paths: Sequence[bytes], once: bool = False) -> Iterator[List[bytes]]:
+def walk(paths: Sequence[bytes], once: bool = False, passed: Optional[Passed] = None) -> Iterator[List[bytes]]:
     """Yields what to name in place of the paths, in the order of the walk, some at a time; there may be none at a time.
 
-    relint gives what is named the entries, in this place, that a walk over the whole gives it. Raises TooDeep where a folder
-    is, and NamedAgain where every path is to come `once` and one has to come twice.
+    relint gives what is named the entries, in this place, that a walk over the whole gives it. What is passed over is noted
+    in `passed`. Without one, raises TooDeep where a folder is; and NamedAgain where every path is to come `once` and one has
+    to come twice.
     """
     met: Set[bytes] = set()
     repeated: Set[bytes] = set()
@@ -45,7 +69,7 @@ def walk(paths: Sequence[bytes], once: bool = False) -> Iterator[List[bytes]]:
         if stat.S_ISDIR(mode):
             yield found
             found = []
-            yield from _walk_folder(path, met)
+            yield from _walk_folder(path, met, passed)
         elif not stat.S_ISREG(mode):
             if once and path in repeated:
                 raise NamedAgain(os.fsdecode(path))
@@ -60,6 +84,12 @@ def walk(paths: Sequence[bytes], once: bool = False) -> Iterator[List[bytes]]:
     yield found
 
 
+def files_below(paths: Sequence[str], passed: Passed) -> List[str]:
+    """Returns the files that relint reads below the paths, in its order, and what it can't list or read."""
+    named = [os.fsencode(it) for it in paths]
+    return [os.fsdecode(it) for part in walk(named, passed=passed) for it in part]
+
+
 def _mode(path: bytes) -> int:
     """The mode of a path, or 0 where it isn't there."""
     try:
@@ -68,7 +98,7 @@ def _mode(path: bytes) -> int:
         return 0
 
 
-def _walk_folder(top: bytes, met: Set[bytes]) -> Iterator[List[bytes]]:
+def _walk_folder(top: bytes, met: Set[bytes], passed: Optional[Passed]) -> Iterator[List[bytes]]:
     found: List[bytes] = []
     entered = 0
     # (what is left, each path with its level, the next one last)
@@ -79,20 +109,25 @@ def _walk_folder(top: bytes, met: Set[bytes]) -> Iterator[List[bytes]]:
             found.append(path)
         elif path not in met:
             met.add(path)
-            if level > DEEPEST:
+            if level <= DEEPEST:
+                entered += 1
+                _enter(path, level, met, found, left, passed)
+            elif passed is None:
                 raise TooDeep(os.fsdecode(path))
-            entered += 1
-            _enter(path, level, met, found, left)
+            else:
+                passed.deep.append(path)
         if len(found) >= PATHS_AT_A_TIME or entered >= FOLDERS_AT_A_TIME:
             yield found
             found, entered = [], 0
     yield found
 
 
-def _enter(folder: bytes, level: int, met: Set[bytes], found: List[bytes], left: List[Tuple[bytes, int]]) -> None:
+def _enter(
+    folder: bytes, level: int, met: Set[bytes], found: List[bytes], left: List[Tuple[bytes, int]], passed: Optional[Passed]
+) -> None:
     """Adds a folder's children to what was found, or to what is left where folders are among them."""
     try:
-        sources, folders = _children(folder)
+        sources, folders = _children(folder, passed)
     except (OSError, UnicodeDecodeError):
         # (named by itself it fails as well, and so has the one entry `unreadable`)
         found.append(folder)
@@ -107,7 +142,7 @@ def _enter(folder: bytes, level: int, met: Set[bytes], found: List[bytes], left:
     left += children
 
 
-def _children(folder: bytes) -> Tuple[List[bytes], List[bytes]]:
+def _children(folder: bytes, passed: Optional[Passed]) -> Tuple[List[bytes], List[bytes]]:
     """Returns the folder's sources and its folders. Raises OSError or UnicodeDecodeError where relint can't list it."""
     names: List[bytes] = []
     sources: List[bytes] = []
@@ -120,7 +155,10 @@ def _children(folder: bytes) -> Tuple[List[bytes], List[bytes]]:
                 folders.append(entry.path)
             elif name[-3:] == b".py" and entry.is_file(follow_symlinks=False):
                 sources.append(entry.path)
-    b"\0".join(names).decode("utf-8")
+            elif passed is not None and entry.is_symlink() and (name[-3:] == b".py" or entry.is_dir()):
+                passed.links += 1
+    if passed is None or not passed.any_name:
+        b"\0".join(names).decode("utf-8")
     if names:
         # (relint looks at each: it fails where the folder may not be searched, and where a path becomes too long)
         os.lstat(os.path.join(folder, max(names, key=len)))

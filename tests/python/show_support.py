@@ -56,7 +56,7 @@ def tool(name: str, *words: str, given: Optional[bytes] = None, environment: Opt
         stdout=subprocess.PIPE,
         stderr=subprocess.PIPE,
         env={**os.environ, "PYTHONIOENCODING": "utf-8", **(environment or {})},
-        timeout=120,
+        timeout=1200,
     )
     return Ran(ran.returncode, ran.stdout.decode("utf-8"), ran.stderr.decode("utf-8"))
 

@@ -21,7 +21,8 @@ BODIES = re.compile(r"((?:`[\w-]+`(?:, )?)+) \(`(\w+)`\)")
 
 def pages() -> Iterator[Path]:
     """The pages, without those of the data of worked rows."""
-    for name in ("README.md", "CONTRIBUTING.md", "CHANGELOG.md", "tests/README.md", "release/README.md", "examples/README.md"):
+    for name in ("README.md", "CONTRIBUTING.md", "CHANGELOG.md", "SECURITY.md", "tests/README.md", "release/README.md",
+                 "examples/README.md", "fuzz/README.md"):
         yield TOP / name
     yield from sorted((TOP / "docs").glob("*.md"))
 

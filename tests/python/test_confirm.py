@@ -17,6 +17,7 @@ from typing import Any, Dict, NamedTuple
 from relint import confirm, trial
 from relint.reports import Entry, Family, Place, Text
 from relint.sites import Site
+from relint.used.follow import mode_of
 from support import DEFAULT_INTERRUPT, ROOT, built
 
 TOOL = ROOT / "tools" / "relint-confirm"
@@ -60,6 +61,15 @@ class Whole(WithSources):
         self.assertEqual((done.status, done.err), (0, ""))
         found: "list[Dict[str, Any]]" = json.loads(done.out)["findings"]
         return found
+
+    def test_the_call_that_the_code_makes(self) -> None:
+        self.write("m.py", 'X = re.compile("a*a*,")', "X.match(s)", 'Y = re.compile("(?:x|xx)*")', "Y.fullmatch(s)")
+        done = self.tool(*QUICK, "m.py")
+        first, second, last = done.out.splitlines()
+        self.assertEqual(first, "m.py:2:16: compile: degree 3: not tried: not as used here: degree 3 if searched; "
+                                "here only .match (line 3): degree 2")
+        self.assertRegex(second, r"^m\.py:4:16: compile: (degree 1|exponential): confirmed: ")
+        self.assertEqual(last, "2 findings: 1 confirmed, 0 not seen, 1 not tried")
 
     def test_confirmed_and_not_seen(self) -> None:
         self.write("m.py", 're.fullmatch(r"(?:x*)*y", s)', 're.match(r"([ab]|a)*c", s)', 're.search(r"a+", s)')
@@ -125,20 +135,29 @@ class Whole(WithSources):
         done = self.tool(*QUICK, "none.py", "m.py")
         self.assertEqual((done.status, done.out.splitlines()[-1]), (3, "1 finding: 1 confirmed, 0 not seen"))
 
-    def test_interrupt(self) -> None:
+    def test_signals_end_the_trials(self) -> None:
         self.write("m.py", *['re.match(r"(?:a|a)*b", s)'] * 4)
-        for jobs in ("1", "2"):
+        for jobs, number in (("1", signal.SIGINT), ("2", signal.SIGINT), ("1", signal.SIGTERM), ("2", signal.SIGTERM)):
             words = [sys.executable, "-c", DEFAULT_INTERRUPT, sys.executable, str(TOOL), "--seconds", "60"]
             words += ["--jobs", jobs, "m.py"]
             with subprocess.Popen(words, cwd=self.folder, stdout=subprocess.PIPE) as process:
-                self.assertTrue(tries_something(process.pid))
-                process.send_signal(signal.SIGINT)
-                self.assertEqual(process.wait(60), 130)
+                trial = tries_something(process.pid)
+                self.assertTrue(trial)
+                process.send_signal(number)
+                self.assertEqual(process.wait(600), 128 + number)
+                self.assertFalse(Path(f"/proc/{trial}").exists())
+
+    def test_the_whole_time(self) -> None:
+        self.write("m.py", 're.match(r"(?:a|a)*b", s)')
+        trials = confirm.Trials(confirm.Limits(1, 10, 10 ** 9), time.monotonic() - 1)
+        entry = Entry("m.py", "exponential", Place(2, 10), "match", family=Family(("a", "c"), ("a",)))
+        job = confirm.Job(entry, Site((), "a*a", 0))
+        self.assertEqual(trials.outcome(job), confirm.Outcome("not tried", why="the seconds of --total-seconds are over"))
 
 
-def tries_something(parent: int) -> bool:
-    """Waits, for a minute at most, until a process below this one tries a pattern."""
-    until = time.monotonic() + 60
+def tries_something(parent: int) -> int:
+    """Waits, for ten minutes at most, until a process below this one tries a pattern; returns its number, or 0."""
+    until = time.monotonic() + 600
     while time.monotonic() < until:
         for path in Path("/proc").glob("[0-9]*"):
             try:
@@ -146,9 +165,9 @@ def tries_something(parent: int) -> bool:
             except OSError:
                 continue
             if b"trial.py" in words and int(stat.rpartition(")")[2].split()[1]) == parent:
-                return True
+                return int(path.name)
         time.sleep(0.05)
-    return False
+    return 0
 
 
 class BadInput(WithSources):
@@ -166,11 +185,11 @@ class BadInput(WithSources):
 
     def test_words(self) -> None:
         for words in (("--seconds", "0"), ("--seconds", "x"), ("--longest", "0"), ("--memory", "-1"), ("--format", "xml")):
-            self.refused("usage: relint-confirm", *words)
+            self.refused(f"relint-confirm: argument {words[0]}: ", *words)
 
     @unittest.skipUnless(PROGRAM, "the program relint isn't built")
     def test_words_of_relint(self) -> None:
-        self.refused("usage: relint check", "")
+        self.refused("relint-confirm: a path is empty", "")
 
 
 class OneTrial(unittest.TestCase):
@@ -182,7 +201,7 @@ class OneTrial(unittest.TestCase):
     ) -> confirm.Outcome:
         entry = Entry("m.py", "exponential", Place(1, 1), "fullmatch", family=family)
         limits = confirm.Limits(seconds, longest, memory * 1_000_000)
-        return confirm.Trials("search", limits).outcome(confirm.Job(entry, Site((), pattern, flags)))
+        return confirm.Trials(limits).outcome(confirm.Job(entry, Site((), pattern, flags), mode=mode_of(entry.call, "search")))
 
     def test_patterns_that_this_python_refuses(self) -> None:
         outcome = self.outcome("(", Family(("", "b"), ("a",)))
@@ -228,7 +247,7 @@ class OneTrial(unittest.TestCase):
 
     def test_modes(self) -> None:
         calls = ("match", "fullmatch", "search", "findall", "sub", "compile", None)
-        modes = [confirm.mode_of(it, "match") for it in calls]
+        modes = [mode_of(it, "match") for it in calls]
         self.assertEqual(modes, ["match", "fullmatch", "search", "search", "search", "match", "search"])
 
 

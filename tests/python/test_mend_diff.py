@@ -2,7 +2,10 @@
 from __future__ import annotations
 
 import ast
+import json
 import os
+import shutil
+import subprocess
 import tempfile
 import unittest
 from pathlib import Path
@@ -11,7 +14,6 @@ from typing import List, Union
 from mend_support import with_relint
 from relint.mend import diff
 from relint.mend.command import main
-from relint.mend.uses import groups_matter
 from relint.program import run
 from relint.reports import Place
 from relint.sites import Source
@@ -70,16 +72,6 @@ class Literals(unittest.TestCase):
         self.assertEqual(changed("'(a+)*\\\n(b+)*'", "(a+)?(b+)*"), "'(a+)?\\\n(b+)*'")
 
 
-class Uses(unittest.TestCase):
-    def test_a_plain_replacement_takes_no_groups(self) -> None:
-        calls = {"re.sub('(a)*', 'x', s)": False, "re.sub('(a)*', r'\\1', s)": True, "re.sub('(a)*', f, s)": True,
-                 "re.subn('(a)*', repl='', string=s)": False, "re.search('(a)*', s)": True}
-        for call, wanted in calls.items():
-            place = Place(1, call.index("'") + 1)
-            name = call[3:call.index("(")]
-            self.assertEqual(groups_matter(Source(call.encode()), place, name), wanted, call)
-
-
 class Files(unittest.TestCase):
     def setUp(self) -> None:
         holder = tempfile.TemporaryDirectory(prefix="mend test ")
@@ -98,7 +90,7 @@ class Files(unittest.TestCase):
         try:
             os.dup2(null, 1)
             os.dup2(null, 2)
-            return main(["--report", str(self.report), *words])
+            return main(["--report", str(self.report), "--within", str(self.folder), *words])
         finally:
             for at, it in enumerate(kept):
                 os.dup2(it, at + 1)
@@ -127,14 +119,14 @@ class Files(unittest.TestCase):
         self.assertEqual(self.said(["--apply"]), 1)
         self.assertEqual(self.path.read_text(encoding="utf-8"), changed)
         self.path.write_text(SOURCE.replace("[A-Z]", "[a-z]*"), encoding="utf-8")
-        entries = diff.checked(str(self.path), [])
+        entries = diff.judged(self.path.read_bytes(), [])
         self.path.write_text(SOURCE, encoding="utf-8")
         with self.assertRaises(diff.Unchangeable):
-            diff.Change(str(self.path), entries[:1], [])
+            diff.Change(str(self.path), entries[:1], [], str(self.folder))
 
     @with_relint
     def test_a_file_that_changes_meanwhile_is_left_alone(self) -> None:
-        change = diff.Change(str(self.path), diff.checked(str(self.path), []), [])
+        change = diff.Change(str(self.path), diff.judged(self.path.read_bytes(), []), [], str(self.folder))
         self.path.write_text("# other\n", encoding="utf-8")
         with self.assertRaises(diff.Unchangeable):
             change.write()
@@ -147,6 +139,51 @@ class Files(unittest.TestCase):
         self.report_again()
         self.assertEqual(self.said(["--apply"]), 0)
         self.assertEqual(self.path.read_bytes(), data.replace(b"*", b"?"))
+
+    @with_relint
+    def test_a_file_that_is_reached_through_a_link_is_left_alone(self) -> None:
+        secret = self.folder.parent / (self.folder.name + " secret")
+        secret.mkdir()
+        self.addCleanup(shutil.rmtree, secret)
+        (secret / "app.py").write_text(SOURCE, encoding="utf-8")
+        (self.folder / "folder").symlink_to(secret)
+        (self.folder / "link.py").symlink_to(secret / "app.py")
+        found = json.loads(run(["check", "--format", "json", str(self.path)]).out)
+        for path in (self.folder / "folder/app.py", self.folder / "link.py", secret / "app.py"):
+            for entry in found["entries"]:
+                entry["path"] = str(path)
+            self.report.write_text(json.dumps(found), encoding="utf-8")
+            for word in ("--apply", "--diff"):
+                self.assertNotEqual(self.said([word]), 0)
+            self.assertEqual((secret / "app.py").read_text(encoding="utf-8"), SOURCE)
+            self.assertTrue((self.folder / "link.py").is_symlink())
+
+    @with_relint
+    def test_names_in_the_headers_of_a_diff(self) -> None:
+        name = "a\n+++ b/.git/hooks/pre-commit\n@@ -0,0 +1 @@\n+touch canary\n\x1b\u202e\udcff.py"
+        path = self.folder / name
+        path.parent.mkdir(parents=True)
+        path.write_text(SOURCE, encoding="utf-8")
+        change = diff.Change(str(path), diff.judged(path.read_bytes(), []), [], str(self.folder))
+        change.edits = [diff.Edit(0, 0, "# new\n")]
+        lines = change.diff().split(b"\n")
+        coded = name.replace("\n", "\\012").replace("\x1b", "\\033").replace("\u202e", "\\342\\200\\256")
+        coded = coded.replace("\udcff", "\\377")
+        self.assertEqual(lines[:2], [f'--- "a/{coded}"'.encode(), f'+++ "b/{coded}"'.encode()])
+        self.assertEqual([it for it in lines if it.startswith((b"+++", b"---", b"+touch"))], lines[:2])
+        self.assertEqual(diff.header_name("a b"), "a b\t")
+        self.assertEqual(diff.header_name('"\\'), '"\\"\\\\"')
+        self.assertRaises(diff.Unchangeable, diff.header_name, "\ud800")
+
+    @with_relint
+    @unittest.skipUnless(shutil.which("git"), "it needs git")
+    def test_git_takes_the_diff(self) -> None:
+        path = self.folder / "a \"b\\ \x1b\u202e.py"
+        path.write_text(SOURCE, encoding="utf-8")
+        change = diff.Change(str(path), diff.judged(path.read_bytes(), []), [], str(self.folder))
+        change.edits = [diff.Edit(0, 0, "# new\n")]
+        subprocess.run(["git", "apply", "-"], input=change.diff(), cwd=self.folder, check=True)
+        self.assertEqual(path.read_text(encoding="utf-8"), "# new\n" + SOURCE)
 
     @with_relint
     def test_tier_b_needs_to_be_asked_for(self) -> None:

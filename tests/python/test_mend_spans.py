@@ -38,8 +38,8 @@ class Pair(NamedTuple):
     question: Question
 
 
-def ask(pair: Pair, seconds: float = 2.0) -> Answer:
-    return differ(tree.read_both([pair.left, pair.right], 0), pair.question, seconds)
+def ask(pair: Pair, most_moves: int = 500_000) -> Answer:
+    return differ(tree.read_both([pair.left, pair.right], 0), pair.question, most_moves=most_moves)
 
 
 def seen(pattern: Any, text: str, start: int, question: Question) -> Any:
@@ -175,8 +175,10 @@ class Spans(unittest.TestCase):
         answer = ask(Pair("(?:a{60}){60}b", "(?:a{60}){60}b", Question("prefix")))
         self.assertIsNone(answer.same)
         self.assertEqual(answer.why, "a pattern too large")
-        answer = differ(tree.read_both(["(a|b)*c", "(b|a)*c"], 0), Question("prefix"), 2.0, 1)
+        answer = differ(tree.read_both(["(a|b)*c", "(b|a)*c"], 0), Question("prefix"), most_states=1)
         self.assertEqual((answer.same, answer.why), (None, "too many pairs of lists"))
+        answer = ask(Pair("(a|b)*c", "(b|a)*c", Question("prefix")), 1)
+        self.assertEqual((answer.same, answer.why), (None, "too many threads"))
 
     def test_a_boundary_in_the_empty_text_is_known_of_no_version(self) -> None:
         self.assertFalse(ask(Pair(r"\B", r"\B|x", Question("whole"))).same)

@@ -1,6 +1,7 @@
 """The scripts of examples/ci and the step of action.yml, with stand-ins for the programs that note their words."""
 from __future__ import annotations
 
+import json
 import os
 import re
 import shutil
@@ -127,6 +128,18 @@ class Checks(Scratch):
             self.assertEqual(self.calls(), [["check", "--format", "brief", "--", "a b", "-c"]])
         self.assertEqual([it for it in os.listdir(self.project) if it != ".git"], [])
 
+    def test_names_that_a_terminal_or_a_server_would_obey(self) -> None:
+        name = "::error::\x1b[31m\u009b\u202e\u2066 ##[add-mask]\u00fc.py"
+        self.set_up(f"{name}:1:1: compile: exponential\n::set-output name=a::b\n", [1])
+        checked = self.run_script(TOP / "examples/ci/check.sh", "a.py").stdout
+        entries = [{"path": name, "kind": "exponential"}]
+        self.set_up(json.dumps({"entries": entries, "findings": 1, "refused": 0, "undecided": 0}), [1])
+        strict = self.run_script(TOP / "examples/ci/strict.sh", "a.py").stdout
+        for shown in (checked, strict):
+            self.assertIn("\u00fc.py", shown)
+            for code in ("\x1b", "\u009b", "\u202e", "\u2066", "##[", "\n::"):
+                self.assertNotIn(code, "\n" + shown)
+
     def test_strict_stops_on_what_is_not_judged(self) -> None:
         empty = '{"entries":[],"findings":0,"refused":0,"undecided":0,"version":2}'
         refused = '{"entries":[{"path":"a.py","kind":"refused","cause":"f-string"}],"findings":0,"refused":1,"undecided":0}'
@@ -213,22 +226,27 @@ class Action(Scratch):
         return subprocess.run(words, cwd=self.project, env=self.env, capture_output=True, text=True)
 
     def test_defaults(self) -> None:
-        self.assertEqual((len(self.runs), self.defaults), (1, {"paths": ".", "arguments": "--tracked", "sarif": ""}))
+        self.assertEqual((len(self.runs), self.defaults), (1, {"paths": "", "arguments": "--tracked", "sarif": ""}))
         self.set_up("shown\n", [1])
         ran = self.step()
         self.assertEqual((ran.returncode, ran.stdout, ran.stderr), (1, "shown\n", ""))
-        self.assertEqual(self.calls(), [["--tracked", "--format", "github", "--", "."]])
+        self.assertEqual(self.calls(), [["--tracked", "--format", "github", "--"]])
 
     def test_lines_and_sarif(self) -> None:
         self.set_up("{}\n", [1, 3])
         ran = self.step(paths="src\na b\n\n", arguments="--max-degree\n1", sarif="out.sarif")
-        self.assertEqual((ran.returncode, ran.stdout, (self.project / "out.sarif").read_text()), (3, "{}\n", "{}\n"))
+        self.assertEqual((ran.returncode, ran.stdout), (3, "{}\n{}\n"))
         options, paths = ["--max-degree", "1", "--format"], ["--", "src", "a b"]
-        self.assertEqual(self.calls(), [[*options, "sarif", *paths], [*options, "github", *paths]])
+        calls = [[*options, "sarif", "--output=out.sarif", *paths], [*options, "github", *paths]]
+        self.assertEqual(self.calls(), calls)
+
+    def test_a_sarif_file_that_cannot_be_written(self) -> None:
+        self.set_up("{}\n", [4, 0])
+        self.assertEqual(self.step(sarif="out.sarif").returncode, 4)
 
     def test_no_arguments(self) -> None:
         self.step(arguments="")
-        self.assertEqual(self.calls(), [["--format", "github", "--", "."]])
+        self.assertEqual(self.calls(), [["--format", "github", "--"]])
 
 
 if __name__ == "__main__":

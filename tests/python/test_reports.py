@@ -1,13 +1,17 @@
 """Reports in JSON are read into values, and what is no report is refused with a reason."""
 from __future__ import annotations
 
+import io
 import json
 import unittest
+from typing import Any, Dict, List
+from unittest import mock
 
+from relint import reports
 from relint.reports import Family, Place, ReportError, Verdict, read_report, read_text
 
 # In the form that docs/USAGE.md gives.
-ENTRIES = [
+ENTRIES: List[Dict[str, Any]] = [
     {"call": "compile", "column": 19, "family": {"heads": ['r"00"', 'r"!"'], "pumps": ['r"00"']}, "kind": "exponential",
      "line": 2, "path": "app.py"},
     {"call": "sub", "column": 4, "degree": 3, "family": {"heads": ['b""', 'b"\\xff"'], "pumps": ['b"\\n"']}, "kind": "degree",
@@ -78,8 +82,59 @@ class Refusing(unittest.TestCase):
         for entry in ({}, {"kind": "odd", "path": "a"}, {"kind": "degree"}, 5, None, half):
             self.refused(json.dumps({**WHOLE, "entries": [entry]}))
 
+    def entry(self, number: int, **changes: object) -> str:
+        return json.dumps({**WHOLE, "entries": [{**ENTRIES[number], **changes}]})
+
+    def test_names_that_relint_does_not_have(self) -> None:
+        self.refused(self.entry(0, call="eval"))
+        self.refused(self.entry(0, call="match\n::set-output"))
+        self.refused(self.entry(2, cause="\x1b[31m"))
+        self.refused(self.entry(3, limit="::error::"))
+        self.refused(self.entry(1, becomes={"kind": "odd"}))
+
+    def test_types_sizes_and_numbers(self) -> None:
+        for key, value in (("line", 0), ("line", -1), ("line", "2"), ("line", True), ("line", 2 ** 32), ("column", 1.5),
+                           ("column", None), ("path", ""), ("path", ["a"]),
+                           ("path", "a\0"), ("path", "\ud800"), ("family", 5), ("family", {}),
+                           ("family", {"heads": [1, 2], "pumps": [3]}),
+                           ("family", {"heads": ['r"a"', 'b""'], "pumps": ['r"a"']}),
+                           ("family", {"heads": "ab", "pumps": "c"}), ("dropped", 5), ("merged", [[1, 2]]), ("suggest", 5)):
+            self.refused(self.entry(0, **{key: value}))
+        for degree in (-1, 1_000_000, "3", None, [3], 3.0):
+            self.refused(self.entry(1, degree=degree))
+        for over in (-1, "600", 2 ** 40):
+            self.refused(self.entry(3, over=over))
+        for count in (-1, "2", None, 2 ** 40, True):
+            self.refused(json.dumps({**WHOLE, "findings": count}))
+        for text in ("[" * 100_000, '{"a":' * 100_000, json.dumps(WHOLE).replace("600", "6" * 1_000_000), "NaN", "1e999"):
+            self.refused(text)
+        self.refused(json.dumps({**WHOLE, "more": [[]] * 1_000_000}))
+        self.refused(self.entry(0, family={"heads": [json.dumps("a" * 600_000)] * 2, "pumps": ['r"a"']}))
+
+    def test_a_report_without_end(self) -> None:
+        with mock.patch.object(reports, "MOST_BYTES", 1000):
+            with self.assertRaises(ReportError):
+                reports.read_stream(io.BytesIO(b" " * 2000))
+            self.refused(" " * 1001)
+
+    def test_messages_are_one_line(self) -> None:
+        for text in (self.entry(0, call="a\nb"), self.entry(0, path=""), "{\n\n", self.entry(0, kind="a\nb")):
+            with self.assertRaises(ReportError) as kept:
+                read_report(text)
+            self.assertNotIn("\n", str(kept.exception))
+
+    def test_paths_outside_of_the_folder(self) -> None:
+        for path in ("/etc/shadow", "../a.py", "src/../../a.py", "/proc/self/environ"):
+            report = read_report(self.entry(0, path=path))
+            with self.assertRaises(ReportError):
+                reports.check_paths(report, ["."])
+        for path, folder in (("a/../b.py", "."), ("./b.py", "."), ("../a.py", ".."), ("/etc/shadow", "/etc")):
+            reports.check_paths(read_report(self.entry(0, path=path)), [folder])
+
     def test_bad_texts(self) -> None:
-        for text in ("1", "f(x)", 'r"', "__import__('os')", ""):
+        hard = ["1", "f(x)", 'r"', "__import__('os')", "", "1" + "+1" * 100_000, "(" * 100_000, '"a" "b"', '"\\d"', '"a\nb"',
+                '"\\N{DIGIT ONE}"', "'a'", 'f"a"', '"\\U00110000"']
+        for text in hard:
             with self.assertRaises(ReportError):
                 read_text(text)
 

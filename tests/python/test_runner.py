@@ -68,6 +68,13 @@ class Rows(unittest.TestCase):
                 with self.assertRaises(Skipped):
                     rows.run_row(row, Program(Path("none")))
 
+    def test_some_rows_by_a_part_of_their_names(self) -> None:
+        program = Program(Path("/nowhere/relint"))
+        chosen = [it.name for it in rows.load_rows() if "sarif" in it.name]
+        result = rows.run_some(program, "sarif")
+        self.assertEqual(sorted(it.test for it in [*result.failures, *result.skips]), sorted(chosen))
+        self.assertEqual([it.test for it in rows.run_some(program, "no such row").failures], ["no such row"])
+
     def test_the_rows_of_the_repository(self) -> None:
         names = [row.name for row in rows.load_rows()]
         self.assertGreater(len(names), 150)

@@ -105,7 +105,7 @@ class Hosts(unittest.TestCase):
         file = self.folder / "scheduler.json"
         scheduler = ["dask-scheduler", "--host", "127.0.0.1", "--port", "0", "--no-dashboard"]
         self.begin([*scheduler, "--scheduler-file", str(file)], ".")
-        until = time.monotonic() + 120
+        until = time.monotonic() + 600
         while not (file.exists() and file.read_text().rstrip().endswith("}")) and time.monotonic() < until:
             time.sleep(0.1)
         for host in HOSTS:

@@ -9,16 +9,19 @@ import shlex
 import subprocess
 import sys
 import time
-import types
 import unittest
 from typing import Any, Dict, List, Sequence, Tuple
 from unittest import mock
 
-from relint import gather, github, growth, plain, program, pump, show
-from relint.reports import Entry, Family, Place, Report, Text, Verdict, read_text
-from show_support import TOP, Ran, folder, no_program, silent, tool
+from relint import causes, gather, github, growth, plain, program, pump, show
+from relint.reports import KINDS, Entry, Family, Place, Report, Text, Verdict, read_text
+from relint.sites import FLAGS_AT
+import sarif_rules
+from show_support import TOP, Ran, folder, no_program, tool
 
 NO_PROGRAM = no_program()
+# The program's own tables of the names that a report may hold.
+NAMES = TOP / "crates" / "rl_sarif" / "src" / "names.rt"
 SLOW = 'import re\nROW = re.compile(r"(\\w+\\s?)*$")\nDATE = re.compile(r"\\d{4}")\n'
 MIXED = SLOW + 'def f(t, p):\n    re.match(r"(.*),(.*),(.*);", t)\n    re.search(r"(?=a)b", t)\n    re.match("a" + p, t)\n'
 
@@ -55,17 +58,20 @@ class Words(unittest.TestCase):
         self.assertEqual(eval(plain.family_code(family, 3)), family.text(3))
         self.assertEqual(eval(plain.family_code(Family(("", ""), ("",)), 3)), "")
 
-    def test_every_cause_of_a_report_has_words(self) -> None:
-        causes = (
-            "not-utf8 coding unterminated file-too-long stray-code not-whole flags-unknown f-string mixed bad-escape "
-            "named-escape not-ascii syntax too-deep too-long locale flag-clash duplicate-name code-too-large reversed-range "
-            "repeat-too-large repeat-order possessive backreference lookaround conditional atomic inner-anchor unreadable "
-            "too-deep-folder not-plain"
-        )
-        self.assertEqual(sorted(plain.CAUSES), sorted(causes.split()))
+    @unittest.skipUnless(NAMES.is_file(), "the crates aren't there")
+    def test_the_names_of_a_report_are_those_of_the_program(self) -> None:
+        text = NAMES.read_text(encoding="utf-8")
+        tables = re.findall(r"const (\w+): &\[&str\] = &\[(.*?)\];", text, re.S)
+        lists = {name: re.findall('"([^"]+)"', held) for name, held in tables}
+        older = set(causes.OLDER)
+        without_class = {it for it in lists["KINDS"] if it not in ("degree", "exponential", "undecided", "refused")}
+        self.assertEqual(set(causes.CAUSES), {*lists["CAUSES"], *without_class} - older)
+        self.assertEqual(set(KINDS), set(lists["KINDS"]))
+        self.assertEqual({it.lower() for it in re.findall(r"Call::(\w+)", text)}, set(FLAGS_AT))
+        self.assertEqual({it.lower() for it in re.findall(r"Limit::(\w+)", text)}, set(causes.LIMITS))
 
     def test_nothing_that_a_terminal_obeys(self) -> None:
-        self.assertEqual(plain.visible("a\x1b[31m\n\u202eb"), "a\\x1b[31m\\n\\u202eb")
+        self.assertEqual(plain.quoted("##[error]\\d"), '"#\\x23[error]\\\\d"')
 
 
 class Underlines(unittest.TestCase):
@@ -93,14 +99,14 @@ class Terminal(unittest.TestCase):
             ran = shown("app.py")
         lines = ran.out.splitlines()
         self.assertEqual((ran.status, ran.err), (1, ""))
-        self.assertEqual(lines[0], "app.py:2:18: compile: exponential")
+        self.assertEqual(lines[0], "app.py:2:18: compile: exponential [RLT100]")
         self.assertEqual(lines[1], '  2 | ROW = re.compile(r"(\\w+\\s?)*$")')
         self.assertEqual(lines[2], "    |                  ~~^^^^^^^^^~~")
         self.assertRegex(lines[3], r"a text of \d\d characters costs \d\.\d billion steps; 2 characters more make that 4 t")
-        self.assertIn(r"culprit: (\w+\s?)* takes repeats of", lines[4])
-        self.assertIn("try:     python3 -c 'import re; re.search(r\"(\\w+\\s?)*$\", ", lines[5])
-        self.assertIn("docs/MENDING.md", lines[6])
-        self.assertEqual(lines[-1], "2 entries: 1 finding")
+        self.assertIn(r"culprit: the loop (\w+\s?)* and the loop \w+ inside it can both go on with", lines[4])
+        self.assertIn("try:     python3 -I -c 'import re; re.search(r\"(\\w+\\s?)*$\", ", lines[5])
+        self.assertIn("relint-show --explain mending", lines[6])
+        self.assertEqual(lines[-1], "2 entries: 1 exponential")
 
     def test_a_part_that_runs_over_joined_literals(self) -> None:
         with folder({"app.py": "import re\nre.compile(\n    r'^(\\w+'  # (a\n    r'\\s?)*$')\n"}):
@@ -112,7 +118,9 @@ class Terminal(unittest.TestCase):
         with folder({"app.py": MIXED, "b.py": "re = 1\nx = '\n"}):
             ran = shown("app.py", "b.py")
         self.assertEqual(ran.out.splitlines()[-1],
-                         "6 entries: 2 findings, 3 not analysed (1 lookaround, 1 not-whole, 1 unterminated)")
+                         "6 entries: 1 exponential, 1 of degree 3 and above; "
+                         "3 not analysed (1 lookaround, 1 not-whole, 1 unterminated)")
+        self.assertIn("\nb.py:2:5: not analysed (unterminated): ", ran.out)
 
     def test_all(self) -> None:
         with folder({"app.py": MIXED}):
@@ -132,9 +140,9 @@ class Terminal(unittest.TestCase):
                 return True
         with mock.patch.dict(os.environ, {"TERM": "xterm"}):
             os.environ.pop("NO_COLOR", None)
-            self.assertTrue(show._is_coloured("auto", Screen()))  # type: ignore[arg-type]
+            self.assertTrue(show.is_coloured("auto", Screen()))  # type: ignore[arg-type]
         with mock.patch.dict(os.environ, {"NO_COLOR": "1", "TERM": "xterm"}):
-            self.assertFalse(show._is_coloured("auto", Screen()))  # type: ignore[arg-type]
+            self.assertFalse(show.is_coloured("auto", Screen()))  # type: ignore[arg-type]
 
     def test_nothing_of_a_source_or_a_name_reaches_the_terminal_as_a_command(self) -> None:
         name = "a\x1b]0;x\x07\n.py"
@@ -153,12 +161,6 @@ class Terminal(unittest.TestCase):
             ran = shown(given=report)
         self.assertEqual((ran.status, ran.err), (1, ""))
         self.assertIn('texts:   "00" + "00" * k + "!"', ran.out)
-
-    def test_a_reader_that_goes_away(self) -> None:
-        with folder({"app.py": SLOW}):
-            words = " ".join(map(shlex.quote, (sys.executable, str(TOP / "tools" / "relint-show"), "--all", "app.py")))
-            ran = subprocess.run(["sh", "-c", f"{words} | head -c 1"], stdout=subprocess.PIPE, stderr=subprocess.PIPE)
-        self.assertEqual((ran.stdout, ran.stderr), (b"a", b""))
 
 
 def json_report(paths: Sequence[str], *options: str) -> bytes:
@@ -197,8 +199,8 @@ class Trying(unittest.TestCase):
         family = Family(("", ""), ("a",))
         for _, pattern, flags in self.PATTERNS:
             line = plain.shell_line(plain.python_code(pattern, int(flags), "match", family, 1))
-            python, option, code = shlex.split(line)
-            self.assertEqual((python, option, code.count("\n")), ("python3", "-c", 0))
+            python, apart, option, code = shlex.split(line)
+            self.assertEqual((python, apart, option, code.count("\n")), ("python3", "-I", "-c", 0))
             call = ast.parse(code).body[1].value  # type: ignore[attr-defined]
             self.assertEqual(ast.literal_eval(call.args[0]), pattern)
             given = eval(compile(ast.Expression(call.args[2]), "", "eval"), {"re": re}) if len(call.args) > 2 else 0
@@ -292,9 +294,8 @@ class Counts(unittest.TestCase):
             return Entry("a.py", kind, Place(1, 1), "match", degree)
         entries = tuple(entry("degree", it) for it in (3, 1, 2, 5, 3)) + (entry("exponential"),)
         for findings, degrees in ((6, [3, 1, 2, 5, 3]), (5, [3, 2, 5, 3]), (4, [3, 5, 3]), (2, [5]), (1, [])):
-            found = gather._findings(Report(entries, findings, 0, 0, 2), None)
-            self.assertEqual([it.degree for it in found if it.degree], degrees)
-        self.assertEqual(len(gather._findings(Report(entries, 1, 0, 0, 2), 4)), 2)
+            highest = gather.counted_degree(Report(entries, findings, 0, 0, 2))
+            self.assertEqual([it.degree for it in entries if it.is_finding(highest) and it.degree], degrees)
 
 
 @unittest.skipIf(NO_PROGRAM, NO_PROGRAM)
@@ -314,8 +315,8 @@ class Options(unittest.TestCase):
         with folder({"a.py": SLOW, "-b.py": SLOW, "--all": SLOW}):
             ran = shown("a.py", "--max-degree", "1", "./-b.py", "--color=never")
             behind = shown("a.py", "--", "-b.py", "--all")
-        self.assertEqual((ran.status, ran.out.splitlines()[-1]), (1, "4 entries: 2 findings"))
-        self.assertEqual((behind.status, behind.out.splitlines()[-1]), (1, "6 entries: 3 findings"))
+        self.assertEqual((ran.status, ran.out.splitlines()[-1]), (1, "4 entries: 2 exponential"))
+        self.assertEqual((behind.status, behind.out.splitlines()[-1]), (1, "6 entries: 3 exponential"))
 
     def test_settings(self) -> None:
         with folder({"app.py": 'import re\nre.compile(r"a*a*b")\n', "s.toml": 'compile-as = "match"\nmax-degree = 1\n'}):
@@ -325,14 +326,23 @@ class Options(unittest.TestCase):
 
     def test_max_pairs(self) -> None:
         with folder({"app.py": 'import re\nre.search("a{35}", s)\n'}):
-            self.assertIn("1 undecided (1 pairs over 600)", shown("app.py").out)
-            self.assertEqual(shown("--max-pairs", "1000", "app.py").out, "1 entry: 0 findings\n")
+            every = shown("--max-pairs", "600", "--all", "app.py").out
+            self.assertIn("1 undecided (1 pairs over 600)", every)
+            self.assertIn("a higher --max-pairs, up to 1000, may decide it", every)
+            self.assertEqual(shown("app.py").out, "1 entry: no findings\n")
+
+    def test_a_limit_that_cannot_be_raised(self) -> None:
+        with folder({"app.py": 'import re\nre.search("a{1500}", s)\n'}):
+            ran = shown("--all", "app.py")
+        self.assertIn("undecided (pairs over 1000): too many pairs of places [RLT200]", ran.out)
+        self.assertNotIn("may decide it", ran.out)
 
     def test_baseline(self) -> None:
         with folder({"app.py": MIXED}) as here:
             (here / "known.json").write_bytes(json_report(["app.py"]))
             ran = shown("--baseline", "known.json", "app.py")
-        self.assertEqual((ran.status, ran.out), (0, "0 entries: 0 findings\n"))
+        self.assertEqual((ran.status, ran.out), (2, ""))
+        self.assertIn("known.json: entry 1: it has no pattern, as in a report of relint check", ran.err)
 
     def test_a_report_on_standard_input(self) -> None:
         with folder({"app.py": MIXED, "b.py": SLOW}):
@@ -351,8 +361,10 @@ class Options(unittest.TestCase):
             ("",): "a path is empty",
             ("-", "a"): "stands alone",
             (): "standard input is empty",
-            ("--baseline", "x"): "needs a PATH",
-            ("--settings", "none.toml", "."): "settings unreadable",
+            ("--exclude", "x"): "needs a PATH",
+            ("--settings", "none.toml", "."): "the settings none.toml can't be read: it isn't there",
+            ("--config", "x", "--no-config"): "give either --config or --no-config",
+            ("--max-degree", "2", "--warn-degree", "2", "a"): "warn-degree = 2 must be below max-degree = 2",
         }
         for words, part in cases.items():
             ran = shown(*words)
@@ -367,11 +379,18 @@ class Options(unittest.TestCase):
     def test_what_cannot_be_read_is_counted(self) -> None:
         with folder({"app.py": SLOW}):
             ran = shown("app.py", "none.py")
-        self.assertEqual(ran.status, 3)
-        self.assertIn("1 finding, 1 not analysed (1 unreadable)", ran.out)
+        self.assertEqual((ran.status, ran.err), (3, "relint-show: none.py isn't there\n"))
+        self.assertIn("none.py: not analysed (unreadable): the file or folder can't be read [RLT203]\n3 entries: ", ran.out)
+        self.assertIn("3 entries: 1 exponential; 1 not analysed (1 unreadable)", ran.out)
+
+    def test_a_path_that_is_not_there(self) -> None:
+        with folder({"src/app.py": SLOW}):
+            ran = shown("scr")
+        self.assertEqual(ran, (3, "", "relint-show: scr isn't there; did you mean src?\n"))
 
     def test_no_program(self) -> None:
-        ran = shown("a.py", environment={"RELINT": "/none/relint"})
+        with folder({"a.py": SLOW}):
+            ran = shown("a.py", environment={"RELINT": "/none/relint"})
         self.assertEqual((ran.status, ran.err.count("\n")), (2, 1))
 
 
@@ -406,13 +425,53 @@ class Files(unittest.TestCase):
             os.chdir("src")
             above = shown("--tracked", "..")
         self.assertEqual(self.heads(ran), ["-b.py", "[a].py", "a.py", "build/f.py", "src/c d.py"])
-        self.assertTrue(ran.out.endswith("10 entries: 5 findings\n"), ran.out)
+        self.assertTrue(ran.out.endswith("10 entries: 5 exponential\n"), ran.out)
         self.assertEqual(self.heads(glob), ["[a].py"])
         self.assertEqual(self.heads(below), ["src/c d.py"])
         self.assertEqual(self.heads(file), ["a.py"])
-        self.assertEqual((none.status, none.out), (0, "no Python files\n"))
+        self.assertEqual((none.status, none.out), (2, ""))
+        self.assertIn("no Python file among what was named: new.py", none.err)
         self.assertEqual(self.heads(left), ["[a].py", "a.py", "src/c d.py"])
         self.assertEqual(self.heads(above), ["../-b.py", "../[a].py", "../a.py", "../build/f.py", "../src/c d.py"])
+
+    def test_what_is_passed_over_is_counted(self) -> None:
+        files = {
+            "a.py": SLOW, "lib/site-packages/b.py": SLOW, "venv/c.py": SLOW, "venv/pyvenv.cfg": "", "pyvenv.cfg": "",
+            "/".join(["d"] * 66) + "/e.py": SLOW, "notes.txt": "",
+        }
+        with folder(files):
+            os.symlink("a.py", "f.py")
+            os.symlink("lib", "g")
+            os.symlink("notes.txt", "h.txt")
+            os.symlink("none", "i.py")
+            self.git("init", "-q", ".")
+            self.git("add", ".")
+            os.rename("lib", "moved")
+            os.symlink("moved", "lib")
+            tracked = shown("--tracked")
+            named = shown("--tracked", "venv")
+            every = shown(".")
+            left = shown("--exclude", "moved", ".")
+            page = tool("relint-page", ".").out
+        self.assertEqual(self.heads(tracked), ["a.py", "/".join(["d"] * 66) + "/e.py"])
+        self.assertIn("\nnot looked at: 4 links, 1 file of virtual environments\n", tracked.out)
+        self.assertEqual(self.heads(named), ["venv/c.py"])
+        self.assertIn("\nnot looked at: 4 links, 1 folder below the 64th level; left out: 3 folders\n", every.out)
+        self.assertIn("1 not analysed (1 too-deep-folder)", every.out)
+        self.assertEqual((self.heads(left), left.status), (["./a.py"], 1))
+        self.assertIn("1 not analysed (1 too-deep-folder)", left.out)
+        self.assertIn("Not looked at: 4 links, 1 folder below the 64th level; left out: 3 folders.", page)
+
+    @unittest.skipIf(not hasattr(os, "geteuid") or os.geteuid() == 0, "root reads each folder")
+    def test_a_folder_that_cannot_be_read(self) -> None:
+        for mode in (0o000, 0o400, 0o100):
+            with folder({"a.py": SLOW, "src/b.py": SLOW}) as here:
+                self.git("init", "-q", ".")
+                self.git("add", ".")
+                (here / "src").chmod(mode)
+                statuses = [shown(*words).status for words in (["."], ["--exclude", "none", "."], ["--tracked"])]
+                (here / "src").chmod(0o700)
+            self.assertEqual(statuses, [3, 3, 1 if mode == 0o100 else 3], oct(mode))
 
     def test_tracked_outside_of_git(self) -> None:
         with folder({"a.py": SLOW}):
@@ -425,13 +484,11 @@ class Files(unittest.TestCase):
         with folder(self.FILES):
             ran = shown("--exclude", "venv", "--exclude=build", "--exclude", "[[]a].py", ".")
             inner = shown("--exclude", "src/c*", "--exclude", "venv/lib", "src", "venv")
+            named = shown("--exclude", "src/c*", "src/c d.py")
         self.assertEqual(self.heads(ran), ["./-b.py", "./a.py", "./gone.py", "./new.py", "./src/c d.py"])
-        self.assertEqual((inner.status, inner.out), (0, "no Python files\n"))
-
-    def test_the_own_walk_is_that_of_relint(self) -> None:
-        with folder({**self.FILES, "src/B.py": SLOW, "src/é.py": SLOW, "src/a/z.py": SLOW, "src/a.py": SLOW}):
-            self.assertEqual(shown("--exclude", "none", "."), shown("."))
-            self.assertEqual(shown("--exclude", "none", "src/", "a.py", "src"), shown("src/", "a.py", "src"))
+        self.assertEqual((inner.status, inner.out), (2, ""))
+        self.assertIn("no Python file among what was named: src venv (left out: 1 folder, 1 file)", inner.err)
+        self.assertEqual(named, (0, "left out: 1 file\n0 entries: no findings\n", ""))
 
     def test_batches(self) -> None:
         paths = [f"folder/file{it}.py" for it in range(5000)]
@@ -443,27 +500,22 @@ class Files(unittest.TestCase):
 
     def test_many_runs_give_what_one_gives(self) -> None:
         files = {f"folder{it % 7}/file{it:03}.py": MIXED if it % 3 else SLOW for it in range(60)}
-        words = show._parser().parse_args(["--exclude", "none", "."])
         with folder(files):
-            whole = gather.gathered(words)
+            whole = gather.gathered(show.parser().parse_args(["--jobs", "1", "."]))
+            many = gather.gathered(show.parser().parse_args(["--jobs", "7", "."]))
             with mock.patch.object(gather, "_word_bytes", lambda: 300):
-                self.assertEqual(gather.gathered(words), whole)
-
-    def test_statuses_are_joined_in_order(self) -> None:
-        report = Report((), 0, 0, 0, 2)
-        words = show._parser().parse_args(["a.py"])
-        for statuses, joined in (((0, 1), 1), ((1, 3, 0), 3), ((4, 3), 4), ((0,), 0)):
-            answers = iter([(report, it) for it in statuses])
-            with mock.patch.object(gather, "_run", lambda *_: next(answers)):
-                self.assertEqual(gather._from_runs(words, [["a"]] * len(statuses), None).status, joined)
+                single = gather.gathered(show.parser().parse_args(["."]))
+        self.assertEqual((many.report, many.status), (whole.report, whole.status))
+        self.assertEqual((single.report, single.status), (whole.report, whole.status))
 
     @unittest.skipUnless(sys.platform.startswith("linux"), "names that aren't UTF-8 need Linux")
     def test_a_name_that_is_not_utf8(self) -> None:
         with folder({"a.py": SLOW}):
             with open(b"b\xff.py", "wb") as file:
                 file.write(SLOW.encode())
-            ran = shown("--exclude", "none", ".")
+            ran = shown(".")
         self.assertEqual((ran.status, self.heads(ran)), (3, ["./a.py"]))
+        self.assertIn("./b\\udcff.py: not analysed (unreadable)", ran.out)
         self.assertIn("1 not analysed (1 unreadable)", ran.out)
 
 
@@ -494,6 +546,7 @@ class Sarif(unittest.TestCase):
     def results(self, text: str, name: str = "a b.py") -> Tuple[Dict[str, Any], List[Dict[str, Any]]]:
         with folder({name: text}):
             ran = shown("--format", "sarif", name)
+        self.assertEqual(sarif_rules.problems(json.loads(ran.out)), [])
         run = json.loads(ran.out)["runs"][0]
         return run["tool"]["driver"], run["results"]
 
@@ -505,9 +558,26 @@ class Sarif(unittest.TestCase):
             self.assertIn("CWE-1333", rules[it["ruleId"]]["properties"]["tags"])
             self.assertTrue(rules[it["ruleId"]]["help"]["text"])
         self.assertEqual([it["level"] for it in results], ["error", "warning", "note", "note"])
+        self.assertEqual([it["ruleId"] for it in results], ["RLT100", "RLT103", "RLT201", "RLT201"])
+        self.assertEqual(driver["version"], (TOP / "VERSION").read_text().strip())
+        self.assertIn("Every few characters more double the steps", rules["RLT100"]["help"]["markdown"])
         place = results[0]["locations"][0]["physicalLocation"]
         self.assertEqual(place["artifactLocation"]["uri"], "a%20b.py")
         self.assertEqual(place["region"], {"startLine": 2, "startColumn": 18, "endLine": 2, "endColumn": 31})
+
+    def test_hostile_names_and_files_that_are_not_read(self) -> None:
+        for name in ("a %b#?.py", "\u202e\u00e9\n.py"):
+            _, results = self.results("x = '\n", name)
+            self.assertEqual([it["ruleId"] for it in results], ["RLT202"])
+
+    def test_the_rules_of_the_schema_refuse_what_is_wrong(self) -> None:
+        with folder({"a.py": MIXED}):
+            text = shown("--format", "sarif", "a.py").out
+        for old, new in (('"version":"2.1.0"', '"version":"2.0.0"'), ('"ruleIndex":1', '"ruleIndex":0'),
+                         ('"uri":"a.py"', '"uri":"a b"'), ('"level":"note"', '"level":"info"'),
+                         ('"startLine":2', '"startLine":0'), ('"message":', '"massage":')):
+            self.assertIn(old, text)
+            self.assertTrue(sarif_rules.problems(json.loads(text.replace(old, new))), new)
 
     def test_fingerprints_survive_a_moved_line(self) -> None:
         def prints(text: str) -> List[str]:
@@ -518,32 +588,62 @@ class Sarif(unittest.TestCase):
         self.assertNotEqual(prints(SLOW.replace("w+", "d+")), prints(SLOW))
 
 
-class Mending(unittest.TestCase):
-    """Cures of relint.mend, where that module is there."""
+USED = r"""import re
 
-    @unittest.skipIf(NO_PROGRAM, NO_PROGRAM)
-    def test_the_best_cure_is_shown(self) -> None:
-        def cure(pattern: str, tier: str) -> Any:
-            becomes = Verdict("degree", 1)
-            return types.SimpleNamespace(pattern=pattern, verdict=becomes, tier=tier, words=lambda: f"tier {tier}")
-        module = types.ModuleType("relint.mend")
-        asked: List[Any] = []
+FLAGS = re.compile(r"a*a*,")
+TAIL = re.compile(r"(?:a|aa)*")
+ROW = re.compile(r"x*x*y")
 
-        def cures(pattern: str, flags: int, mode: str, uses: Sequence[str]) -> List[Any]:
-            asked.append((pattern, flags, mode, uses))
-            return [cure("b", "c"), cure("a", "a")]
-        setattr(module, "cures", cures)
-        with folder({"app.py": SLOW}), mock.patch.dict(sys.modules, {"relint.mend": module}):
-            lines, status = show._lines(show._parser().parse_args(["--mend", "app.py"]), sys.stdout)
-            text = "\n".join(lines)
-        self.assertEqual(asked, [(r"(\w+\s?)*$", 0, "search", ("compile",))])
-        self.assertIn('cure:    "a"   linear (degree 1); tier a', text)
+def read(line):
+    m = FLAGS.match(line)
+    ROW.search(line)
+    return TAIL.fullmatch(line)
+"""
 
-    def test_no_module(self) -> None:
-        nothing: Dict[str, Any] = {"relint.mend": None}
-        with mock.patch.dict(sys.modules, nothing), folder({"app.py": SLOW}), silent() as said:
-            status = show.main(["--mend", "app.py"])
-        self.assertEqual((status, said.getvalue().count("\n")), (2, 1))
+
+@unittest.skipIf(NO_PROGRAM, NO_PROGRAM)
+class AsUsed(unittest.TestCase):
+    """Findings as the code uses their patterns."""
+
+    def test_what_a_use_reaches_and_what_none_does(self) -> None:
+        with folder({"app.py": USED}):
+            ran = shown("app.py")
+        lines = ran.out.splitlines()
+        self.assertEqual(ran.status, 1)
+        self.assertIn("app.py:4:19: compile: exponential [RLT100]", lines)
+        self.assertIn("  used:    degree 1 if searched; here only .fullmatch (line 10): exponential", lines)
+        self.assertTrue(any(it.startswith("  try:     python3 -I -c 'import re; re.fullmatch(") for it in lines))
+        self.assertIn("not as used here:", lines)
+        self.assertIn("  app.py:3:20: compile: degree 3 if searched; here only .match (line 8): degree 2 [RLT103]", lines)
+        self.assertEqual(lines[-1], "3 entries: 1 exponential, 1 of degree 3 and above, 1 of degree 2; 1 not as used here")
+
+    def test_the_status_is_that_of_what_is_reached(self) -> None:
+        source = "import re\nX = re.compile('a*a*,')\nX.match(s)\n"
+        with folder({"app.py": source}):
+            self.assertEqual([shown("app.py").status, shown("--strict", "app.py").status], [0, 1])
+            self.assertEqual(shown("app.py").out.splitlines()[-1], "1 entry: no findings, 1 of degree 2; 1 not as used here")
+        with folder({"app.py": source, "b.py": "from app import X\nX.search(s)\n"}):
+            self.assertEqual([shown("app.py").status, shown(".").status], [0, 1])
+
+    def test_sarif_has_fixes_and_no_advice(self) -> None:
+        with folder({"app.py": USED}):
+            results = json.loads(shown("--format", "sarif", "app.py").out)["runs"][0]["results"]
+        found = {it["locations"][0]["physicalLocation"]["region"]["startLine"]: it for it in results}
+        self.assertEqual(sorted(found), [4, 5])
+        replaced = found[4]["fixes"][0]["artifactChanges"][0]["replacements"][0]
+        self.assertEqual(replaced["deletedRegion"], {"startLine": 4, "startColumn": 19, "endLine": 4, "endColumn": 31})
+        self.assertEqual(replaced["insertedContent"], {"text": 'r"(?:a)*"'})
+        self.assertNotIn("fixes", found[5])
+
+    def test_offers_are_fixes_or_advice_with_what_differs(self) -> None:
+        with folder({"app.py": SLOW}):
+            lines = shown("--mend", "app.py").out.splitlines()
+        offers = [it.split(":")[0].strip() for it in lines if it.startswith(("  fix:", "  advice:"))]
+        self.assertEqual(offers, sorted(offers, reverse=True))
+        self.assertEqual(offers[0], "fix")
+        for it in lines:
+            if it.startswith("  advice:"):
+                self.assertRegex(it, "differ|position|your code")
 
 
 if __name__ == "__main__":

@@ -95,15 +95,15 @@ class Sites(unittest.TestCase):
     def test_many_patterns_in_a_large_file(self) -> None:
         count = 3000
         source = Source(("import re\n" + "re.match('a+b', s)\n" * count).encode())
-        start = time.perf_counter()
+        start = time.process_time()
         self.assertTrue(all(source.site(Place(line, 10), "match") for line in range(2, count + 2)))
-        self.assertLess(time.perf_counter() - start, 20)
+        self.assertLess(time.process_time() - start, 20)
 
     def test_unreadable_codings(self) -> None:
-        for data in (b"\xff\xfe", b"# coding: no-such\n", b"# coding: ascii\n'\xe9'"):
+        for data in (b"\xff\xfe", b"# coding: latin-1\n'\xe9'", b"# coding: ascii\n'\xe9'"):
             with self.assertRaises(SourceError):
                 Source(data)
-        self.assertEqual(Source(b"# coding: latin-1\n'\xe9'").text[-2], "é")
+        self.assertEqual(Source("# coding: idna\n'é'".encode("utf-8")).text[-2], "é")
 
 
 class Offsets(unittest.TestCase):

@@ -1,9 +1,10 @@
 """Wrong bodies, those of the gate and those of tools/wrong-bodies: each can be applied, and the tool knows its crates."""
 from __future__ import annotations
 
+import re
 import unittest
 from pathlib import Path
-from typing import Dict, List, Set
+from typing import Dict, List, Set, Tuple
 
 from show_support import TOP, tool
 
@@ -64,6 +65,22 @@ class WrongBodies(unittest.TestCase):
             self.assertNotIn(name, seen)
             seen.add(name)
 
+    def test_each_crate_has_one_in_the_gate(self) -> None:
+        """But for those that have no contracts of their own: the programs, and what judges worked rows and units."""
+        crates = {path.name for path in CRATES.iterdir() if (path / "src").is_dir()}
+        self.assertEqual(crates - set(map(crate_of, of_the_gate())), {"relint", "rows", "unit_tests", "worked_rows"})
+
+    def test_named_ones_are_in_the_gate(self) -> None:
+        """Those of the table of named wrong bodies in docs/PROVED.md, each in the crate that the table gives."""
+        page = (TOP / "docs" / "PROVED.md").read_text(encoding="utf-8")
+        table = page.partition("## Named wrong bodies")[2].partition("\n## ")[0]
+        cells = "".join(line.split("|")[2] for line in table.splitlines() if line.startswith("| "))
+        told: Set[Tuple[str, str]] = set()
+        for names, crate in re.findall(r"((?:`\w+`(?:, )?)+) \(`(\w+)`\)", cells):
+            told.update((crate, name) for name in re.findall(r"\w+", names))
+        self.assertGreaterEqual(len(told), 16)
+        self.assertEqual(told - {(crate_of(edit), edit.stem) for edit in of_the_gate()}, set())
+
 
 class Tool(unittest.TestCase):
     """The tool, without the kit."""
@@ -72,8 +89,8 @@ class Tool(unittest.TestCase):
         ran = tool("wrong-bodies", "--list")
         self.assertEqual((ran.status, ran.err), (0, ""))
         self.assertEqual(len(ran.out.splitlines()), len(beside_the_gate()))
-        one = tool("wrong-bodies", "--list", "rl_sets")
-        self.assertEqual(one.out, "rl_sets: no_rest_ever (src/rests.rt)\n")
+        one = tool("wrong-bodies", "--list", "rl_expo")
+        self.assertEqual(one.out, "rl_expo: a_move_meets_itself (src/dense.rt)\n")
 
     def test_crate_without(self) -> None:
         ran = tool("wrong-bodies", "rows")
@@ -81,7 +98,7 @@ class Tool(unittest.TestCase):
         self.assertEqual(ran.err, "wrong-bodies: rows has no wrong bodies in tests/wrong_bodies\n")
 
     def test_no_kit(self) -> None:
-        ran = tool("wrong-bodies", "rl_sets", environment={"PATH": ""})
+        ran = tool("wrong-bodies", "rl_expo", environment={"PATH": ""})
         self.assertEqual((ran.status, ran.out), (2, ""))
         self.assertEqual(ran.err, "wrong-bodies: rt, the command of the Rattle kit, isn't on the PATH\n")
 

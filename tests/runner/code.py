@@ -16,11 +16,12 @@ from runner.results import Failed, Result
 _TESTS = Path("tests") / "python"
 _LONGEST_LINE = 127
 _LAST_LINES = 60
-_SECONDS = 900
+# (far more than it takes, as for a machine with much other work)
+_SECONDS = 7200
 _SUMMARY = re.compile(r"^Ran ([0-9]+) tests? in", re.MULTILINE)
 _SKIPPED = re.compile(r"^(?:OK|FAILED) \(.*skipped=([0-9]+)", re.MULTILINE)
 # where the Python code is that is checked
-_FOLDERS = ("editors", "packaging", "python", "tests")
+_FOLDERS = ("bench", "editors", "examples", "fuzz", "packaging", "python", "tests", "tools")
 
 
 def python_files(folder: str) -> List[Path]:
@@ -38,12 +39,14 @@ def _is_script(path: Path) -> bool:
     return first.startswith(b"#!") and b"python" in first
 
 
-def _unit_tests_of(path: Path, program: Program) -> Result:
-    """Runs the unit tests of one file."""
+def _unit_tests_of(path: Path, program: Program, wanted: str = "") -> Result:
+    """Runs the unit tests of one file, or those that have `wanted` in their names, if there are any."""
     result = Result()
     paths = [str(TREE / "python"), str(TREE / "tests")]
     environment = clean_environment(PYTHONPATH=os.pathsep.join(paths), RELINT=str(program.path))
     command = [sys.executable, "-B", "-m", "unittest", "discover", "-s", str(_TESTS), "-p", path.name]
+    if wanted:
+        command += ["-k", wanted]
     try:
         answer = run_command(command, TREE, environment, _SECONDS, together=True)
     except Failed as failure:
@@ -53,6 +56,8 @@ def _unit_tests_of(path: Path, program: Program) -> Result:
     skipped = _SKIPPED.search(answer.stdout)
     count = int(found.group(1)) if found else 0
     left_out = int(skipped.group(1)) if skipped else 0
+    if wanted and found and not count:
+        return result
     if answer.status == 0 and count:
         result.passed += count - left_out
         if left_out:
@@ -64,13 +69,31 @@ def _unit_tests_of(path: Path, program: Program) -> Result:
 
 def _unit_tests(program: Program) -> Result:
     """Runs the unit tests, some files at a time."""
-    result = Result()
-    paths = sorted(path.relative_to(TREE) for path in (TREE / _TESTS).glob("test_*.py"))
+    paths = _test_files()
+    result = _unit_tests_of_some(paths, program, "")
     if not paths:
         result.skip(str(_TESTS), "there are no unit tests")
+    return result
+
+
+def _test_files() -> List[Path]:
+    return sorted(path.relative_to(TREE) for path in (TREE / _TESTS).glob("test_*.py"))
+
+
+def _unit_tests_of_some(paths: List[Path], program: Program, wanted: str) -> Result:
+    result = Result()
     with concurrent.futures.ThreadPoolExecutor(os.cpu_count() or 1) as pool:
-        for answer in pool.map(lambda path: _unit_tests_of(path, program), paths):
+        for answer in pool.map(lambda path: _unit_tests_of(path, program, wanted), paths):
             result.add(answer)
+    return result
+
+
+def run_some(program: Program, wanted: str) -> Result:
+    """Runs the unit tests of the files with `wanted` in their names, or if there are none, those with it in their own."""
+    files = [path for path in _test_files() if wanted in path.name]
+    result = _unit_tests_of_some(files or _test_files(), program, "" if files else wanted)
+    if not (result.passed or result.failures or result.skips):
+        result.fail(wanted, "no unit test has this in its name")
     return result
 
 
@@ -81,7 +104,7 @@ def _check(name: str, words: List[str], folders: List[str], result: Result) -> N
         return
     for folder in folders:
         files = [str(path) for path in python_files(folder)]
-        paths = os.pathsep.join(str(TREE / place) for place in sorted({folder, "python"}) if (TREE / place).is_dir())
+        paths = os.pathsep.join(str(TREE / place) for place in sorted({folder, "python", "tests"}) if (TREE / place).is_dir())
         answer = run_command([name] + words + files, TREE, clean_environment(MYPYPATH=paths), _SECONDS, together=True)
         if answer.status == 0:
             result.passed += 1

@@ -20,7 +20,7 @@ _CONFIG = """repos:
     rev: %s
     hooks:
 """
-_SECONDS = 240
+_SECONDS = 1800
 
 
 @dataclass(frozen=True)
@@ -71,6 +71,7 @@ def _project(folder: Path, program: Program) -> _Project:
     environment = scratch.environment_of(folder)
     copy = folder / "relint"
     scratch.copy_tree(copy)
+    scratch.put_small_tree(copy)
     revision = scratch.commit_all(copy, environment)
     # a copy of its own: `relint` on the PATH is the program that is tested, `./relint` of the first copy is left as it is
     scratch.put_programs(folder / "bin", folder / "other", program)
@@ -89,8 +90,8 @@ def _what_is_missing() -> str:
         if not shutil.which(name):
             return "%s isn't installed" % name
     if re.search(r"^\s*language:\s*python\b", _HOOKS.read_text(encoding="utf-8"), re.MULTILINE):
-        if not (TREE / "release" / "relint").exists():
-            return "there is no release/relint, which the hook installs"
+        if not all((TREE / "release" / it / "relint").exists() for it in ("x86_64", "aarch64")):
+            return "there is no release/ for both machines, which the hook installs: tools/release makes it"
     return ""
 
 

@@ -1,4 +1,4 @@
-"""The parts that are programs of their own: `launcher`, `packaging` and `crosscheck`."""
+"""The parts that are programs of their own, such as `launcher`, `packaging` and `crosscheck`."""
 from __future__ import annotations
 
 import os
@@ -8,7 +8,8 @@ from runner.programs import TREE, Program, run_command
 from runner.results import Failed, Result, Skipped
 
 _CANNOT_RUN = 77
-_SECONDS = 900
+# (far more than it takes: on a machine with much other work it takes ten times as long)
+_SECONDS = 7200
 _LAST_LINES = 40
 
 
@@ -43,6 +44,21 @@ def packaging(program: Program) -> Result:
     return _result(["tests/packaging"], program)
 
 
-def crosscheck(program: Program) -> Result:
-    """A thousand random patterns and texts against the `re` of the Python that runs this."""
-    return _result(["tools/crosscheck", "1", "1000"], program)
+def fuzz(program: Program) -> Result:
+    """A thousand random and changed inputs, for the program and for the readers of the tools."""
+    return _result(["fuzz/run", "--count", "1000"], program)
+
+
+def faults(program: Program) -> Result:
+    """Calls to the system that fail or come short, some of those that `bench/faults` tries."""
+    return _result(["bench/faults", "--every", "200"], program)
+
+
+def valgrind(program: Program) -> Result:
+    """Some worked rows under valgrind."""
+    return _result(["tests/valgrind", "--every", "40"], program)
+
+
+def crosscheck(program: Program, count: int = 1000) -> Result:
+    """Random patterns and texts against the `re` of the Python that runs this; `count` is the number of pairs."""
+    return _result(["tools/crosscheck", "1", str(count)], program)

@@ -25,9 +25,9 @@ _FENCE = re.compile(r"^( *)(`{3,}|~{3,})[ \t]*([^`\s]*)[^`]*$")
 _CAT = re.compile(r"cat ([^\s'\"|<>;&$*?-][^\s'\"|<>;&$*?]*)")
 _FIRST_WORD = re.compile(r"(?:[A-Za-z_][A-Za-z0-9_]*=\S* +)*([^\s;|&<>()$`'\"]+)")
 _NEVER_RUN = ("./test", ".ci/run", "rt")
-_TOP = ("README.md", "CHANGELOG.md", "CONTRIBUTING.md")
-_FOLDERS = ("docs", "examples", "editors", "tests")
-_SECONDS = 600
+_TOP = ("README.md", "CHANGELOG.md", "CONTRIBUTING.md", "SECURITY.md")
+_FOLDERS = ("docs", "examples", "editors", "fuzz", "tests")
+_SECONDS = 3600
 
 
 @dataclass(frozen=True)

@@ -31,7 +31,7 @@ def clean_environment(**more: str) -> Dict[str, str]:
 
 
 def run_command(command: List[str], folder: Path, environment: Optional[Dict[str, str]] = None,
-                seconds: float = 60, together: bool = False) -> Answer:
+                seconds: float = 600, together: bool = False) -> Answer:
     """Runs a command in a folder; with `together` its standard error goes where its standard output goes.
 
     Raises `Failed` where there is no answer in time.
@@ -54,7 +54,7 @@ class Program:
 
     path: Path
 
-    def run(self, words: List[str], folder: Path, seconds: float = 60) -> Answer:
+    def run(self, words: List[str], folder: Path, seconds: float = 600) -> Answer:
         """Runs it with these words in a folder. Raises `Failed`."""
         return run_command([str(self.path)] + words, folder, seconds=seconds)
 

@@ -262,12 +262,22 @@ def run_row(row: Row, program: Program) -> None:
 
 def run(program: Program) -> Result:
     """Runs each row, over as many processors as there are. Rows that need failing calls aren't counted."""
+    return run_some(program, "")
+
+
+def run_some(program: Program, wanted: str) -> Result:
+    """Runs the rows that have this in their names; a row that is named so and needs failing calls is skipped."""
     result = Result()
     try:
-        rows = [row for row in load_rows() if not row.needs_failing_calls()]
+        named = [row for row in load_rows() if wanted in row.name]
     except (BadRow, OSError) as error:
         result.fail("the files of rows", str(error))
         return result
+    rows = [row for row in named if not row.needs_failing_calls()]
+    for row in (it for it in named if wanted and it.needs_failing_calls()):
+        result.skip(row.name, "it needs calls that fail")
+    if not named:
+        result.fail(wanted, "no row has this in its name")
     with concurrent.futures.ThreadPoolExecutor(os.cpu_count() or 1) as pool:
         for row, reason in zip(rows, pool.map(lambda row: _reason(row, program), rows)):
             if reason:

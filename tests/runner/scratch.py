@@ -1,7 +1,9 @@
 """Scratch copies of the repository, in which pages and hooks are run."""
 from __future__ import annotations
 
+import hashlib
 import os
+import re
 import shlex
 import shutil
 import subprocess
@@ -43,6 +45,47 @@ def copy_tree(target: Path) -> None:
             place.parent.mkdir(parents=True, exist_ok=True)
             made.add(place.parent)
         shutil.copy2(str(TREE / path), str(place), follow_symlinks=False)
+
+
+def put_small_tree(copy: Path) -> None:
+    """Puts one small crate into a copy that has none, and makes the release of the copy, as it is, one of this crate.
+
+    The programs stay those of the repository but for the sum that they have as their build ID, which stands in the file once.
+    Raises `Failed` if there is no release.
+    """
+    (copy / "crates.txt").write_text("relint:\n", encoding="utf-8")
+    source = copy / "crates" / "relint" / "src" / "build"
+    source.mkdir(parents=True)
+    (source / "main.rt").write_text("fn main() {}\n", encoding="utf-8")
+    taken = run_command(["sh", "-c", "top=$PWD; . release/tree.sh; tree_sum"], copy)
+    info = copy / "release" / "INFO"
+    if taken.status != 0 or not info.is_file():
+        raise Failed("the copy has no release")
+    text = info.read_text(encoding="utf-8")
+    old, new = _value_of("sum", text), taken.stdout.strip()
+    for path in sorted((copy / "release").glob("*/relint")):
+        content = path.read_bytes()
+        changed = content.replace(bytes.fromhex(old), bytes.fromhex(new))
+        path.write_bytes(changed)
+        text = text.replace(hashlib.sha256(content).hexdigest(), hashlib.sha256(changed).hexdigest())
+    info.write_text(text.replace(old, new), encoding="utf-8")
+    _list_release(copy / "release")
+
+
+def _value_of(key: str, text: str) -> str:
+    """The value of a line `KEY VALUE` of release/INFO."""
+    found = re.search(r"^%s (\S+)$" % key, text, re.MULTILINE)
+    if found is None:
+        raise Failed("release/INFO has no line %s" % key)
+    return found.group(1)
+
+
+def _list_release(folder: Path) -> None:
+    """Writes the SHA256SUMS of a release anew, for the same files."""
+    listed = folder / "SHA256SUMS"
+    names = [line.split("  ", 1)[1] for line in listed.read_text(encoding="utf-8").splitlines()]
+    sums = [hashlib.sha256((folder / name).read_bytes()).hexdigest() for name in names]
+    listed.write_text("".join("%s  %s\n" % pair for pair in zip(sums, names)), encoding="utf-8")
 
 
 def write_script(path: Path, text: str) -> None:

@@ -1,17 +1,16 @@
-"""TOML: the reader of the standard library where it is there (Python 3.11 and later), else the small one."""
+"""TOML, read by the standard library (Python 3.11 and later) or by its twin, the package tomli."""
 from __future__ import annotations
 
-import importlib
+import sys
 from typing import Any, Dict
 
-from runner import small_toml
+if sys.version_info >= (3, 11):
+    import tomllib
+else:
+    import tomli as tomllib
 
 
 def parse_toml(text: str) -> Dict[str, Any]:
     """The table that a document spells. Raises `ValueError`."""
-    try:
-        reader = importlib.import_module("tomllib")
-    except ImportError:
-        return small_toml.parse(text)
-    table: Dict[str, Any] = reader.loads(text)
+    table: Dict[str, Any] = tomllib.loads(text)
     return table

@@ -14,7 +14,7 @@ use Rattle.rl_graph.proofs.PathLaws.{nil-same, paths-nil, through_one, positive,
 use Rattle.rl_kernel.specs.Members.{is_member}
 use Rattle.rl_degree.specs.internal.Moves.{cell, with_cell, IsMoveTable, IsUsed, AreMoveTables}
 use Rattle.rl_degree.specs.internal.Pairs.{IsTable}
-use Rattle.rl_degree.specs.internal.Rows.{Field, field_of, Stand, has_middle, row_with, start_stand, number_of_new, words_from, word_at, IsRooted, reached, IsReached, behind, IsFound, Waits, IsPassed, IsSearching, work_of, IsFurther, IsImage, IsMet, outer_of, outer_moves, IsFollowedOn, IsFollowedUpTo}
+use Rattle.rl_degree.specs.internal.Rows.{Field, field_of, Stand, has_middle, row_with, start_stand, number_of_new, words_from, word_at, IsRooted, reached, IsReached, behind, IsFound, Waits, AreMovesSeen, IsSearching, work_of, IsFurther, IsImage, IsMet, outer_of, outer_moves, IsFollowedOn, IsFollowedUpTo}
 use Rattle.rl_degree.specs.declared.pairs.PairTable.{PairTable}
 use Rattle.rl_degree.specs.declared.rows.Step.{Step}
 use Rattle.rl_degree.specs.declared.rows.Found.{Found}
@@ -262,11 +262,11 @@ module _ (d : Field) (f : Found) (l y : ℕ) (image : List Bool) (old : Stand)
       found e (inl h) = found-stays e (s.found e h)
       found e (inr h) = subst (IsFound d (behind f later)) (sym h) found-new
 
-      before : (i m : ℕ) → Waits (behind f old) i m ⊎ ((l : ℕ) → IsPassed d (behind f old) l i m) → Waits (behind f later) i m ⊎ ((l : ℕ) → IsPassed d (behind f later) l i m)
+      before : (i m : ℕ) → Waits (behind f old) i m ⊎ ((l : ℕ) → AreMovesSeen d (behind f old) l i m) → Waits (behind f later) i m ⊎ ((l : ℕ) → AreMovesSeen d (behind f later) l i m)
       before i m (inl w) = inl (waits-stays i m w)
       before i m (inr a) = inr (λ l x k hx mx hk. stays (get_or d.places x 0) k (a l x k hx mx hk))
 
-      settled : (i m : ℕ) → (cell old.seen i m ≡ true) ⊎ Waits (behind f later) i m → Waits (behind f later) i m ⊎ ((l : ℕ) → IsPassed d (behind f later) l i m)
+      settled : (i m : ℕ) → (cell old.seen i m ≡ true) ⊎ Waits (behind f later) i m → Waits (behind f later) i m ⊎ ((l : ℕ) → AreMovesSeen d (behind f later) l i m)
       settled i m (inr w) = inl w
       settled i m (inl h) = before i m (s.settled i m h)
 
@@ -430,17 +430,17 @@ settle d f s letters none h all other = record {
     same : (e : Found) → IsFound d (behind f s) e → IsFound d s e
     same e x = record { place_in = x.place_in; step_in = x.step_in; wide = x.wide; word = x.word; outer = x.outer; inner = x.inner; kept = x.kept }
 
-    passed : (m l : ℕ) → has_middle f m ≡ true → (l < letters) ⊎ (letters ≤ l) → IsPassed d s l f.place m
+    passed : (m l : ℕ) → has_middle f m ≡ true → (l < letters) ⊎ (letters ≤ l) → AreMovesSeen d s l f.place m
     passed m l fresh (inl a) = all l a m fresh
     passed m l fresh (inr a) = λ y k hy member hk. absurd (subst (λ (r : List ℕ). Has y r) (none (get_or d.members f.place 0) l a) hy)
 
-    settled : (i m : ℕ) → Waits (behind f s) i m ⊎ ((l : ℕ) → IsPassed d (behind f s) l i m) → Waits s i m ⊎ ((l : ℕ) → IsPassed d s l i m)
+    settled : (i m : ℕ) → Waits (behind f s) i m ⊎ ((l : ℕ) → AreMovesSeen d (behind f s) l i m) → Waits s i m ⊎ ((l : ℕ) → AreMovesSeen d s l i m)
     settled i m (inr a) = inr a
     settled i m (inl (e, inr has, at, fresh)) = inl (e, has, at, fresh)
     settled i m (inl (e, inl here, at, fresh)) =
         let fresh2 : has_middle f m ≡ true = ap (λ (z : Found). has_middle z m) (sym here) ∙ fresh in
         let at2 : f.place ≡ i = ap (λ (z : Found). z.place) (sym here) ∙ at in
-        inr (λ l. subst (λ (z : ℕ). IsPassed d s l z m) at2 (passed m l fresh2 (cases_lt l letters)))
+        inr (λ l. subst (λ (z : ℕ). AreMovesSeen d s l z m) at2 (passed m l fresh2 (cases_lt l letters)))
 
     goal : Waits (behind f s) s.place s.to → Waits s s.place s.to
     goal (e, inr has, at, fresh) = (e, has, at, fresh)
@@ -521,7 +521,7 @@ reached-seen d s h empty z q (l ∷ w) v m all on p r =
     (step x.0 k.0 (member-there d.members d.places v here).1 there x.1 k.1 (h.settled (get_or d.places v 0) m on)) x.2 k.2
   where
     step : (x k : ℕ) → get_or d.members (get_or d.places v 0) 0 ≡ v → is_member d.members d.places x ≡ true → Has x (d.pairs v l) → Has k (d.next m l)
-        → Waits s (get_or d.places v 0) m ⊎ ((l : ℕ) → IsPassed d s l (get_or d.places v 0) m) → cell s.seen (get_or d.places x 0) k ≡ true
+        → Waits s (get_or d.places v 0) m ⊎ ((l : ℕ) → AreMovesSeen d s l (get_or d.places v 0) m) → cell s.seen (get_or d.places x 0) k ≡ true
     step x k at member hx hk (inl waits) = absurd (subst (λ (r : List Found). Has waits.0 r) empty waits.1)
     step x k at member hx hk (inr passed) = passed l x k (subst (λ (a : ℕ). Has x (d.pairs a l)) (sym at) hx) member hk
 

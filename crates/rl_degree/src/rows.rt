@@ -34,7 +34,7 @@ pub(crate) struct Found {
 /// the middle states that were seen beside it, the steps, and what they found that was not followed yet. A search that is not
 /// asked for the word keeps no step, so that it has no more than a few bits for each triple.
 #[derive(Drop)]
-pub(crate) struct Search {
+pub(crate) struct SplitSearch {
     keeps: bool,
     place: usize,
     from: u32,
@@ -76,7 +76,7 @@ fn first_queue(
     Ok(queue)
 }
 
-impl Search {
+impl SplitSearch {
     /// A search over a part of so many pairs of a graph with so many states. It begins with the pair at a place and the middle
     /// state `from`, and looks for that pair with the middle state `to`.
     ///
@@ -90,7 +90,7 @@ impl Search {
         place: usize,
         from: u32,
         to: u32,
-    ) -> Result<Search, OutOfMemory>
+    ) -> Result<SplitSearch, OutOfMemory>
         requires place_in { place < pairs }
         requires from_in { from < states }
         ensures { IfOk result (λ s. stand_of s ≡ start_stand keeps states pairs place from to) }
@@ -102,7 +102,7 @@ impl Search {
             drop(seen);
             return Err(OutOfMemory);
         };
-        Ok(Search {
+        Ok(SplitSearch {
             keeps,
             place,
             from,

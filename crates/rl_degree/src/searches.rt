@@ -7,7 +7,7 @@ ghost use Rattle.rl_degree.specs.internal.Pairs.{IsTable};
 ghost use Rattle.rl_degree.specs.internal.Splits.{HasSplit, IsPairFor, AreMarks};
 
 use crate::pairs::{PairTable, pair_of, wanted};
-use crate::rows::Search;
+use crate::rows::SplitSearch;
 use rl_graph::Multigraph;
 use rl_lanes::BitRow;
 use rl_lists::{OutOfMemory, Word};
@@ -67,7 +67,7 @@ fn search_for(
     let part = table.parts.of(pair);
     let place = table.placed.places[pair as usize] as usize;
     let pairs = table.members_of(part).len();
-    let mut search = Search::new(alloc, keeps, g.states(), pairs, place, from, to)?;
+    let mut search = SplitSearch::new(alloc, keeps, g.states(), pairs, place, from, to)?;
     let Ok(mut image) = BitRow::zeros(alloc, g.states() as usize) else {
         drop(search);
         return Err(OutOfMemory);

@@ -10,6 +10,7 @@ pub enum Sameness {
     Equal(Relation),
     /// They differ: the text is in one of them alone.
     Apart(Codes),
-    /// More set pairs are reached than the limit allows, and none of the first ones shows a difference.
+    /// Nothing: the comparison exceeded its limit, which isn't success. More set pairs are reached than the limit allows, and
+    /// none of the first ones shows a difference.
     Passed,
 }

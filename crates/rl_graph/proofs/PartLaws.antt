@@ -3,8 +3,8 @@ use Rattle.std.proofs.Common.{◌≡◌, ◌≢◌, ℕ, ◌+◌, ◌<◌, ◌�
 use Rattle.std.proofs.lemmas.Bool.{cases_lt, cases_eq}
 use Rattle.std.proofs.lemmas.List.{get_or-map, length-map, get_or_append_left, get_or_push}
 use Rattle.std.proofs.lemmas.List.Elements.{All-from_get_or}
-use Rattle.rl_graph.specs.declared.parts.Place.{Place}
-use Rattle.rl_graph.specs.declared.parts.Place.TheVariants.{Unseen, Open, Done}
+use Rattle.rl_graph.specs.declared.parts.SearchPlace.{SearchPlace}
+use Rattle.rl_graph.specs.declared.parts.SearchPlace.TheVariants.{Unseen, Open, Done}
 use Rattle.rl_graph.specs.Paths.{Has, paths, Reaches, OnCycle, IsBounded}
 use Rattle.rl_graph.specs.Parts.{PartTable, IsParts}
 use Rattle.rl_graph.specs.internal.InnerMoves.{HasInner, HasInnerOn, IsNumbered, AreInner, IsShared, AreShared, AreSharedUpTo}
@@ -127,7 +127,7 @@ shared-kept numbers n met marks m new s = record {
 pub all-done : (next : ℕ → ℕ → List ℕ) (n : ℕ) (s : Stand) → IsSearch next n s → s.frames ≡ [] → ((q : ℕ) → q < n → place_of s q ≡ Unseen → ⊥) → IsAllDone n s
 all-done next n s h e seen q lt = by (place_of s q) refl
   where
-    by : (p : Place) → place_of s q ≡ p → (c : ℕ) × (place_of s q ≡ Done c)
+    by : (p : SearchPlace) → place_of s q ≡ p → (c : ℕ) × (place_of s q ≡ Done c)
     by Unseen a = absurd (seen q lt a)
     by (Open k) a = absurd (none-open next n s h e q k a)
     by (Done c) a = (c, a)

@@ -2,7 +2,7 @@
 use Rattle.std.proofs.Common.{◌≡◌, ◌≢◌, ℕ, ◌+◌, ◌*◌, ◌<◌, ◌≤◌, ◌⊎◌, inl, inr, false, true≢false, is_some, IfNone, Option, List, [], ◌∷◌, ◌++◌, length, get_or, slice_get, Some, None, sym, ◌∙◌, ap, subst, arith, get_or-set_same, get_or-set_other}
 use Rattle.std.proofs.lemmas.Bool.{cases_lt, cases_eq}
 use Rattle.std.proofs.lemmas.List.{get_or_past, length_push}
-use Rattle.rl_graph.specs.declared.parts.Place.TheVariants.{Unseen, Open}
+use Rattle.rl_graph.specs.declared.parts.SearchPlace.TheVariants.{Unseen, Open}
 use Rattle.rl_graph.specs.declared.parts.Frame.{Frame}
 use Rattle.rl_graph.specs.internal.Search.{Stand, place_of, unseen, IsSearch, with_top, opened, first_frame, IsMet, IsKept, IsCut, IsUnseenMove, StaysSeen}
 use Rattle.rl_graph.proofs.Sums.{Has-last, Has-at, get_or-at}

@@ -2,8 +2,8 @@
 use Rattle.std.proofs.Common.{◌≡◌, ◌≢◌, ℕ, zero, suc, ◌<◌, ◌≤◌, ◌⊎◌, ◌↔◌, inl, inr, false, le-leb, List, [], ◌∷◌, ◌++◌, length, get_or, replicate, refl, sym, ◌∙◌, ap, subst, arith, get_or-take, get_or-set_same, get_or-set_other, length-set, le_antisymm, set, ◌+◌}
 use Rattle.std.proofs.lemmas.Bool.{cases_eq, cases_lt, lt-leb}
 use Rattle.std.proofs.lemmas.List.{get_or-replicate, length-replicate, get_or_past, length-take-le}
-use Rattle.rl_graph.specs.declared.parts.Place.{Place}
-use Rattle.rl_graph.specs.declared.parts.Place.TheVariants.{Unseen, Open, Done}
+use Rattle.rl_graph.specs.declared.parts.SearchPlace.{SearchPlace}
+use Rattle.rl_graph.specs.declared.parts.SearchPlace.TheVariants.{Unseen, Open, Done}
 use Rattle.rl_graph.specs.declared.parts.Frame.{Frame}
 use Rattle.rl_graph.specs.Paths.{one, Has, Pairs, Reaches}
 use Rattle.rl_graph.specs.internal.Search.{Stand, place_of, is_unseen, unseen, NoMark, Settled, Before, IsSearch, IsPast, with_top, start_of, opened, closed_alone, closed_place, IsClosed, IsFinished}
@@ -57,7 +57,7 @@ open_root next n s w h e i u = open_one next n s w h i u (λ q k o. absurd (none
 
 -- a state without a move done at once
 
-unseen-closed_at : (places : List Place) (w c : ℕ) → w < length places → get_or places w Unseen ≡ Unseen → unseen (set places w (Done c)) + 1 ≡ unseen places
+unseen-closed_at : (places : List SearchPlace) (w c : ℕ) → w < length places → get_or places w Unseen ≡ Unseen → unseen (set places w (Done c)) + 1 ≡ unseen places
 unseen-closed_at places w c h e =
     omega (arith, total-set (λ p. one (is_unseen p)) places w (Done c) Unseen h, ap (λ p. one (is_unseen p)) e)
 
@@ -85,7 +85,7 @@ alone next n s w h e i u idle =
     fits : w < length s.places
     fits = omega (arith, h.size)
 
-    split : (q : ℕ) (p : Place) → place_of (closed_alone s w) q ≡ p → ((q ≡ w) × (Done s.parts ≡ p)) ⊎ (place_of s q ≡ p)
+    split : (q : ℕ) (p : SearchPlace) → place_of (closed_alone s w) q ≡ p → ((q ≡ w) × (Done s.parts ≡ p)) ⊎ (place_of s q ≡ p)
     split q p o = by (cases_eq q w)
       where
         by : (q ≡ w) ⊎ (q ≢ w) → ((q ≡ w) × (Done s.parts ≡ p)) ⊎ (place_of s q ≡ p)
@@ -189,10 +189,10 @@ closed-done : (k c j : ℕ) → k ≤ j → closed_place k c (Open j) ≡ Done c
 closed-done k c j h = rw (le-leb k j h) refl
 
 -- what a place was before the close
-WasOpen : ℕ → Place → ℕ → Type 0
+WasOpen : ℕ → SearchPlace → ℕ → Type 0
 WasOpen k p j = (p ≡ Open j) × (j < k)
 
-was-open : (k c j : ℕ) (p : Place) → closed_place k c p ≡ Open j → (p ≡ Open j) × (j < k)
+was-open : (k c j : ℕ) (p : SearchPlace) → closed_place k c p ≡ Open j → (p ≡ Open j) × (j < k)
 was-open k c j Unseen e = absurd (unseen-open j e)
 was-open k c j (Done d) e = absurd (open-done j d (sym e))
 was-open k c j (Open i) e = by (cases_lt i k)
@@ -201,7 +201,7 @@ was-open k c j (Open i) e = by (cases_lt i k)
     by (inl h) = let r = sym (closed-open k c i h) ∙ e in (r, omega (arith, open-same i j r))
     by (inr h) = absurd (open-done j c (sym e ∙ closed-done k c i h))
 
-was-done : (k c d : ℕ) (p : Place) → closed_place k c p ≡ Done d → (p ≡ Done d) ⊎ ((j : ℕ) × (p ≡ Open j) × (k ≤ j) × (d ≡ c))
+was-done : (k c d : ℕ) (p : SearchPlace) → closed_place k c p ≡ Done d → (p ≡ Done d) ⊎ ((j : ℕ) × (p ≡ Open j) × (k ≤ j) × (d ≡ c))
 was-done k c d Unseen e = absurd (unseen-done d e)
 was-done k c d (Done x) e = inl e
 was-done k c d (Open i) e = by (cases_lt i k)
@@ -210,7 +210,7 @@ was-done k c d (Open i) e = by (cases_lt i k)
     by (inl h) = absurd (open-done i d (sym (closed-open k c i h) ∙ e))
     by (inr h) = inr (i, refl, h, done-same d c (sym e ∙ closed-done k c i h))
 
-pub closed-unseen : (k c : ℕ) (p : Place) → is_unseen (closed_place k c p) ≡ is_unseen p
+pub closed-unseen : (k c : ℕ) (p : SearchPlace) → is_unseen (closed_place k c p) ≡ is_unseen p
 closed-unseen k c Unseen = refl
 closed-unseen k c (Done d) = refl
 closed-unseen k c (Open i) = by (cases_lt i k)
@@ -356,7 +356,7 @@ pub finished-unseen : (k : ℕ) (t u : Stand) → IsFinished k t u → unseen u.
 finished-unseen k t u (inl r) = unseen-closed k (with_marks t r.0) u r.2
 finished-unseen k t u (inr r) = ap (λ (z : Stand). unseen z.places) r.1
 
-was-unseen : (k c : ℕ) (p : Place) → closed_place k c p ≡ Unseen → p ≡ Unseen
+was-unseen : (k c : ℕ) (p : SearchPlace) → closed_place k c p ≡ Unseen → p ≡ Unseen
 was-unseen k c Unseen e = refl
 was-unseen k c (Done d) e = absurd (unseen-done d (sym e))
 was-unseen k c (Open i) e = by (cases_lt i k)

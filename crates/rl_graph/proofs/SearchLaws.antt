@@ -2,8 +2,8 @@
 use Rattle.std.proofs.Common.{◌≡◌, ◌≢◌, ℕ, zero, suc, ◌+◌, ◌<◌, ◌≤◌, ◌⊎◌, inl, inr, List, [], ◌∷◌, ◌++◌, length, get_or, set, slice_get, Some, refl, sym, ◌∙◌, ap, ap₂, subst, arith, length-set, get_or-set_same, get_or-set_other}
 use Rattle.std.proofs.lemmas.Bool.{cases_eq, cases_lt}
 use Rattle.std.proofs.lemmas.List.{length_push, get_or_push, get_or_append_left}
-use Rattle.rl_graph.specs.declared.parts.Place.{Place}
-use Rattle.rl_graph.specs.declared.parts.Place.TheVariants.{Unseen, Open, Done}
+use Rattle.rl_graph.specs.declared.parts.SearchPlace.{SearchPlace}
+use Rattle.rl_graph.specs.declared.parts.SearchPlace.TheVariants.{Unseen, Open, Done}
 use Rattle.rl_graph.specs.declared.parts.Frame.{Frame}
 use Rattle.rl_graph.specs.Paths.{total, one, Has, Pairs, Reaches}
 use Rattle.rl_graph.specs.internal.Search.{Stand, place_of, is_unseen, unseen, NoMark, Settled, Before, IsSearch, with_top, first_frame, opened, IsCut}
@@ -40,10 +40,10 @@ total-pointwise f d [] (b ∷ k) e h = absurd (omega arith)
 total-pointwise f d (a ∷ l) [] e h = absurd (omega arith)
 total-pointwise f d (a ∷ l) (b ∷ k) e h = omega (arith, h 0, total-pointwise f d l k (omega arith) (λ i. h (suc i)))
 
-seen : Place → ℕ
+seen : SearchPlace → ℕ
 seen p = one (is_unseen p)
 
-pub unseen-set : (places : List Place) (w k : ℕ) → w < length places → get_or places w Unseen ≡ Unseen → unseen (set places w (Open k)) + 1 ≡ unseen places
+pub unseen-set : (places : List SearchPlace) (w k : ℕ) → w < length places → get_or places w Unseen ≡ Unseen → unseen (set places w (Open k)) + 1 ≡ unseen places
 unseen-set places w k h e =
     omega (arith, total-set (λ p. one (is_unseen p)) places w (Open k) Unseen h, ap (λ p. one (is_unseen p)) e)
 
@@ -242,14 +242,14 @@ place-other : (s : Stand) (w q : ℕ) → q ≢ w → place_of (opened s w) q �
 place-other s w q ne = get_or-set_other s.places w q (Open (length s.open_states)) Unseen ne
 
 -- the place of a state in the search after `w` was opened: that of `w`, or the one before
-place-split : (s : Stand) (w : ℕ) → w < length s.places → (q : ℕ) (p : Place) → place_of (opened s w) q ≡ p → ((q ≡ w) × (Open (length s.open_states) ≡ p)) ⊎ (place_of s q ≡ p)
+place-split : (s : Stand) (w : ℕ) → w < length s.places → (q : ℕ) (p : SearchPlace) → place_of (opened s w) q ≡ p → ((q ≡ w) × (Open (length s.open_states) ≡ p)) ⊎ (place_of s q ≡ p)
 place-split s w h q p e = by (cases_eq q w)
   where
     by : (q ≡ w) ⊎ (q ≢ w) → ((q ≡ w) × (Open (length s.open_states) ≡ p)) ⊎ (place_of s q ≡ p)
     by (inl i) = inl (i, sym (place-here s w h) ∙ (ap (place_of (opened s w)) (sym i) ∙ e))
     by (inr i) = inr (sym (place-other s w q i) ∙ e)
 
-place-kept : (s : Stand) (w q : ℕ) (p : Place) → place_of s w ≡ Unseen → (Unseen ≡ p → ⊥) → place_of s q ≡ p → place_of (opened s w) q ≡ p
+place-kept : (s : Stand) (w q : ℕ) (p : SearchPlace) → place_of s w ≡ Unseen → (Unseen ≡ p → ⊥) → place_of s q ≡ p → place_of (opened s w) q ≡ p
 place-kept s w q p u ne e = place-other s w q (λ i. ne (sym u ∙ (ap (place_of s) (sym i) ∙ e))) ∙ e
 
 settled-open : (s : Stand) (w k m : ℕ) → place_of s w ≡ Unseen → k < length s.open_states → Settled s k m → Settled (opened s w) k m

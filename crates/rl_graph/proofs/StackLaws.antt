@@ -2,8 +2,8 @@
 use Rattle.std.proofs.Common.{◌≡◌, ◌≢◌, ℕ, suc, ◌+◌, ◌-◌, ◌<◌, ◌≤◌, ◌⊎◌, inl, inr, leb, ltb, le-leb, lt-ltb, le-ltb, List, [], ◌∷◌, ◌++◌, length, get_or, set, slice_get, option_to_list, Option, Some, None, refl, sym, ◌∙◌, ap, arith, append_assoc, append-nil, get_or-set_same, get_or-set_other}
 use Rattle.std.proofs.lemmas.Bool.{cases_eq, cases_lt, lt-leb, and_from, and_left, and_right}
 use Rattle.std.proofs.lemmas.List.{length_push, get_or_past}
-use Rattle.rl_graph.specs.declared.parts.Place.{Place}
-use Rattle.rl_graph.specs.declared.parts.Place.TheVariants.{Unseen, Open, Done}
+use Rattle.rl_graph.specs.declared.parts.SearchPlace.{SearchPlace}
+use Rattle.rl_graph.specs.declared.parts.SearchPlace.TheVariants.{Unseen, Open, Done}
 use Rattle.rl_graph.specs.Paths.{Has}
 use Rattle.rl_graph.specs.internal.Search.{Stand, place_of, closed_place, closed_below, IsListed, IsCut, IsSearch}
 use Rattle.rl_graph.proofs.SearchLaws.{unseen-open}
@@ -55,7 +55,7 @@ below-low from to c j h = rw (and_left (leb from j) (ltb j to) (lt-leb from j h)
 below-high : (from to c j : ℕ) → to ≤ j → closed_below from to c (Open j) ≡ Open j
 below-high from to c j h = rw (and_right (leb from j) (ltb j to) (le-ltb j to h)) refl
 
-pub below-none : (from c : ℕ) (p : Place) → closed_below from from c p ≡ p
+pub below-none : (from c : ℕ) (p : SearchPlace) → closed_below from from c p ≡ p
 below-none from c Unseen = refl
 below-none from c (Done d) = refl
 below-none from c (Open j) = by (cases_lt j from)
@@ -72,20 +72,20 @@ below-same from to c j ne = by (cases_lt j from) (cases_lt j to)
     by (inr h) (inl k) = below-in from (to + 1) c j h (omega arith) ∙ sym (below-in from to c j h k)
     by (inr h) (inr k) = below-high from (to + 1) c j (omega arith) ∙ sym (below-high from to c j k)
 
-pub below-more : (s : Stand) → IsListed s → (places : List Place) (from to c : ℕ) → from ≤ to → to < length s.open_states → length places ≡ length s.places → ((q : ℕ) → get_or places q Unseen ≡ closed_below from to c (place_of s q)) → (q : ℕ) → get_or (set places (get_or s.open_states to 0) (Done c)) q Unseen ≡ closed_below from (to + 1) c (place_of s q)
+pub below-more : (s : Stand) → IsListed s → (places : List SearchPlace) (from to c : ℕ) → from ≤ to → to < length s.open_states → length places ≡ length s.places → ((q : ℕ) → get_or places q Unseen ≡ closed_below from to c (place_of s q)) → (q : ℕ) → get_or (set places (get_or s.open_states to 0) (Done c)) q Unseen ≡ closed_below from (to + 1) c (place_of s q)
 below-more s h places from to c le lt size old q = by (cases_eq q (get_or s.open_states to 0))
   where
     at : place_of s (get_or s.open_states to 0) ≡ Open to
     at = h.listed to lt
 
-    fits : (x : ℕ) (p : Place) → get_or s.places x Unseen ≡ p → (Unseen ≡ p → ⊥) → x < length s.places
+    fits : (x : ℕ) (p : SearchPlace) → get_or s.places x Unseen ≡ p → (Unseen ≡ p → ⊥) → x < length s.places
     fits x p e ne = in_or_out (cases_lt x (length s.places))
       where
         in_or_out : (x < length s.places) ⊎ (length s.places ≤ x) → x < length s.places
         in_or_out (inl i) = i
         in_or_out (inr i) = absurd (ne (sym (get_or_past s.places x Unseen i) ∙ e))
 
-    other : (p : Place) → place_of s q ≡ p → q ≢ get_or s.open_states to 0 → closed_below from to c p ≡ closed_below from (to + 1) c p
+    other : (p : SearchPlace) → place_of s q ≡ p → q ≢ get_or s.open_states to 0 → closed_below from to c p ≡ closed_below from (to + 1) c p
     other Unseen e ne = refl
     other (Done d) e ne = refl
     other (Open j) e ne = sym (below-same from to c j (λ i. ne (sym (h.opened q j e).1 ∙ ap (λ z. get_or s.open_states z 0) i)))
@@ -104,7 +104,7 @@ below-all s h from to c le q = by (place_of s q) refl
     at j k (inl i) = below-low from to c j i ∙ sym (rw (lt-leb from j i) refl)
     at j k (inr i) = below-in from to c j i k ∙ sym (rw (le-leb from j i) refl)
 
-    by : (p : Place) → place_of s q ≡ p → closed_below from to c p ≡ closed_place from c p
+    by : (p : SearchPlace) → place_of s q ≡ p → closed_below from to c p ≡ closed_place from c p
     by Unseen e = refl
     by (Done d) e = refl
     by (Open j) e = at j (omega (arith, (h.opened q j e).0)) (cases_lt j from)

@@ -5,7 +5,7 @@ ghost use Rattle.rl_graph.specs.Paths.{Has, Reaches, OnCycle};
 ghost use Rattle.rl_graph.specs.Parts.{number_of, cycle_of, IsParts};
 ghost use Rattle.rl_graph.specs.internal.InnerMoves.{HasInner, HasInnerOn, IsNumbered, AreInner, AreShared};
 ghost use Rattle.rl_graph.specs.internal.Search.{stand_of, start_of, opened, place_of, part_in, unseen, with_top, IsSearch, IsCut, IsClosed, IsFinished, IsListed, IsAllDone, IsUnseenMove, IsPast, IsMet, IsKept, StaysSeen, IsVisited, closed_alone, work_of};
-ghost use Rattle.rl_graph.specs.declared.parts.Place.TheVariants.{Unseen, Done};
+ghost use Rattle.rl_graph.specs.declared.parts.SearchPlace.TheVariants.{Unseen, Done};
 
 use crate::moves::NextStates;
 use rl_lists::OutOfMemory;
@@ -14,7 +14,7 @@ use std::marker::Model;
 
 /// Where a state stands in the search.
 #[derive(Clone, Copy)]
-enum Place {
+enum SearchPlace {
     Unseen,
     /// On the stack of open states, at this depth.
     Open(u64),
@@ -34,21 +34,21 @@ struct Frame {
 /// The search: the place of each state, the open states, the depths at which their groups begin, the open states
 /// whose moves aren't all looked at, and how many parts are done.
 #[derive(Drop)]
-struct Search {
-    places: Vec<Place>,
+struct PartSearch {
+    places: Vec<SearchPlace>,
     open_states: Vec<u64>,
     marks: Vec<u64>,
     frames: Vec<Frame>,
     parts: u64,
 }
 
-impl Search {
+impl PartSearch {
     /// A search over so many states, none of which is seen.
-    fn new(alloc: Global, count: u64) -> Result<Search, OutOfMemory>
+    fn new(alloc: Global, count: u64) -> Result<PartSearch, OutOfMemory>
         ensures { IfOk result (λ s. stand_of s ≡ start_of count) }
     {
-        let places = vec![in alloc; Place::Unseen; count as usize]?;
-        Ok(Search {
+        let places = vec![in alloc; SearchPlace::Unseen; count as usize]?;
+        Ok(PartSearch {
             places,
             open_states: Vec::new(alloc),
             marks: Vec::new(alloc),
@@ -71,7 +71,7 @@ impl Search {
             letter: 0,
             number: 0,
         })?;
-        self.places[state as usize] = Place::Open(depth);
+        self.places[state as usize] = SearchPlace::Open(depth);
         Ok(())
     }
 
@@ -85,7 +85,7 @@ impl Search {
         let part = self.parts;
         for depth in from as usize..self.open_states.len() {
             let state = self.open_states[depth];
-            self.places[state as usize] = Place::Done(part);
+            self.places[state as usize] = SearchPlace::Done(part);
         }
         self.open_states.truncate(from as usize);
         self.parts += 1;
@@ -110,12 +110,12 @@ impl Search {
         ensures { IsMet target (stand_of self.old) (stand_of self.new) result }
     {
         match self.places[target as usize] {
-            Place::Unseen => true,
-            Place::Open(depth) => {
+            SearchPlace::Unseen => true,
+            SearchPlace::Open(depth) => {
                 cut(&mut self.marks, depth);
                 false
             }
-            Place::Done(_) => false,
+            SearchPlace::Done(_) => false,
         }
     }
 
@@ -202,7 +202,7 @@ impl Search {
         requires room { (stand_of self.old).parts < 2 ^ 63 }
         ensures { stand_of self.new ≡ closed_alone (stand_of self.old) state }
     {
-        self.places[state as usize] = Place::Done(self.parts);
+        self.places[state as usize] = SearchPlace::Done(self.parts);
         self.parts += 1;
     }
 
@@ -227,24 +227,24 @@ impl Search {
 }
 
 /// The number of the part in a place; 0 for a state that isn't done.
-fn part_in(place: Place) -> u64
+fn part_in(place: SearchPlace) -> u64
     ensures { result ≡ part_in place }
 {
     match place {
-        Place::Done(part) => part,
+        SearchPlace::Done(part) => part,
         _ => 0,
     }
 }
 
 /// Searches a whole graph: then every state is done.
-fn searched<M: NextStates>(alloc: Global, m: &M) -> Result<Search, OutOfMemory>
+fn searched<M: NextStates>(alloc: Global, m: &M) -> Result<PartSearch, OutOfMemory>
     ensures search { IfOk result (λ s. IsSearch (M.next m.now) (M.size m.now) (stand_of s)) }
     ensures done { IfOk result (λ s. IsAllDone (M.size m.now) (stand_of s)) }
 {
     let count = m.states();
-    let mut search = Search::new(alloc, count)?;
+    let mut search = PartSearch::new(alloc, count)?;
     for root in 0..count {
-        if let Place::Unseen = search.places[root as usize] {
+        if let SearchPlace::Unseen = search.places[root as usize] {
             search.visit(m, root)?;
         }
     }
@@ -252,7 +252,7 @@ fn searched<M: NextStates>(alloc: Global, m: &M) -> Result<Search, OutOfMemory>
 }
 
 /// The numbers of the parts in a list of places.
-fn numbers_in(alloc: Global, places: &[Place]) -> Result<Vec<u64>, OutOfMemory>
+fn numbers_in(alloc: Global, places: &[SearchPlace]) -> Result<Vec<u64>, OutOfMemory>
     ensures { IfOk result (λ v. v.items ≡ map part_in places.now) }
 {
     let numbers = places.iter().map(|place| part_in(*place)).collect(alloc)?;

@@ -42,4 +42,4 @@ pub mod reach;
 pub mod starts;
 pub mod triple;
 
-pub use numbering::{TriplesError, doubles_of, triples_of};
+pub use numbering::{MOST_TRIPLES, TriplesError, doubles_of, limits_are, triples_of};

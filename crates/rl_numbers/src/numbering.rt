@@ -15,6 +15,7 @@ ghost use Rattle.rl_numbers.specs.internal.ReachedDoubles.{AreReachedDoubles};
 ghost use Rattle.rl_numbers.specs.internal.ReachedTriples.{AreReachedTriples};
 ghost use Rattle.rl_graph.specs.Parts.{PartTable, IsParts, cycle_of};
 ghost use Rattle.rl_numbers.specs.Triples.{triple_moves};
+ghost use Rattle.rl_numbers.specs.declared.numbering.TheConstants.{MOST_TRIPLES};
 
 use crate::among::Among;
 use crate::diagonal::{diagonal, listed_doubles};
@@ -30,8 +31,13 @@ use rl_graph::{Multigraph, Twice, parts_of, product_parts};
 use rl_lists::OutOfMemory;
 use std::alloc::Global;
 
-/// A list has at most so many triples.
-const MOST_TRIPLES: usize = 1_000_000;
+/// The most triples of a list.
+pub const MOST_TRIPLES: usize = 1_000_000;
+
+/// The number of the limit: 1,000,000 triples.
+pub fn limits_are()
+    ensures triples { MOST_TRIPLES ≡ 1000000 }
+{}
 
 /// Why there is no list of triples.
 #[derive(Clone, Copy)]

@@ -5,6 +5,7 @@ ghost use Rattle.rl_ranges.specs.Text.{code_count};
 ghost use Rattle.rl_ranges.specs.Codes.{has, IsInside};
 ghost use Rattle.rl_ranges.specs.Letters.{LetterTable, IsLetters, classes, letter_at};
 ghost use Rattle.rl_ranges.specs.Numbering.{Covers, ValuesBelow, IsTable};
+ghost use Rattle.rl_ranges.specs.declared.letters.TheConstants.{MOST_LETTERS};
 ghost use Rattle.rl_ranges.specs.internal.Splitting.{IsPreferred, TellsMore, HasTooMany};
 ghost use Rattle.rl_ranges.specs.internal.Order.{is_taken, picked, StandsBefore};
 
@@ -17,6 +18,11 @@ use std::marker::Model;
 
 /// The most letters of a list of sets. Sets that tell more codes apart have no letters.
 pub const MOST_LETTERS: usize = 128;
+
+/// The number of the limit: 128 letters.
+pub fn limits_are()
+    ensures letters { MOST_LETTERS ≡ 128 }
+{}
 
 /// Why there are no letters.
 #[derive(Clone, Copy, Debug, PartialEq, Eq)]

@@ -25,15 +25,15 @@ struct Way {
 
 /// The numbers of the sets that a search has found, in order, and how each was found.
 #[derive(Drop)]
-pub(crate) struct Search {
+pub(crate) struct RestSearch {
     numbers: IndexSet<u32>,
     ways: Vec<Way>,
 }
 
-impl Search {
+impl RestSearch {
     /// A search that hasn't begun. It takes no memory.
-    pub(crate) fn new(alloc: Global) -> Search {
-        Search {
+    pub(crate) fn new(alloc: Global) -> RestSearch {
+        RestSearch {
             numbers: IndexSet::new(alloc),
             ways: Vec::new(alloc),
         }
@@ -132,7 +132,12 @@ impl SetWalk {
     }
 
     /// Searches on from the set that a search begins with.
-    fn seek(&mut self, a: &Prio, search: &mut Search, set: u32) -> Result<Option<usize>, SetsError>
+    fn seek(
+        &mut self,
+        a: &Prio,
+        search: &mut RestSearch,
+        set: u32,
+    ) -> Result<Option<usize>, SetsError>
         requires made { IsMadeFor self.old a.now }
         requires set_in { set < length self.old.sets }
         requires free { holds (set_at self.old set) (accepting_state a.now) ≡ false }
@@ -161,7 +166,7 @@ impl SetWalk {
     fn expand(
         &mut self,
         a: &Prio,
-        search: &mut Search,
+        search: &mut RestSearch,
         place: usize,
     ) -> Result<Option<usize>, SetsError>
         requires made { IsMadeFor self.old a.now }
@@ -194,7 +199,7 @@ impl SetWalk {
     fn visit(
         &mut self,
         a: &Prio,
-        search: &mut Search,
+        search: &mut RestSearch,
         place: usize,
         letter: u32,
     ) -> Result<Option<usize>, SetsError>
@@ -232,7 +237,7 @@ impl SetWalk {
     fn step_from(
         &mut self,
         a: &Prio,
-        search: &Search,
+        search: &RestSearch,
         place: usize,
         letter: u32,
     ) -> Result<u32, SetsError>
@@ -253,7 +258,7 @@ impl SetWalk {
     fn trace(
         &mut self,
         a: &Prio,
-        search: &Search,
+        search: &RestSearch,
         place: usize,
         route: usize,
     ) -> Result<usize, OutOfMemory>
@@ -281,7 +286,7 @@ impl SetWalk {
     fn trace_back(
         &mut self,
         a: &Prio,
-        search: &Search,
+        search: &RestSearch,
         at: usize,
         route: usize,
     ) -> Result<usize, OutOfMemory>
@@ -303,7 +308,12 @@ impl SetWalk {
     }
 
     /// Notes a route for the set at a place.
-    fn note_route(&mut self, search: &Search, at: usize, route: usize) -> Result<(), OutOfMemory>
+    fn note_route(
+        &mut self,
+        search: &RestSearch,
+        at: usize,
+        route: usize,
+    ) -> Result<(), OutOfMemory>
         requires place_in { at < length (found_of search.now).numbers }
         requires set_in { number_at (found_of search.now) at < length self.old.sets }
         ensures made { (a : Automaton) → IsMadeFor self.old a → HasRoute a self.old.kept.routes (found_set self.old (found_of search.now) at) route → IsMadeFor self.new a }
@@ -315,7 +325,7 @@ impl SetWalk {
     }
 
     /// Notes that the found sets refuse no rest.
-    fn bury(&mut self, a: &Prio, search: &Search) -> Result<(), OutOfMemory>
+    fn bury(&mut self, a: &Prio, search: &RestSearch) -> Result<(), OutOfMemory>
         requires made { IsMadeFor self.old a.now }
         requires search { IsSearch a.now self.old (found_of search.now) }
         requires dead { IsLookedAt a.now self.old (found_of search.now) (length (found_of search.now).numbers) 0 }

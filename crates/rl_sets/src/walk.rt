@@ -15,7 +15,7 @@ mod lives;
 
 use crate::error::SetsError;
 use crate::life::{Life, Route};
-use crate::rests::Search;
+use crate::rests::RestSearch;
 use crate::rows::{mark, mark_moves, members, move_alike, table_on};
 use indexmap::IndexSet;
 use rl_lanes::{BitRow, BitTable};
@@ -38,7 +38,7 @@ pub struct SetWalk {
     limit: u32,
     rows: IndexSet<BitRow>,
     spare: Option<BitRow>,
-    idle: Option<Search>,
+    idle: Option<RestSearch>,
     tables: Vec<Option<BitTable>>,
     images: Vec<Option<u32>>,
     routes: Vec<Route>,
@@ -300,20 +300,20 @@ impl SetWalk {
     }
 
     /// A search from a set: the idle one begun anew, or a new one.
-    pub(crate) fn take_search(&mut self, set: u32) -> Result<Search, OutOfMemory>
+    pub(crate) fn take_search(&mut self, set: u32) -> Result<RestSearch, OutOfMemory>
         ensures root { IfOk result (λ s. found_of s ≡ root_of set) }
         ensures same { self.new ≡ self.old }
     {
         let mut search = match self.idle.take() {
             Some(search) => search,
-            None => Search::new(self.allocator()),
+            None => RestSearch::new(self.allocator()),
         };
         search.begin(set)?;
         Ok(search)
     }
 
     /// Keeps a search for the next one.
-    pub(crate) fn keep_search(&mut self, search: Search)
+    pub(crate) fn keep_search(&mut self, search: RestSearch)
         ensures { self.new ≡ self.old }
     {
         self.idle = Some(search);

@@ -16,15 +16,15 @@ pub Progress-none : (old : Option (List ℕ)) (before : ℕ) (text : List ℕ) �
 Progress-none old before text = record { done = []; parts = refl; gained = Appends-nil old; later = omega arith }
 
 -- what `&rest[n..]` is
-rest_from : (rest : List ℕ) (n : ℕ) → take (length rest - n) (drop n rest) ≡ drop n rest
-rest_from rest n = ap (λ k. take k (drop n rest)) (sym (length-drop n rest)) ∙ take-length (drop n rest)
+take_rest : (rest : List ℕ) (n : ℕ) → take (length rest - n) (drop n rest) ≡ drop n rest
+take_rest rest n = ap (λ k. take k (drop n rest)) (sym (length-drop n rest)) ∙ take-length (drop n rest)
 
 pub Progress-more : (old now new : Option (List ℕ)) (before after later : ℕ) (text rest : List ℕ) (n : ℕ)
     → Progress old now before after text rest → Appends now new (take n rest) → after ≤ later
     → Progress old new before later text (take (length rest - n) (drop n rest))
 Progress-more old now new before after later text rest n p gains rises = record {
   done = p.done ++ take n rest;
-  parts = p.parts ∙ ap (λ l. p.done ++ l) (sym (take-append-drop n rest)) ∙ sym (append_assoc p.done (take n rest) (drop n rest)) ∙ ap (λ l. (p.done ++ take n rest) ++ l) (sym (rest_from rest n));
+  parts = p.parts ∙ ap (λ l. p.done ++ l) (sym (take-append-drop n rest)) ∙ sym (append_assoc p.done (take n rest) (drop n rest)) ∙ ap (λ l. (p.done ++ take n rest) ++ l) (sym (take_rest rest n));
   gained = Appends-trans old now new p.done (take n rest) p.gained gains;
   later = omega (arith, p.later);
 }

@@ -31,4 +31,4 @@ mod walking;
 
 pub use laws::walks_are_determined;
 pub use visits::{Visit, Visitor, Visits};
-pub use walking::{MOST_LEVELS, walk};
+pub use walking::{MOST_LEVELS, limits_are, walk};

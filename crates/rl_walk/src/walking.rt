@@ -4,6 +4,7 @@ ghost use Rattle.rl_walk.specs.Steps.{named, file, folder, child_steps, steps_be
 ghost use Rattle.rl_walk.specs.Children.{path_below, IsInOrder};
 ghost use Rattle.rl_walk.specs.Visits.{Walked, moment_of};
 ghost use Rattle.rl_walk.specs.internal.Parts.{Does};
+ghost use Rattle.rl_walk.specs.declared.walking.TheConstants.{MOST_LEVELS};
 
 use crate::children::{has_source_name, in_order, path_below};
 use crate::met::Met;
@@ -17,6 +18,11 @@ const MOST_READ: usize = MOST_BYTES + 1;
 
 /// The most levels that a folder may stand below the path that the walk was given. A deeper one isn't entered.
 pub const MOST_LEVELS: u32 = 64;
+
+/// The number of the limit: 64 levels.
+pub fn limits_are()
+    ensures levels { MOST_LEVELS ≡ 64 }
+{}
 
 /// Reads a file, unless it was met.
 fn take_file<T: Tree, V: Visitor>(

@@ -14,7 +14,7 @@ mod words;
 
 pub use action_name::ActionName;
 pub use error::WordsError;
-pub use ranges::{COUNTS, MAX_DEGREES, MAX_PAIRS, NumberRange, REPORT_VERSIONS, SEEDS};
+pub use ranges::{COUNTS, MAX_DEGREES, MAX_PAIRS, NumberRange, REPORT_VERSIONS, SEEDS, limits_are};
 pub use read::read_words;
 pub use usage::usage_text;
 pub use values::{format_of, mode_of};

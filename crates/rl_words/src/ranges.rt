@@ -1,6 +1,7 @@
 //! The ranges of the numbers that options, settings files and `sample` take.
 ghost use Rattle.std.specs.Prelude.{◌≡◌};
 ghost use Rattle.rl_words.specs.Values.{is_within};
+ghost use Rattle.rl_words.specs.declared.ranges.TheConstants.{COUNTS, MAX_DEGREES, MAX_PAIRS, REPORT_VERSIONS, SEEDS};
 
 /// The numbers from `low` to `high`.
 #[derive(Clone, Copy)]
@@ -32,6 +33,15 @@ pub const COUNTS: NumberRange = NumberRange {
     low: 1,
     high: 20_000,
 };
+
+/// The numbers of the ranges.
+pub fn limits_are()
+    ensures degrees { MAX_DEGREES ≡ record { low = 0; high = 999999 } }
+    ensures pairs { MAX_PAIRS ≡ record { low = 1; high = 1000 } }
+    ensures reports { REPORT_VERSIONS ≡ record { low = 1; high = 2 } }
+    ensures seeds { SEEDS ≡ record { low = 0; high = 2147483647 } }
+    ensures counts { COUNTS ≡ record { low = 1; high = 20000 } }
+{}
 
 impl NumberRange {
     /// Whether the number lies in the range.

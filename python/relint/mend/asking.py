@@ -9,7 +9,6 @@ import os
 import re
 import subprocess
 import tempfile
-import time
 from typing import Dict, List, NamedTuple, Optional, Sequence, Tuple, Union
 
 from ..program import NO_MEMORY, ProgramError, program
@@ -18,7 +17,8 @@ from ..reports import ReportError, Verdict, read_report, read_text
 Text = Union[str, bytes]
 
 MODES = ("fullmatch", "match", "search")
-SECONDS, LEAST_SECONDS = 20.0, 1.0
+# No question takes so long that relint's own limits end; it is a way out where a process hangs.
+SECONDS = 300.0
 FLAG_WORDS = (
     (re.ASCII, "a", "re.ASCII"),
     (re.IGNORECASE, "i", "re.IGNORECASE"),
@@ -50,12 +50,11 @@ class Comparison(NamedTuple):
 class Asker:
     """Asks relint, and keeps the answers. `runs` counts the processes and `compared` the questions to `compare`.
 
-    A question ends after `seconds`, and near `deadline` where that is set, a value of `time.monotonic`.
+    A question that takes `seconds` has no answer.
     """
 
     def __init__(self, seconds: float = SECONDS) -> None:
         self.seconds = seconds
-        self.deadline: Optional[float] = None
         self.runs = 0
         self.compared = 0
         self._classes: Dict[Tuple[Text, int, str], Optional[Verdict]] = {}
@@ -69,12 +68,9 @@ class Asker:
     def _run(self, words: Sequence[str]) -> Optional["subprocess.CompletedProcess[bytes]"]:
         self.runs += 1
         whole = [program(), *words]
-        seconds = self.seconds
-        if self.deadline is not None:
-            seconds = min(seconds, max(LEAST_SECONDS, self.deadline - time.monotonic()))
         try:
             return subprocess.run(whole, stdin=subprocess.DEVNULL, stdout=subprocess.PIPE, stderr=subprocess.PIPE,
-                                  timeout=seconds)
+                                  timeout=self.seconds)
         except subprocess.TimeoutExpired:
             return None
         except (OSError, ValueError) as error:
@@ -155,10 +151,3 @@ def _word(pattern: Text, flags: int) -> str:
         # (a pattern of bytes is one of text under ASCII, seen on the codes below 256 alone)
         return front_of(flags | re.ASCII) + pattern.decode("latin-1")
     return front_of(flags) + pattern
-
-
-def rank(verdict: Optional[Verdict]) -> int:
-    """Returns a number that is greater for a worse class: the degree, then exponential, then what isn't known."""
-    if verdict is None or verdict.kind == "undecided":
-        return 1000
-    return 100 if verdict.kind == "exponential" else verdict.degree or 0

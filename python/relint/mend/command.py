@@ -3,22 +3,34 @@ from __future__ import annotations
 
 import argparse
 import json
+import os
 import re
 import sys
+import time
 import warnings
-from dataclasses import dataclass
-from pathlib import Path
+from dataclasses import dataclass, replace
 from typing import Dict, Iterator, List, Optional, Sequence, Tuple
 
-from ..program import ProgramError
-from ..reports import Entry, ReportError, Text, read_report
-from ..sites import Site, Source, SourceError
-from .asking import Asker, FLAG_WORDS, MODES, rank
+from .. import gather, plain
+from ..command_line import Parser, number
+from ..facts import Sources, site_of
+from ..judging import SECONDS, TOTAL_SECONDS
+from ..opening import HERE, OpenError, place_of, read_named
+from ..reports import Entry, MOST_BYTES, ReportError, Text, Verdict, check_paths, own_of, read_report, read_stream
+from ..sites import Site, Source
+from ..used.classes import AsUsed
+from ..used.follow import mode_of
+from ..used.report import as_used
+from ..used.run import Run
+from ..verdicts import MAX_DEGREE, is_finding, order
+from ..writing import escaped, line, visible
+from .asking import Asker, FLAG_WORDS
 from .diff import Change, Unchangeable
 from .judge import CALLS, TIERS
-from .near import advice
+from .near import advice, notes
+from .offers import FIX, Offer, offer_of, offered
+from .same import How, how_of, how_used
 from .search import Cure, Limits, Outcome, Search
-from .uses import groups_matter
 
 DONE, LEFT, BAD = 0, 1, 2
 LETTERS = {letter: flag for flag, letter, _ in FLAG_WORDS}
@@ -30,92 +42,75 @@ class Bad(Exception):
 
 @dataclass(frozen=True)
 class Finding:
-    """An entry of a report with its pattern, or with why it has none."""
+    """A finding with its pattern and how the code calls it, or with why it has none."""
 
     entry: Entry
-    site: Optional[Site]
+    mode: str
+    how: How
+    source: Optional[Source] = None
+    site: Optional[Site] = None
+    used: Optional[AsUsed] = None
     why: str = ""
-    groups_matter: bool = True
 
     def chosen(self, cures: Sequence[Cure], tier: str) -> Optional[Cure]:
         """Returns the cure to put in its place where those up to that tier are asked for: of the best tier, then class."""
-        fitting = [(self.needed(it), rank(it.verdict), at) for at, it in enumerate(cures) if self.needed(it) <= tier]
+        fitting = [(self.needed(it), order(it.verdict), at) for at, it in enumerate(cures) if self.needed(it) <= tier]
         return cures[min(fitting)[2]] if fitting else None
 
     def needed(self, cure: Cure) -> str:
-        """Returns the tier that is to be asked for: b is as good as a where groups don't matter, and a as b with a proviso."""
-        if cure.tier == "b" and not self.groups_matter:
-            return "a"
-        return "b" if cure.tier == "a" and not cure.judgement.position else cure.tier
+        """Returns the tier that is to be asked for: a for a fix; what is of tier a and no fix counts as b."""
+        is_fix = self.source is not None and self.site is not None and (
+            offer_of(self.source, self.site, self.how, cure).kind == FIX)
+        return "a" if is_fix else max("b", cure.tier)
 
 
 def arguments() -> argparse.ArgumentParser:
     """Returns the reader of the command's words."""
-    parser = argparse.ArgumentParser(
-        prog="relint-mend",
-        description="Proposes patterns to replace costly ones, and keeps those that relint proves to match the same texts.",
+    parser = Parser(
+        "relint-mend", "Proposes patterns to replace costly ones, and keeps those that relint proves to match the same texts.",
+        "The exit status is 0 if all findings are mended, 1 if some aren't, 2 to 6 for errors.",
     )
-    parser.add_argument("patterns", nargs="*", metavar="PATTERN", help="a pattern; put -- before one that begins with -")
+    gather.add_options(parser)
+    gather.add_time_options(parser)
+    parser.add_argument("--pattern", action="append", default=[], metavar="P",
+                        help="mend a pattern; you can give it several times")
     parser.add_argument("--report", metavar="FILE", help="mend the findings of this JSON report of relint check")
-    parser.add_argument("--diff", action="store_true", help="with --report: write the cures as a unified diff")
-    parser.add_argument("--apply", action="store_true", help="with --report: write the cures into the files")
-    parser.add_argument("--tier", choices=TIERS, default="a", help="the lowest tier for --diff and --apply (default: a)")
-    parser.add_argument("--call", choices=CALLS, default="compile", help="the call that PATTERN stands in (default: compile)")
-    parser.add_argument("--flags", default="", metavar="LETTERS", help="the flags of that call: a, i, m, s, x")
-    parser.add_argument("--mode", choices=MODES, help="what compile counts as (default: the costliest; with --report: search)")
-    parser.add_argument("--max-degree", type=_whole, default=2, metavar="N",
-                        help="degrees above this are findings (default: 2)")
-    parser.add_argument("--tries", type=_whole, default=50, metavar="N",
-                        help="the most comparisons for one pattern (default: 50)")
-    parser.add_argument("--steps", type=_whole, default=3, metavar="N",
-                        help="the most rules one after another (default: 3)")
-    parser.add_argument("--seconds", type=_seconds, default=30.0, metavar="S",
-                        help="the most time for one pattern (default: 30)")
-    parser.add_argument("--format", choices=("text", "json"), default="text", help="the layout of the answers (default: text)")
+    parser.add_argument("--diff", action="store_true", help="write the cures as a unified diff")
+    parser.add_argument("--apply", action="store_true", help="write the cures into the files")
+    parser.add_argument("--tier", choices=TIERS, default="a", help="the lowest tier for --diff and --apply (a)")
+    parser.add_argument("--call", choices=CALLS, default="compile", help="with --pattern: the call that it is in (compile)")
+    parser.add_argument("--flags", default="", metavar="LETTERS", help="with --pattern: the flags of that call: a, i, m, s, x")
+    parser.add_argument("--tries", type=number(0, 999_999), default=50, metavar="N",
+                        help="the most comparisons for one pattern (50)")
+    parser.add_argument("--steps", type=number(0, 999_999), default=3, metavar="N",
+                        help="the most rules one after another (3)")
+    parser.add_argument("--work", type=number(0, 999_999), default=3000, metavar="N",
+                        help="the most proposals for one pattern that relint is asked the class of (3000)")
+    parser.add_argument("--format", choices=("text", "json"), default="text", help="the layout of the answers (text)")
     return parser
-
-
-def _whole(word: str) -> int:
-    if not re.fullmatch(r"[0-9]{1,6}", word):
-        raise argparse.ArgumentTypeError("a whole number below a million")
-    return int(word)
-
-
-def _seconds(word: str) -> float:
-    if not re.fullmatch(r"[0-9]{1,6}(\.[0-9]+)?", word):
-        raise argparse.ArgumentTypeError("a number of seconds")
-    return float(word)
-
-
-def mode_of(call: str, mode: str) -> str:
-    """Returns the mode of a call: compile counts as `mode`."""
-    if call == "compile":
-        return mode
-    return call if call in ("match", "fullmatch") else "search"
 
 
 def costliest(asker: Asker, pattern: Text, flags: int) -> str:
     """Returns the mode in which the pattern's class is worst, search before the others."""
     modes = ("search", "match", "fullmatch")
-    return max(modes, key=lambda it: rank(asker.classes([pattern], flags, it)[0]))
+    return max(modes, key=lambda it: order(asker.classes([pattern], flags, it)[0]))
 
 
 class Mender:
     """Mends patterns one after another; one that comes again has its answer already."""
 
-    def __init__(self, limits: Limits, mode: Optional[str]) -> None:
+    def __init__(self, limits: Limits) -> None:
         self.limits = limits
-        self.mode = mode
         self.asker = Asker()
-        self._known: Dict[Tuple[Text, int, str], Outcome] = {}
+        self._known: Dict[Tuple[Text, How, Optional[str]], Outcome] = {}
 
-    def outcome(self, pattern: Text, flags: int, call: str) -> Outcome:
-        """Returns what was found for a pattern that stands in this call."""
-        key = (pattern, flags, call)
+    def outcome(self, pattern: Text, how: How, mode: Optional[str]) -> Outcome:
+        """Returns what was found for a pattern that is called so; without a mode, its class in the costliest one counts."""
+        key = (pattern, how, mode)
         if key not in self._known:
             self.asker.forget()
-            mode = mode_of(call, self.mode or costliest(self.asker, pattern, flags))
-            self._known[key] = Search(pattern, flags, mode, (call,), self.limits, self.asker).run()
+            judged_in = mode or costliest(self.asker, pattern, how.flags)
+            self._known[key] = Search(pattern, judged_in, how, self.limits, self.asker).run()
         return self._known[key]
 
 
@@ -123,10 +118,7 @@ def _text(pattern: Text) -> str:
     return pattern if isinstance(pattern, str) else ascii(pattern)
 
 
-def _line(cure: Cure) -> str:
-    shown = _text(cure.pattern)
-    if "\n" in shown:
-        shown = repr(cure.pattern)
+def _line(cure: Cure, shown: str) -> str:
     before = cure.before.words() + ("" if cure.mode == "search" else f" as {cure.mode}")
     return f"{before} -> {cure.verdict.words()}    {shown}    {cure.words()}"
 
@@ -135,152 +127,348 @@ def said(outcome: Outcome) -> List[str]:
     """Returns the lines of an outcome: its best cure, those of other tiers, or what there is to say."""
     lines: List[str] = []
     for cure in outcome.cures:
-        lines.append(_line(cure) if not lines else f"  or: {_line(cure)}")
-    return lines or advice(outcome)
+        text = _text(cure.pattern)
+        shown = text if visible(text) == text else plain.quoted(cure.pattern)
+        lines.append(f"  or: {_line(cure, shown)}" if lines else _line(cure, shown))
+        lines += _why(cure.changes(), lines)
+    return [*lines, *notes(outcome)] if lines else advice(outcome)
+
+
+def _why(changes: str, lines: Sequence[str]) -> List[str]:
+    """The line that says what was changed, where it wasn't said yet."""
+    line = f"  why: {changes}"
+    return [] if line in lines or not changes else [line]
 
 
 def _object(outcome: Outcome) -> Dict[str, object]:
     cures = [{"pattern": _text(it.pattern), "tier": it.tier, "becomes": it.verdict.words(), "words": it.words(),
-              "position": it.judgement.position, "steps": list(it.steps)} for it in outcome.cures]
+              "position": it.judgement.position, "steps": list(it.steps), "changes": it.changes()} for it in outcome.cures]
     before = outcome.before.words() if outcome.before else None
     return {"before": before, "cures": cures, "why": outcome.why, "said": [] if cures else advice(outcome)}
 
 
+# Patterns that are given as words
+
+
 def mend_patterns(options: argparse.Namespace, mender: Mender) -> int:
     """Mends the patterns among the words."""
-    unknown = set(options.flags) - set(LETTERS)
-    if unknown:
-        raise Bad(f"--flags takes the letters {' '.join(LETTERS)}, and not {' '.join(sorted(unknown))}")
-    flags = 0
-    for letter in options.flags:
-        flags |= LETTERS[letter]
+    flags = _flags(options.flags)
+    max_degree = MAX_DEGREE if options.max_degree is None else options.max_degree
+    for pattern in options.pattern:
+        if os.path.exists(pattern):
+            raise Bad(f"{pattern} is there as a file or folder: to mend what is in it, leave out --pattern")
     left = False
-    for pattern in options.patterns:
-        outcome = mender.outcome(pattern, flags, options.call)
+    for pattern in options.pattern:
+        mode = options.mode if options.call == "compile" else mode_of(options.call, "search")
+        outcome = mender.outcome(pattern, how_of([options.call], flags), mode)
         if outcome.before is None:
             raise Bad(f"relint refuses the pattern {pattern!r}, or took too long")
-        needed = rank(outcome.before) > options.max_degree
+        after = outcome.cures[0].verdict if outcome.cures else outcome.before
         if options.format == "json":
-            print(json.dumps({"pattern": pattern, **_object(outcome)}))
+            gather.write(json.dumps({"pattern": pattern, **_object(outcome)}) + "\n")
         else:
-            print("\n".join(said(outcome)))
-        left = left or needed and not outcome.cures
+            _say([*said(outcome), *_still(outcome, after, max_degree)])
+        left = left or is_finding(after, max_degree) or after.kind == "undecided"
     return LEFT if left else DONE
 
 
-def findings(path: str, max_degree: int) -> Tuple[List[Entry], Iterator[Finding]]:
-    """Returns all entries of a report, and its findings with their patterns. Raises Bad."""
+def _say(lines: Sequence[str]) -> None:
+    """Writes lines so that no terminal or build server obeys them; a line may have line ends of a source in it."""
+    gather.write("".join(f"{line(it)}\n" for one in lines for it in escaped(one, "\n").split("\n")))
+    gather.flush()
+
+
+def _still(outcome: Outcome, after: Verdict, max_degree: int) -> List[str]:
+    """The line that says that a cure leaves a finding."""
+    if not outcome.cures or not is_finding(after, max_degree):
+        return []
+    return [f"  still a finding: {after.words()} is above --max-degree {max_degree}"]
+
+
+def _flags(letters: str) -> int:
+    unknown = set(letters) - set(LETTERS)
+    if unknown:
+        raise Bad(f"--flags takes the letters {' '.join(LETTERS)}, and not {' '.join(sorted(unknown))}")
+    flags = 0
+    for letter in letters:
+        flags |= LETTERS[letter]
+    return flags
+
+
+# Findings of a report
+
+# The findings of each file that get a cure, with it.
+Chosen = Dict[str, List[Tuple[Finding, Cure]]]
+
+
+@dataclass(frozen=True)
+class Reported:
+    """The entries of a report, its findings, the mode that compile has in it, and the options that it was made with."""
+
+    entries: Sequence[Entry]
+    findings: Sequence[Entry]
+    compile_as: str
+    max_degree: int
+    options: Sequence[str]
+    files: Sequence[str] = ()
+    max_pairs: Optional[int] = None
+    folders: Sequence[str] = HERE
+    strict: bool = False
+
+    def within(self, path: str) -> str:
+        """Returns the folder in which a file is read and written: the current one, or one that was named. Raises Bad."""
+        try:
+            return place_of(path, [*HERE, *self.folders] if self.files else self.folders)[0] or "."
+        except OpenError as error:
+            raise Bad(f"{path}: {error}") from error
+
+
+def reported(options: argparse.Namespace) -> Reported:
+    """Returns the report that the words name, or the one that a run over their paths gives. Raises Bad or GatherError."""
+    if options.report and options.report != "-":
+        return _from_file(options)
+    _refuse_missing(options.paths)
+    # (a pattern that isn't a literal of the source can't be put in its place)
+    options.shows_beyond = False
+    given = gather.gathered(options)
+    gather.tell("relint-mend", given)
+    accepted = [it.entry for it, _ in given.split.known] if given.split else []
+    entries = sorted(own_of([*given.report.entries, *accepted]), key=_order)
+    asked = ["--mode", given.compile_as] + ([f"--max-pairs={given.max_pairs}"] if given.max_pairs else [])
+    files = given.selection.files if given.selection else ()
+    return Reported(entries, own_of(given.findings), given.compile_as, given.max_degree, asked, files, given.max_pairs,
+                    given.folders, given.strict)
+
+
+def _from_file(options: argparse.Namespace) -> Reported:
+    folders = (options.within or ".",)
+    entries = _read(options.report, folders)
+    max_degree = MAX_DEGREE if options.max_degree is None else options.max_degree
+    findings = [it for it in entries if it.is_finding(max_degree)]
+    mode = options.mode or "search"
+    return Reported(entries, findings, mode, max_degree, ["--mode", mode], folders=folders, strict=options.strict)
+
+
+def _order(entry: Entry) -> Tuple[str, int, int]:
+    return (entry.path, entry.place.line, entry.place.column) if entry.place else (entry.path, 0, 0)
+
+
+def _read(path: str, folders: Sequence[str]) -> List[Entry]:
     try:
-        data = sys.stdin.buffer.read() if path == "-" else Path(path).read_bytes()
-        report = read_report(data)
-    except OSError as error:
-        raise Bad(f"{path} can't be read: {error.strerror}") from error
+        report = read_report(read_stream(sys.stdin.buffer) if path == "-" else read_named(path, MOST_BYTES))
+        check_paths(report, folders)
+        return list(own_of(report.entries))
+    except OpenError as error:
+        raise Bad(f"{path} can't be read: {error}") from error
     except ReportError as error:
         raise Bad(f"{path}: {error}") from error
-    return list(report.entries), (_finding(it) for it in report.entries if it.is_finding(max_degree))
 
 
-_sources: Dict[str, Source] = {}
+def _refuse_missing(paths: Sequence[str]) -> None:
+    for path in paths:
+        if path != "-" and not os.path.lexists(path):
+            raise Bad(f"{path} isn't there: name a file or folder, or give a pattern with --pattern")
 
 
-def _finding(entry: Entry) -> Finding:
-    if entry.place is None:
-        return Finding(entry, None, "it has no place")
-    try:
-        if entry.path not in _sources:
-            _sources.clear()
-            _sources[entry.path] = Source(Path(entry.path).read_bytes())
-        site = _sources[entry.path].site(entry.place, entry.call)
-    except OSError as error:
-        return Finding(entry, None, f"the file can't be read: {error.strerror}")
-    except SourceError as error:
-        return Finding(entry, None, f"the file can't be read: {error}")
+def findings_of(report: Reported) -> Iterator[Finding]:
+    """Yields the findings of a report with their patterns, as the code calls them."""
+    sources = Sources([*HERE, *report.folders] if report.files else report.folders)
+    run = Run([*(it.path for it in report.findings), *report.files], sources.data)
+    used = as_used(report.findings, report.compile_as, lambda it: site_of(sources, it), run, report.max_pairs)
+    for entry in report.findings:
+        yield _finding(entry, report.compile_as, sources, used.get(entry))
+
+
+def _finding(entry: Entry, compile_as: str, sources: Sources, used: Optional[AsUsed]) -> Finding:
+    source, site = site_of(sources, entry)
+    call = entry.call or "compile"
+    mode = mode_of(entry.call, compile_as)
+    if source is None:
+        return Finding(entry, mode, how_of([call]), why="the file can't be read")
     if site is None or site.flags is None:
-        return Finding(entry, None, "no pattern whose flags can be read is there; did the file change?")
-    return Finding(entry, site, groups_matter=groups_matter(_sources[entry.path], entry.place, entry.call))
+        why = "no pattern whose flags can be read is there; did the file change?"
+        return Finding(entry, mode, how_of([call]), source, why=why)
+    flags = site.flags & ~int(re.DEBUG)
+    if used is None:
+        return Finding(entry, mode, how_of([call], flags), source, site)
+    return Finding(entry, used.mode, how_used(used.used, flags), source, site, used)
 
 
-def _head(entry: Entry) -> str:
-    place = f":{entry.place.line}:{entry.place.column}" if entry.place else ""
-    return f"{entry.path}{place}: " + (f"{entry.call}: " if entry.call else "")
+@dataclass
+class Counts:
+    """What became of the findings: mended, bettered to a class that is a finding still, not as used, or left."""
+
+    mended: int = 0
+    still: int = 0
+    unused: int = 0
+    left: int = 0
+
+    def words(self, is_written: bool) -> str:
+        """Returns the last line of a run over findings; `is_written` says that the files have the cures now."""
+        every = self.mended + self.still + self.unused + self.left
+        parts = [f"{self.mended} {'mended' if is_written else 'can be mended'}"]
+        parts += [f"{self.still} better but still a finding"] if self.still else []
+        parts += [f"{self.left} left as {'it is' if self.left == 1 else 'they are'}"] if self.left else []
+        parts += [f"{self.unused} not as used here"] if self.unused else []
+        return f"{plain.counted(every, 'finding')}: {', '.join(parts)}"
+
+    def status(self) -> int:
+        """Returns the exit status: 0 where nothing is left that is a finding as it is used."""
+        return LEFT if self.still or self.left else DONE
 
 
 def mend_report(options: argparse.Namespace, mender: Mender) -> int:
     """Mends the findings of a report: says the cures, writes a diff, or writes the files."""
-    entries, every = findings(options.report, options.max_degree)
-    chosen: Dict[str, List[Tuple[Finding, Cure]]] = {}
-    left = False
-    for it in every:
-        if it.site is None:
-            print(f"relint-mend: {_head(it.entry)}{it.why}", file=sys.stderr)
-            left = True
-            continue
-        outcome = mender.outcome(it.site.value, (it.site.flags or 0) & ~re.DEBUG, it.entry.call or "compile")
-        _tell(it, outcome, options)
-        cure = it.chosen(outcome.cures, options.tier)
-        left = left or cure is None
+    report = reported(options)
+    counts = Counts()
+    chosen: Chosen = {}
+    until = time.monotonic() + (options.total_seconds or TOTAL_SECONDS)
+    for it in findings_of(report):
+        if time.monotonic() > until:
+            it = replace(it, site=None, why="not tried: the seconds of --total-seconds are over")
+        cure = _mended(it, report, options, mender, counts)
         if cure is not None:
             chosen.setdefault(it.entry.path, []).append((it, cure))
     if options.diff or options.apply:
-        left = _change(options, entries, chosen) or left
-    return LEFT if left else DONE
+        _change(options, report, chosen, counts)
+    if options.diff:
+        print(counts.words(False), file=sys.stderr)
+    elif options.format != "json":
+        _say([counts.words(bool(options.apply))])
+    return LEFT if report.strict and counts.unused else counts.status()
+
+
+def _mended(finding: Finding, report: Reported, options: argparse.Namespace, mender: Mender, counts: Counts) -> Optional[Cure]:
+    """Says what there is for a finding, counts it, and returns the cure that is to be put in its place."""
+    quiet = options.diff or options.apply
+    if finding.site is None or finding.source is None:
+        print(visible(f"relint-mend: {_head(finding.entry)}{finding.why}"), file=sys.stderr)
+        counts.left += 1
+        return None
+    whole = finding.entry.verdict()
+    if finding.used is not None and whole is not None and finding.used.is_cleared(report.max_degree):
+        counts.unused += 1
+        if not quiet and options.format == "text":
+            _say([_head(finding.entry) + finding.used.words(whole, mode_of(finding.entry.call, report.compile_as))])
+        return None
+    outcome = mender.outcome(finding.site.value, finding.how, finding.mode)
+    if not quiet:
+        _tell(finding, outcome, options)
+    cure = finding.chosen(outcome.cures, options.tier)
+    if cure is None:
+        counts.left += 1
+    elif is_finding(cure.verdict, report.max_degree):
+        counts.still += 1
+    else:
+        counts.mended += 1
+    return cure
+
+
+def _head(entry: Entry) -> str:
+    place = f":{entry.place.line}:{entry.place.column}" if entry.place else ""
+    return f"{visible(entry.path)}{place}: " + (f"{entry.call}: " if entry.call else "")
 
 
 def _tell(finding: Finding, outcome: Outcome, options: argparse.Namespace) -> None:
-    if options.diff or options.apply:
-        return
+    entry = finding.entry
     if options.format == "json":
-        entry = finding.entry
         place = {"line": entry.place.line, "column": entry.place.column} if entry.place else {}
-        print(json.dumps({"path": entry.path, **place, "call": entry.call, **_object(outcome)}), flush=True)
-    else:
-        lines = said(outcome)
-        print("\n".join([_head(finding.entry) + lines[0], *lines[1:]]), flush=True)
+        whole: Dict[str, object] = {"path": entry.path, **place, "call": entry.call, **_object(outcome)}
+        whole.update(_offers(finding, outcome))
+        gather.write(json.dumps(whole) + "\n")
+        return
+    lines = list(_offer_lines(finding, outcome))
+    lines = [*lines, *notes(outcome)] if lines else advice(outcome)
+    _say([_head(entry) + lines[0], *lines[1:]])
 
 
-def _change(options: argparse.Namespace, entries: Sequence[Entry], chosen: Dict[str, List[Tuple[Finding, Cure]]]) -> bool:
-    """Puts the cures into their files; returns whether some couldn't be."""
-    failed = False
-    asked = ["--mode", options.mode or "search"]
+def _offers(finding: Finding, outcome: Outcome) -> Dict[str, object]:
+    if finding.source is None or finding.site is None:
+        return {}
+    every = offered(finding.source, finding.site, finding.how, outcome.cures)
+    return {"offers": [{"kind": it.kind, "literal": it.literal, "becomes": it.verdict.words(), "words": it.words,
+                        "changes": it.changes}
+                       for it in every]}
+
+
+def _offer_lines(finding: Finding, outcome: Outcome) -> Iterator[str]:
+    """The cures of a finding as the source would have them; one of several lines is on lines of its own."""
+    if finding.source is None or finding.site is None or outcome.before is None:
+        return
+    before = outcome.before.words() + ("" if outcome.mode == "search" else f" as {outcome.mode}")
+    said: List[str] = []
+    for it in offered(finding.source, finding.site, finding.how, outcome.cures):
+        said.append(("  or: " if said else "") + _offer_line(before, it))
+        said += [it.literal] if "\n" in it.literal else []
+        said += _why(it.changes, said)
+    yield from said
+
+
+def _offer_line(before: str, offer: Offer) -> str:
+    shown = "(below)" if "\n" in offer.literal else offer.literal
+    return f"{before} -> {offer.verdict.words()}    {shown}    {offer.kind}: {offer.words}"
+
+
+def _change(options: argparse.Namespace, report: Reported, chosen: Chosen, counts: Counts) -> None:
+    """Puts the cures into their files; a file that is refused has none mended."""
     for path, every in chosen.items():
+        still = sum(is_finding(cure.verdict, report.max_degree) for _, cure in every)
         try:
-            change = Change(path, [it for it in entries if it.path == path], asked)
+            change = Change(path, [it for it in report.entries if it.path == path], report.options, report.within(path),
+                            options.file_seconds or SECONDS)
             for finding, cure in every:
-                if finding.site is not None:
-                    change.put(finding.entry, finding.site, cure.pattern, cure.verdict)
+                _put(change, finding, cure, report.compile_as)
             change.verify()
             if options.apply:
-                change.write()
-                print(f"{path}: {len(every)} mended")
+                for lost in change.write():
+                    print(visible(f"relint-mend: {path}: {lost}"), file=sys.stderr)
+                also = f", {still} better but still a finding" if still else ""
+                _say([f"{path}: {len(every) - still} mended{also}"])
             else:
-                sys.stdout.buffer.write(change.diff())
+                gather.write(change.diff())
         except Unchangeable as error:
-            print(f"relint-mend: {error}", file=sys.stderr)
-            failed = True
-    return failed
+            print(visible(f"relint-mend: {error}"), file=sys.stderr)
+            counts.mended -= len(every) - still
+            counts.still -= still
+            counts.left += len(every)
+
+
+def _put(change: Change, finding: Finding, cure: Cure, compile_as: str) -> None:
+    """Puts a cure into a file, with the class that relint has for it in the mode of the report."""
+    mode = mode_of(finding.entry.call, compile_as)
+    verdict = cure.verdict if mode == finding.mode else Asker().classes([cure.pattern], finding.how.flags, mode)[0]
+    if finding.site is not None and verdict is not None:
+        change.put(finding.entry, finding.site, cure.pattern, verdict)
+
+
+def _check_words(parser: argparse.ArgumentParser, options: argparse.Namespace) -> None:
+    """Ends the command where the words don't go together."""
+    if sum(map(bool, (options.pattern, options.report, options.paths or options.tracked))) > 1:
+        parser.error("give paths, --pattern or --report, and only one of these")
+    if options.diff and options.apply:
+        parser.error("--diff and --apply don't go together")
+    if options.pattern and (options.diff or options.apply):
+        parser.error("--diff and --apply need a file, and --pattern names none")
+    if not options.pattern and (options.flags or options.call != "compile"):
+        parser.error("--call and --flags go with --pattern")
 
 
 def main(words: Optional[Sequence[str]] = None) -> int:
-    """Runs the command; returns its status: 0 all mended, 1 some left, 2 bad words or input."""
+    """Runs the command; returns its status: 0 all mended, 1 some left, 2 bad words or input, 130 interrupted."""
     parser = arguments()
-    options = parser.parse_args(words)
-    if bool(options.patterns) == bool(options.report):
-        parser.error("give patterns, or --report FILE")
-    if (options.diff or options.apply) and not options.report or options.diff and options.apply:
-        parser.error("--diff or --apply goes with --report, and one of them alone")
+    options = gather.parsed(parser, words)
+    _check_words(parser, options)
     # (literals may hold escapes that newer versions of Python warn of when they are read)
     warnings.filterwarnings("ignore", category=DeprecationWarning)
     warnings.filterwarnings("ignore", category=SyntaxWarning)
-    mode = options.mode or ("search" if options.report else None)
-    mender = Mender(Limits(options.tries, options.steps, options.seconds), mode)
-    try:
-        return mend_report(options, mender) if options.report else mend_patterns(options, mender)
-    except (Bad, ProgramError) as error:
-        print(f"relint-mend: {error}", file=sys.stderr)
-        return BAD
-    except BrokenPipeError:
-        sys.stderr.close()
-        return BAD
-    except KeyboardInterrupt:
-        print("relint-mend: stopped", file=sys.stderr)
-        return BAD
+    mender = Mender(Limits(options.tries, options.steps, options.work))
+
+    def work() -> int:
+        if options.show_config:
+            return gather.show_config(options)
+        try:
+            return mend_patterns(options, mender) if options.pattern else mend_report(options, mender)
+        except Bad as error:
+            raise gather.GatherError(str(error), BAD) from error
+
+    return gather.ended("relint-mend", work)

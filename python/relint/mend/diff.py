@@ -9,20 +9,21 @@ import ast
 import difflib
 import os
 import re
-import shutil
 import tempfile
-import tokenize
 from dataclasses import dataclass
-from io import BytesIO
 from pathlib import Path
 from typing import Iterator, List, Optional, Sequence, Tuple
 
-from ..program import run
+from ..judging import SECONDS
+from ..opening import OpenError, names_below, read_below
+from ..program import TookLong, run
 from ..reports import Entry, ReportError, Text, Verdict, read_report
 from ..sites import Literal, Site, Source, SourceError
+from ..writing import WriteError, is_seen, replace_file
 
 LITERAL = re.compile(r"([rRbBuU]*)('''|\"\"\"|'|\")")
 ESCAPE = re.compile(r"\\(?:\r\n|[0-7]{1,3}|x[0-9a-fA-F]{2}|u[0-9a-fA-F]{4}|U[0-9a-fA-F]{8}|N\{[^}]*\}|[\s\S])|\r\n|[\s\S]")
+MARK = "\ufeff".encode("utf-8")
 LINES = re.compile(r"[^\n]*\n|[^\n]+")
 
 
@@ -192,19 +193,23 @@ def applied(text: str, changed: Sequence[Edit]) -> str:
 class Change:
     """A file with the cures that were put into it, in memory."""
 
-    def __init__(self, path: str, entries: Sequence[Entry], options: Sequence[str]) -> None:
-        """Takes the report's entries of the file and the options of `relint check`. Raises Unchangeable."""
-        self.path = path
+    def __init__(self, path: str, entries: Sequence[Entry], options: Sequence[str], within: str = ".",
+                 seconds: float = SECONDS) -> None:
+        """Takes the report's entries of the file, the options of `relint check`, the folder that the file lies in, and how
+        many seconds relint may take for the file.
+
+        Raises Unchangeable, as where the file isn't a regular one or is reached through a link.
+        """
+        self.path, self.within, self.seconds = path, within, seconds
         self.options = list(options)
         try:
-            self.data = Path(path).read_bytes()
+            self.data = read_below(path, [within])
             self.source = Source(self.data)
-        except (OSError, SourceError) as error:
+        except (OpenError, SourceError) as error:
             raise Unchangeable(f"{path} can't be read: {error}") from error
-        self.coding, _ = tokenize.detect_encoding(BytesIO(self.data).readline)
         self.edits: List[Edit] = []
         self.expected: List[Tuple[Entry, Verdict]] = []
-        if [_key(it) for it in entries] != [_key(it) for it in checked(path, self.options)]:
+        if [_key(it) for it in entries] != [_key(it) for it in judged(self.data, self.options, self.seconds)]:
             raise Unchangeable(f"{path} isn't what the report was made of: make the report anew")
 
     def put(self, entry: Entry, site: Site, new: Text, verdict: Verdict) -> None:
@@ -218,16 +223,13 @@ class Change:
 
     def content(self) -> bytes:
         """Returns the file's bytes with the cures in it."""
-        front = "\ufeff" if self.coding != "utf-8-sig" and self.data.decode(self.coding).startswith("\ufeff") else ""
-        return (front + self.text()).encode(self.coding)
+        front = MARK if self.data.startswith(MARK) else b""
+        return front + self.text().encode("utf-8")
 
     def verify(self) -> None:
         """Checks the changed file with relint: each changed pattern has its new class. Raises Unchangeable."""
-        with tempfile.TemporaryDirectory(prefix="relint-mend-") as folder:
-            copy = os.path.join(folder, "changed.py")
-            Path(copy).write_bytes(self.content())
-            after = {(it.call, number): it for number, it in enumerate(checked(copy, self.options))}
-        before = checked(self.path, self.options)
+        after = {(it.call, number): it for number, it in enumerate(judged(self.content(), self.options, self.seconds))}
+        before = judged(self.data, self.options, self.seconds)
         for entry, verdict in self.expected:
             number = [_key(it) for it in before].index(_key(entry))
             found = after.get((entry.call, number))
@@ -235,46 +237,66 @@ class Change:
                 raise Unchangeable(f"{self.path}: relint doesn't give the changed file the class that the cure has")
 
     def diff(self) -> bytes:
-        """Returns the unified diff, in the file's own coding."""
-        old, new = LINES.findall(self.source.text), LINES.findall(self.text())
-        name = self.path.lstrip("/")
+        """Returns the unified diff, as git writes it, for `patch -p1` in the folder. Raises Unchangeable."""
+        old, new = (LINES.findall(it.decode("utf-8")) for it in (self.data, self.content()))
+        name = "/".join(names_below(self.path, self.within) or [])
         lines: List[str] = []
-        for it in difflib.unified_diff(old, new, f"a/{name}", f"b/{name}"):
+        for it in difflib.unified_diff(old, new, header_name(f"a/{name}"), header_name(f"b/{name}")):
             lines.append(it if it.endswith("\n") else it + "\n\\ No newline at end of file\n")
-        return "".join(lines).encode("utf-8" if self.coding == "utf-8-sig" else self.coding, "surrogateescape")
+        return "".join(lines).encode("utf-8")
 
-    def write(self) -> None:
-        """Writes the file, whole or not at all. Raises Unchangeable where it changed meanwhile or can't be written."""
-        folder = os.path.dirname(os.path.realpath(self.path))
+    def write(self) -> List[str]:
+        """Writes the file, whole or not at all, and returns in words what couldn't be kept of it, as its owner.
+
+        Raises Unchangeable where it changed meanwhile or can't be written.
+        """
         try:
-            handle, name = tempfile.mkstemp(prefix=".relint-mend-", dir=folder)
-        except OSError as error:
-            raise Unchangeable(f"{self.path} can't be written: {error.strerror}") from error
-        try:
-            with os.fdopen(handle, "wb") as out:
-                out.write(self.content())
-                out.flush()
-                os.fsync(out.fileno())
-            shutil.copymode(self.path, name)
-            if Path(self.path).read_bytes() != self.data:
-                raise Unchangeable(f"{self.path} changed while it was being mended")
-            os.replace(name, os.path.realpath(self.path))
-        except OSError as error:
-            raise Unchangeable(f"{self.path} can't be written: {error.strerror}") from error
-        finally:
-            if os.path.exists(name):
-                os.unlink(name)
+            return replace_file(self.path, self.content(), self.data, self.within)
+        except WriteError as error:
+            raise Unchangeable(f"{self.path} can't be written: {error}") from error
+
+
+def header_name(name: str) -> str:
+    """Returns a name as git writes it in the headers of a diff: quoted where a character of it doesn't show itself.
+
+    Raises Unchangeable where the name has no bytes, as none of git's then has it.
+    """
+    try:
+        coded = [it.encode("utf-8", "surrogateescape") for it in name]
+    except UnicodeEncodeError as error:
+        raise Unchangeable(f"{name} can't be named in a diff") from error
+    written = [_header_letter(it, bytes_of) for it, bytes_of in zip(name, coded)]
+    if "".join(written) != name:
+        return '"' + "".join(written) + '"'
+    # (by the tab, names with blanks end where they end)
+    return name + "\t" if " " in name else name
+
+
+def _header_letter(letter: str, coded: bytes) -> str:
+    if letter in '"\\':
+        return "\\" + letter
+    return letter if is_seen(letter) else "".join(f"\\{it:03o}" for it in coded)
 
 
 def _key(entry: Entry) -> Tuple[object, ...]:
     return entry.place, entry.call, entry.kind, entry.degree, entry.limit, entry.cause
 
 
-def checked(path: str, options: Sequence[str]) -> List[Entry]:
-    """Returns the entries that relint gives for a file. Raises Unchangeable where it gives none."""
-    done = run(["check", "--format", "json", *options, "--", path])
+def judged(data: bytes, options: Sequence[str], seconds: float = SECONDS) -> List[Entry]:
+    """Returns the entries that relint gives for a source, of which it has a copy of its own. Raises Unchangeable where it
+    gives none, or takes more than so many seconds."""
+    with tempfile.TemporaryDirectory(prefix="relint-mend-") as folder:
+        copy = Path(folder, "judged.py")
+        try:
+            copy.write_bytes(data)
+        except OSError as error:
+            raise Unchangeable(f"a copy to judge can't be written: {error.strerror}") from error
+        try:
+            done = run(["check", "--format", "json", *options, "--", str(copy)], seconds=seconds)
+        except TookLong as error:
+            raise Unchangeable(f"relint takes more than {seconds:g} s to judge it (--file-seconds)") from error
     try:
         return list(read_report(done.out).entries)
     except ReportError:
         said = done.err.decode("utf-8", "replace").strip()
-        raise Unchangeable(f"relint check can't judge {path}: {said or 'no report'}") from None
+        raise Unchangeable(f"relint check can't judge it: {said or 'no report'}") from None

@@ -5,19 +5,17 @@ groups; (c) the same texts alone (proved): advice, with a text on which the span
 """
 from __future__ import annotations
 
-import time
-from dataclasses import dataclass
-from typing import Dict, FrozenSet, List, Optional, Sequence, Tuple
+from dataclasses import dataclass, replace
+from typing import Dict, List, Optional, Tuple
 
+from ..reports import Text
+from ..used import GROUPS, SPANS
 from . import spans
-from .asking import Text
-from .spans import Answer, Question
+from .same import REPEATED, SAME, UNKNOWN, Answer, How, same_spans, same_unplaced
 from .tree import Group, Pattern, Unreadable, read_both, walk
 
 CALLS = ("compile", "match", "fullmatch", "search", "findall", "finditer", "split", "sub", "subn")
-REPEATED = frozenset(("findall", "finditer", "split", "sub", "subn"))
 TIERS = ("a", "b", "c")
-LEAST_SECONDS = 0.5
 
 
 @dataclass(frozen=True)
@@ -32,14 +30,6 @@ class Judgement:
     text: Optional[str] = None
     start: int = 0
     position: bool = True
-
-
-def modes_of(uses: Sequence[str], mode: str) -> Tuple[str, ...]:
-    """Returns the modes in which texts are to be the same: all three where `compile` hides the call."""
-    if "compile" in uses:
-        return ("fullmatch", "match", "search")
-    found = [it if it in ("match", "fullmatch") else "search" for it in uses]
-    return tuple(dict.fromkeys([mode, *found]))
 
 
 def names_of(pattern: Pattern) -> Dict[str, int]:
@@ -58,26 +48,22 @@ def _words(text: str, part: Tuple[int, int]) -> str:
 class Judge:
     """Judges patterns in the place of one, for the calls that it is used in."""
 
-    def __init__(self, original: Text, flags: int, uses: Sequence[str], seconds: float = spans.SECONDS) -> None:
+    def __init__(self, original: Text, how: How) -> None:
         self.original = original
-        self.flags = flags
-        self.uses: FrozenSet[str] = frozenset(uses)
-        self.seconds = seconds
-        self.deadline: Optional[float] = None
-        self.whole = "compile" in self.uses
+        self.how = how
 
     def judge(self, candidate: Text) -> Judgement:
         """Returns the tier of a candidate of which it is proved already that it matches the same texts."""
         try:
-            left, right = read_both([self.original, candidate], self.flags)
+            left, right = read_both([self.original, candidate], self.how.flags)
         except Unreadable as error:
             return Judgement("c", f"spans not known: {error}")
         groups = left.groups > 0 or right.groups > 0
         same_names = left.groups == right.groups and names_of(left) == names_of(right)
-        first = self.same([left, right], True) if same_names else Judgement("c", "the groups aren't the same ones")
+        first = self.same(candidate, GROUPS) if same_names else Judgement("c", "the groups aren't the same ones")
         if first.tier == "a" or not groups:
             return first
-        second = self.same([left, right], False)
+        second = self.same(candidate, SPANS)
         if second.tier != "a":
             return second
         return Judgement("b", self.difference([left, right], first, same_names), first.text, first.start, second.position)
@@ -96,60 +82,27 @@ class Judge:
                     return f"groups differ: group {number} takes {now} instead of {was}"
         return "groups differ"
 
-    def differ(self, pair: List[Pattern], question: Question) -> Answer:
-        """Asks the check of spans, within what is left of the time."""
-        seconds = self.seconds
-        if self.deadline is not None:
-            seconds = min(seconds, max(LEAST_SECONDS, self.deadline - time.monotonic()))
-        return spans.differ(pair, question, seconds)
-
-    def same(self, pair: List[Pattern], groups: bool) -> Judgement:
-        """Returns tier a where all that the uses ask for is the same, else c with what was found."""
-        position = True
-        for question in self.questions(pair, groups):
-            answer = self.differ(pair, question)
-            if answer.same is not True and question.later:
-                # (not the same from each place; but a call that is given no position begins at a place of its own)
-                answer, position = self.unplaced(pair, question), False
-            if answer.same is not True:
-                why = "spans differ" if answer.same is False else f"spans not known ({answer.why})"
-                return Judgement("c", why, answer.text if answer.same is False else None, answer.start)
-        # (the functions of `re` take no position, the methods of a compiled pattern do)
-        return Judgement("a", position=position or not self.whole)
-
-    def unplaced(self, pair: List[Pattern], question: Question) -> Answer:
-        """Returns the answer where no position is given to the calls."""
-        if question.kind == "whole":
-            return self.differ(pair, Question("whole", question.groups))
-        answer = self.differ(pair, Question("search", question.groups))
-        if answer.same is True and (self.whole or self.uses & REPEATED):
-            answer = self.differ(pair, Question("again", question.groups))
-        return answer
-
-    def searches(self) -> bool:
-        """Returns whether some use is a search."""
-        return bool(self.uses & (REPEATED | {"search", "compile"}))
-
-    def questions(self, pair: List[Pattern], groups: bool) -> List[Question]:
-        """Returns what is asked of the spans: at each place of a text where a search or a given position may begin."""
-        found: List[Question] = []
-        if self.whole or "fullmatch" in self.uses:
-            found.append(Question("whole", groups, self.whole))
-        if self.whole or "match" in self.uses:
-            found.append(Question("prefix", groups))
-        if self.searches():
-            found.append(Question("prefix", groups, True))
-        if self.whole or self.uses & REPEATED:
-            if any(it.tree.facts.nullable for it in pair):
-                found.append(Question("prefix", groups, True, True))
-        return found
+    def same(self, candidate: Text, sees: str) -> Judgement:
+        """Returns tier a where the calls see the same spans, or spans and groups; else c with what was found."""
+        how = replace(self.how, sees=sees)
+        answer, position = same_spans(self.original, candidate, how), True
+        if answer.word != SAME and how.position:
+            # (not the same from each place; but a call that is given no position begins at a place of its own)
+            answer, position = same_unplaced(self.original, candidate, how), False
+        return Judgement("a", position=position) if answer.word == SAME else _apart(answer)
 
     def views(self, judged: Judgement) -> List[str]:
         """Returns what is compared where both are tried with `re`: the calls of the uses, and one that is given a position."""
-        found = [it for it in ("match", "fullmatch", "search") if self.whole or it in self.uses]
+        found = [it for it in ("match", "fullmatch", "search") if it in self.how.methods]
         if judged.tier == "c":
             # (that the texts are the same says nothing of a search that begins inside one, nor of a second match)
             return found or ["search"]
-        if self.whole or self.uses & REPEATED:
+        if self.how.methods & REPEATED:
             found.append("finditer")
-        return found + (["position"] if self.whole and judged.position else [])
+        return found + (["position"] if self.how.position and judged.position and "search" in found else [])
+
+
+def _apart(answer: Answer) -> Judgement:
+    why = f"spans not known ({answer.reason})" if answer.word == UNKNOWN else "spans differ"
+    witness = answer.witness
+    return Judgement("c", why, witness.text if witness else None, witness.start if witness else 0)

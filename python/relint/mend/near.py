@@ -34,14 +34,33 @@ def advice(outcome: Outcome) -> List[str]:
         lines.append(f"  at fault: {it}    this loop can take the same text in more ways than one")
     if outcome.before is not None and outcome.before.kind == "degree":
         lines.append("  at fault: runs that share characters, or a search that may begin at each of them")
-    miss = nearest(outcome)
-    if miss is None:
-        return lines
-    text = miss.pattern if isinstance(miss.pattern, str) else miss.pattern.decode("latin-1")
-    lines.append(f"  near: {text}    {miss.verdict.words()}, but other texts")
-    if miss.left is not None:
-        lines.append(f"    your pattern alone matches {_shown(miss.left)}")
-    if miss.right is not None:
-        lines.append(f"    this one alone matches {_shown(miss.right)}")
-    lines.append("    if texts as these never come, or should be judged that way, take it")
+    relaxed = outcome.relaxed
+    miss = nearest(outcome) if relaxed is None else None
+    if relaxed is not None:
+        lines += _other("relaxed", relaxed)
+    elif miss is not None:
+        lines += _other("near", miss)
+    return lines + notes(outcome)
+
+
+def notes(outcome: Outcome) -> List[str]:
+    """Returns what a person could do, whether or not there is a cure."""
+    lines = [f"  in code: {outcome.in_code}"] if outcome.in_code else []
+    if outcome.meant is not None:
+        lines.append(f"  did you mean \\. for the dots between digits? {_plain(outcome.meant.pattern)}    "
+                     f"{outcome.meant.verdict.words()}")
     return lines
+
+
+def _plain(text: Text) -> str:
+    return text if isinstance(text, str) else text.decode("latin-1")
+
+
+def _other(name: str, miss: Miss) -> List[str]:
+    """The lines of a pattern that matches other texts."""
+    lines = [f"  {name}: {_plain(miss.pattern)}    {miss.verdict.words()}, but other texts"]
+    if miss.left is not None:
+        lines.append(f"    only your pattern matches {_shown(miss.left)}")
+    if miss.right is not None:
+        lines.append(f"    only this one matches {_shown(miss.right)}")
+    return [*lines, "    If such texts can't occur, or if the new result is what you want, use this pattern."]

@@ -20,12 +20,16 @@ Rewrite = Callable[[Node, Alphabet], Iterator[Node]]
 
 @dataclass(frozen=True)
 class Rule:
-    """A rule by name; `cost` orders the proposals. `example` is a pattern, and one that the rule proposes for it."""
+    """A rule by name; `cost` orders the proposals. `example` is a pattern, and one that the rule proposes for it.
+
+    `says` tells in a sentence what the rule changes, and why a match isn't lost or won by it where the rule fits.
+    """
 
     name: str
     cost: float
     rewrite: Rewrite
     example: Tuple[str, str]
+    says: str = ""
 
 
 @dataclass(frozen=True)
@@ -557,31 +561,56 @@ def greedy(node: Node, alphabet: Alphabet) -> Iterator[Node]:
 
 
 RULES: Tuple[Rule, ...] = (
-    Rule("close", 0, close, (r"(a+)*", r"(a+)?")),
-    Rule("option-pairs", 0.6, option_pairs, (r"\s*(a)?\s*(b)?\s*c", r"\s*(?:(a)\s*)?(?:(b)\s*)?c")),
-    Rule("cede", 0.8, cede, (r"\s+(.+)", r"\s+(\S.*|[^\S\n])")),
-    Rule("cede-lazy", 0.8, cede_lazy, (r"(.*?)\s*x", r"((?:.*?\S)??)\s*x")),
-    Rule("option-pair", 1, option_pair, (r"\s*(a)?\s*b", r"\s*(?:(a)\s*)?b")),
-    Rule("nest", 1, nest, (r"(?:a*)*", r"a*")),
-    Rule("absorb", 1, absorb, (r"=+[ =]*", r"=[ =]*")),
-    Rule("split-runs", 1.5, split_runs, (r"[ab]*a*", r"(?:[ab]*b)?a*")),
-    Rule("nest-choice", 2, nest_choice, (r"(?:[^\"]+|\"\")*", r"(?:[^\"]|\"\")*")),
-    Rule("shuffle", 2, shuffle, (r"(?:;?\d*)*", r"[;\d]*")),
-    Rule("hoist", 2, hoist, (r"(?:\s*a\s*)*", r"\s*(?:a\s*)*")),
-    Rule("unroll", 2, unroll, (r"(?:\w+,?)*", r"(?:\w+(?:,\w+)*,?)?")),
-    Rule("one-piece", 2, one_piece, (r"(?:,?\d+)*", r"(?:,?\d)*")),
-    Rule("disjoint", 2, disjoint, (r"(?:\\.|[^\"])*", r"(?:\\.|[^\"\\])*")),
-    Rule("fallback", 2.5, fallback, (r"(?:\\.|[^\"])*", r"(?:\\[\s\S]|[^\"\\])*\\?")),
-    Rule("prefix", 3, prefix, (r"ab|a", r"ab?")),
-    Rule("fill", 3, fill, (r"(?:a*)?", r"(?:a+)?")),
-    Rule("rotate", 3, rotate, (r"(?:\w+-\w+)+", r"\w+-(?:\w{2,}-)*\w+")),
-    Rule("last-round", 3.5, last_round, (r"(a|b)*", r"(?:[ab]*(a|b))?")),
-    Rule("drop-branch", 3.5, drop_branch, (r"(?:a|aa|b)*", r"[ab]*")),
-    Rule("exclude", 4, exclude, (r".*\s+", r"\S*\s+")),
-    Rule("after-last", 4, after_last, (r"(.*)/(.*)$", r"(.*)/([^/\n]*)$")),
-    Rule("exclude-next", 4.5, exclude_next, (r"\w*(?:ab|c)", r"[^\Wac]*(?:ab|c)")),
-    Rule("with-blanks", 5, with_blanks, (r"\s*(a)?", r"(?:\s*(a))?")),
-    Rule("greedy", 9, greedy, (r"[^,]*?,", r"[^,]*,")),
+    Rule("close", 0, close, (r"(a+)*", r"(a+)?"),
+         "One round of the loop is enough, since what is in it repeats already."),
+    Rule("option-pairs", 0.6, option_pairs, (r"\s*(a)?\s*(b)?\s*c", r"\s*(?:(a)\s*)?(?:(b)\s*)?c"),
+         "The blanks behind each optional part are inside it, since without the part the blanks before it take them."),
+    Rule("cede", 0.8, cede, (r"\s+(.+)", r"\s+(\S.*|[^\S\n])"),
+         "The second run begins with what the run before it can't take, or is one character that this run gives back."),
+    Rule("cede-lazy", 0.8, cede_lazy, (r"(.*?)\s*x", r"((?:.*?\S)??)\s*x"),
+         "The lazy run ends with what the run behind it can't take, so there is only one place to stop."),
+    Rule("option-pair", 1, option_pair, (r"\s*(a)?\s*b", r"\s*(?:(a)\s*)?b"),
+         "The blanks on one side of the optional part are inside it, since without the part the other blanks take them."),
+    Rule("nest", 1, nest, (r"(?:a*)*", r"a*"),
+         "One of two nested loops is enough, since together they repeat the same thing."),
+    Rule("absorb", 1, absorb, (r"=+[ =]*", r"=[ =]*"),
+         "The narrow run no longer repeats, since the wide run beside it takes the rest."),
+    Rule("split-runs", 1.5, split_runs, (r"[ab]*a*", r"(?:[ab]*b)?a*"),
+         "The first run ends with a character that only it can take, so there is one place to split the two."),
+    Rule("nest-choice", 2, nest_choice, (r"(?:[^\"]+|\"\")*", r"(?:[^\"]|\"\")*"),
+         "Each round of the loop takes one piece, since the loop itself repeats the pieces."),
+    Rule("shuffle", 2, shuffle, (r"(?:;?\d*)*", r"[;\d]*"),
+         "Each round takes any one of the parts, since all of them may be missing."),
+    Rule("hoist", 2, hoist, (r"(?:\s*a\s*)*", r"\s*(?:a\s*)*"),
+         "The optional part is beside the loop and not in every round, since a round can begin where the last one ended."),
+    Rule("unroll", 2, unroll, (r"(?:\w+,?)*", r"(?:\w+(?:,\w+)*,?)?"),
+         "The optional separator is only between two items and at the end, so no item can be cut in two."),
+    Rule("one-piece", 2, one_piece, (r"(?:,?\d+)*", r"(?:,?\d)*"),
+         "Each round takes one piece of the inner run, since the loop repeats it."),
+    Rule("disjoint", 2, disjoint, (r"(?:\\.|[^\"])*", r"(?:\\.|[^\"\\])*"),
+         "The class no longer has the characters with which another branch begins, so one branch fits."),
+    Rule("fallback", 2.5, fallback, (r"(?:\\.|[^\"])*", r"(?:\\[\s\S]|[^\"\\])*\\?"),
+         "The escaping character stands alone only at the end, since elsewhere it takes what follows it."),
+    Rule("prefix", 3, prefix, (r"ab|a", r"ab?"),
+         "Two branches with one beginning are one branch with an optional rest."),
+    Rule("fill", 3, fill, (r"(?:a*)?", r"(?:a+)?"),
+         "The repeat takes at least one, since the part around it may be missing as a whole."),
+    Rule("rotate", 3, rotate, (r"(?:\w+-\w+)+", r"\w+-(?:\w{2,}-)*\w+"),
+         "The end of one round and the start of the next are one run, so there is no seam to move."),
+    Rule("last-round", 3.5, last_round, (r"(a|b)*", r"(?:[ab]*(a|b))?"),
+         "The rounds before the last one have no groups, since only the last round's groups are kept."),
+    Rule("drop-branch", 3.5, drop_branch, (r"(?:a|aa|b)*", r"[ab]*"),
+         "One branch is gone, since the others make up what it takes."),
+    Rule("exclude", 4, exclude, (r".*\s+", r"\S*\s+"),
+         "The run no longer has the characters of its neighbour, so there is one place between them."),
+    Rule("after-last", 4, after_last, (r"(.*)/(.*)$", r"(.*)/([^/\n]*)$"),
+         "The second run is without the separator, since the first run goes up to the last one."),
+    Rule("exclude-next", 4.5, exclude_next, (r"\w*(?:ab|c)", r"[^\Wac]*(?:ab|c)"),
+         "The run no longer has the characters with which the next part begins."),
+    Rule("with-blanks", 5, with_blanks, (r"\s*(a)?", r"(?:\s*(a))?"),
+         "The blanks go with the optional part behind them."),
+    Rule("greedy", 9, greedy, (r"[^,]*?,", r"[^,]*,"),
+         "The lazy repeat is greedy, since there is only one place where it can end."),
 )
 
 
@@ -606,7 +635,8 @@ def _lead(node: Node) -> Optional[int]:
     return None
 
 
-LINE_ANCHOR = Rule("line-anchor", 0.5, line_anchor, (r".*x", r"(?m:^).*x"))
+LINE_ANCHOR = Rule("line-anchor", 0.5, line_anchor, (r".*x", r"(?m:^).*x"),
+                   "The search begins only where the first run could begin, since from there the run takes all that follows.")
 
 
 def places(node: Node, change: Callable[[Node], Iterator[Node]]) -> Iterator[Node]:

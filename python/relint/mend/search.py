@@ -2,40 +2,53 @@
 from __future__ import annotations
 
 import heapq
+import os
 import re
 import time
 from dataclasses import dataclass, field
+from difflib import SequenceMatcher
 from typing import Dict, Iterator, List, Optional, Sequence, Set, Tuple
 
 from ..reports import Verdict
-from .asking import Asker, Text, front_of, rank
-from .judge import Judge, Judgement, TIERS, modes_of
+from ..verdicts import EXPONENTIAL, Order, degree, order
+from . import notes
+from .asking import Asker, Text, front_of
+from .judge import Judge, Judgement, TIERS
+from .layout import with_layout
 from .rules import LINE_ANCHOR, RULES, Rule
+from .same import How
 from .samples import Sampler
 from .tree import Chars, Node, Pattern, Repeat, Unreadable, children, normal, read, read_both, with_child
 from .trial import Trial, tried
 from .write import Unwritable, body, kept, plain
 
 Path = Tuple[int, ...]
+# What is less for a better tree: its class, and how many of its loops are exponential by themselves.
+Worth = Tuple[Order, int]
 
 LONGEST = 4000
-BATCH = 30
-MOST_PROPOSALS = 240
-GOOD_DEGREE, FAIR_DEGREE = 1, 2
+BATCH = 60
+MOST_PROPOSALS, MOST_MADE = 240, 2000
+GOOD, FAIR = degree(1), degree(2)
 MORE_TRIES, MOST_EVEN = 10, 8
-EXPONENTIAL = 100
+# A new group is as hard to read as so many new characters.
+GROUP_WEIGHT = 3
+
+
+SAYINGS = {it.name: it.says for it in (*RULES, LINE_ANCHOR)}
 
 
 @dataclass(frozen=True)
 class Limits:
-    """How far a search goes: `tries` comparisons, `steps` of rules one after another, and `seconds` in all.
+    """How far a search goes: `tries` comparisons, `steps` of rules one after another, and `work`, the patterns that relint is
+    asked the class of. None of these is time, so the answer is the same on a busy machine.
 
     Each cure is tried on `texts` texts with the running Python in the end.
     """
 
     tries: int = 50
     steps: int = 3
-    seconds: float = 30.0
+    work: int = 3000
     texts: int = 1000
 
 
@@ -51,6 +64,10 @@ class Cure:
     judgement: Judgement = Judgement("a")
     mode: str = "search"
 
+    def changes(self) -> str:
+        """Returns what the rules changed, and why nothing is lost by it: a sentence for each."""
+        return " ".join(dict.fromkeys(SAYINGS[it] for it in self.steps if SAYINGS.get(it)))
+
     def words(self) -> str:
         """Returns what is known of the cure, in words."""
         judged = self.judgement
@@ -60,7 +77,7 @@ class Cure:
         if self.tier == "b":
             said = f"same texts (proved), same spans (checked), {judged.why}"
         else:
-            said = f"same texts (proved), {judged.why}: advice alone"
+            said = f"same texts (proved), {judged.why}: only advice"
         if judged.text is None:
             return said
         return f"{said} on {judged.text!r}" + (f" from position {judged.start}" if judged.start else "")
@@ -78,7 +95,10 @@ class Miss:
 
 @dataclass
 class Outcome:
-    """What a search found. `why` says why there is no cure, where there is none; `faults` are the loops that are at fault."""
+    """What a search found. `why` says why there is no cure, where there is none; `faults` are the loops that are at fault.
+
+    `relaxed` is a pattern that leaves out more in its runs, `meant` one with escaped dots; `in_code` says what to do in code.
+    """
 
     before: Optional[Verdict]
     mode: str = "search"
@@ -90,6 +110,9 @@ class Outcome:
     misses: List[Miss] = field(default_factory=list)
     faults: List[str] = field(default_factory=list)
     trials: Dict[str, Trial] = field(default_factory=dict)
+    relaxed: Optional[Miss] = None
+    meant: Optional[Miss] = None
+    in_code: Optional[str] = None
 
     def best(self) -> Optional[Cure]:
         """Returns the cure of the best tier, and of the least class in it."""
@@ -120,25 +143,36 @@ def put(tree: Node, path: Path, new: Node) -> Node:
     return with_child(tree, path[0], put(children(tree)[path[0]], path[1:], new))
 
 
+def distance(old: str, new: str) -> int:
+    """Returns how far a pattern is from the old one for a reader: what was edited, and more for length and new groups."""
+    start = len(os.path.commonprefix([old, new]))
+    tail = len(os.path.commonprefix([old[start:][::-1], new[start:][::-1]]))
+    matcher = SequenceMatcher(None, old[start:len(old) - tail], new[start:len(new) - tail], autojunk=False)
+    edited = sum(max(end - at, high - low) for tag, at, end, low, high in matcher.get_opcodes() if tag != "equal")
+    groups = max(0, new.count("(") - old.count("("))
+    return edited + max(0, len(new) - len(old)) + GROUP_WEIGHT * groups
+
+
 class Search:
     """One search. The trees are those of one pattern, over its alphabet."""
 
-    def __init__(self, pattern: Text, flags: int, mode: str, uses: Sequence[str], limits: Limits, asker: Asker,
+    def __init__(self, pattern: Text, mode: str, how: How, limits: Limits, asker: Asker,
                  rules: Sequence[Rule] = RULES) -> None:
+        """Takes the pattern, the mode whose class is to go down, how it is called, and what asks relint."""
         self.original = pattern
-        self.flags = flags
+        self.flags = how.flags
         self.mode = mode
-        self.modes = modes_of(uses, mode)
+        self.modes = tuple(dict.fromkeys([mode, *how.modes()]))
         self.limits = limits
         self.asker = asker
         self.rules = rules
-        self.judge = Judge(pattern, flags, uses)
-        self.deadline = time.monotonic() + limits.seconds
-        self.judge.deadline = asker.deadline = self.deadline
+        self.judge = Judge(pattern, how)
+        self.asked: Set[Tuple[Text, str]] = set()
         self.tries = 0
         self.kept_at = 0
         self.steps: Tuple[str, ...] = ()
         self.best: Dict[str, Cure] = {}
+        self.kept: Dict[str, Tuple[Order, int]] = {}
         self.misses: List[Miss] = []
         self.faults: List[str] = []
         self.trials: Dict[str, Trial] = {}
@@ -157,11 +191,30 @@ class Search:
         else:
             outcome.why = self.found(before)
             self.try_out(outcome)
+            self.add_notes(outcome)
         outcome.cures = sorted(self.best.values(), key=lambda it: TIERS.index(it.tier))
-        self.asker.deadline = None
         outcome.misses, outcome.trials, outcome.faults = self.misses, self.trials, self.faults
         outcome.tries, outcome.runs, outcome.seconds = self.tries, self.asker.runs - runs, time.monotonic() - start
         return outcome
+
+    def add_notes(self, outcome: Outcome) -> None:
+        """Adds what a person could do: other patterns that cost less with texts on which they differ, and words."""
+        if order(outcome.before) <= GOOD or not hasattr(self, "read"):
+            return
+        outcome.meant = self.other(notes.with_dots(self.read))
+        if not self.best:
+            outcome.relaxed = self.other(notes.relaxed(self.read))
+            outcome.in_code = notes.in_code(self.read)
+
+    def other(self, text: Optional[str]) -> Optional[Miss]:
+        """Returns a pattern of other texts with one of each side, where its class is lower."""
+        if text is None:
+            return None
+        verdict = self.classes([self.encoded(text)], self.flags, self.mode)[0]
+        if verdict is None or order(verdict) >= order(self.before):
+            return None
+        found = self.asker.compare(self.original, self.encoded(text), self.flags, self.mode)
+        return Miss(self.encoded(text), verdict, found.first, found.second)
 
     def try_out(self, outcome: Outcome) -> None:
         """Tries each cure with the running Python; one that differs there from what its tier says is dropped."""
@@ -199,16 +252,21 @@ class Search:
         return text if isinstance(self.original, str) else text.encode("latin-1")
 
     def left(self) -> bool:
-        """Returns whether tries and time are left."""
-        return self.tries < self.limits.tries and time.monotonic() < self.deadline and not self.enough()
+        """Returns whether tries and work are left."""
+        return self.tries < self.limits.tries and len(self.asked) < self.limits.work and not self.enough()
+
+    def classes(self, patterns: Sequence[Text], flags: int, mode: str) -> List[Optional[Verdict]]:
+        """Asks relint for classes; each pattern that it hasn't been asked of counts as work."""
+        self.asked.update((it, mode) for it in patterns)
+        return self.asker.classes(patterns, flags, mode)
 
     def walk(self, text: str) -> None:
         """Goes from the original to better patterns, the best ones first."""
         tree = self.read.tree
         self.seen.add(text)
-        queue: List[Tuple[Tuple[int, int, int, int], int, Node, Tuple[str, ...]]] = []
+        queue: List[Tuple[Tuple[Order, int, int, int], int, Node, Tuple[str, ...]]] = []
         count = 0
-        heapq.heappush(queue, ((rank(self.before), len(self.guilty(tree)), 0, len(text)), count, tree, ()))
+        heapq.heappush(queue, ((order(self.before), len(self.guilty(tree)), 0, len(text)), count, tree, ()))
         while queue and self.left():
             badness, _, tree, steps = heapq.heappop(queue)
             self.steps = steps
@@ -237,8 +295,8 @@ class Search:
         done = self.best.get("a")
         if done is None:
             return False
-        worth = rank(done.verdict)
-        return worth <= GOOD_DEGREE or worth <= FAIR_DEGREE and self.tries >= self.kept_at + MORE_TRIES
+        worth = order(done.verdict)
+        return worth <= GOOD or worth <= FAIR and self.tries >= self.kept_at + MORE_TRIES
 
     def extra(self) -> int:
         """Returns how many steps more are allowed: one for each loop that is exponential by itself beyond the first."""
@@ -262,17 +320,17 @@ class Search:
 
     def guilty(self, tree: Node) -> List[Path]:
         """Returns the ways to the loops that are exponential by themselves and hold no smaller one that is."""
-        if rank(self.before) != EXPONENTIAL:
+        if order(self.before) != EXPONENTIAL:
             return []
         paths, texts = self.loops(tree)
-        verdicts = self.asker.classes(texts, 0, "fullmatch")
+        verdicts = self.classes(texts, 0, "fullmatch")
         found = [path for path, verdict in zip(paths, verdicts) if verdict and verdict.kind == "exponential"]
         return [it for it in found if not any(other != it and other[:len(it)] == it for other in found)]
 
     def ask_ahead(self, trees: Sequence[Node]) -> None:
         """Asks of the loops of all these trees in one run, so that `guilty` finds the answers there."""
-        if rank(self.before) == EXPONENTIAL:
-            self.asker.classes([text for it in trees for text in self.loops(it)[1]], 0, "fullmatch")
+        if order(self.before) == EXPONENTIAL:
+            self.classes([text for it in trees for text in self.loops(it)[1]], 0, "fullmatch")
 
     def proposals(self, tree: Node) -> List[Proposal]:
         """Returns what the rules give for the tree, each text once, the cheapest first."""
@@ -280,7 +338,7 @@ class Search:
         found: List[Proposal] = []
         for rule in self.rules:
             for path, node in positions(tree):
-                if time.monotonic() > self.deadline:
+                if len(found) >= MOST_MADE:
                     break
                 near = any(path[:len(it)] == it for it in guilty)
                 for new in rule.rewrite(node, self.read.alphabet):
@@ -305,20 +363,20 @@ class Search:
 
     # What is judged
 
-    def followers(self, tree: Node, badness: Tuple[int, ...]) -> List[Tuple[Proposal, Tuple[int, int], str]]:
+    def followers(self, tree: Node, badness: Worth) -> List[Tuple[Proposal, Worth, str]]:
         """Returns the proposals for a tree that are the same and better; where none has tier a, some that are no worse too."""
-        found: List[Tuple[Proposal, Tuple[int, int], str]] = []
-        even: List[Tuple[Proposal, Tuple[int, int]]] = []
+        found: List[Tuple[Proposal, Worth, str]] = []
+        even: List[Tuple[Proposal, Worth]] = []
         every = self.proposals(tree)
         for at in range(0, len(every), BATCH):
             if not self.left():
                 break
             part = every[at:at + BATCH]
-            verdicts = self.asker.classes([self.encoded(it.text) for it in part], self.flags, self.mode)
-            fitting = [(it, verdict) for it, verdict in zip(part, verdicts) if verdict and rank(verdict) <= badness[0]]
+            verdicts = self.classes([self.encoded(it.text) for it in part], self.flags, self.mode)
+            fitting = [(it, verdict) for it, verdict in zip(part, verdicts) if verdict and order(verdict) <= badness[0]]
             self.ask_ahead([it.tree for it, _ in fitting])
-            judged = [(it, (rank(verdict), len(self.guilty(it.tree))), verdict) for it, verdict in fitting]
-            for it, worth, verdict in sorted(judged, key=lambda one: (one[1], one[0].cost)):
+            judged = [(it, (order(verdict), len(self.guilty(it.tree))), verdict) for it, verdict in fitting]
+            for it, worth, verdict in sorted(judged, key=lambda one: (one[1], self.far(one[0]), one[0].cost)):
                 if worth < badness:
                     tier = self.judged(it, verdict)
                     found += [(it, worth, tier)] if tier else []
@@ -331,6 +389,10 @@ class Search:
             found += [(it, worth, tier)] if tier else []
         return found
 
+    def far(self, proposal: Proposal) -> int:
+        """Returns how far a proposal is from the original."""
+        return distance(self.read.text, proposal.text)
+
     def judged(self, proposal: Proposal, verdict: Optional[Verdict]) -> str:
         """Compares a proposal with the original; returns its tier, or "" where it isn't the same. Keeps it as a cure."""
         if not self.left():
@@ -341,13 +403,13 @@ class Search:
             self.miss(text, verdict)
             return ""
         judged = self.judge.judge(text)
-        if verdict is not None and rank(verdict) < rank(self.before) and self.no_worse(text):
+        if verdict is not None and order(verdict) < order(self.before) and self.no_worse(text):
             self.keep(proposal, verdict, judged)
         return judged.tier
 
     def miss(self, text: Text, verdict: Optional[Verdict]) -> None:
         """Keeps a proposal that is better and not the same, with the texts that show it."""
-        if verdict is None or rank(verdict) >= rank(self.before):
+        if verdict is None or order(verdict) >= order(self.before):
             return
         for mode in self.modes:
             found = self.asker.compare(self.original, text, self.flags, mode)
@@ -359,22 +421,24 @@ class Search:
         """Returns whether the class is no worse than the original's in the other modes that count."""
         for mode in self.modes:
             one, other = self.asker.classes([self.original, text], self.flags, mode)
-            if rank(other) > rank(one):
+            if order(other) > order(one):
                 return False
         return True
 
     def keep(self, proposal: Proposal, verdict: Verdict, judged: Judgement) -> None:
-        """Keeps a cure where it is the best one of its tier so far."""
-        old = self.best.get(judged.tier)
-        if old is not None and rank(old.verdict) <= rank(verdict):
+        """Keeps a cure where it is the best one of its tier so far: that of the best class, and then the nearest."""
+        worth = order(verdict), self.far(proposal)
+        if judged.tier in self.best and self.kept.get(judged.tier, worth) <= worth:
             return
+        self.kept[judged.tier] = worth
         self.kept_at = self.tries
         text, judged = self.as_written(proposal, judged)
         self.best[judged.tier] = Cure(text, verdict, judged.tier, self.before, (*self.steps, proposal.rule), judged, self.mode)
 
     def as_written(self, proposal: Proposal, judged: Judgement) -> Tuple[Text, Judgement]:
         """Returns the proposal with all that didn't change as the original has it, where that is the same pattern."""
-        written = self.encoded(kept(proposal.tree, self.read))
+        verbose = bool(self.read.flags & re.VERBOSE)
+        written = self.encoded(with_layout(self.read.text, kept(proposal.tree, self.read), verbose))
         if written == self.encoded(proposal.text):
             return written, judged
         try:

@@ -10,7 +10,6 @@ The check is tested against `re`, and not proved. Where it passes a limit it ans
 """
 from __future__ import annotations
 
-import time
 from collections import deque
 from dataclasses import dataclass
 from typing import Deque, Dict, Iterator, List, Optional, Sequence, Set, Tuple
@@ -20,7 +19,8 @@ from .tree import Chars, Choice, Concat, Group, Guard, Node, Pattern, Repeat
 MOST_INSTRUCTIONS = 3000
 MOST_COUNT = 64
 MOST_STATES = 6000
-SECONDS = 4.0
+# Threads that are moved, over all pairs of lists: some seconds of work.
+MOST_MOVES = 2_000_000
 
 CHAR, JUMP, SPLIT, SAVE, GUARD, CLEAR, ROUND, MATCH = range(8)
 
@@ -445,11 +445,11 @@ class _Product:
         return sides[0], sides[1]
 
 
-def differ(patterns: Sequence[Pattern], question: Question, seconds: float = SECONDS, most_states: int = MOST_STATES
+def differ(patterns: Sequence[Pattern], question: Question, most_states: int = MOST_STATES, most_moves: int = MOST_MOVES
            ) -> Answer:
     """Answers whether the two patterns, read over one alphabet, find the same under the question."""
     try:
-        return _Run(_Product(patterns, question), time.monotonic() + seconds, most_states).answer()
+        return _Run(_Product(patterns, question), most_states, most_moves).answer()
     except NotKnown as limit:
         return Answer(None, str(limit))
 
@@ -457,10 +457,11 @@ def differ(patterns: Sequence[Pattern], question: Question, seconds: float = SEC
 class _Run:
     """One walk over all pairs of lists that texts lead to, breadth first."""
 
-    def __init__(self, product: _Product, deadline: float, most_states: int) -> None:
+    def __init__(self, product: _Product, most_states: int, most_moves: int) -> None:
         self.product = product
-        self.deadline = deadline
         self.most_states = most_states
+        self.most_moves = most_moves
+        self.moves = 0
         self.parents: Dict[State, Optional[Tuple[State, int]]] = {}
         self.todo: Deque[State] = deque()
 
@@ -471,8 +472,8 @@ class _Run:
             state = self.todo.popleft()
             if len(self.parents) > self.most_states:
                 raise NotKnown("too many pairs of lists")
-            if time.monotonic() > self.deadline:
-                raise NotKnown("too long a run")
+            if self.moves > self.most_moves:
+                raise NotKnown("too many threads")
             if self.shows(state):
                 return self.witness(state)
         return Answer(True, states=len(self.parents))
@@ -497,6 +498,7 @@ class _Run:
             if (seen, last) not in cache:
                 cache[seen, last] = product.held(state, seen, last), product.expand(state, now, seen, last)
             held, found = cache[seen, last]
+            self.moves += 1 + len(found[0][0]) + len(found[0][1])
             if held is None:
                 continue
             # (characters of one class that the same threads take lead to the same state)

@@ -5,7 +5,9 @@
 from __future__ import annotations
 
 import json
+import os
 import re
+import resource
 import signal
 import subprocess
 import sys
@@ -14,6 +16,7 @@ from typing import Any, Callable, Dict, List, NamedTuple, Optional, Sequence, Un
 
 MATCH_SECONDS = 0.05
 WHOLE_SECONDS = 20.0
+MEMORY = 1_073_741_824
 
 
 class Trial(NamedTuple):
@@ -99,15 +102,26 @@ def tried(left: Union[str, bytes], right: Union[str, bytes], flags: int, calls: 
         texts = [it for it in texts if all(ord(letter) < 256 for letter in it)]
     asked = {"patterns": patterns, "bytes": is_bytes, "flags": flags, "calls": list(calls), "texts": list(texts), "tier": tier}
     try:
-        done = subprocess.run([sys.executable, __file__], input=json.dumps(asked).encode("ascii"), stdout=subprocess.PIPE,
-                              stderr=subprocess.PIPE, timeout=3 * WHOLE_SECONDS)
+        # (nothing of the current folder or of the environment changes what the script does)
+        environment = {name: value for name, value in os.environ.items() if not name.startswith("PYTHON")}
+        done = subprocess.run([sys.executable, "-I", "-B", __file__], input=json.dumps(asked).encode("ascii"), env=environment,
+                              stdout=subprocess.PIPE, stderr=subprocess.PIPE, timeout=3 * WHOLE_SECONDS)
         answer: Dict[str, Any] = json.loads(done.stdout)
     except (subprocess.TimeoutExpired, ValueError):
         return Trial(None, 0)
     return Trial(answer["differs"], int(answer["compared"]))
 
 
+def limit() -> None:
+    """Limits this process: bytes of memory, no core file, and its processor time."""
+    resource.setrlimit(resource.RLIMIT_AS, (MEMORY, MEMORY))
+    resource.setrlimit(resource.RLIMIT_CORE, (0, 0))
+    most = int(3 * WHOLE_SECONDS)
+    resource.setrlimit(resource.RLIMIT_CPU, (most, most))
+
+
 if __name__ == "__main__":
+    limit()
     if hasattr(signal, "SIGALRM"):
         signal.signal(signal.SIGALRM, _stop)
     json.dump(_run(json.loads(sys.stdin.buffer.read())), sys.stdout)

@@ -10,7 +10,7 @@ use Rattle.rl_degree.specs.internal.Moves.{cell, with_cell}
 use Rattle.rl_degree.specs.declared.pairs.PairTable.{PairTable}
 use Rattle.rl_degree.specs.declared.rows.Step.{Step}
 use Rattle.rl_degree.specs.declared.rows.Found.{Found}
-use Rattle.rl_degree.specs.declared.rows.Search.{Search}
+use Rattle.rl_degree.specs.declared.rows.SplitSearch.{SplitSearch}
 
 -- what a search goes over: how many states there are, the moves of the middle state, those of the outer pair, the pairs of
 -- the part, and the place of each pair among them
@@ -43,7 +43,7 @@ pub record Stand : Type 0 where
   pub steps : List Step
   pub queue : List Found
 
-abbrev pub stand_of : Search → Stand
+abbrev pub stand_of : SplitSearch → Stand
 stand_of s =
     record {
       keeps = s.keeps;
@@ -138,8 +138,8 @@ abbrev pub Waits : Stand → ℕ → ℕ → Type 0
 Waits s i m = (f : Found) × Has f s.queue × (f.place ≡ i) × (has_middle f m ≡ true)
 
 -- what the pair and the middle state move to on a letter was seen, where it stays in the part
-abbrev pub IsPassed : Field → Stand → ℕ → ℕ → ℕ → Type 0
-IsPassed d s l i m =
+abbrev pub AreMovesSeen : Field → Stand → ℕ → ℕ → ℕ → Type 0
+AreMovesSeen d s l i m =
     (y k : ℕ) → Has y (d.pairs (slice_index d.members i) l) → is_member d.members d.places y ≡ true → Has k (d.next m l) → cell s.seen (slice_index d.places y) k ≡ true
 
 -- where a search stands: what was seen waits, or what it moves to was seen; what is looked for has not been met, unless it waits
@@ -149,7 +149,7 @@ pub record IsSearching (d : Field) (s : Stand) : Type 0 where
   pub rooted : IsRooted s.steps
   pub found : (f : Found) → Has f s.queue → IsFound d s f
   pub start : cell s.seen s.place s.from ≡ true
-  pub settled : (i m : ℕ) → cell s.seen i m ≡ true → Waits s i m ⊎ ((l : ℕ) → IsPassed d s l i m)
+  pub settled : (i m : ℕ) → cell s.seen i m ≡ true → Waits s i m ⊎ ((l : ℕ) → AreMovesSeen d s l i m)
   pub goal : cell s.seen s.place s.to ≡ true → Waits s s.place s.to
 
 -- how much is left to do: each state that was not seen is found at most once
@@ -178,7 +178,7 @@ IsMet d image s y =
 
 -- what was found was followed on a letter
 abbrev pub IsFollowedOn : Field → Found → ℕ → Stand → Type 0
-IsFollowedOn d f l s = (m : ℕ) → has_middle f m ≡ true → IsPassed d s l f.place m
+IsFollowedOn d f l s = (m : ℕ) → has_middle f m ≡ true → AreMovesSeen d s l f.place m
 
 -- what was found was followed on the letters below `end`
 abbrev pub IsFollowedUpTo : Field → Found → ℕ → Stand → Type 0

@@ -2,21 +2,21 @@
 -- states stand on a stack in the order in which they were seen; a mark is the depth at which a group of the stack
 -- begins, and the states of a group reach one another. A frame is an open state whose moves are not all looked at yet.
 use Rattle.std.specs.Prelude.{◌≡◌, ◌≢◌, ℕ, ◌+◌, ◌*◌, ◌<◌, ◌≤◌, ◌⊎◌, Bool, true, false, nat_le, nat_lt, ◌&&◌, if◌then◌else◌, List, [], ◌∷◌, ◌++◌, length, slice_get, slice_index, slice_index_or, slice_set, take, replicate, Some}
-use Rattle.rl_graph.specs.declared.parts.Place.{Place}
-use Rattle.rl_graph.specs.declared.parts.Place.TheVariants.{Unseen, Open, Done}
+use Rattle.rl_graph.specs.declared.parts.SearchPlace.{SearchPlace}
+use Rattle.rl_graph.specs.declared.parts.SearchPlace.TheVariants.{Unseen, Open, Done}
 use Rattle.rl_graph.specs.declared.parts.Frame.{Frame}
-use Rattle.rl_graph.specs.declared.parts.Search.{Search}
+use Rattle.rl_graph.specs.declared.parts.PartSearch.{PartSearch}
 use Rattle.rl_graph.specs.Paths.{total, one, Has, Pairs, Reaches}
 
 -- the lists of a search: the place of each state, the open states, the marks, the frames, and how many parts are done
 pub record Stand : Type 0 where
-  pub places : List Place
+  pub places : List SearchPlace
   pub open_states : List ℕ
   pub marks : List ℕ
   pub frames : List Frame
   pub parts : ℕ
 
-abbrev pub stand_of : Search → Stand
+abbrev pub stand_of : PartSearch → Stand
 stand_of s =
     record {
       places = s.places.items;
@@ -27,20 +27,20 @@ stand_of s =
     }
 
 -- the place of a state
-abbrev pub place_of : Stand → ℕ → Place
+abbrev pub place_of : Stand → ℕ → SearchPlace
 place_of s q = slice_index_or s.places q Unseen
 
-abbrev pub is_unseen : Place → Bool
+abbrev pub is_unseen : SearchPlace → Bool
 is_unseen Unseen = true
 is_unseen (Open k) = false
 is_unseen (Done c) = false
 
 -- how many states are unseen
-abbrev pub unseen : List Place → ℕ
+abbrev pub unseen : List SearchPlace → ℕ
 unseen places = total (λ p. one (is_unseen p)) places
 
 -- the number of the part in a place
-abbrev pub part_in : Place → ℕ
+abbrev pub part_in : SearchPlace → ℕ
 part_in Unseen = 0
 part_in (Open k) = 0
 part_in (Done c) = c
@@ -152,13 +152,13 @@ IsMet m old new false =
     ((c : ℕ) × (place_of old m ≡ Done c) × (new ≡ old)) ⊎ ((p : ℕ) × (place_of old m ≡ Open p) × IsCut p old.marks new.marks × (new ≡ record old { marks = new.marks }))
 
 -- the place of a state once the open states from the depth `from` on are done
-abbrev pub closed_place : ℕ → ℕ → Place → Place
+abbrev pub closed_place : ℕ → ℕ → SearchPlace → SearchPlace
 closed_place from c Unseen = Unseen
 closed_place from c (Open j) = if nat_le from j then Done c else Open j
 closed_place from c (Done d) = Done d
 
 -- the same where only those below the depth `to` are done yet
-abbrev pub closed_below : ℕ → ℕ → ℕ → Place → Place
+abbrev pub closed_below : ℕ → ℕ → ℕ → SearchPlace → SearchPlace
 closed_below from to c Unseen = Unseen
 closed_below from to c (Open j) = if nat_le from j && nat_lt j to then Done c else Open j
 closed_below from to c (Done d) = Done d

@@ -3,7 +3,7 @@ use Rattle.std.specs.Prelude.{◌≡◌, ℕ, ◌<◌, ◌≤◌, ◌⊎◌, tru
 use Rattle.std.specs.List.{list_any}
 use Rattle.rl_prio.specs.Automaton.{Automaton, letters_count, accepting_state}
 use Rattle.rl_sets.specs.declared.rests.Way.{Way}
-use Rattle.rl_sets.specs.declared.rests.Search.{Search}
+use Rattle.rl_sets.specs.declared.rests.RestSearch.{RestSearch}
 use Rattle.rl_sets.specs.Live.{holds, image, IsLive}
 use Rattle.rl_sets.specs.Rests.{Reached}
 use Rattle.rl_sets.specs.Walk.{Walk, set_at}
@@ -13,7 +13,7 @@ pub record Found : Type 0 where
   pub numbers : List ℕ
   pub ways : List Way
 
-abbrev pub found_of : Search → Found
+abbrev pub found_of : RestSearch → Found
 found_of s = record { numbers = s.numbers.keys; ways = s.ways.items }
 
 -- of the first set nothing is said

@@ -1,5 +1,5 @@
 use Rattle.std.proofs.Common.{◌≡◌, ◌<◌, ℕ, []}
-use Rattle.rl_graph.specs.declared.parts.Place.TheVariants.{Unseen}
+use Rattle.rl_graph.specs.declared.parts.SearchPlace.TheVariants.{Unseen}
 use Rattle.rl_graph.specs.internal.Search.{stand_of, place_of, IsSearch}
 use Rattle.rl_graph.proofs.parts.searched.Given as goal
 

@@ -1,0 +1,57 @@
+-- Trees with groups that are joined one by one.
+use Rattle.std.proofs.Common.{◌≡◌, ℕ, zero, suc, Bool, List, [], ◌∷◌, ◌++◌, map, replicate, Option, refl, sym, ap, ap₂, ◌∙◌, append_assoc}
+use Rattle.rl_marks.specs.declared.tree.MarkTree.{MarkTree}
+use Rattle.rl_marks.specs.Marked.{Marked, both, either, marked_of}
+use Rattle.rl_marks.specs.Marking.{in_turn, one_of, tail_of}
+use Rattle.rl_marks.specs.internal.Parts.{held}
+use Rattle.rl_marks.proofs.Following.{map-join}
+
+in_turn-two : (l : List Marked) (f w : Marked) → in_turn (l ++ f ∷ w ∷ []) ≡ in_turn (l ++ both f w ∷ [])
+in_turn-two [] f w = refl
+in_turn-two (x ∷ []) f w = refl
+in_turn-two (x ∷ y ∷ l) f w = ap (both x) (in_turn-two (y ∷ l) f w)
+
+one_of-two : (l : List Marked) (f w : Marked) → one_of (l ++ f ∷ w ∷ []) ≡ one_of (l ++ either f w ∷ [])
+one_of-two [] f w = refl
+one_of-two (x ∷ []) f w = refl
+one_of-two (x ∷ y ∷ l) f w = ap (either x) (one_of-two (y ∷ l) f w)
+
+-- the list of the trees, the last of which was taken off
+pub taken_off : (l left : List MarkTree) (last : MarkTree) → l ≡ left ++ last ∷ [] → map marked_of l ≡ map marked_of left ++ marked_of last ∷ []
+taken_off l left last e = ap (map marked_of) e ∙ map-join marked_of left (last ∷ [])
+
+pub in_turn-step : (l left : List MarkTree) (first whole new : MarkTree) (trees : List MarkTree) → l ≡ left ++ first ∷ [] → marked_of new ≡ both (marked_of first) (marked_of whole)
+    → in_turn (map marked_of l ++ marked_of whole ∷ []) ≡ in_turn (map marked_of trees) → in_turn (map marked_of left ++ marked_of new ∷ []) ≡ in_turn (map marked_of trees)
+in_turn-step l left first whole new trees e n h =
+    ap (λ t. in_turn (map marked_of left ++ t ∷ [])) n
+    ∙ sym (in_turn-two (map marked_of left) (marked_of first) (marked_of whole))
+    ∙ ap in_turn (sym (append_assoc (map marked_of left) (marked_of first ∷ []) (marked_of whole ∷ [])))
+    ∙ ap (λ m. in_turn (m ++ marked_of whole ∷ [])) (sym (taken_off l left first e))
+    ∙ h
+
+pub one_of-step : (l left : List MarkTree) (first whole new : MarkTree) (trees : List MarkTree) → l ≡ left ++ first ∷ [] → marked_of new ≡ either (marked_of first) (marked_of whole)
+    → one_of (map marked_of l ++ marked_of whole ∷ []) ≡ one_of (map marked_of trees) → one_of (map marked_of left ++ marked_of new ∷ []) ≡ one_of (map marked_of trees)
+one_of-step l left first whole new trees e n h =
+    ap (λ t. one_of (map marked_of left ++ t ∷ [])) n
+    ∙ sym (one_of-two (map marked_of left) (marked_of first) (marked_of whole))
+    ∙ ap one_of (sym (append_assoc (map marked_of left) (marked_of first ∷ []) (marked_of whole ∷ [])))
+    ∙ ap (λ m. one_of (m ++ marked_of whole ∷ [])) (sym (taken_off l left first e))
+    ∙ h
+
+-- one more copy at the end
+replicate-last : (n : ℕ) (t : Marked) → replicate n t ++ t ∷ [] ≡ replicate (suc n) t
+replicate-last zero t = refl
+replicate-last (suc n) t = ap (λ l. t ∷ l) (replicate-last n t)
+
+pub copies-step : (n m : ℕ) (t : Marked) (copies : List MarkTree) (copy : MarkTree) → m ≡ suc n → map marked_of copies ≡ replicate n t → marked_of copy ≡ t
+    → map marked_of (copies ++ copy ∷ []) ≡ replicate m t
+copies-step n m t copies copy e h c =
+    map-join marked_of copies (copy ∷ [])
+    ∙ ap₂ (λ l x. l ++ x ∷ []) h c
+    ∙ replicate-last n t
+    ∙ ap (λ k. replicate k t) (sym e)
+
+-- the copies, with what follows them
+pub copies-tail : (least : ℕ) (most : Option ℕ) (greedy : Bool) (t : Marked) (copies : List MarkTree) (o : Option MarkTree)
+    → map marked_of copies ≡ replicate least t → held o ≡ tail_of greedy t least most → map marked_of copies ++ held o ≡ replicate least t ++ tail_of greedy t least most
+copies-tail least most greedy t copies o h e = ap₂ (λ a b. a ++ b) h e

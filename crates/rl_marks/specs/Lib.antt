@@ -1,0 +1,9 @@
+pub mod Marked
+pub mod Finds
+pub mod Hits
+pub mod Searches
+pub mod SameFinds
+pub mod Marking
+pub mod IsMarked
+pub mod RunEnds
+pub mod internal

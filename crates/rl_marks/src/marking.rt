@@ -1,0 +1,286 @@
+//! From a pattern to its tree with groups.
+
+ghost use Rattle.std.specs.Prelude.{◌≡◌, ◌≢◌, ◌+◌, ◌<◌, ◌≤◌, ◌∷◌, [], map, IfOk, IfErr};
+ghost use Rattle.rl_syntax.specs.PatTree.{pat_of, items_of, branches_of};
+ghost use Rattle.rl_syntax.specs.Lowering.{guard_of};
+ghost use Rattle.rl_syntax.specs.Lowering.{boundary_guard as guard_of_boundary};
+ghost use Rattle.rl_syntax.specs.Counting.{branch_tree};
+ghost use Rattle.rl_marks.specs.declared.error.MarkError.TheVariants as error;
+ghost use Rattle.rl_marks.specs.Marked.{Marked, marked_of};
+ghost use Rattle.rl_marks.specs.Marking.{in_turn, in_rounds, one_of, option_of, options, tail_of, times, groups_in, groups_in_items, groups_in_branches, marked, items_marked, branches_marked};
+ghost use Rattle.rl_marks.specs.internal.Parts.{held};
+
+use crate::error::MarkError;
+use crate::limits::MOST_GROUPS;
+use crate::tree::MarkTree;
+use rl_lists::{Items, OutOfMemory};
+use rl_syntax::{AnchorKind, Branch, Guard, Pat};
+use std::alloc::Global;
+
+/// The tree of a part, and the number of the next group.
+#[derive(Drop)]
+pub(crate) struct Part {
+    pub(crate) tree: MarkTree,
+    pub(crate) next: u32,
+}
+
+/// The trees of parts, and the number of the next group.
+#[derive(Drop)]
+struct Parts {
+    trees: Items<MarkTree>,
+    next: u32,
+}
+
+/// The tree of a part of a pattern whose first group has the number.
+#[cycle(marking)]
+pub(crate) fn mark_part(alloc: Global, part: &Pat, number: u32) -> Result<Part, MarkError>
+    ensures tree { IfOk result (λ r. marked_of r.tree ≡ marked (pat_of part.now) number) }
+    ensures next { IfOk result (λ r. r.next ≡ number + groups_in (pat_of part.now)) }
+    ensures small { IfErr result (λ e. e ≢ error.TooLarge) }
+    ensures many { IfErr result (λ e. e ≡ error.TooManyGroups → MOST_GROUPS + 1 < number + groups_in (pat_of part.now)) }
+{
+    match part {
+        Pat::Nothing { .. } | Pat::Outside { .. } => Ok(Part {
+            tree: MarkTree::Empty,
+            next: number,
+        }),
+        Pat::Class { set, .. } => {
+            let set = set.copy()?;
+            Ok(Part {
+                tree: MarkTree::One(set),
+                next: number,
+            })
+        }
+        Pat::Seq { items, .. } => {
+            let Parts { trees, next } = mark_items(alloc, items.as_slice(), number)?;
+            let tree = joined(alloc, trees)?;
+            Ok(Part { tree, next })
+        }
+        Pat::Choice { branches, .. } => {
+            let Parts { trees, next } = mark_branches(alloc, branches.as_slice(), number)?;
+            let tree = preferred(alloc, trees)?;
+            Ok(Part { tree, next })
+        }
+        Pat::Repeat {
+            min,
+            max,
+            greedy,
+            body,
+            ..
+        } => {
+            let Part { tree, next } = mark_part(alloc, body, number)?;
+            let tree = repeated(alloc, &tree, *min, *max, *greedy)?;
+            Ok(Part { tree, next })
+        }
+        Pat::Group { captures, body, .. } => {
+            if *captures {
+                mark_group(alloc, body, number)
+            } else {
+                mark_part(alloc, body, number)
+            }
+        }
+        Pat::Anchor {
+            kind,
+            multiline,
+            ..
+        } => Ok(Part {
+            tree: MarkTree::Guard(anchor_guard(*kind, *multiline)),
+            next: number,
+        }),
+        Pat::Boundary { negated, ascii, .. } => Ok(Part {
+            tree: MarkTree::Guard(boundary_guard(*negated, *ascii)),
+            next: number,
+        }),
+    }
+}
+
+/// The tree of a capturing group with the number.
+#[cycle(marking)]
+fn mark_group(alloc: Global, body: &Pat, number: u32) -> Result<Part, MarkError>
+    ensures tree { IfOk result (λ r. marked_of r.tree ≡ Marked.mark number (marked (pat_of body.now) (number + 1))) }
+    ensures next { IfOk result (λ r. r.next ≡ number + 1 + groups_in (pat_of body.now)) }
+    ensures small { IfErr result (λ e. e ≢ error.TooLarge) }
+    ensures many { IfErr result (λ e. e ≡ error.TooManyGroups → MOST_GROUPS + 1 < number + 1 + groups_in (pat_of body.now)) }
+{
+    if number > MOST_GROUPS {
+        return Err(MarkError::TooManyGroups);
+    }
+    let inner = mark_part(alloc, body, number + 1)?;
+    let tree = MarkTree::mark(alloc, number, inner.tree)?;
+    Ok(Part {
+        tree,
+        next: inner.next,
+    })
+}
+
+/// The trees of items.
+#[cycle(marking)]
+fn mark_items(alloc: Global, items: &[Pat], number: u32) -> Result<Parts, MarkError>
+    ensures trees { IfOk result (λ r. map marked_of r.trees ≡ items_marked (items_of (map pat_of items.now)) number) }
+    ensures next { IfOk result (λ r. r.next ≡ number + groups_in_items (items_of (map pat_of items.now))) }
+    ensures small { IfErr result (λ e. e ≢ error.TooLarge) }
+    ensures many { IfErr result (λ e. e ≡ error.TooManyGroups → MOST_GROUPS + 1 < number + groups_in_items (items_of (map pat_of items.now))) }
+{
+    let mut trees = Items::new(alloc);
+    let mut next = number;
+    for item in items {
+        let part = mark_part(alloc, item, next)?;
+        trees.push(part.tree)?;
+        next = part.next;
+    }
+    Ok(Parts { trees, next })
+}
+
+/// The trees of branches.
+#[cycle(marking)]
+fn mark_branches(alloc: Global, branches: &[Branch], number: u32) -> Result<Parts, MarkError>
+    ensures trees { IfOk result (λ r. map marked_of r.trees ≡ branches_marked (branches_of (map branch_tree branches.now)) number) }
+    ensures next { IfOk result (λ r. r.next ≡ number + groups_in_branches (branches_of (map branch_tree branches.now))) }
+    ensures small { IfErr result (λ e. e ≢ error.TooLarge) }
+    ensures many { IfErr result (λ e. e ≡ error.TooManyGroups → MOST_GROUPS + 1 < number + groups_in_branches (branches_of (map branch_tree branches.now))) }
+{
+    let mut trees = Items::new(alloc);
+    let mut next = number;
+    for branch in branches {
+        let part = mark_part(alloc, &branch.body, next)?;
+        trees.push(part.tree)?;
+        next = part.next;
+    }
+    Ok(Parts { trees, next })
+}
+
+/// The trees one after another.
+fn joined(alloc: Global, trees: Items<MarkTree>) -> Result<MarkTree, OutOfMemory>
+    ensures { IfOk result (λ t. marked_of t ≡ in_turn (map marked_of trees)) }
+{
+    let mut left = trees.into_vec();
+    let Some(mut whole) = left.pop() else {
+        return Ok(MarkTree::Empty);
+    };
+    while let Some(first) = left.pop() {
+        whole = MarkTree::both(alloc, first, whole)?;
+    }
+    Ok(whole)
+}
+
+/// One of the trees, the earlier ones tried first.
+fn preferred(alloc: Global, trees: Items<MarkTree>) -> Result<MarkTree, OutOfMemory>
+    ensures { IfOk result (λ t. marked_of t ≡ one_of (map marked_of trees)) }
+{
+    let mut left = trees.into_vec();
+    let Some(mut whole) = left.pop() else {
+        return Ok(MarkTree::Empty);
+    };
+    while let Some(first) = left.pop() {
+        whole = MarkTree::either(alloc, first, whole)?;
+    }
+    Ok(whole)
+}
+
+/// The tree from `min` up to `max` times; without a `max` there is no bound.
+fn repeated(
+    alloc: Global,
+    body: &MarkTree,
+    min: u32,
+    max: Option<u32>,
+    greedy: bool,
+) -> Result<MarkTree, OutOfMemory>
+    ensures { IfOk result (λ t. marked_of t ≡ times min max greedy (marked_of body.now)) }
+{
+    let mut copies = Items::new(alloc);
+    for _ in 0..min {
+        let copy = body.copy(alloc)?;
+        copies.push(copy)?;
+    }
+    if let Some(tail) = tail(alloc, body, min, max, greedy)? {
+        copies.push(tail)?;
+    }
+    joined(alloc, copies)
+}
+
+/// What follows the least number of copies, if something does.
+fn tail(
+    alloc: Global,
+    body: &MarkTree,
+    min: u32,
+    max: Option<u32>,
+    greedy: bool,
+) -> Result<Option<MarkTree>, OutOfMemory>
+    ensures { IfOk result (λ o. held o ≡ tail_of greedy (marked_of body.now) min max) }
+{
+    match max {
+        None => {
+            let copy = body.copy(alloc)?;
+            let many = MarkTree::many(alloc, copy, greedy)?;
+            Ok(Some(many))
+        }
+        Some(max) => rounds(alloc, body, max.saturating_sub(min), greedy),
+    }
+}
+
+/// Up to `count` rounds, each of which is left out only with those after it. Without a round there is no tree.
+fn rounds(
+    alloc: Global,
+    body: &MarkTree,
+    count: u32,
+    greedy: bool,
+) -> Result<Option<MarkTree>, OutOfMemory>
+    ensures { IfOk result (λ o. held o ≡ options greedy (marked_of body.now) count) }
+{
+    let mut rest = None;
+    for _ in 0..count {
+        let round = body.copy(alloc)?;
+        let all = with_rounds(alloc, round, rest)?;
+        let option = optional(alloc, all, greedy)?;
+        rest = Some(option);
+    }
+    Ok(rest)
+}
+
+/// A round, and those after it, which are tried if the round took a code.
+fn with_rounds(
+    alloc: Global,
+    round: MarkTree,
+    rest: Option<MarkTree>,
+) -> Result<MarkTree, OutOfMemory>
+    ensures { IfOk result (λ t. marked_of t ≡ in_rounds (marked_of round) (held rest)) }
+{
+    match rest {
+        None => Ok(round),
+        Some(rest) => MarkTree::further(alloc, round, rest),
+    }
+}
+
+/// The tree or nothing; a greedy one tries the tree first.
+fn optional(alloc: Global, tree: MarkTree, greedy: bool) -> Result<MarkTree, OutOfMemory>
+    ensures { IfOk result (λ t. marked_of t ≡ option_of greedy (marked_of tree)) }
+{
+    if greedy {
+        MarkTree::either(alloc, tree, MarkTree::Empty)
+    } else {
+        MarkTree::either(alloc, MarkTree::Empty, tree)
+    }
+}
+
+/// The guard of an anchor in a body.
+fn anchor_guard(kind: AnchorKind, multiline: bool) -> Guard
+    ensures { result ≡ guard_of kind multiline }
+{
+    match kind {
+        AnchorKind::Caret if multiline => Guard::LineStart,
+        AnchorKind::Caret | AnchorKind::TextStart => Guard::Start,
+        AnchorKind::Dollar => Guard::LineEnd,
+        AnchorKind::TextEnd => Guard::TextEnd,
+    }
+}
+
+/// The guard of a boundary.
+fn boundary_guard(negated: bool, ascii: bool) -> Guard
+    ensures { result ≡ guard_of_boundary negated ascii }
+{
+    if negated {
+        Guard::NotWord(ascii)
+    } else {
+        Guard::Word(ascii)
+    }
+}

@@ -1,0 +1,10 @@
+pub mod ShownLaws
+pub mod BelowLaws
+pub mod ItemLaws
+pub mod TestLaws
+pub mod StepLaws
+pub mod KindLaws
+pub mod CodeLaws
+pub mod ClosedLaws
+pub mod HitLaws
+pub mod AnswerLaws

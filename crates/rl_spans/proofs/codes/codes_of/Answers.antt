@@ -1,0 +1,12 @@
+use Rattle.std.proofs.Common.{◌++◌, map}
+use Rattle.rl_ranges.specs.Codes.{has}
+use Rattle.rl_ranges.specs.Text.{code_count}
+use Rattle.rl_prio.specs.Letters.{all_sets}
+use Rattle.rl_marks.specs.Marked.{marked_of, plain}
+use Rattle.rl_spans.proofs.CodeLaws.{samples-enough}
+use Rattle.rl_spans.proofs.codes.codes_of.Goals as goal
+
+pub returns-in-Ok : goal.returns-in-Ok
+returns-in-Ok c =
+    samples-enough (map has c.in_ok-sets.sets.items) (all_sets (plain (marked_of c.args.first.now)) ++ all_sets (plain (marked_of c.args.second.now)))
+    (code_count c.args.universe) c.in-Ok.letters c.in_ok-codes-in-Ok.codes c.in_ok-sets.ensures.sets c.in-Ok.ensures.ok c.in_ok-codes-in-Ok.ensures

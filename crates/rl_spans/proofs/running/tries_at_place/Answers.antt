@@ -1,0 +1,12 @@
+use Rattle.std.proofs.Common.{◌∙◌, ap, refl}
+use Rattle.rl_marks.specs.Marked.{marked_of}
+use Rattle.rl_spans.specs.internal.Shown.{shown_spread}
+use Rattle.rl_spans.proofs.HitLaws.{spread-at}
+use Rattle.rl_spans.proofs.running.tries_at_place.Goals as goal
+
+pub returns : goal.returns
+returns c =
+    c.in_ok-tries.ensures
+    ∙ ap (λ rows. shown_spread rows c.args.before.shown c.args.next.shown c.args.place c.args.threads.now) c.as_slice.ensures
+    ∙ spread-at (marked_of c.args.side.now.tree) c.args.side.now.rows c.requires.side.items c.args.before.shown c.args.next.shown
+    c.args.before.code c.args.next.code c.requires.before c.requires.next c.args.place c.len.result c.len.ensures c.args.threads.now (c.if-not-are_inside.ensures refl)

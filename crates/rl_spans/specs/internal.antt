@@ -1,0 +1,7 @@
+pub mod Codes
+pub mod Machines
+pub mod Hits
+pub mod Names
+pub mod Puts
+pub mod Shown
+pub mod Sides

@@ -1,0 +1,61 @@
+-- What guards see of a code.
+use Rattle.std.specs.Prelude.{◌≡◌, ℕ, suc, slice_index_or, Bool, true, false, not, ◌||◌, ◌&&◌, List, [], ◌∷◌, ◌++◌, if◌then◌else◌, Option, is_none}
+use Rattle.std.proofs.Math.Bool.{beq}
+use Rattle.rl_syntax.specs.declared.anchors.Guard.{Guard}
+use Rattle.rl_syntax.specs.declared.anchors.Guard.TheVariants.{Start, LineStart, LineEnd, TextEnd, Word, NotWord}
+use Rattle.rl_syntax.specs.Guards.{is_in, is_line_feed, is_word}
+use Rattle.rl_marks.specs.internal.MarkItems.{performed}
+use Rattle.rl_marks.specs.internal.Threads.{thread}
+use Rattle.rl_spans.specs.declared.shown.Shown.{Shown}
+use Rattle.rl_marks.specs.declared.threads.Caps.{Caps}
+use Rattle.rl_marks.specs.declared.threads.Act.{Act}
+use Rattle.rl_marks.specs.declared.threads.MarkItem.{MarkItem}
+use Rattle.rl_marks.specs.declared.threads.Try.{Try}
+use Rattle.rl_marks.specs.declared.threads.Thread.{Thread}
+use Rattle.rl_marks.specs.declared.threads.Act.TheVariants.{Check as check, OpenGroup as open_group, CloseGroup as close_group}
+use Rattle.rl_marks.specs.declared.threads.MarkItem.TheVariants.{Test as test_at, Pass as pass}
+use Rattle.rl_marks.specs.declared.threads.Try.TheVariants.{Goes as goes, Stops as stops}
+
+pub record IsShown (o : Option ℕ) (s : Shown) : Type 0 where
+  pub none : s.none ≡ is_none o
+  pub line_feed : s.line_feed ≡ is_in is_line_feed o
+  pub word : s.word ≡ is_in (is_word false) o
+  pub ascii_word : s.ascii_word ≡ is_in (is_word true) o
+
+abbrev pub shown_word : Bool → Shown → Bool
+shown_word true s = s.ascii_word
+shown_word false s = s.word
+
+-- whether the guard holds between what is shown
+abbrev pub met : Guard → Shown → Shown → Bool
+met Start before next = before.none
+met LineStart before next = before.none || before.line_feed
+met LineEnd before next = next.none || next.line_feed
+met TextEnd before next = next.none
+met (Word ascii) before next = not (beq (shown_word ascii before) (shown_word ascii next))
+met (NotWord ascii) before next = beq (shown_word ascii before) (shown_word ascii next)
+
+abbrev pub all_met : List Act → Shown → Shown → Bool
+all_met [] before next = true
+all_met (check g ∷ acts) before next = met g before next && all_met acts before next
+all_met (open_group ∷ acts) before next = all_met acts before next
+all_met (close_group n ∷ acts) before next = all_met acts before next
+
+-- what is tried between what is shown
+abbrev pub shown_tries : Shown → Shown → ℕ → List MarkItem → Caps → List Try
+shown_tries before next i [] c = []
+shown_tries before next i (test_at acts p ∷ l) c =
+    (if all_met acts before next then goes p (performed acts i c) ∷ [] else []) ++ shown_tries before next i l c
+shown_tries before next i (pass acts ∷ l) c =
+    (if all_met acts before next then stops (performed acts i c) ∷ [] else []) ++ shown_tries before next i l c
+
+-- what the threads try, by the items of each state
+abbrev pub shown_spread : List (List MarkItem) → Shown → Shown → ℕ → List Thread → List Try
+shown_spread rows before next i [] = []
+shown_spread rows before next i (t ∷ l) = shown_tries before next i (slice_index_or rows t.state []) t.caps ++ shown_spread rows before next i l
+
+-- the threads behind a letter, by whether the test of each place takes it
+abbrev pub taken_by : List Bool → Bool → List Try → List Thread
+taken_by takes accepts [] = []
+taken_by takes accepts (goes p c ∷ l) = (if slice_index_or takes p false then thread (suc p) c ∷ [] else []) ++ taken_by takes accepts l
+taken_by takes accepts (stops c ∷ l) = if accepts then [] else taken_by takes accepts l

@@ -1,0 +1,70 @@
+//! Codes that stand for the letters of two trees.
+
+ghost use Rattle.std.specs.Prelude.{◌≡◌, ◌++◌, ◌<◌, ℕ, All, map, true, IfOk, length, slice_index_or};
+ghost use Rattle.rl_ranges.specs.Codes.{has, IsInside};
+ghost use Rattle.rl_ranges.specs.Letters.{alike, IsLetters};
+ghost use Rattle.rl_ranges.specs.Text.{code_count};
+ghost use Rattle.rl_syntax.specs.Tree.{tree_of, IsOver};
+ghost use Rattle.rl_prio.specs.Letters.{all_sets};
+ghost use Rattle.rl_marks.specs.Marked.{marked_of, plain};
+ghost use Rattle.rl_spans.specs.internal.Codes.{AreEnough};
+
+use crate::error::SpansError;
+use crate::plain::plain_of;
+use rl_lists::{Items, OutOfMemory};
+use rl_marks::MarkTree;
+use rl_prio::add_letter_sets;
+use rl_ranges::{CodeSet, Letters, LettersError};
+use rl_syntax::Universe;
+use std::alloc::Global;
+
+/// The sets that tell the codes of two trees apart.
+fn sets_of(alloc: Global, first: &MarkTree, second: &MarkTree) -> Result<Vec<CodeSet>, OutOfMemory>
+    ensures sets { IfOk result
+        (λ sets. map has sets.items ≡ all_sets (plain (marked_of first.now)) ++ all_sets (plain (marked_of second.now))) }
+    ensures inside { IfOk result (λ sets. (u : Universe) → IsOver u (plain (marked_of first.now)) → IsOver u (plain (marked_of second.now))
+        → All (IsInside u) sets.items) }
+{
+    let mut sets = Vec::new(alloc);
+    let left = plain_of(alloc, first)?;
+    let right = plain_of(alloc, second)?;
+    add_letter_sets(alloc, &left, &mut sets)?;
+    add_letter_sets(alloc, &right, &mut sets)?;
+    Ok(sets)
+}
+
+/// The codes that stand for letters.
+fn samples_of(alloc: Global, letters: &Letters) -> Result<Items<u32>, OutOfMemory>
+    ensures { IfOk result (λ codes. codes ≡ letters.now.samples) }
+{
+    let mut codes = Items::new(alloc);
+    for letter in 0..letters.count() {
+        codes.push(letters.sample(letter))?;
+    }
+    Ok(codes)
+}
+
+/// A code for each letter that two trees tell apart.
+///
+/// # Errors
+/// [`SpansError::Letters`] where there are too many, [`SpansError::OutOfMemory`] where there was no memory for them.
+pub(crate) fn codes_of(
+    alloc: Global,
+    first: &MarkTree,
+    second: &MarkTree,
+    universe: Universe,
+) -> Result<Items<u32>, SpansError>
+    requires first { IsOver universe (plain (marked_of first.now)) }
+    requires second { IsOver universe (plain (marked_of second.now)) }
+    ensures { IfOk result (AreEnough (all_sets (plain (marked_of first.now)) ++ all_sets (plain (marked_of second.now))) (code_count universe)) }
+{
+    let sets = sets_of(alloc, first, second)?;
+    match Letters::of(alloc, &sets, universe) {
+        Ok(letters) => {
+            let codes = samples_of(alloc, &letters)?;
+            Ok(codes)
+        }
+        Err(LettersError::TooMany) => Err(SpansError::Letters),
+        Err(LettersError::OutOfMemory) => Err(SpansError::OutOfMemory),
+    }
+}

@@ -1,0 +1,146 @@
+//! Whether two patterns find the same spans and groups.
+
+ghost use Rattle.std.specs.Prelude.{◌≡◌, ◌<◌, ◌≤◌, ◌↔◌, All, IsTrue, IfOk, length};
+ghost use Rattle.rl_ranges.specs.Text.{IsText};
+ghost use Rattle.rl_marks.specs.SameFinds.{matcher_in};
+ghost use Rattle.rl_marks.specs.internal.Seeking.{asked_in, origin_in, IsFrom};
+ghost use Rattle.rl_spans.specs.Answers.{IsAnswer};
+ghost use Rattle.rl_spans.specs.internal.Machines.{IsMachine};
+ghost use Rattle.rl_spans.specs.internal.Sides.{matcher_of};
+
+use crate::asking::{machine_of, origin_of};
+use crate::checking::check;
+use crate::differing::is_difference;
+use crate::error::SpansError;
+use crate::machine::Machine;
+use crate::relation::SpanRelation;
+use crate::searching::{Searched, Witness, find_relation};
+use crate::stepping::StepError;
+use rl_lists::Codes;
+use rl_marks::threads::Origin;
+use rl_marks::{How, MarkedPattern};
+use rl_syntax::Universe;
+use std::alloc::Global;
+
+/// Whether two patterns find the same spans and groups.
+#[derive(Drop)]
+pub enum SameFinds {
+    /// They do, as the relation shows.
+    Same(SpanRelation),
+    /// They don't: on the text they find different matches from the place on.
+    Differ { text: Codes, from: u32 },
+    /// More pairs than the limit are reached, so it isn't known.
+    Exceeded,
+}
+
+/// Whether each code is below the count.
+fn are_below(codes: &[u32], count: u32) -> bool
+    ensures { IsTrue result ↔ All (λ c. c < count) codes.now }
+{
+    codes.iter().all(|code| *code < count)
+}
+
+/// Whether each code is one of the universe.
+fn is_text(universe: Universe, codes: &[u32]) -> bool
+    ensures { IsTrue result → IsText universe codes.now }
+{
+    are_below(codes, universe.count())
+}
+
+/// Whether a match may be asked for at a place; the flag says that it may not be empty.
+fn is_from(origin: Origin, advance: bool, start: u32) -> bool
+    ensures { IsTrue result → IsFrom origin advance start }
+{
+    match origin {
+        Origin::EachPlace => true,
+        Origin::TextStart => start == 0 && !advance,
+    }
+}
+
+/// The relation, if it shows that the patterns find alike.
+fn confirmed(
+    alloc: Global,
+    a: &MarkedPattern,
+    b: &MarkedPattern,
+    how: How,
+    relation: SpanRelation,
+) -> Result<SameFinds, SpansError>
+    ensures { IfOk result (IsAnswer how a.now b.now) }
+{
+    let closed = check(alloc, a, b, how, &relation)?;
+    if closed {
+        Ok(SameFinds::Same(relation))
+    } else {
+        Ok(SameFinds::Exceeded)
+    }
+}
+
+/// The text and the place, if both sides are seen to find different matches there.
+fn seen_apart(
+    alloc: Global,
+    machine: &Machine,
+    a: &MarkedPattern,
+    b: &MarkedPattern,
+    how: How,
+    witness: Witness,
+) -> Result<SameFinds, SpansError>
+    requires machine { IsMachine machine.now }
+    requires first { matcher_of machine.now.first ≡ asked_in how a.now.universe (matcher_in how a.now) }
+    requires second { matcher_of machine.now.second ≡ asked_in how a.now.universe (matcher_in how b.now) }
+    ensures { IfOk result (IsAnswer how a.now b.now) }
+{
+    let Witness {
+        text,
+        from,
+        advance,
+    } = witness;
+    if from as usize > text.len() {
+        return Ok(SameFinds::Exceeded);
+    }
+    if !is_text(a.universe, text.as_slice()) {
+        return Ok(SameFinds::Exceeded);
+    }
+    if !is_from(origin_of(how), advance, from) {
+        return Ok(SameFinds::Exceeded);
+    }
+    let differ = is_difference(alloc, machine, text.as_slice(), advance, from as usize);
+    match differ {
+        Ok(true) => Ok(SameFinds::Differ { text, from }),
+        Ok(false) | Err(StepError::Outside) => Ok(SameFinds::Exceeded),
+        Err(StepError::OutOfMemory) => Err(SpansError::OutOfMemory),
+    }
+}
+
+/// Whether two patterns over one universe find the same spans and groups in every text, by how they are asked, unless more pairs of
+/// thread lists than the limit are reached. Of patterns over different universes it isn't known either.
+///
+/// # Errors
+/// [`SpansError::Size`], [`SpansError::Letters`] or [`SpansError::Moves`] for a limit that is exceeded,
+/// [`SpansError::OutOfMemory`] if there was no memory for the search.
+pub fn same_finds(
+    alloc: Global,
+    a: &MarkedPattern,
+    b: &MarkedPattern,
+    how: How,
+    limit: u32,
+) -> Result<SameFinds, SpansError>
+    ensures { IfOk result (IsAnswer how a.now b.now) }
+{
+    if a.universe != b.universe {
+        return Ok(SameFinds::Exceeded);
+    }
+    let machine = machine_of(alloc, how, a, b)?;
+    let found = find_relation(alloc, &machine, origin_of(how), limit);
+    match found {
+        Ok(Searched::Closed(relation)) => {
+            let answer = confirmed(alloc, a, b, how, relation)?;
+            Ok(answer)
+        }
+        Ok(Searched::Differs(witness)) => {
+            let answer = seen_apart(alloc, &machine, a, b, how, witness)?;
+            Ok(answer)
+        }
+        Ok(Searched::Exceeded) | Err(StepError::Outside) => Ok(SameFinds::Exceeded),
+        Err(StepError::OutOfMemory) => Err(SpansError::OutOfMemory),
+    }
+}

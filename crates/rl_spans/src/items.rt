@@ -1,0 +1,235 @@
+//! The items of trees with groups.
+
+ghost use Rattle.std.specs.Prelude.{◌≡◌, ◌≤◌, ◌<◌, ◌+◌, ◌∷◌, ◌++◌, [], ℕ, suc, length, IfOk, OnOk, slice_index_or};
+ghost use Rattle.rl_syntax.specs.Run.{one_more};
+ghost use Rattle.rl_syntax.specs.declared.limits.TheConstants.{MOST_NODES};
+ghost use Rattle.rl_marks.specs.Marked.{marked_of};
+ghost use Rattle.rl_marks.specs.internal.MarkItems.{prefixed, all_prefixed, replaced, places, first, after};
+ghost use Rattle.rl_marks.specs.internal.Threads.{items_at};
+
+use crate::error::SpansError;
+use rl_lists::{Items, OutOfMemory};
+use rl_marks::MarkTree;
+use rl_marks::threads::{Act, MarkItem};
+use rl_syntax::{MOST_MOVES, MOST_NODES};
+use std::alloc::Global;
+
+/// The number of places of a tree.
+pub(crate) fn places_of(tree: &MarkTree) -> u32
+    requires { places (marked_of tree.now) ≤ MOST_NODES }
+    ensures { result ≡ places (marked_of tree.now) }
+{
+    match tree {
+        MarkTree::Empty | MarkTree::Guard(_) => 0,
+        MarkTree::One(_) => 1,
+        MarkTree::Both(first, second)
+        | MarkTree::Either(first, second)
+        | MarkTree::Further(first, second) => places_of(first) + places_of(second),
+        MarkTree::Many(body, _) | MarkTree::Mark(_, body) => places_of(body),
+    }
+}
+
+/// The acts of the one list and then those of the other.
+fn acts_of_both(alloc: Global, acts: &[Act], others: &[Act]) -> Result<Items<Act>, OutOfMemory>
+    ensures { IfOk result (λ l. l ≡ acts.now ++ others.now) }
+{
+    let mut list = Items::from_slice(alloc, acts)?;
+    for act in others {
+        list.push(*act)?;
+    }
+    Ok(list)
+}
+
+/// The item with more acts in front.
+fn prefixed_by(alloc: Global, acts: &[Act], item: &MarkItem) -> Result<MarkItem, OutOfMemory>
+    ensures { IfOk result (λ m. m ≡ prefixed acts.now item.now) }
+{
+    match item {
+        MarkItem::Test(own, place) => {
+            let all = acts_of_both(alloc, acts, own.as_slice())?;
+            Ok(MarkItem::Test(all, *place))
+        }
+        MarkItem::Pass(own) => {
+            let all = acts_of_both(alloc, acts, own.as_slice())?;
+            Ok(MarkItem::Pass(all))
+        }
+    }
+}
+
+/// Appends an item.
+fn put(list: &mut Items<MarkItem>, item: MarkItem) -> Result<(), SpansError>
+    ensures { OnOk result (list.new ≡ list.old ++ item ∷ []) }
+{
+    if list.len() >= MOST_MOVES {
+        return Err(SpansError::Moves);
+    }
+    list.push(item)?;
+    Ok(())
+}
+
+/// Appends items with more acts in front.
+fn add_prefixed(
+    alloc: Global,
+    list: &mut Items<MarkItem>,
+    acts: &[Act],
+    items: &[MarkItem],
+) -> Result<(), SpansError>
+    ensures { OnOk result (list.new ≡ list.old ++ all_prefixed acts.now items.now) }
+{
+    for item in items {
+        let whole = prefixed_by(alloc, acts, item)?;
+        put(list, whole)?;
+    }
+    Ok(())
+}
+
+/// The items with each end replaced by further items, which get its acts in front.
+fn replaced_by(
+    alloc: Global,
+    items: &[MarkItem],
+    others: &[MarkItem],
+) -> Result<Items<MarkItem>, SpansError>
+    ensures { IfOk result (λ l. l ≡ replaced items.now others.now) }
+{
+    let mut list = Items::new(alloc);
+    for item in items {
+        match item {
+            MarkItem::Test(acts, place) => {
+                let own = Items::from_slice(alloc, acts.as_slice())?;
+                put(&mut list, MarkItem::Test(own, *place))?;
+            }
+            MarkItem::Pass(acts) => add_prefixed(alloc, &mut list, acts.as_slice(), others)?,
+        }
+    }
+    Ok(list)
+}
+
+/// The list of one item.
+fn single(alloc: Global, item: MarkItem) -> Result<Items<MarkItem>, SpansError>
+    ensures { IfOk result (λ l. l ≡ item ∷ []) }
+{
+    let mut list = Items::new(alloc);
+    list.push(item)?;
+    Ok(list)
+}
+
+/// The list of the end behind one act.
+fn end_behind(alloc: Global, act: Act) -> Result<Items<MarkItem>, SpansError>
+    ensures { IfOk result (λ l. l ≡ MarkItem.Pass (act ∷ []) ∷ []) }
+{
+    let acts = Items::from_slice(alloc, &[act])?;
+    single(alloc, MarkItem::Pass(acts))
+}
+
+/// Appends items.
+fn add_items(
+    alloc: Global,
+    list: &mut Items<MarkItem>,
+    items: &[MarkItem],
+) -> Result<(), SpansError>
+    ensures { OnOk result (list.new ≡ list.old ++ items.now) }
+{
+    add_prefixed(alloc, list, &[], items)
+}
+
+/// The items of the one list and then those of the other.
+fn items_of_both(
+    alloc: Global,
+    items: &[MarkItem],
+    others: &[MarkItem],
+) -> Result<Items<MarkItem>, SpansError>
+    ensures { IfOk result (λ l. l ≡ items.now ++ others.now) }
+{
+    let mut list = Items::new(alloc);
+    add_items(alloc, &mut list, items)?;
+    add_items(alloc, &mut list, others)?;
+    Ok(list)
+}
+
+/// The items on entering a tree whose first place has the number `base`.
+pub(crate) fn first_of(
+    alloc: Global,
+    tree: &MarkTree,
+    base: u32,
+) -> Result<Items<MarkItem>, SpansError>
+    requires { base + places (marked_of tree.now) ≤ MOST_NODES }
+    ensures { IfOk result (λ l. l ≡ first (marked_of tree.now) base) }
+{
+    match tree {
+        MarkTree::Empty => single(alloc, MarkItem::Pass(Items::new(alloc))),
+        MarkTree::One(_) => single(alloc, MarkItem::Test(Items::new(alloc), base)),
+        MarkTree::Guard(guard) => end_behind(alloc, Act::Check(*guard)),
+        MarkTree::Both(head, tail) => {
+            let items = first_of(alloc, head, base)?;
+            let others = first_of(alloc, tail, base + places_of(head))?;
+            replaced_by(alloc, items.as_slice(), others.as_slice())
+        }
+        MarkTree::Either(left, right) => {
+            let items = first_of(alloc, left, base)?;
+            let others = first_of(alloc, right, base + places_of(left))?;
+            items_of_both(alloc, items.as_slice(), others.as_slice())
+        }
+        MarkTree::Many(body, greedy) => {
+            let items = first_of(alloc, body, base)?;
+            let end = single(alloc, MarkItem::Pass(Items::new(alloc)))?;
+            if *greedy {
+                items_of_both(alloc, items.as_slice(), end.as_slice())
+            } else {
+                items_of_both(alloc, end.as_slice(), items.as_slice())
+            }
+        }
+        MarkTree::Further(head, _) => first_of(alloc, head, base),
+        MarkTree::Mark(number, body) => {
+            let items = first_of(alloc, body, base)?;
+            let close = end_behind(alloc, Act::CloseGroup(*number))?;
+            let closed = replaced_by(alloc, items.as_slice(), close.as_slice())?;
+            let mut list = Items::new(alloc);
+            add_prefixed(alloc, &mut list, &[Act::OpenGroup], closed.as_slice())?;
+            Ok(list)
+        }
+    }
+}
+
+/// The items once the place of a tree whose first place has the number `base` has succeeded.
+pub(crate) fn after_of(
+    alloc: Global,
+    tree: &MarkTree,
+    base: u32,
+    place: u32,
+) -> Result<Items<MarkItem>, SpansError>
+    requires { base + places (marked_of tree.now) ≤ MOST_NODES }
+    ensures { IfOk result (λ l. l ≡ after (marked_of tree.now) base place) }
+{
+    match tree {
+        MarkTree::Empty | MarkTree::Guard(_) => Ok(Items::new(alloc)),
+        MarkTree::One(_) => single(alloc, MarkItem::Pass(Items::new(alloc))),
+        MarkTree::Both(head, tail) | MarkTree::Further(head, tail) => {
+            let middle = base + places_of(head);
+            if place < middle {
+                let items = after_of(alloc, head, base, place)?;
+                let others = first_of(alloc, tail, middle)?;
+                replaced_by(alloc, items.as_slice(), others.as_slice())
+            } else {
+                after_of(alloc, tail, middle, place)
+            }
+        }
+        MarkTree::Either(left, right) => {
+            let middle = base + places_of(left);
+            if place < middle {
+                after_of(alloc, left, base, place)
+            } else {
+                after_of(alloc, right, middle, place)
+            }
+        }
+        MarkTree::Many(body, _) => {
+            let items = after_of(alloc, body, base, place)?;
+            let others = first_of(alloc, tree, base)?;
+            replaced_by(alloc, items.as_slice(), others.as_slice())
+        }
+        MarkTree::Mark(number, body) => {
+            let items = after_of(alloc, body, base, place)?;
+            let close = end_behind(alloc, Act::CloseGroup(*number))?;
+            replaced_by(alloc, items.as_slice(), close.as_slice())
+        }
+    }
+}

@@ -1,0 +1,217 @@
+//! What one side finds on a text, by the list of its threads.
+
+ghost use Rattle.std.specs.Prelude.{◌≡◌, ◌<◌, ◌≤◌, ◌∷◌, [], ℕ, All, IsTrue, IfOk, None, Some, length, slice_get, true, false};
+ghost use Rattle.rl_ranges.specs.Codes.{has};
+ghost use Rattle.rl_syntax.specs.Guards.{is_word, code_before as before_place};
+ghost use Rattle.rl_syntax.specs.declared.limits.TheConstants.{MOST_NODES};
+ghost use Rattle.rl_marks.specs.Marked.{marked_of};
+ghost use Rattle.rl_marks.specs.Hits.{may_end, is_hit_from};
+ghost use Rattle.rl_marks.specs.internal.Threads.{spread, moved, halted};
+ghost use Rattle.rl_spans.specs.internal.Hits.{ended_of, later_of, found_at};
+ghost use Rattle.rl_spans.specs.internal.Shown.{IsShown};
+ghost use Rattle.rl_spans.specs.internal.Sides.{IsSide};
+
+use crate::checking::begin_threads;
+use crate::machine::seen;
+use crate::shown::Words;
+use crate::side::{Side, tests_of};
+use crate::stepping::{Seen, Step, StepError, stop_of};
+use crate::threads::{distinct_of, spread_of, taken_of};
+use rl_lists::{Items, OutOfMemory};
+use rl_marks::MatchEnding;
+use rl_marks::threads::{Caps, Thread, Try};
+use std::alloc::Global;
+
+/// What a side finds on a text.
+#[derive(Drop)]
+pub(crate) struct Hit {
+    /// Where it ends.
+    pub end: u32,
+    /// What is known of the groups there.
+    pub caps: Caps,
+}
+
+/// Whether a match may end at a place of a text.
+#[tactic(auto, unfolding(rl_syntax::specs::Guards::is_in))]
+fn ends_at(ending: MatchEnding, text: &[u32], place: usize) -> bool
+    requires { place ≤ length text.now }
+    ensures { result ≡ may_end ending text.now place }
+{
+    match ending {
+        MatchEnding::AtEnd => place == text.len(),
+        MatchEnding::AtLastLine => match text.get(place) {
+            None => true,
+            Some(code) => *code == 10 && place + 1 == text.len(),
+        },
+        MatchEnding::Anywhere => true,
+    }
+}
+
+/// Whether a match from the start may end at a place of a text; the flag says that it may not be empty.
+fn is_hit(ending: MatchEnding, advance: bool, text: &[u32], start: usize, place: usize) -> bool
+    requires { place ≤ length text.now }
+    ensures { result ≡ is_hit_from ending advance text.now start place }
+{
+    ends_at(ending, text, place) && (!advance || start < place)
+}
+
+/// The code before a place of a text, none at the start.
+fn code_before(text: &[u32], place: usize) -> Option<u32>
+    requires { place ≤ length text.now }
+    ensures { result ≡ before_place text.now place }
+{
+    if place == 0 {
+        None
+    } else {
+        Some(text[place - 1])
+    }
+}
+
+/// Whether each thread is in one of the states.
+fn are_inside(threads: &[Thread], states: usize) -> bool
+    ensures { IsTrue result → All (λ (t : Thread). t.state < states) threads.now }
+{
+    for thread in threads {
+        if thread.state as usize >= states {
+            return false;
+        }
+    }
+    true
+}
+
+/// What the threads of a side try at a place.
+fn tries_at_place(
+    alloc: Global,
+    side: &Side,
+    codes: &[u32],
+    before: Seen,
+    next: Seen,
+    place: u32,
+    threads: &[Thread],
+) -> Result<Items<Try>, StepError>
+    requires side { IsSide codes.now side.now }
+    requires before { IsShown before.code before.shown }
+    requires next { IsShown next.code next.shown }
+    ensures { IfOk result (λ l. l ≡ spread (marked_of side.now.tree) before.code next.code place threads.now) }
+{
+    if !are_inside(threads, side.rows.len()) {
+        return Err(StepError::Outside);
+    }
+    let tries = spread_of(
+        alloc,
+        side.rows.as_slice(),
+        before.shown,
+        next.shown,
+        place,
+        threads,
+    )?;
+    Ok(tries)
+}
+
+/// What a side's threads come to on a code at a place.
+fn step_at(
+    alloc: Global,
+    side: &Side,
+    codes: &[u32],
+    accepts: bool,
+    before: Seen,
+    next: Seen,
+    code: u32,
+    place: u32,
+    threads: &[Thread],
+) -> Result<Step, StepError>
+    requires side { IsSide codes.now side.now }
+    requires before { IsShown before.code before.shown }
+    requires next { IsShown next.code next.shown }
+    requires code { next.code ≡ Some code }
+    ensures stop { IfOk result (λ r. r.stop ≡ halted (marked_of side.now.tree) accepts before.code (Some code) place threads.now) }
+    ensures threads { IfOk result (λ r. r.threads ≡ moved (marked_of side.now.tree) accepts before.code code place threads.now) }
+{
+    let tests = tests_of(alloc, &side.tree, code)?;
+    let tries = tries_at_place(alloc, side, codes, before, next, place, threads)?;
+    let stop = stop_of(alloc, accepts, tries.as_slice())?;
+    let taken = taken_of(alloc, tests.as_slice(), accepts, tries.as_slice())?;
+    let threads = distinct_of(alloc, taken.as_slice())?;
+    Ok(Step { stop, threads })
+}
+
+/// What the threads stop with at a place, or else what was found before.
+fn later(place: u32, stop: Option<Caps>, found: Option<Hit>) -> Option<Hit>
+    ensures { ended_of result ≡ later_of place stop (ended_of found) }
+{
+    match stop {
+        None => found,
+        Some(caps) => {
+            drop(found);
+            Some(Hit { end: place, caps })
+        }
+    }
+}
+
+/// The place as a number of a thread list.
+fn place_of(index: usize) -> Result<u32, StepError>
+    ensures { IfOk result (λ p. p ≡ index) }
+{
+    match u32::try_from(index) {
+        Ok(place) => Ok(place),
+        Err(_) => Err(StepError::Outside),
+    }
+}
+
+/// The code at a place of a text.
+fn code_at(text: &[u32], index: usize) -> u32
+    requires { index < length text.now }
+    ensures { slice_get text.now index ≡ Some result }
+{
+    text[index]
+}
+
+/// What a side finds on a text from a place on; the flag says that the match may not be empty.
+pub(crate) fn found_from(
+    alloc: Global,
+    side: &Side,
+    codes: &[u32],
+    words: &Words,
+    text: &[u32],
+    advance: bool,
+    start: usize,
+) -> Result<Option<Hit>, StepError>
+    requires side { IsSide codes.now side.now }
+    requires all { (c : ℕ) → has words.now.all c ≡ is_word false c }
+    requires ascii { (c : ℕ) → has words.now.ascii c ≡ is_word true c }
+    requires start { start ≤ length text.now }
+    ensures { IfOk result (λ hit. ended_of hit ≡ found_at side.now text.now advance start) }
+{
+    let size = text.len();
+    let mut threads = begin_threads(alloc)?;
+    let mut found = None;
+    for index in start..size {
+        let place = place_of(index)?;
+        let code = code_at(text, index);
+        let accepts = is_hit(side.ending, advance, text, start, index);
+        let previous = code_before(text, index);
+        let before = seen(words, previous);
+        let next = seen(words, Some(code));
+        let step = step_at(
+            alloc,
+            side,
+            codes,
+            accepts,
+            before,
+            next,
+            code,
+            place,
+            threads.as_slice(),
+        )?;
+        found = later(place, step.stop, found);
+        threads = step.threads;
+    }
+    let last = place_of(size)?;
+    let stops = is_hit(side.ending, advance, text, start, size);
+    let final_code = code_before(text, size);
+    let behind = seen(words, final_code);
+    let end = seen(words, None);
+    let tries = tries_at_place(alloc, side, codes, behind, end, last, threads.as_slice())?;
+    let stop = stop_of(alloc, stops, tries.as_slice())?;
+    Ok(later(last, stop, found))
+}

@@ -1,0 +1,228 @@
+//! The step of one side, and of both.
+
+ghost use Rattle.std.specs.Prelude.{◌≡◌, ◌<◌, ◌≤◌, ◌∷◌, ◌++◌, ℕ, suc, All, IsTrue, IfOk, OnOk, Option, None, Some, map, length};
+ghost use Rattle.rl_syntax.specs.Tree.{sets_in};
+ghost use Rattle.rl_syntax.specs.declared.limits.TheConstants.{MOST_NODES};
+ghost use Rattle.rl_marks.specs.Marked.{marked_of, plain};
+ghost use Rattle.rl_marks.specs.internal.MarkItems.{places};
+ghost use Rattle.rl_marks.specs.internal.Caps.{span_named};
+ghost use Rattle.rl_marks.specs.internal.Threads.{moved, halted, named, spread, stopped, taken, thread_named};
+ghost use Rattle.rl_spans.specs.internal.Shown.{IsShown, shown_spread, taken_by};
+ghost use Rattle.rl_spans.specs.internal.Sides.{IsSide, HasItems, tests_at};
+
+use crate::shown::Shown;
+use crate::side::Side;
+use crate::threads::{distinct_of, first_stop, spread_of, taken_of};
+use rl_lists::{Items, OutOfMemory};
+use rl_marks::GroupSpan;
+use rl_marks::threads::{Caps, Thread, Try};
+use std::alloc::Global;
+
+/// Why there is no step.
+#[derive(Clone, Copy)]
+pub(crate) enum StepError {
+    /// A thread is in no state of the side, or a name is too great.
+    Outside,
+    /// Out of memory.
+    OutOfMemory,
+}
+
+impl From<OutOfMemory> for StepError {
+    fn from(_: OutOfMemory) -> Self {
+        StepError::OutOfMemory
+    }
+}
+
+/// A code, or none, with what guards see of it.
+#[derive(Clone, Copy)]
+pub(crate) struct Seen {
+    /// The code, if there is one.
+    pub code: Option<u32>,
+    /// What guards see of it.
+    pub shown: Shown,
+}
+
+/// The name one greater.
+fn next_name(name: u32) -> Result<u32, StepError>
+    ensures { IfOk result (λ n. n ≡ suc name) }
+{
+    match name.checked_add(1) {
+        Some(next) => Ok(next),
+        None => Err(StepError::Outside),
+    }
+}
+
+/// The places with names one greater.
+fn shifted_places(alloc: Global, places: &[u32]) -> Result<Items<u32>, StepError>
+    ensures { IfOk result (λ l. l ≡ map suc places.now) }
+{
+    let mut list = Items::new(alloc);
+    for place in places {
+        let next = next_name(*place)?;
+        list.push(next)?;
+    }
+    Ok(list)
+}
+
+/// The span with names of places one greater.
+fn shifted_span(span: GroupSpan) -> Result<GroupSpan, StepError>
+    ensures { IfOk result (λ s. s ≡ span_named suc span) }
+{
+    let from = next_name(span.from)?;
+    let upto = next_name(span.upto)?;
+    Ok(GroupSpan {
+        number: span.number,
+        from,
+        upto,
+    })
+}
+
+/// The spans with names of places one greater.
+fn shifted_spans(alloc: Global, spans: &[GroupSpan]) -> Result<Items<GroupSpan>, StepError>
+    ensures { IfOk result (λ l. l ≡ map (span_named suc) spans.now) }
+{
+    let mut list = Items::new(alloc);
+    for span in spans {
+        let next = shifted_span(*span)?;
+        list.push(next)?;
+    }
+    Ok(list)
+}
+
+/// The thread with names of places one greater, if it is in one of the states.
+fn shifted_thread(alloc: Global, thread: &Thread, states: usize) -> Result<Thread, StepError>
+    ensures named { IfOk result (λ t. t ≡ thread_named suc thread.now) }
+    ensures inside { OnOk result (thread.now.state < states) }
+{
+    if thread.state as usize >= states {
+        return Err(StepError::Outside);
+    }
+    let opens = shifted_places(alloc, thread.caps.opens.as_slice())?;
+    let held = shifted_spans(alloc, thread.caps.held.as_slice())?;
+    Ok(Thread {
+        state: thread.state,
+        caps: Caps {
+            opens,
+            held,
+            last: thread.caps.last,
+        },
+    })
+}
+
+/// The threads with names of places one greater, if each is in one of the states.
+fn shifted(alloc: Global, threads: &[Thread], states: usize) -> Result<Items<Thread>, StepError>
+    ensures named { IfOk result (λ l. l ≡ named suc threads.now) }
+    ensures inside { IfOk result (All (λ (t : Thread). t.state < states)) }
+{
+    let mut list = Items::new(alloc);
+    for thread in threads {
+        let next = shifted_thread(alloc, thread, states)?;
+        list.push(next)?;
+    }
+    Ok(list)
+}
+
+/// What the threads of a side, with names one greater, try at a place named 0.
+fn tries_at(
+    alloc: Global,
+    side: &Side,
+    codes: &[u32],
+    before: Seen,
+    next: Seen,
+    threads: &[Thread],
+) -> Result<Items<Try>, StepError>
+    requires side { IsSide codes.now side.now }
+    requires before { IsShown before.code before.shown }
+    requires next { IsShown next.code next.shown }
+    ensures { IfOk result (λ l. l ≡ spread (marked_of side.now.tree) before.code next.code 0 (named suc threads.now)) }
+{
+    let states = side.rows.len();
+    let moved = shifted(alloc, threads, states)?;
+    let tries = spread_of(
+        alloc,
+        side.rows.as_slice(),
+        before.shown,
+        next.shown,
+        0,
+        moved.as_slice(),
+    )?;
+    Ok(tries)
+}
+
+/// What a side's threads come to on a code.
+#[derive(Drop)]
+pub(crate) struct Step {
+    /// What is known of the groups at the first end, if there is one and ends count.
+    pub stop: Option<Caps>,
+    /// The threads behind the code.
+    pub threads: Items<Thread>,
+}
+
+/// What is known of the groups at the first end of tries, if there is one and ends count.
+pub(crate) fn stop_of(
+    alloc: Global,
+    accepts: bool,
+    tries: &[Try],
+) -> Result<Option<Caps>, OutOfMemory>
+    ensures { IfOk result (λ o. o ≡ stopped accepts tries.now) }
+{
+    if accepts {
+        first_stop(alloc, tries)
+    } else {
+        Ok(None)
+    }
+}
+
+/// What is known of the groups where a side's threads stop at the end of the text, if they do and ends count.
+pub(crate) fn stop_at_end(
+    alloc: Global,
+    side: &Side,
+    codes: &[u32],
+    accepts: bool,
+    before: Seen,
+    end: Shown,
+    threads: &[Thread],
+) -> Result<Option<Caps>, StepError>
+    requires side { IsSide codes.now side.now }
+    requires before { IsShown before.code before.shown }
+    requires end { IsShown None end }
+    ensures { IfOk result (λ o. o ≡ halted (marked_of side.now.tree) accepts before.code None 0 (named suc threads.now)) }
+{
+    let next = Seen {
+        code: None,
+        shown: end,
+    };
+    let tries = tries_at(alloc, side, codes, before, next, threads)?;
+    let stop = stop_of(alloc, accepts, tries.as_slice())?;
+    Ok(stop)
+}
+
+/// What a side's threads come to on a code.
+pub(crate) fn step_on(
+    alloc: Global,
+    side: &Side,
+    codes: &[u32],
+    tests: &[bool],
+    accepts: bool,
+    before: Seen,
+    code: u32,
+    shown: Shown,
+    threads: &[Thread],
+) -> Result<Step, StepError>
+    requires side { IsSide codes.now side.now }
+    requires tests { tests.now ≡ tests_at (marked_of side.now.tree) code }
+    requires before { IsShown before.code before.shown }
+    requires shown { IsShown (Some code) shown }
+    ensures stop { IfOk result (λ r. r.stop ≡ halted (marked_of side.now.tree) accepts before.code (Some code) 0 (named suc threads.now)) }
+    ensures threads { IfOk result (λ r. r.threads ≡ moved (marked_of side.now.tree) accepts before.code code 0 (named suc threads.now)) }
+{
+    let next = Seen {
+        code: Some(code),
+        shown,
+    };
+    let tries = tries_at(alloc, side, codes, before, next, threads)?;
+    let stop = stop_of(alloc, accepts, tries.as_slice())?;
+    let taken = taken_of(alloc, tests, accepts, tries.as_slice())?;
+    let threads = distinct_of(alloc, taken.as_slice())?;
+    Ok(Step { stop, threads })
+}

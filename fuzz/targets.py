@@ -1,0 +1,366 @@
+"""The targets: each makes a case from chance, gives it to the program or to a tool, and judges what comes.
+
+A target is a function that takes a `Runner` and a `Chance`, and the bytes of a kept file, or None for a case of its own. It
+raises `Wrong` where what comes isn't what has to come.
+"""
+from __future__ import annotations
+
+import functools
+import importlib
+import json
+import os
+import string
+from pathlib import Path
+from typing import Any, Callable, Dict, List, Optional, Tuple
+
+from chance import NUMBERS, STRANGE, Chance, corpus
+from layouts import COUNTS, head, same_in_all, whole
+from hostile import forks
+from hostile.watch import dangers
+from program import MEGABYTES, Ran, Runner, Wrong, alike
+
+TOP = Path(__file__).resolve().parent.parent
+MODES = ("fullmatch", "match", "search")
+CALLS = ("compile", "match", "search", "fullmatch", "findall", "finditer", "split", "sub", "subn")
+FINDING, FAILS = 1, 1
+MIRRORED = {"equal": "equal", "included": "includes", "includes": "included", "disjoint": "disjoint",
+            "overlapping": "overlapping"}
+TOOLS: List[Tuple[str, List[str]]] = [
+    ("show", ["--all"]), ("show", ["--format", "github", "--all"]), ("show", ["--format", "sarif"]), ("page", []),
+    ("confirm", ["--seconds", "0.05", "--longest", "300"]), ("many", ["--join", "report.json", "report.json"]),
+    ("mend", ["--seconds", "0.5", "--tries", "2", "--report", "-", "--diff"])]
+SOURCE_TOKENS = [it.encode() for it in (
+    "import re\n", "from re import compile as c\n", "re.compile(", "re.match(", "c(", "re.sub(", ")", "r'", "rb'", "f'", "'''",
+    '"""', ", re.I", ", flags=re.X | re.M", "(", "[", "{", "#", "\\\n", "def f():\n", "    ", "lambda: ", "pattern=", "*a",
+    ";",
+    "# -*- coding: latin-1 -*-\n", "# coding: utf-8\n", "as", "\\N{DIGIT ONE}", "\\x", "\\u00e9", "\\777", *STRANGE)]
+JSON_TOKENS = [it.encode() for it in (
+    "null", "true", "NaN", "1e999", "-0", "[", "]", "{", "}", ",", ":", '"', '"\\ud800"', '"\\u0000"', '"degree"', '"path"',
+    '"kind"',
+    '"entries":[', "[" * 5000, '{"a":' * 3000, "[]", "{}", "9" * 5000, '"version":3', '"line":-1', '"over"')]
+TOML_TOKENS = [it.encode() for it in (
+    "compile-as", "max-degree", "max-pairs", "format", "report", "=", " = ", '"match"', "'brief'", '"sarif"', "[table]",
+    "[[a]]",
+    "true", "inf", "nan", "1979-05-27", "0b1", "1_000", '"""', "'''", "{a = 1}", "[1, 2]", "# note\n", "\\u00e9", "a.b",
+    '"a"', "\n")]
+
+
+def words(runner: Runner, chance: Chance, kept: Optional[bytes]) -> None:
+    """Words of the command line: class, cost, compare, prove and sample, in each mode, with options that are right or not."""
+    if kept is not None:
+        runner.run(kept.decode("utf-8").split("\n"))
+        return
+    pattern, mode = chance.pattern(), chance.pick(MODES)
+    chance.pick([_class, _class, _cost, _compare, _any_words])(runner, chance, pattern, mode)
+
+
+def _class(runner: Runner, chance: Chance, pattern: str, mode: str) -> None:
+    """The class, its status, and the kind of its certificate."""
+    most = chance.below(4)
+    ran = runner.run(["class", "--mode", mode, "--max-degree", str(most), "--", pattern])
+    proved = runner.run(["prove", "--mode=" + mode, "--", pattern])
+    if ran.status == 2:
+        alike(ran, proved, "class and prove refuse differently")
+        return
+    first = ran.text().split("\n")[0]
+    degree = int(first[7:]) if first.startswith("degree ") else -1
+    ran.need(ran.status == int(first == "exponential" or degree > most), "the status isn't that of " + first)
+    if proved.out.startswith(b"{"):
+        made = whole(proved)
+        kind = made["kind"] if made["kind"] != "degree" else "degree %d" % made["degree"]
+        proved.need(kind == first, "class says " + first)
+
+
+def _cost(runner: Runner, chance: Chance, pattern: str, mode: str) -> None:
+    """The steps of a text, by two ways of giving the words."""
+    text = "".join(chance.some(string.ascii_letters[:3] + "01 é\n", 12))
+    ran = runner.run(["cost", "--mode", mode, "--", pattern, text])
+    other = runner.run(["cost", "--mode=" + mode, "--max-degree=0", "--", pattern, text])
+    alike(ran, other, "the same words, written otherwise")
+    if ran.status == 0:
+        first = ran.text().split(" ")
+        ran.need(first[0] in ("steps", "undecided"), "this is no answer of cost")
+
+
+def _compare(runner: Runner, chance: Chance, pattern: str, mode: str) -> None:
+    """Two patterns, and the same the other way round."""
+    near = chance.changed(pattern.encode("utf-8"), [it.encode("utf-8") for it in STRANGE])
+    other = chance.pattern() if chance.one(2) else near.decode("utf-8", "replace").replace("\0", "0")
+    options = ["compare", "--mode", mode, "--"]
+    one, two = runner.run([*options, pattern, other]), runner.run([*options, other, pattern])
+    one_word, two_word = one.text().split("\n")[0], two.text().split("\n")[0]
+    if one_word in MIRRORED or two_word in MIRRORED:
+        two.need(MIRRORED.get(one_word) == two_word, "the other way round it is " + one_word)
+        one.need(one.status == int(one_word != "equal"), "the status isn't that of " + one_word)
+
+
+def _any_words(runner: Runner, chance: Chance, pattern: str, _: str) -> None:
+    """Words that are mostly no valid call."""
+    action = chance.pick(["class", "cost", "compare", "prove", "verify", "sample", "check", "chec", ""])
+    parts = ["--mode", "match", "--mode=search", "--max-pairs=" + chance.pick(NUMBERS), "--report", "2", "--", "-", "", "-x",
+             "--settings", "none", "--baseline=none", "--format=json", pattern, "a" * chance.below(30_000), "none.py"]
+    given = [action, *chance.some(parts, 5)]
+    alike(runner.run(given), runner.run(given), "a second run")
+
+
+def _made_source(chance: Chance) -> bytes:
+    """A source with calls of re, mostly right ones."""
+    lines = [chance.pick(["import re", "import re as r", "from re import compile as c, match", "import os, re"])]
+    for _ in range(1 + chance.below(5)):
+        name = chance.pick(["re.", "r.", ""]) + chance.pick(CALLS)
+        quote = chance.pick(["'", '"', "'''", '"""'])
+        prefix = chance.pick(["r", "r", "r", "", "b", "rb", "f", "u"])
+        literal = prefix + quote + chance.pattern(2) + quote
+        more = chance.pick(["", ", s", ", re.I", ", flags=re.X", ", s, re.M | re.S", ", x)(", " 'b'"])
+        lines.append(chance.pick(["", "x = ", "    ", "f(", "# "]) + "%s(%s%s)" % (name, literal, more))
+    return "\n".join(lines + [""]).encode("utf-8")
+
+
+def sources(runner: Runner, chance: Chance, kept: Optional[bytes]) -> None:
+    """Sources: the four layouts say the same, and the Python tools read what the program read."""
+    data = kept
+    if data is None:
+        data = _made_source(chance) if chance.one(2) else chance.pick(corpus("sources"))
+        data = data if chance.one(3) else chance.changed(data, SOURCE_TOKENS)
+    name = runner.put("source.py", data)
+    most = chance.below(4)
+    report = same_in_all(runner, ["--max-degree", str(most), "--mode", chance.pick(MODES), "--", name], most)
+    _read_by_tools(runner, data, report)
+
+
+def _read_by_tools(runner: Runner, data: bytes, report: Dict[str, Any]) -> None:
+    """The package's readers of reports and of sources take what the program wrote, and find each judged pattern."""
+    reports, sites = importlib.import_module("relint.reports"), importlib.import_module("relint.sites")
+    if "version" not in report:
+        return
+    read = reports.read_report(json.dumps(report).encode("utf-8"))
+    if [it.outcome() for it in read.entries] != [_outcome(it) for it in report["entries"]]:
+        raise Wrong("the reader of reports gives other outcomes: %r" % [it.outcome() for it in read.entries])
+    try:
+        source = sites.Source(data)
+    except sites.SourceError:
+        if any(it["kind"] in ("degree", "exponential") for it in report["entries"]):
+            raise Wrong("the reader of sources refuses what relint judged") from None
+        return
+    for it in read.entries:
+        if it.place and it.call:
+            source.site(it.place, it.call)
+
+
+def _outcome(entry: Dict[str, Any]) -> str:
+    return head({**entry, "path": "", "call": "x"}).split("x: ", 1)[1]
+
+
+def _made_settings(chance: Chance) -> bytes:
+    lines = ["compile-as = '%s'" % chance.pick(MODES), "max-degree = %s" % chance.pick(NUMBERS[:14]),
+             "max-pairs = %s" % chance.pick(NUMBERS[:14]), 'format = "%s"' % chance.pick(["text", "json", "x"]),
+             "report = %d" % chance.below(4)]
+    return "\n".join([*chance.some(lines, 3), ""]).encode("utf-8")
+
+
+def settings(runner: Runner, chance: Chance, kept: Optional[bytes]) -> None:
+    """Settings: a file does what the same options do, or is refused; and what TOML's reader refuses is refused."""
+    data = kept
+    if data is None:
+        data = _made_settings(chance) if chance.one(2) else chance.pick(corpus("settings"))
+        data = data if chance.one(3) else chance.changed(data, TOML_TOKENS)
+    runner.put("settings.toml", data)
+    runner.put("source.py", b"import re\nre.compile(r'(a|a)*b')\nre.compile(r'a*a*b')\nre.search(r'[0-9]{30}', s)\n")
+    ran = runner.run(["check", "--settings", "settings.toml", "source.py"])
+    options = _options_of(data)
+    if options is None:
+        ran.need(ran.status == 2, "the settings hold nothing that is right, and aren't refused")
+    elif options is not UNKNOWN:
+        alike(runner.run(["check", *options, "source.py"]), ran, "the same options on the command line")
+
+
+UNKNOWN = ["?"]
+
+
+def _options_of(data: bytes) -> Optional[List[str]]:
+    """The options that say what a settings file says, None where it is no such file, UNKNOWN without a reader of TOML."""
+    try:
+        reader = importlib.import_module("tomllib")
+    except ImportError:
+        return UNKNOWN
+    try:
+        # (relint passes over a byte order mark in front, as many readers of TOML do; Python's doesn't)
+        table = reader.loads(data.decode("utf-8-sig"))
+    except (ValueError, RecursionError):
+        return None
+    kinds: Dict[str, Tuple[str, Callable[[Any], bool]]] = {
+        "compile-as": ("--mode", lambda it: it in MODES),
+        "format": ("--format", lambda it: it in ("text", "brief", "json", "sarif")),
+        "max-degree": ("--max-degree", lambda it: type(it) is int and 0 <= it <= 999_999),
+        "max-pairs": ("--max-pairs", lambda it: type(it) is int and 1 <= it <= 1000),
+        "report": ("--report", lambda it: type(it) is int and it in (1, 2))}
+    if any(key not in kinds or not kinds[key][1](value) for key, value in table.items()):
+        return None
+    return ["%s=%s" % (kinds[key][0], value) for key, value in table.items()]
+
+
+def baselines(runner: Runner, chance: Chance, kept: Optional[bytes]) -> None:
+    """Baselines: an entry is hidden exactly if the baseline has one left with the same path, call, kind, and degree, limit or
+    cause."""
+    runner.put("source.py", _made_source(chance))
+    whole_report = runner.run(["check", "--format", "json", "source.py"])
+    if kept is not None:
+        data = kept
+    elif chance.one(2):
+        data = chance.changed(whole_report.out, JSON_TOKENS) if chance.one(2) else chance.changed_json(whole_report.out)
+    else:
+        entries = chance.some(whole(whole_report)["entries"] or [{"path": "source.py", "kind": "exponential"}], 6)
+        data = json.dumps({"entries": entries, "findings": 0, "refused": 0, "undecided": 0, "version": 2}).encode()
+    runner.put("baseline.json", data)
+    ran = runner.run(["check", "--format", "brief", "--baseline", "baseline.json", "source.py"])
+    if ran.status == 2:
+        return
+    found = COUNTS.search(ran.text())
+    ran.need(found is not None and found.group(5) is not None, "the last line doesn't say how many are hidden")
+    if found is not None:
+        shown, hidden = int(found.group(1)), int(found.group(5))
+        entries = whole(whole_report)["entries"]
+        ran.need(shown + hidden == len(entries), "shown and hidden aren't the %d entries" % len(entries))
+        known = _known(data)
+        if known is not None:
+            ran.need(hidden == _hidden(entries, known), "%d entries have to be hidden" % _hidden(entries, known))
+
+
+def _key(entry: Dict[str, Any]) -> str:
+    """What makes two entries the same for a baseline."""
+    return json.dumps([entry.get(it) for it in ("path", "call", "kind", "degree", "limit", "cause")])
+
+
+def _known(data: bytes) -> Optional[List[str]]:
+    """The keys of a baseline, None where Python reads it in another way than strictly."""
+    try:
+        found = json.loads(data.decode("utf-8"), parse_constant=_no_constant, object_pairs_hook=_no_repeats)
+        return [_key(it) for it in found["entries"]]
+    except (ValueError, RecursionError, TypeError, KeyError, AttributeError):
+        return None
+
+
+def _no_constant(text: str) -> Any:
+    raise ValueError(text)
+
+
+def _no_repeats(pairs: List[Tuple[str, Any]]) -> Dict[str, Any]:
+    if len({key for key, _ in pairs}) != len(pairs):
+        raise ValueError("a key is there twice")
+    return dict(pairs)
+
+
+def _hidden(entries: List[Dict[str, Any]], known: List[str]) -> int:
+    left = list(known)
+    count = 0
+    for it in entries:
+        if _key(it) in left:
+            left.remove(_key(it))
+            count += 1
+    return count
+
+
+def certificates(runner: Runner, chance: Chance, kept: Optional[bytes]) -> None:
+    """Certificates: what prove makes holds; what holds, though it was changed, says the class that the pattern has."""
+    pattern, mode = chance.pattern(2), chance.pick(MODES)
+    made = runner.run(["prove", "--mode", mode, "--", pattern])
+    if made.status != 0 or not made.out.startswith(b"{"):
+        return
+    first = runner.run(["class", "--mode", mode, "--", pattern]).text().split("\n")[0]
+    runner.put("certificate.json", made.out)
+    verify = ["verify", "--mode", mode, "--", pattern, "certificate.json"]
+    ran = runner.run(verify)
+    ran.need(ran.status == 0 and ran.text() == "holds %s\n" % first, "what prove made doesn't hold as " + first)
+    runner.put("certificate.json", kept if kept is not None else _changed_certificate(chance, made))
+    changed = runner.run(verify)
+    changed.need(changed.status in (0, FAILS, 2), "a status that verify doesn't have")
+    if changed.status == 0:
+        changed.need(changed.text() == "holds %s\n" % first, "a certificate holds for another class than " + first)
+    elif changed.status == FAILS:
+        changed.need(changed.text().startswith("fails"), "status 1 without the word")
+
+
+def _changed_certificate(chance: Chance, made: Ran) -> bytes:
+    """A certificate with a number, a list or some bytes of it changed."""
+    kind = chance.below(3)
+    if kind < 2:
+        return chance.changed(made.out, JSON_TOKENS) if kind else chance.changed_json(made.out)
+    table = whole(made)
+    key = chance.pick(sorted(table))
+    value = table[key]
+    if isinstance(value, list) and value:
+        value.insert(chance.below(len(value)), chance.pick(value))
+        del value[chance.below(len(value))]
+    elif isinstance(value, int):
+        table[key] = value + chance.pick([-1, 1, 1000])
+    return json.dumps(table, sort_keys=True, separators=(",", ":")).encode()
+
+
+def reports(runner: Runner, chance: Chance, kept: Optional[bytes]) -> None:
+    """Reports, for the package's reader: it takes one or says in its own error why not, and nothing else comes of it."""
+    data = kept
+    if data is None:
+        data = _changed_report(chance)
+    module = importlib.import_module("relint.reports")
+    try:
+        report = module.read_report(data)
+    except module.ReportError as error:
+        if len(str(error).splitlines()) != 1:
+            raise Wrong("the error isn't one line: %r" % str(error)) from None
+        return
+    except (Exception, RecursionError) as error:  # (whatever comes here is the finding)
+        raise Wrong("the reader of reports raises %s: %s" % (type(error).__name__, str(error)[:200])) from error
+    for entry in report.entries:
+        _use(entry)
+
+
+def _changed_report(chance: Chance) -> bytes:
+    data = chance.pick(corpus("reports"))
+    return chance.changed(data, JSON_TOKENS) if chance.one(3) else chance.changed_json(data)
+
+
+def tools(runner: Runner, chance: Chance, kept: Optional[bytes]) -> None:
+    """Reports, for the tools: each ends with a status of its page, writes no traceback, and nothing that a terminal obeys."""
+    data = _changed_report(chance) if kept is None else kept
+    for name in ("plain", "names", "refusals", "version-2"):
+        runner.put(name + ".py", chance.pick(corpus("sources")))
+    runner.put("source.py", chance.pick(corpus("sources")))
+    runner.put("report.json", data)
+    tool, given = chance.pick(TOOLS)
+    job = {"tool": tool, "words": given, "cwd": str(runner.folder), "seconds": 60, "megabytes": 3000}
+    job.update({name: str(runner.folder / name) for name in ("out", "err")}, given=str(runner.folder / "report.json"))
+    os.environ["RELINT"] = runner.program
+    status, _, megabytes = forks.run([job], _loaded(), 1)[0]
+    out, err = ((runner.folder / name).read_bytes() for name in ("out", "err"))
+    ran = Ran([tool, *given], -1 if status is None else status, out, err, megabytes)
+    ran.need(status is not None and 0 <= status <= 5, "a status that no page has (-1: no answer in a minute)")
+    ran.need(b"Traceback" not in err, "a traceback")
+    ran.need(megabytes <= MEGABYTES, "it takes %d MB" % megabytes)
+    shown = out if tool in ("show", "confirm") else b""
+    said = (shown + b"\n" + err).decode("utf-8", "surrogateescape")
+    obeyed = dangers(said, not said.startswith("{"))
+    ran.need(not obeyed, "it writes " + "; ".join(obeyed))
+
+
+@functools.lru_cache(maxsize=None)
+def _loaded() -> Dict[str, Any]:
+    return forks.load(str(TOP / "python"))
+
+
+def _use(entry: Any) -> None:
+    """What each tool does first with an entry: none of it may fail."""
+    try:
+        entry.outcome()
+        entry.is_finding(2)
+        hash(entry)
+        if entry.family:
+            entry.family.text(2)
+    except Exception as error:  # (whatever comes here is the finding)
+        raise Wrong("an entry that the reader took raises %s: %s" % (type(error).__name__, error)) from error
+
+
+TARGETS: Dict[str, Callable[[Runner, Chance, Optional[bytes]], None]] = {
+    "words": words, "sources": sources, "settings": settings, "baselines": baselines, "certificates": certificates,
+    "reports": reports, "tools": tools}
+# How many of a hundred cases are of each target.
+SHARES = {"words": 20, "sources": 20, "settings": 15, "baselines": 10, "certificates": 10, "reports": 20, "tools": 5}

@@ -1,0 +1,165 @@
+"""What tools/release writes beside the programs: where they come from (in-toto, SLSA) and what they hold (CycloneDX).
+
+Both are JSON, and hang only on what they name: no time, no folder and no machine is in them.
+"""
+from __future__ import annotations
+
+import hashlib
+import json
+import sys
+from pathlib import Path
+from typing import Any, Dict, Iterator, List, Set
+
+from .program import MACHINES, read_info
+
+_KIT_FILES = ("bin/rattle", "bin/rattle-link", "toolchain/bin/clang", "c/libos_c.a", "c/liblibc_c.a")
+_CODE, _DATA = {"LICENSE-MIT": "MIT", "LICENSE-APACHE": "Apache-2.0"}, "LICENSE-UNICODE"
+# What of Debian's packages is linked into the programs, by the beginning of the package's name.
+_LINKED = {
+    "libc6-dev": ("glibc", "LGPL-2.1-or-later"),
+    "libgcc-": ("libgcc", "GPL-3.0-or-later WITH GCC-exception-3.1"),
+}
+
+
+def sum_of(file: Path) -> str:
+    """The SHA-256 of a file, in hexadecimal."""
+    return hashlib.sha256(file.read_bytes()).hexdigest()
+
+
+def packages(info: Dict[str, str], machine: str) -> Dict[str, str]:
+    """The versions of the packages that a program was linked with, by their names."""
+    pairs = (it.partition("=") for it in info["packages-" + machine].split())
+    return {name: version for name, _, version in pairs}
+
+
+def purl(name: str, version: str) -> str:
+    """The address of a Debian package, as package-url spells it."""
+    return f"pkg:deb/debian/{name}@{version.replace('+', '%2B').replace(':', '%3A')}"
+
+
+def materials(top: Path, kit: Path, info: Dict[str, str]) -> Iterator[Dict[str, Any]]:
+    """What the programs were made from, each with its sum."""
+    yield {"name": "crates", "digest": {"sha256": info["sum"]},
+           "annotations": {"how": "tree_sum of release/tree.sh, over crates.txt and the crates that relint uses"}}
+    for name in ("release/link.sh", "packaging/glue.c"):
+        yield {"name": name, "digest": {"sha256": sum_of(top / name)}}
+    for name in _KIT_FILES:
+        yield {"name": f"{info['kit'].split()[0]}/{name}", "digest": {"sha256": sum_of(kit / name)}}
+    held = {name: version for machine in MACHINES for name, version in packages(info, machine).items()}
+    for name, version in sorted(held.items()):
+        yield {"name": name, "uri": purl(name, version)}
+
+
+def provenance(top: Path, kit: Path, room: Path, info: Dict[str, str]) -> Dict[str, Any]:
+    """The statement of in-toto whose predicate is SLSA's provenance."""
+    verdicts = {it: (room / it / "relint.verdict").read_text(encoding="utf-8").strip() for it in MACHINES}
+    return {
+        "_type": "https://in-toto.io/Statement/v1",
+        "subject": [{"name": f"release/{it}/relint", "digest": {"sha256": info["program-" + it]}} for it in MACHINES],
+        "predicateType": "https://slsa.dev/provenance/v1",
+        "predicate": {
+            "buildDefinition": {
+                "buildType": "urn:relint:tools/release:1",
+                "externalParameters": {"version": info["version"]},
+                "internalParameters": {"kit": info["kit"], "commands": [".ci/run", "tools/release"]},
+                "resolvedDependencies": list(materials(top, kit, info)),
+            },
+            "runDetails": {
+                "builder": {"id": "urn:relint:tools/release"},
+                "byproducts": [{"name": f"verdict-{it}", "annotations": {"line": verdicts[it]}} for it in MACHINES],
+            },
+        },
+    }
+
+
+def kit_crates(top: Path, kit: Path) -> List[str]:
+    """The kit's crates that the crates of this repository use, and those below them."""
+    lines = [line.partition("#")[0] for line in (top / "crates.txt").read_text(encoding="utf-8").splitlines()]
+    named = {name.strip(): rest.split() for name, _, rest in (line.partition(":") for line in lines)}
+    left, found = {"std"}, set()
+    reached: Set[str] = {"relint"}
+    queue = ["relint"]
+    while queue:
+        for it in named[queue.pop()]:
+            if it not in named:
+                left.add(it)
+            elif it not in reached:
+                reached.add(it)
+                queue.append(it)
+    while left:
+        name = left.pop()
+        found.add(name)
+        left |= used_by(kit, name) - found
+    return sorted(found)
+
+
+def used_by(kit: Path, crate: str) -> Set[str]:
+    """The crates that a crate of the kit names."""
+    with (kit / "rlibs" / f"{crate}.rlib" / "format").open(encoding="utf-8") as lines:
+        return {line.split()[1] for line in lines if line.startswith("dep ")}
+
+
+def licence(expression: str) -> List[Dict[str, Any]]:
+    """A licence, as CycloneDX spells it."""
+    return [{"expression": expression}] if " " in expression else [{"license": {"id": expression}}]
+
+
+def kit_component(kit: Path, crate: str, version: str) -> Dict[str, Any]:
+    """A crate of the kit, with the licences whose texts are in its folder."""
+    component: Dict[str, Any] = {"type": "library", "bom-ref": f"kit/{crate}", "group": "rattle", "name": crate}
+    component["version"] = version
+    files = sorted(it.name for it in (kit / "rattle" / crate).glob("LICENSE*"))
+    terms = expression_of(files)
+    if terms:
+        component["licenses"] = licence(terms)
+    elif files:
+        component["licenses"] = [{"license": {"name": f"{crate}/{it} of the kit"}} for it in files]
+    return component
+
+
+def expression_of(files: List[str]) -> str:
+    """The licence that the names of these files spell, "" if they don't: one for code, and with it that of Unicode's data."""
+    code = [_CODE[it] for it in files if it in _CODE]
+    parts = [f"({' OR '.join(code)})" if len(code) > 1 and _DATA in files else " OR ".join(code)] if code else []
+    return " AND ".join(parts + (["Unicode-3.0"] if _DATA in files else []))
+
+
+def linked(info: Dict[str, str]) -> Iterator[Dict[str, Any]]:
+    """What is linked into the programs of Debian's packages."""
+    for machine in MACHINES:
+        for package, version in packages(info, machine).items():
+            for start, (name, terms) in _LINKED.items():
+                if package.startswith(start):
+                    yield {"type": "library", "bom-ref": f"{machine}/{name}", "name": name, "version": version,
+                           "licenses": licence(terms), "purl": purl(package, version)}
+
+
+def bill(top: Path, kit: Path, info: Dict[str, str]) -> Dict[str, Any]:
+    """The list of what the programs hold."""
+    components = [kit_component(kit, it, info["kit"].split()[0]) for it in kit_crates(top, kit)] + list(linked(info))
+    hashes = [{"alg": "SHA-256", "content": info["program-" + it]} for it in MACHINES]
+    parts = [{"type": "file", "bom-ref": f"release/{it}/relint", "name": f"release/{it}/relint", "hashes": [one]}
+             for it, one in zip(MACHINES, hashes)]
+    about = {"type": "application", "bom-ref": "relint", "name": "relint", "version": info["version"],
+             "licenses": licence("MIT"), "components": parts}
+    uses = {"ref": "relint", "dependsOn": [str(it["bom-ref"]) for it in components]}
+    return {"bomFormat": "CycloneDX", "specVersion": "1.5", "version": 1, "metadata": {"component": about},
+            "components": components, "dependencies": [uses]}
+
+
+def write(folder: Path, name: str, document: Dict[str, Any]) -> None:
+    """Writes a document as JSON that a person can read."""
+    (folder / name).write_text(json.dumps(document, indent=2) + "\n", encoding="utf-8")
+
+
+def main(words: List[str]) -> int:
+    """Takes the top of the repository, the kit, the folder with the verdicts, and the folder to write to."""
+    top, kit, room, to = map(Path, words)
+    info = read_info(top / "release/INFO")
+    write(to, "provenance.json", provenance(top, kit, room, info))
+    write(to, "sbom.cdx.json", bill(top, kit, info))
+    return 0
+
+
+if __name__ == "__main__":
+    sys.exit(main(sys.argv[1:]))

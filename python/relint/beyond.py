@@ -1,0 +1,177 @@
+"""What a report of relint-wide says of an entry beyond what `relint check` proves: how it was found, and what was seen.
+
+Such entries are in a list of their own, `beyond`, of a report in JSON, and never in `entries`.
+"""
+from __future__ import annotations
+
+from dataclasses import dataclass
+from typing import Any, Dict, Mapping, Optional, Tuple, Union
+
+ELSEWHERE, HANG = "elsewhere", "hang"
+KIND_WORDS = {ELSEWHERE: "judged elsewhere", HANG: "seen to hang"}
+# What stands above the findings of each kind.
+TITLES = {
+    ELSEWHERE: "judged elsewhere: found by reading the sources, which isn't proved; the class is relint's own answer",
+    HANG: "seen to hang: patterns that relint can't judge, each tried on a Python; nothing of it is proved",
+}
+MOST_ITEMS = 1000
+# What stands between the path of a notebook and the number of a cell in an entry's path.
+CELL = ":cell "
+ENGINES = ("re", "regex")
+MODES = ("search", "match", "fullmatch")
+
+
+class BeyondError(ValueError):
+    """What a report says of an entry isn't in the form of relint-wide; the message says what is wrong."""
+
+
+@dataclass(frozen=True)
+class Holder:
+    """A name that holds a part of a pattern, with the file and the line that bind it."""
+
+    name: str
+    path: str
+    line: int
+
+
+@dataclass(frozen=True)
+class Seen:
+    """A match that took too long: on which Python, on a text of what length, and from which loosened form the text comes.
+
+    `rules` names what was loosened. `seconds` is the limit that the match passed.
+    """
+
+    python: str
+    length: int
+    seconds: float
+    k: int
+    rules: Tuple[str, ...]
+    form: Union[str, bytes]
+
+
+@dataclass(frozen=True)
+class Beyond:
+    """How an entry was found. `pattern`, `flags` and `mode` are what was judged or tried; `end` is where the code for it ends.
+
+    `kind` is ELSEWHERE or HANG. `taker` is what takes the pattern in the source; `notes` are words for people.
+    """
+
+    kind: str
+    pattern: Union[str, bytes]
+    flags: int
+    mode: str
+    taker: str
+    end: Tuple[int, int]
+    held: Tuple[Holder, ...] = ()
+    notes: Tuple[str, ...] = ()
+    cell: Optional[int] = None
+    engine: str = "re"
+    seen: Optional[Seen] = None
+
+    def held_words(self, path: str) -> str:
+        """Returns the names that hold the pattern, as "held by `PATTERN` (line 12)"; "" where there is none."""
+        here = path.partition(CELL)[0] if self.cell is not None else path
+        parts = [f"`{it.name}` ({'' if it.path == here else it.path + ', '}line {it.line})" for it in self.held]
+        return "held by " + ", ".join(parts) if parts else ""
+
+    def seen_words(self) -> str:
+        """Returns what was seen, in one line; "" where nothing was tried."""
+        if self.seen is None:
+            return ""
+        return (f"seen on {self.seen.python}: a text of {self.seen.length:,} characters takes over {self.seen.seconds:g} s;"
+                f" not proved (found with {', '.join(self.seen.rules)})")
+
+
+def _coded(text: Union[str, bytes]) -> Dict[str, str]:
+    """A text as a value of JSON that keeps each of its codes."""
+    if isinstance(text, bytes):
+        return {"bytes": text.decode("latin-1")}
+    return {"text": text}
+
+
+def _decoded(found: Any, what: str) -> Union[str, bytes]:
+    if isinstance(found, dict) and len(found) == 1:
+        for key, value in found.items():
+            if key == "text" and isinstance(value, str):
+                return value
+            if key == "bytes" and isinstance(value, str) and all(ord(it) < 256 for it in value):
+                return value.encode("latin-1")
+    raise BeyondError(f"{what} is no text")
+
+
+def as_json(beyond: Beyond) -> Dict[str, Any]:
+    """Returns the values for JSON."""
+    found: Dict[str, Any] = {
+        "kind": beyond.kind, "pattern": _coded(beyond.pattern), "flags": beyond.flags, "mode": beyond.mode,
+        "taker": beyond.taker, "end": {"line": beyond.end[0], "column": beyond.end[1]},
+        "held": [{"name": it.name, "path": it.path, "line": it.line} for it in beyond.held], "notes": list(beyond.notes),
+        "engine": beyond.engine,
+    }
+    if beyond.cell is not None:
+        found["cell"] = beyond.cell
+    if beyond.seen is not None:
+        seen = beyond.seen
+        found["seen"] = {"python": seen.python, "length": seen.length, "milliseconds": round(seen.seconds * 1000), "k": seen.k,
+                         "rules": list(seen.rules), "form": _coded(seen.form)}
+    return found
+
+
+def read_beyond(found: Any) -> Beyond:
+    """Returns what the values from JSON say. Raises BeyondError where they aren't in the form that `as_json` gives."""
+    if not isinstance(found, dict):
+        raise BeyondError("it is no object")
+    end = found.get("end")
+    if not isinstance(end, dict):
+        raise BeyondError("end is no place")
+    cell = found.get("cell")
+    return Beyond(
+        kind=_one_of(found, "kind", (ELSEWHERE, HANG)), pattern=_decoded(found.get("pattern"), "pattern"),
+        flags=_number(found, "flags", 0xFFFF), mode=_one_of(found, "mode", MODES), taker=_text(found, "taker"),
+        end=(_number(end, "line"), _number(end, "column")), held=tuple(map(_holder, _list(found, "held"))),
+        notes=tuple(_text({"note": it}, "note") for it in _list(found, "notes")),
+        cell=None if cell is None else _number(found, "cell"), engine=_one_of(found, "engine", ENGINES),
+        seen=_seen(found["seen"]) if "seen" in found else None,
+    )
+
+
+def _holder(found: Any) -> Holder:
+    if not isinstance(found, dict):
+        raise BeyondError("a holder is no object")
+    return Holder(_text(found, "name"), _text(found, "path"), _number(found, "line"))
+
+
+def _seen(found: Any) -> Seen:
+    if not isinstance(found, dict):
+        raise BeyondError("seen is no object")
+    rules = tuple(_text({"rule": it}, "rule") for it in _list(found, "rules"))
+    seconds = _number(found, "milliseconds", 3_600_000) / 1000
+    return Seen(_text(found, "python"), _number(found, "length"), seconds, _number(found, "k"), rules,
+                _decoded(found.get("form"), "form"))
+
+
+def _number(found: Mapping[str, Any], key: str, most: int = 1 << 31) -> int:
+    value = found.get(key)
+    if isinstance(value, bool) or not isinstance(value, int) or not 0 <= value <= most:
+        raise BeyondError(f"{key} is no number from 0 to {most}")
+    return value
+
+
+def _text(found: Mapping[str, Any], key: str) -> str:
+    value = found.get(key)
+    if not isinstance(value, str):
+        raise BeyondError(f"{key} is no text")
+    return value
+
+
+def _one_of(found: Mapping[str, Any], key: str, known: Tuple[str, ...]) -> str:
+    value = _text(found, key)
+    if value not in known:
+        raise BeyondError(f"{key} is none of {', '.join(known)}")
+    return value
+
+
+def _list(found: Mapping[str, Any], key: str) -> Tuple[Any, ...]:
+    value = found.get(key)
+    if not isinstance(value, list) or len(value) > MOST_ITEMS:
+        raise BeyondError(f"{key} is no list of at most {MOST_ITEMS:,}")
+    return tuple(value)

@@ -1,0 +1,315 @@
+"""The configuration of the tools: the table `tool.relint` of the nearest pyproject.toml, or the file relint.toml.
+
+`load` finds and reads it. The same keys hold for every tool; a word of the command line wins over the file. What others wrote
+is checked before it is used: a file that is too large, no plain file, a link out of its folder, no TOML, or that holds an
+unknown key or a wrong value is refused with its name.
+"""
+from __future__ import annotations
+
+import importlib
+import os
+import stat
+from dataclasses import dataclass, field
+from typing import Any, Callable, Dict, FrozenSet, List, Mapping, Optional, Sequence, Tuple
+
+from .causes import MOST_PAIRS
+from .command_line import nearest
+from .opening import OpenError, read_named
+from .program import REFUSED, TREE_FAULT
+from .writing import visible
+
+OWN_FILE, SHARED_FILE = "relint.toml", "pyproject.toml"
+MOST_BYTES = 1_048_576
+# What marks the top of a repository, above which nothing is looked for.
+TOPS = (".git", ".hg")
+MODES = ("search", "match", "fullmatch")
+TOOLS_PAIRS = MOST_PAIRS
+MOST_NUMBER = 999_999
+LONGEST_SHOWN = 60
+
+
+class ConfigError(Exception):
+    """The configuration can't be used: the message names the file and says why, and `status` is the exit status."""
+
+    def __init__(self, message: str, status: int = REFUSED) -> None:
+        super().__init__(message)
+        self.status = status
+
+
+@dataclass(frozen=True)
+class Key:
+    """What a key may hold: in words, and as a test of a value that TOML gives."""
+
+    wanted: str
+    is_valid: Callable[[Any], bool]
+    choices: Tuple[str, ...] = ()
+
+
+def whole(least: int, most: int) -> Key:
+    """Returns a key for a whole number in a range."""
+    return Key(f"a whole number from {least} to {most}",
+               lambda it: isinstance(it, int) and not isinstance(it, bool) and least <= it <= most)
+
+
+def one_of(choices: Sequence[str]) -> Key:
+    """Returns a key for one of some words."""
+    return Key("one of " + ", ".join(choices), lambda it: isinstance(it, str) and it in choices, tuple(choices))
+
+
+def _is_text(value: Any) -> bool:
+    return isinstance(value, str) and value != "" and "\0" not in value
+
+
+def _is_seconds(value: Any) -> bool:
+    return isinstance(value, (int, float)) and not isinstance(value, bool) and 0 < value <= MOST_NUMBER
+
+
+def _texts(least: int) -> Callable[[Any], bool]:
+    return lambda it: isinstance(it, list) and len(it) >= least and all(map(_is_text, it))
+
+
+KEYS: Dict[str, Key] = {
+    "paths": Key("a list of paths, with one at least", _texts(1)),
+    "exclude": Key("a list of globs", _texts(0)),
+    "max-degree": whole(0, MOST_NUMBER),
+    "warn-degree": whole(0, MOST_NUMBER),
+    "max-pairs": whole(1, MOST_PAIRS),
+    "compile-as": one_of(MODES),
+    "baseline": Key("the path of a file", _is_text),
+    "strict": Key("true or false", lambda it: isinstance(it, bool)),
+    "jobs": whole(1, MOST_NUMBER),
+    "seconds": Key(f"a number of seconds above 0, up to {MOST_NUMBER}", _is_seconds),
+    "wide": Key("true, false or a table", lambda it: isinstance(it, (bool, dict))),
+}
+
+
+@dataclass(frozen=True)
+class Config:
+    """What the tools go by. Paths and globs are relative to `folder`; `given` names the keys that `file` sets."""
+
+    file: Optional[str] = None
+    folder: str = "."
+    paths: Tuple[str, ...] = (".",)
+    exclude: Tuple[str, ...] = ()
+    max_degree: int = 2
+    warn_degree: Optional[int] = None
+    max_pairs: int = TOOLS_PAIRS
+    compile_as: str = "search"
+    baseline: Optional[str] = None
+    strict: bool = False
+    jobs: Optional[int] = None
+    seconds: Optional[float] = None
+    wide: bool = False
+    wide_table: Mapping[str, Any] = field(default_factory=dict)
+    given: FrozenSet[str] = frozenset()
+    warnings: Tuple[str, ...] = ()
+
+    def from_here(self, path: str) -> str:
+        """Returns a path of the file as it is named from the current folder."""
+        if os.path.isabs(path) or self.file is None:
+            return path
+        whole_path = os.path.join(self.folder, path)
+        return os.path.relpath(whole_path, os.path.realpath(os.getcwd()))
+
+    def named_paths(self) -> List[str]:
+        """Returns the paths to look at if the command line names none."""
+        return [self.from_here(it) for it in self.paths]
+
+
+# The most dots of a line of TOML.
+MOST_DOTS = 1_000
+
+
+def read_toml(text: str) -> Dict[str, Any]:
+    """Returns the table that a TOML document is. Raises ValueError if it is none, and ConfigError without a reader of TOML."""
+    reader = None
+    for name in ("tomllib", "tomli"):
+        try:
+            reader = importlib.import_module(name)
+            break
+        except ImportError:
+            continue
+    if reader is None:
+        raise ConfigError("to read TOML before Python 3.11, install the package tomli")
+    # (the reader takes the square of the parts of a key)
+    if any(line.count(".") > MOST_DOTS for line in text.splitlines()):
+        raise ValueError(f"a line has more than {MOST_DOTS:,} dots")
+    try:
+        table: Dict[str, Any] = reader.loads(text)
+        return table
+    except RecursionError as error:
+        raise ValueError("it is nested too deeply") from error
+
+
+def check_table(table: Mapping[str, Any], keys: Mapping[str, Key], place: str) -> None:
+    """Checks that a table has only these keys, with values that they may hold. Raises ConfigError; `place` names the table."""
+    for name, value in table.items():
+        key = keys.get(name)
+        if key is None:
+            known = nearest(name.replace("_", "-"), keys) or f"; the keys are {', '.join(keys)}"
+            raise ConfigError(f"{place}: there is no key {_shown(name)}{known}")
+        if not key.is_valid(value):
+            near = nearest(value, key.choices) if isinstance(value, str) else ""
+            raise ConfigError(f"{place}: {name} = {_shown(value)}: {key.wanted} is wanted{near}")
+
+
+def _shown(value: object) -> str:
+    text = ascii(value)
+    return text if len(text) <= LONGEST_SHOWN else text[:LONGEST_SHOWN] + " .."
+
+
+def common_folder(paths: Sequence[str]) -> str:
+    """Returns the folder, without links, that all paths lie in; the current one if there are none."""
+    folders = [os.path.realpath(it if os.path.isdir(it) else os.path.dirname(it) or ".") for it in paths]
+    found = os.path.commonpath(folders) if folders else os.path.realpath(os.getcwd())
+    while not os.path.isdir(found) and os.path.dirname(found) != found:
+        found = os.path.dirname(found)
+    return found
+
+
+def folders_above(start: str) -> List[str]:
+    """Returns the folders in which a configuration is looked for: the start, and those above it as far as they are trusted.
+
+    The last one is the top of a repository, the home folder, or the top of the file system. A folder that everybody may write
+    to, or that is on another file system, isn't among them, nor is one above it.
+    """
+    home = os.path.realpath(os.path.expanduser("~"))
+    found = [start]
+    while not _is_top(found[-1]) and found[-1] != home:
+        above = os.path.dirname(found[-1])
+        if above == found[-1] or not _is_trusted(above, found[-1]):
+            break
+        found.append(above)
+    return found
+
+
+def _is_top(folder: str) -> bool:
+    return any(os.path.lexists(os.path.join(folder, it)) for it in TOPS)
+
+
+def _is_trusted(above: str, below: str) -> bool:
+    try:
+        upper, lower = os.stat(above), os.stat(below)
+    except OSError:
+        return False
+    return upper.st_dev == lower.st_dev and not upper.st_mode & stat.S_IWOTH
+
+
+def load(paths: Sequence[str], named: Optional[str] = None, without: bool = False) -> Config:
+    """Returns the configuration for paths: that of the file which is named, none, or the nearest. Raises ConfigError."""
+    if without:
+        return Config()
+    if named is not None:
+        return _config(named, _table_of(named, is_own=os.path.basename(named) != SHARED_FILE, is_named=True))
+    for folder in folders_above(common_folder(paths)):
+        found = _in_folder(folder)
+        if found is not None:
+            return found
+    return Config()
+
+
+def _in_folder(folder: str) -> Optional[Config]:
+    own, shared = os.path.join(folder, OWN_FILE), os.path.join(folder, SHARED_FILE)
+    table = _table_of(shared, is_own=False, is_named=False) if os.path.lexists(shared) else None
+    if os.path.lexists(own):
+        passed = f"{_from_here(shared)}: its table tool.relint has no effect, as {OWN_FILE} lies beside it"
+        return _config(own, _table_of(own, is_own=True, is_named=False), () if table is None else (passed,))
+    return _config(shared, table) if table is not None else None
+
+
+def _table_of(file: str, is_own: bool, is_named: bool) -> Optional[Dict[str, Any]]:
+    """The table of the keys in a file; None if a shared file has none."""
+    name = _from_here(file)
+    data = _bytes_of(file, name, is_named)
+    if not is_own and not is_named and b"relint" not in data:
+        return None
+    try:
+        document = read_toml(data.decode("utf-8"))
+    except ValueError as error:
+        raise ConfigError(f"{name}: no TOML: {error} (--no-config goes on without it)") from error
+    except ConfigError as error:
+        raise ConfigError(f"{name}: {error}") from error
+    if is_own:
+        return document
+    tools = document.get("tool", {})
+    table = tools.get("relint") if isinstance(tools, dict) else None
+    if table is None and is_named:
+        raise ConfigError(f"{name}: there is no table tool.relint")
+    if table is not None and not isinstance(table, dict):
+        raise ConfigError(f"{name}: tool.relint is no table")
+    return table
+
+
+def _bytes_of(file: str, name: str, is_named: bool) -> bytes:
+    """The bytes of a plain file that isn't too large, and that no link leads out of its folder, unless the user named it."""
+    folder = os.path.realpath(os.path.dirname(file) or ".")
+    real = os.path.realpath(file)
+    if not is_named and os.path.dirname(real) != folder:
+        raise ConfigError(f"{name}: a link out of its folder: name the file by --config, or give --no-config")
+    try:
+        return read_named(real, MOST_BYTES)
+    except OpenError as error:
+        raise ConfigError(f"{name} can't be read: {error}", TREE_FAULT) from error
+
+
+def _config(file: str, table: Optional[Mapping[str, Any]], warnings: Tuple[str, ...] = ()) -> Config:
+    table = table or {}
+    name = _from_here(file)
+    is_shared = os.path.basename(file) == SHARED_FILE
+    check_table(table, KEYS, f"{name}: tool.relint" if is_shared else name)
+    values: Dict[str, Any] = {it.replace("-", "_"): value for it, value in table.items()}
+    for key in ("paths", "exclude"):
+        if key in values:
+            values[key] = tuple(values[key])
+    wide = values.pop("wide", False)
+    values.update(wide=wide is not False, wide_table=wide if isinstance(wide, dict) else {})
+    folder = os.path.realpath(os.path.dirname(file) or ".")
+    return Config(file=file, folder=folder, **values, given=frozenset(table), warnings=warnings)
+
+
+def check_tiers(max_degree: int, warn_degree: Optional[int]) -> None:
+    """Checks that degrees which are only warned of aren't findings. Raises ConfigError."""
+    if warn_degree is not None and warn_degree >= max_degree:
+        raise ConfigError(f"warn-degree = {warn_degree} must be below max-degree = {max_degree}: what is above that fails")
+
+
+def _from_here(file: str) -> str:
+    """The name of a file as it is said: from the current folder, if it lies below that."""
+    try:
+        relative = os.path.relpath(os.path.abspath(file), os.getcwd())
+    except (OSError, ValueError):
+        relative = file
+    return visible(file if relative.startswith("..") else relative)
+
+
+def shown(config: Config) -> List[str]:
+    """Returns the configuration as lines of TOML, each with where its value comes from."""
+    name = _from_here(config.file) if config.file else ""
+    lines = [f"# {name}" if name else "# no configuration file"]
+    for key in KEYS:
+        value = getattr(config, key.replace("-", "_"))
+        if key == "wide" and config.wide_table:
+            value = dict(config.wide_table)
+        where = name if key in config.given else "default"
+        lines.append(f"{key} = {_as_toml(value)}  # {where}" if value is not None else f"# {key}: none")
+    return lines
+
+
+def _as_toml(value: Any) -> str:
+    if isinstance(value, bool):
+        return "true" if value else "false"
+    if isinstance(value, (list, tuple)):
+        return "[" + ", ".join(map(_as_toml, value)) + "]"
+    if isinstance(value, dict):
+        return "{" + ", ".join(f"{_as_toml(str(key))} = {_as_toml(it)}" for key, it in value.items()) + "}"
+    if isinstance(value, str):
+        return '"' + "".join(_toml_character(it) for it in value) + '"'
+    return str(value)
+
+
+def _toml_character(it: str) -> str:
+    if it in '"\\':
+        return "\\" + it
+    if it.isprintable() and not 0xD800 <= ord(it) <= 0xDFFF:
+        return it
+    return f"\\u{ord(it):04X}" if ord(it) <= 0xFFFF else f"\\U{ord(it):08X}"

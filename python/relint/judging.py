@@ -1,0 +1,254 @@
+"""Runs of relint that end in time.
+
+A run that takes too long is ended, and its files are tried in parts, then one by one. A file that takes too long by itself is
+judged call by call: in a copy of it, the literals of all other calls are made trivial, each at its place and of its length. So
+what relint says of the call that is left is its own answer. What then still isn't judged has an entry of the kind `time`.
+"""
+from __future__ import annotations
+
+import os
+import re
+import tempfile
+import time
+from dataclasses import dataclass, replace
+from typing import Iterator, List, NamedTuple, Optional, Sequence, Tuple
+
+from . import program
+from .joining import STATUS_ORDER, join_statuses
+from .opening import OpenError, read_below
+from .reports import Entry, Report, ReportError, read_report
+from .sites import Source, SourceError
+
+# Seconds for each file, and for all of them.
+SECONDS, TOTAL_SECONDS = 20, 3600
+MOST_SECONDS = 999_999
+# Files of a run that are tried together once the whole took too long.
+FILES_OF_A_PART = 64
+# A run over many files has the seconds of one file for so many, since it judges thousands in a second.
+FILES_OF_THE_SECONDS = 1000
+# Of the seconds of a file: how long a quick run over some of its calls may take, and all runs over them together.
+QUICKLY, SECONDS_OF_CALLS = 0.1, 2.0
+CALLS_OF_A_PART = 16
+LETTER = re.compile(r"(\\\r\n|\\[\r\n]|\r\n|[\r\n])|.", re.S)
+TOKEN = re.compile(r"""#[^\r\n]*|(?:\"\"\"|''')|["']""")
+ESCAPED = r"\\(?:\r\n|.)"
+# From behind the first quote to behind the last one.
+ENDS = {
+    **{it: re.compile(rf"[^\\\r\n{it}]*(?:{ESCAPED}[^\\\r\n{it}]*)*{it}", re.S) for it in "'\""},
+    **{it * 3: re.compile(rf"[^\\{it}]*(?:(?:{ESCAPED}|{it}(?!{it}{it}))[^\\{it}]*)*{it * 3}", re.S) for it in "'\""},
+}
+STATUS_WORDS = {
+    2: "relint refused its words, its settings or its baseline",
+    3: "a file of the settings or the baseline can't be read",
+    4: "relint couldn't write its report",
+    5: "relint is out of memory",
+    6: "a word isn't UTF-8, so relint can't be given it",
+}
+
+
+class Answered(NamedTuple):
+    """A report, and the status that relint had with it."""
+
+    report: Report
+    status: int
+
+
+class JudgeError(Exception):
+    """A run gave no report; the message says why, and `status` is its own."""
+
+    def __init__(self, message: str, status: int) -> None:
+        super().__init__(message)
+        self.status = status
+
+
+@dataclass(frozen=True)
+class Limits:
+    """Seconds for each file, and for all of them together."""
+
+    seconds: float = SECONDS
+    total: float = TOTAL_SECONDS
+
+
+class Judge:
+    """Runs relint check with options, and ends what takes long.
+
+    A baseline is named apart: in a file that is judged call by call it hides nothing.
+    """
+
+    def __init__(self, options: Sequence[str], baseline: Optional[str], limits: Limits) -> None:
+        self.options = list(options)
+        self._hidden = [f"--baseline={baseline}"] if baseline is not None else []
+        self.limits = limits
+        self._until = time.monotonic() + limits.total
+
+    def answers(self, words: Sequence[str], files: Sequence[str]) -> Iterator[Answered]:
+        """Yields the answers for words that stand for these files, in order: one, or several where that took too long.
+
+        Raises JudgeError where relint gave no report, and ProgramError where it can't be run.
+        """
+        seconds = self.limits.seconds * (1 + len(files) / FILES_OF_THE_SECONDS)
+        answer = self.run([*self.options, *self._hidden], words, seconds)
+        if answer is not None:
+            yield answer
+        elif len(files) == 1:
+            yield self._in_parts(files[0])
+        elif not files:
+            yield unjudged([Entry(it, "time") for it in words])
+        else:
+            size = FILES_OF_A_PART if len(files) > FILES_OF_A_PART else 1
+            for at in range(0, len(files), size):
+                yield from self.answers(files[at:at + size], files[at:at + size])
+
+    def run(self, options: Sequence[str], paths: Sequence[str], seconds: float) -> Optional[Answered]:
+        """Returns the answer of a run, or None where it took more seconds than it has, or than are left for all."""
+        left = min(seconds, self._until - time.monotonic())
+        if left <= 0:
+            return None
+        try:
+            answer = program.run(["check", "--format", "json", *options, "--", *paths], seconds=left)
+        except program.TookLong:
+            return None
+        return read_answer(answer)
+
+    def _in_parts(self, path: str) -> Answered:
+        """The answer for a file of which a whole run took too long."""
+        try:
+            text = Source(read_below(path, [path])).text
+        except (OpenError, SourceError):
+            return unjudged([Entry(path, "time")])
+        with tempfile.TemporaryDirectory(prefix="relint-parts-") as folder:
+            return _Parts(self, path, text, os.path.join(folder, "part.py")).answer()
+
+
+class _Parts:
+    """A file whose calls are judged some at a time."""
+
+    def __init__(self, judge: Judge, path: str, text: str, copy: str) -> None:
+        self.judge, self.path, self.copy = judge, path, copy
+        self.source = Source(text.encode("utf-8", "surrogatepass"))
+        self.literals = list(literals(text))
+        self.seconds = judge.limits.seconds
+        self.until = time.monotonic() + self.seconds * SECONDS_OF_CALLS
+        self.starts: List[int] = []
+        self.sites: List[Entry] = []
+
+    def answer(self) -> Answered:
+        """The answer for the whole file."""
+        found = self.judged([], self.seconds * QUICKLY)
+        if found is None or not all(it.place and it.call for it in found.report.entries):
+            return unjudged([Entry(self.path, "time")])
+        self.sites = list(found.report.entries)
+        self.starts = [self.source.offset(it.place) for it in self.sites if it.place]
+        numbers = list(range(len(self.sites)))
+        answers: List[Answered] = []
+        # (the quick ones first, so that those which take long leave them their time)
+        for size, seconds in ((CALLS_OF_A_PART, self.seconds * QUICKLY), (1, self.seconds * QUICKLY), (1, self.seconds)):
+            numbers = self.left_of(numbers, size, seconds, answers)
+        if numbers:
+            answers.append(unjudged([Entry(self.path, "time", self.sites[it].place, self.sites[it].call) for it in numbers]))
+        whole = joined(answers)
+        order = {it.place: at for at, it in enumerate(self.sites)}
+        entries = tuple(sorted(whole.report.entries, key=lambda it: order.get(it.place, 0)))
+        return Answered(replace(whole.report, entries=entries), whole.status)
+
+    def left_of(self, numbers: List[int], size: int, seconds: float, answers: List[Answered]) -> List[int]:
+        """Judges the calls of these numbers, so many at a time; adds the answers, and returns those that took too long."""
+        left: List[int] = []
+        for at in range(0, len(numbers), size):
+            part = numbers[at:at + size]
+            answer = self.judged(part, seconds)
+            if answer is None:
+                left += part
+            else:
+                answers.append(answer)
+        return left
+
+    def judged(self, numbers: Sequence[int], seconds: float) -> Optional[Answered]:
+        """The answer for the file with only the literals of these calls as they are, or None where it takes too long."""
+        with open(self.copy, "wb") as out:
+            out.write(self.text_with(set(numbers)).encode("utf-8", "surrogatepass"))
+        answer = self.judge.run(self.judge.options, [self.copy], min(self.until - time.monotonic(), seconds))
+        if answer is None:
+            return None
+        places = {self.sites[it].place for it in numbers}
+        entries = [replace(it, path=self.path) for it in answer.report.entries if not numbers or it.place in places]
+        # (a trivial literal is no finding)
+        return Answered(report_of(entries, answer.report.findings, answer.report.version), answer.status)
+
+    def text_with(self, numbers: "set[int]") -> str:
+        """The source with only the literals of these calls as they are: those from the place of one to that of the next."""
+        parts, at, call = [], 0, -1
+        text = self.source.text
+        for start, end in self.literals:
+            while call + 1 < len(self.starts) and self.starts[call + 1] < end:
+                call += 1
+            parts += [text[at:start], text[start:end] if call in numbers else trivial(text[start:end])]
+            at = end
+        return "".join([*parts, text[at:]])
+
+
+def literals(text: str) -> Iterator[Tuple[int, int]]:
+    """Yields the offsets between the quotes of each string literal of a source, as relint finds them."""
+    at = 0
+    while True:
+        found = TOKEN.search(text, at)
+        if found is None:
+            return
+        at = found.end()
+        if found.group()[0] != "#":
+            end = ENDS[found.group()].match(text, at)
+            if end is None:
+                return
+            yield at, end.end() - len(found.group())
+            at = end.end()
+
+
+def trivial(inside: str) -> str:
+    """Returns what is put between a literal's quotes: as many characters with the line ends where they were, as a pattern
+    whose first branch is empty. So its steps have a bound, and hardly anything is left to judge."""
+    made = ["|" if found.group(1) is None else found.group(1) for found in LETTER.finditer(inside)]
+    front = made.index("|") + 1 if "|" in made else len(made)
+    # (between two bars is the empty branch, also where a line end is in front of them)
+    front += made[front:front + 1] == ["|"]
+    first = next((at for at in range(front, len(made) - 2) if made[at:at + 3] == ["|"] * 3), None)
+    last = max((at for at, it in enumerate(made) if it == "|"), default=0)
+    if first is not None and last > first + 2:
+        # (a comment takes no part of relint's limits)
+        made[first:last + 1] = ["(?#", *("x" if it == "|" else it for it in made[first + 3:last]), ")"]
+    return "".join(made)
+
+
+def unjudged(entries: Sequence[Entry]) -> Answered:
+    """Returns the answer for entries that weren't judged in time."""
+    return Answered(report_of(entries, 0, 2), program.TREE_FAULT)
+
+
+def report_of(entries: Sequence[Entry], findings: int, version: int) -> Report:
+    """Returns a report with these entries, of which so many are findings."""
+    refused = sum(not it.is_judged() for it in entries)
+    return Report(tuple(entries), findings, refused, sum(it.kind == "undecided" for it in entries), version)
+
+
+def joined(answers: Sequence[Answered]) -> Answered:
+    """Returns one answer for several, with the status that wins among theirs."""
+    reports = [it.report for it in answers]
+    whole = Report(
+        tuple(entry for report in reports for entry in report.entries),
+        sum(it.findings for it in reports),
+        sum(it.refused for it in reports),
+        sum(it.undecided for it in reports),
+        max((it.version for it in reports), default=2),
+    )
+    return Answered(whole, join_statuses([it.status for it in answers]))
+
+
+def read_answer(answer: program.Answer) -> Answered:
+    """Returns the report that a run wrote. Raises JudgeError where it wrote none."""
+    if answer.out and answer.status in STATUS_ORDER:
+        try:
+            return Answered(read_report(answer.out), answer.status)
+        except ReportError as error:
+            raise JudgeError(f"relint's report can't be read: {error}", answer.status or program.REFUSED) from error
+    said = answer.err.decode("utf-8", "replace").strip().splitlines()
+    told = said[-1] if said and not said[0].startswith("usage:") else STATUS_WORDS.get(answer.status, "")
+    raise JudgeError(told or f"relint ended with status {answer.status}", answer.status or program.REFUSED)

@@ -1,0 +1,75 @@
+"""Puts the layout of a pattern, with every comment, into a pattern that takes its place.
+
+Both are cut into tokens, and these are aligned. What lay between two tokens of the old one goes where they are in the new one;
+nothing of it is left out.
+"""
+from __future__ import annotations
+
+import re
+from difflib import SequenceMatcher
+from typing import Dict, List, Tuple
+
+from ..pump import BLANKS, CLASS, ESCAPE, PASSED, QUANTIFIER
+
+OPENING = re.compile(r"\((?:\?(?:P<[^>]*>|[aiLmsux]*(?:-[imsx]+)?:|[aiLmsux]+\)))?")
+SCOPED_VERBOSE = re.compile(r"\(\?[aiLmsu]*(?:x[aiLmsux]*(?:-[imsx]+)?|-[ims]*x[imsx]*):")
+
+
+def tokens_of(pattern: str, verbose: bool) -> Tuple[List[str], List[str]]:
+    """Returns the tokens of a pattern, and what lies before each of them and behind the last one."""
+    tokens: List[str] = []
+    gaps = [""]
+    at = 0
+    while at < len(pattern):
+        found = PASSED.match(pattern, at) or (BLANKS.match(pattern, at) if verbose else None)
+        if found:
+            gaps[-1] += found.group()
+        else:
+            found = next(it for it in (one.match(pattern, at) for one in _FORMS) if it)
+            tokens.append(found.group())
+            gaps.append("")
+        at = found.end()
+    return tokens, gaps
+
+
+_FORMS = (ESCAPE, CLASS, OPENING, QUANTIFIER, re.compile(r"[\s\S]"))
+
+
+def with_layout(old: str, new: str, verbose: bool) -> str:
+    """Returns the new pattern with all that lay between the tokens of the old one; `verbose` is that both are under VERBOSE.
+
+    A pattern that sets VERBOSE for a part of it is given back as it is.
+    """
+    if SCOPED_VERBOSE.search(old) or SCOPED_VERBOSE.search(new):
+        return new
+    before, gaps = tokens_of(old, verbose)
+    after, _ = tokens_of(new, verbose)
+    placed: Dict[int, str] = {}
+    for at, to in enumerate(_places(before, after)):
+        placed[to] = placed.get(to, "") + _ended(gaps[at], to < len(after))
+    parts: List[str] = []
+    for at, token in enumerate(after):
+        parts += [placed.get(at, ""), token]
+    return "".join([*parts, placed.get(len(after), "")])
+
+
+def _ended(gap: str, goes_on: bool) -> str:
+    """The layout with an end of its last comment, where something is to follow."""
+    is_open = goes_on and "#" in gap.rpartition("\n")[2] and not gap.rstrip().endswith(")")
+    return gap + "\n" if is_open else gap
+
+
+def _places(before: List[str], after: List[str]) -> List[int]:
+    """Returns for each place between the old tokens the one between the new tokens to which its layout goes."""
+    places = [len(after)] * (len(before) + 1)
+    for _, start, end, low, high in SequenceMatcher(None, before, after, autojunk=False).get_opcodes():
+        for at in range(start, end):
+            places[at] = min(low + at - start, high)
+    return [_off_quantifier(before, after, at, to) for at, to in enumerate(places)]
+
+
+def _off_quantifier(before: List[str], after: List[str], at: int, to: int) -> int:
+    """The place behind a quantifier, where the layout didn't lie before one."""
+    was = at < len(before) and QUANTIFIER.fullmatch(before[at])
+    now = to < len(after) and QUANTIFIER.fullmatch(after[to])
+    return to + 1 if now and not was else to

@@ -1,0 +1,111 @@
+r"""What a person could do where no rule helps, or where the pattern may not be what was meant.
+
+Nothing here keeps the matched texts: a relaxed pattern comes with texts on which it differs, and the rest are words.
+"""
+from __future__ import annotations
+
+import re
+from typing import Iterator, List, Optional, Tuple
+
+from . import codes
+from .rules import run_of, with_run
+from .tree import Chars, Concat, Group, Node, Pattern, Repeat, children, walk, with_child
+from .write import Unwritable, plain
+
+
+def first_mark(node: Node) -> int:
+    """Returns the mask of the one character that every match begins with, or 0 where there is no such one."""
+    found = node
+    while isinstance(found, (Concat, Group)):
+        if isinstance(found, Group):
+            found = found.body
+        elif found.items:
+            found = found.items[0]
+        else:
+            return 0
+    return found.mask if isinstance(found, Chars) else 0
+
+
+def relaxed(pattern: Pattern) -> Optional[str]:
+    """Returns the pattern with no run that takes the sign with which it begins, as `[^<>]` in a tag; None where there is none.
+
+    A letter, a digit or a blank is no such sign: those come inside of what they begin.
+    """
+    mark = first_mark(pattern.tree)
+    usual = pattern.alphabet.category("w") | pattern.alphabet.category("s")
+    if codes.size(pattern.alphabet.ranges(mark)) != 1 or mark & usual:
+        return None
+    tree = _without(pattern.tree, mark)
+    try:
+        return plain(tree, pattern) if tree != pattern.tree else None
+    except Unwritable:
+        return None
+
+
+def _without(node: Node, mark: int) -> Node:
+    if isinstance(node, Repeat) and isinstance(node.body, Chars):
+        mask = node.body.mask
+        fits = node.endless and mask & mark and mask & ~mark
+        return with_run(node, node.least, node.most, mask & ~mark) if fits else node
+    for at, it in enumerate(children(node)):
+        node = with_child(node, at, _without(it, mark))
+    return node
+
+
+def with_dots(pattern: Pattern) -> Optional[str]:
+    r"""Returns the pattern with `\.` for each dot behind digits that has digits or nothing behind it; None where none has."""
+    digits = pattern.alphabet.category("d")
+    places: List[int] = []
+    for node in walk(pattern.tree):
+        items = node.items if isinstance(node, Concat) else ()
+        for before, it, after in zip(items, items[1:], (*items[2:], None)):
+            is_dot = isinstance(it, Chars) and it.text == "." and it.span is not None
+            if is_dot and _is_digits(before, digits) and (after is None or _is_digits(after, digits)):
+                places.append(it.span[0] if it.span else 0)
+    text = pattern.text
+    for at in sorted(places, reverse=True):
+        text = f"{text[:at]}\\{text[at:]}"
+    return text if places else None
+
+
+def _is_digits(node: Node, digits: int) -> bool:
+    run = run_of(node)
+    return run is not None and run.mask != 0 and run.mask & ~digits == 0
+
+
+def in_code(pattern: Pattern) -> Optional[str]:
+    """Returns what to do in code for two runs of shared characters with something between; None for other shapes."""
+    found = _two_runs(pattern.tree)
+    if found is None:
+        return None
+    first, second = found
+    text, front = pattern.text, pattern.front
+    head, middle, rest = text[front:first[0]], text[first[1]:second[0]], text[first[1]:]
+    end = _end_mark(text[first[0]:first[1]], text[second[1]:])
+    if not head or not middle:
+        return None
+    if end:
+        return f"find {head}[^{end}]*{end} first, then search what it found for {middle}"
+    return f"find {head} first, then search for {rest} in what follows"
+
+
+def _end_mark(run: str, tail: str) -> str:
+    """The character that both a run leaves out and the pattern ends with, as that of a tag."""
+    found = re.fullmatch(r"\[\^([^\\\]\-^])\][*+]\??", run)
+    return found[1] if found and tail == found[1] else ""
+
+
+def _two_runs(tree: Node) -> Optional[Tuple[Tuple[int, int], Tuple[int, int]]]:
+    """The spans of the first two runs of one row that share characters."""
+    runs = list(_runs(tree))
+    for (mask, span), (other, behind) in zip(runs, runs[1:]):
+        if mask & other:
+            return span, behind
+    return None
+
+
+def _runs(tree: Node) -> Iterator[Tuple[int, Tuple[int, int]]]:
+    for it in tree.items if isinstance(tree, Concat) else ():
+        run = run_of(it)
+        if run is not None and run.endless and it.span is not None:
+            yield run.mask, it.span

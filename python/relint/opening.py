@@ -1,0 +1,147 @@
+"""Opens files below a folder: regular ones, reached without a link, of a size that is bounded, and never waiting for one.
+
+A name in a report, or a name in a folder that others wrote, may be that of a link to a secret, of a device, or of a pipe that
+nobody writes to. What is opened is looked at once it is open, so a swap between the look and the read changes nothing.
+"""
+from __future__ import annotations
+
+import errno
+import os
+import stat
+
+TYPE_CHECKING = False
+if TYPE_CHECKING:  # (it takes as long to import as thousands of files take to list)
+    from typing import List, Optional, Sequence, Tuple
+
+# A source with more bytes is refused by relint too.
+LARGEST_SOURCE = 4_194_304
+HERE = (".",)
+READ_AT_A_TIME = 1 << 20
+FOLDER = os.O_DIRECTORY | getattr(os, "O_PATH", os.O_RDONLY) | os.O_CLOEXEC
+FILE = os.O_RDONLY | os.O_NOFOLLOW | os.O_NONBLOCK | os.O_NOCTTY | os.O_CLOEXEC
+REASONS = {
+    errno.ENOENT: "it isn't there",
+    errno.ENOTDIR: "a part of its path is a link or no folder",
+    errno.ELOOP: "it is a link",
+    errno.ENXIO: "it is no regular file",
+}
+
+
+class OpenError(Exception):
+    """A file can't be opened, or may not be; the message says why, without the file's name."""
+
+
+def names_below(path: str, folder: str) -> Optional[List[str]]:
+    """Returns the names that lead from a folder to a path, none for the folder itself; None where the path lies outside.
+
+    Only the text of both counts: nothing is looked up.
+    """
+    if not path or "\0" in path:
+        return None
+    if folder == os.curdir and ".." not in path and not os.path.isabs(path):
+        return [it for it in path.split(os.sep) if it not in ("", os.curdir)]
+    found = os.path.relpath(os.path.abspath(path), os.path.abspath(folder))
+    names = [] if found == os.curdir else found.split(os.sep)
+    return None if names[:1] == [os.pardir] else names
+
+
+def is_below(path: str, folders: Sequence[str]) -> bool:
+    """Returns whether a path is one of the folders or lies in one, by its text."""
+    return any(names_below(path, it) is not None for it in folders)
+
+
+def open_folder(folder: str, names: Sequence[str]) -> int:
+    """Opens a folder that names lead to from another one, none of them a link; returns its number. Raises OSError."""
+    found = os.open(folder or os.curdir, FOLDER)
+    for name in names:
+        above = found
+        try:
+            found = os.open(name, FOLDER | os.O_NOFOLLOW, dir_fd=above)
+        finally:
+            os.close(above)
+    return found
+
+
+def place_of(path: str, folders: Sequence[str]) -> Tuple[str, List[str]]:
+    """Returns a folder to open and the names from there to a path, at least one. Raises OpenError where the path lies in none.
+
+    The folder is one of those given, or the one that holds the path where the path itself is given.
+    """
+    for folder in folders:
+        names = names_below(path, folder)
+        if names:
+            return folder, names
+        if names is not None and os.path.basename(folder):
+            return os.path.dirname(folder), [os.path.basename(folder)]
+    raise OpenError("it lies outside of " + " and ".join("the current folder" if it == "." else it for it in folders))
+
+
+def read_below(path: str, folders: Sequence[str] = HERE, most: int = LARGEST_SOURCE) -> bytes:
+    """Returns the bytes of a file in one of the folders, or of one that is among them. Raises OpenError.
+
+    It has to be a regular file of at most so many bytes, and no name on the way from the folder to it may be a link.
+    """
+    folder, names = place_of(path, folders)
+    try:
+        holder = open_folder(folder, names[:-1])
+        try:
+            return read_in(holder, names[-1], most)
+        finally:
+            os.close(holder)
+    except (OSError, ValueError) as error:
+        raise OpenError(reason(error)) from error
+
+
+def read_named(path: str, most: int) -> bytes:
+    """Returns the bytes of a file that the user names, through links too. Raises OpenError where it isn't a regular one, or
+    has more bytes than that."""
+    try:
+        file = os.open(path, FILE & ~os.O_NOFOLLOW)
+        try:
+            _check(os.fstat(file), most)
+            return read_all(file, most)
+        finally:
+            os.close(file)
+    except (OSError, ValueError) as error:
+        raise OpenError(reason(error)) from error
+
+
+def reason(error: Exception) -> str:
+    """Returns in words why a file can't be opened."""
+    if isinstance(error, OSError):
+        return REASONS.get(error.errno or 0, error.strerror or str(error))
+    return str(error)
+
+
+def read_in(holder: int, name: str, most: int) -> bytes:
+    """Returns the bytes of a file of an open folder. Raises OSError, and OpenError as `read_below` does."""
+    # (a device isn't even opened, since that alone can do something)
+    _check(os.stat(name, dir_fd=holder, follow_symlinks=False), most)
+    file = os.open(name, FILE, dir_fd=holder)
+    try:
+        _check(os.fstat(file), most)
+        return read_all(file, most)
+    finally:
+        os.close(file)
+
+
+def _check(found: os.stat_result, most: int) -> None:
+    if stat.S_ISLNK(found.st_mode):
+        raise OpenError("it is a link")
+    if not stat.S_ISREG(found.st_mode):
+        raise OpenError("it is no regular file")
+    if found.st_size > most:
+        raise OpenError(f"it has more than {most:,} bytes")
+
+
+def read_all(file: int, most: int) -> bytes:
+    """Returns what an open file has, from where it stands. Raises OpenError where that is more than so many bytes."""
+    parts: List[bytes] = []
+    left = most + 1
+    while left > 0:
+        part = os.read(file, min(READ_AT_A_TIME, left))
+        if not part:
+            return b"".join(parts)
+        parts.append(part)
+        left -= len(part)
+    raise OpenError(f"it has more than {most:,} bytes")

@@ -1,0 +1,64 @@
+"""The codes of the rules: one for each class that a finding can have, and for what has no class. docs/RULES.md tells them."""
+from __future__ import annotations
+
+from typing import Dict, List, Optional, Tuple
+
+from .beyond import ELSEWHERE, HANG
+from .reports import Entry
+
+EXPONENTIAL, UNDECIDED, NOT_ANALYSED, FILE_NOT_ANALYSED, NOT_READ = 100, 200, 201, 202, 203
+LAST_DEGREE = 99
+# What relint-wide found: the number of an exponential entry of each kind, which a degree is added to.
+BEYOND: Dict[str, int] = {ELSEWHERE: 300, HANG: 350}
+LAST_DEGREE_BEYOND = 49
+FIRST = "RLT100"
+NAMES: Dict[int, str] = {
+    EXPONENTIAL: "ExponentialPattern", UNDECIDED: "UndecidedPattern", NOT_ANALYSED: "PatternNotAnalysed",
+    FILE_NOT_ANALYSED: "FileNotAnalysed", NOT_READ: "NotRead",
+}
+
+BEYOND_NAMES: Dict[str, str] = {ELSEWHERE: "JudgedElsewhere", HANG: "SeenToHang"}
+
+
+def number(entry: Entry) -> int:
+    """Returns the number of an entry's rule: 100 for exponential, 100 and the degree, or 200 to 203 without a class.
+
+    For a class of relint-wide it is 300 or 350 in place of 100.
+    """
+    if entry.beyond is not None and entry.kind in ("exponential", "degree"):
+        return BEYOND[entry.beyond.kind] + min(entry.degree or 0, LAST_DEGREE_BEYOND)
+    if entry.kind == "exponential":
+        return EXPONENTIAL
+    if entry.kind == "degree":
+        return 100 + min(max(entry.degree or 0, 1), LAST_DEGREE)
+    if entry.kind == "undecided":
+        return UNDECIDED
+    if entry.kind == "refused":
+        return NOT_ANALYSED if entry.call else FILE_NOT_ANALYSED
+    return NOT_READ
+
+
+def code(entry: Entry) -> str:
+    """Returns the code of an entry's rule, as "RLT100"."""
+    return f"RLT{number(entry)}"
+
+
+def name(rule: int) -> str:
+    """Returns the name of a rule in one word, as SARIF wants it."""
+    if rule in NAMES:
+        return NAMES[rule]
+    for kind, first in sorted(BEYOND.items(), key=lambda it: -it[1]):
+        if rule >= first:
+            return f"{BEYOND_NAMES[kind]}{_degree_words(rule - first, LAST_DEGREE_BEYOND)}"
+    return "Pattern" + _degree_words(rule - 100, LAST_DEGREE)
+
+
+def _degree_words(degree: int, last: int) -> str:
+    return f"OfDegree{degree}" + ("OrMore" if degree == last else "") if degree else "Exponential"
+
+
+def range_of(heading: str) -> Optional[Tuple[int, int]]:
+    """Returns the numbers of the first and the last rule that a heading of the page of rules tells; None if it tells none."""
+    words = heading.partition(":")[0].split()
+    numbers: List[int] = [int(it[3:]) for it in words if it.startswith("RLT") and it[3:].isdigit()]
+    return (numbers[0], numbers[-1]) if numbers else None

@@ -1,0 +1,485 @@
+"""Where one compiled pattern goes in its file, and what is done with it there.
+
+A pattern is followed as far as names tell: a method call on the spot; a name that is bound once at module, class or function
+level; an attribute of `self` or `cls` that is bound once in its class; a parameter's default. Each load has to be a method of
+the pattern, or the first argument of a function of `re`. Where the pattern goes anywhere else, nothing is said of it.
+"""
+from __future__ import annotations
+
+import ast
+import builtins
+from dataclasses import dataclass, field
+from typing import FrozenSet, Iterator, List, Optional, Set, Tuple, Union
+
+from .names import FUNCTIONS, Names, Scope
+
+# The mode of each method of a compiled pattern; the functions of `re` have the same names.
+MODES = {
+    "match": "match", "fullmatch": "fullmatch", "search": "search", "findall": "search", "finditer": "search",
+    "split": "search", "sub": "search", "subn": "search",
+}
+PLACED = frozenset(("match", "fullmatch", "search", "findall", "finditer"))
+TELLS = frozenset(("pattern", "flags", "groups", "groupindex"))
+TRUTH, SPANS, GROUPS = "truth", "spans", "groups"
+_SEEN_ORDER = (TRUTH, SPANS, GROUPS)
+# With one of these a name can be read without being written.
+_READS_GLOBALS = frozenset(("globals", "vars", "locals", "exec", "eval", "execfile"))
+_READS_LOCALS = frozenset(("vars", "locals", "exec", "eval", "execfile"))
+_READS_ATTRIBUTES = frozenset(("vars", "exec", "eval", "execfile", "getmembers"))
+_CATCHES_ATTRIBUTES = frozenset(("__setattr__", "__getattribute__"))
+_PLAIN_BASES = frozenset(name for name, it in vars(builtins).items() if isinstance(it, type))
+
+
+def mode_of(call: Optional[str], compile_as: str) -> str:
+    """Returns the mode of a call: match, fullmatch or search; that of compile is `compile_as`."""
+    return compile_as if call == "compile" else MODES.get(call or "", "search")
+
+
+class Lost(Exception):
+    """The pattern goes where it can't be followed; the message says where."""
+
+
+@dataclass(frozen=True)
+class Use:
+    """One use: the method, the line where it is, and what the code sees of what it finds.
+
+    `position` says that the call may be given a position to begin or to end at. `sees` is "truth" where only whether there is
+    a match counts, "spans" where its groups don't, else "groups".
+    """
+
+    method: str
+    line: int
+    position: bool = False
+    sees: str = GROUPS
+    path: Optional[str] = None
+
+    @property
+    def mode(self) -> str:
+        """The mode of the method: match, fullmatch or search."""
+        return MODES[self.method]
+
+
+@dataclass(frozen=True)
+class Name:
+    """A name that the pattern has in a file, by which other files may reach it; `is_attribute` is that of a class."""
+
+    name: str
+    is_attribute: bool
+
+
+@dataclass
+class Found:
+    """What was found so far: the uses, whether code reads the pattern's own text or groups, and the names to look for."""
+
+    uses: List[Use] = field(default_factory=list)
+    is_read: bool = False
+    names: List[Name] = field(default_factory=list)
+
+
+class File:
+    """A source with what is asked of it. `path` is given to the uses that are found in it."""
+
+    def __init__(self, data: bytes, path: Optional[str] = None) -> None:
+        """Reads the source. Raises Unparsed."""
+        self.path = path
+        self.names = Names(data)
+
+    def call(self, line: int, column: int) -> Optional[ast.Call]:
+        """Returns the call whose pattern begins at the line and the column in bytes, both as `ast` counts them."""
+        return self.names.patterns.get((line, column))
+
+    def direct(self, call: ast.Call, method: str) -> Found:
+        """Returns the use that a call of a function of `re` is, whose pattern is written in it."""
+        return Found([Use(method, call.lineno, False, _Follower(self, Found()).seen(call, method), self.path)])
+
+    def compiled(self, call: ast.Call) -> Found:
+        """Returns the uses of what a call compiles, as far as this file shows them. Raises Lost."""
+        found = Found()
+        _Follower(self, found).value(call, True)
+        return found
+
+    def attribute(self, name: str) -> Found:
+        """Returns the uses of an attribute of that name, whatever it is an attribute of. Raises Lost."""
+        found = Found()
+        _Follower(self, found).attributes(name)
+        return found
+
+    def name(self, scope: Scope, name: str) -> Found:
+        """Returns the uses of a name that an import bound in that scope. Raises Lost."""
+        found = Found()
+        _Follower(self, found).name(scope, name)
+        return found
+
+
+class _Follower:
+    """Follows one pattern through one file."""
+
+    def __init__(self, file: File, found: Found) -> None:
+        self.file = file
+        self.names = file.names
+        self.found = found
+
+    def value(self, node: ast.AST, may_bind: bool = False) -> None:
+        """Follows the value of an expression to what takes it."""
+        parent = self.names.parents.get(node)
+        if isinstance(parent, ast.Attribute):
+            self.member(parent)
+        elif isinstance(parent, ast.IfExp) and node is not parent.test:
+            self.value(parent, may_bind)
+        elif isinstance(parent, ast.BoolOp) and (isinstance(parent.op, ast.Or) or node is parent.values[-1]):
+            self.value(parent, may_bind)
+        elif isinstance(parent, (ast.Call, ast.keyword)) and not self.is_tested(node):
+            self.argument(node, parent)
+        elif may_bind and isinstance(parent, ast.NamedExpr):
+            self.bound(parent.target)
+            self.value(parent)
+        elif may_bind and isinstance(parent, (ast.Assign, ast.AnnAssign)):
+            self.assigned(parent)
+        elif may_bind and isinstance(parent, ast.arguments):
+            self.default(node, parent)
+        elif not isinstance(parent, ast.Expr) and not self.is_tested(node):
+            raise Lost(f"it goes elsewhere in line {getattr(node, 'lineno', 0)}")
+
+    def member(self, node: ast.Attribute) -> None:
+        """Follows `X.attr`."""
+        if node.attr in TELLS and isinstance(node.ctx, ast.Load):
+            self.found.is_read = True
+            return
+        call = self.names.parents.get(node)
+        if node.attr not in MODES or not isinstance(node.ctx, ast.Load) or isinstance(call, ast.Attribute):
+            raise Lost(f"its attribute {node.attr} is taken in line {node.lineno}")
+        if isinstance(call, ast.Call) and call.func is node:
+            self.use(node.attr, node.lineno, _has_position(call, node.attr), self.seen(call, node.attr))
+        else:
+            self.use(node.attr, node.lineno, node.attr in PLACED, GROUPS)
+
+    def use(self, method: str, line: int, position: bool, sees: str) -> None:
+        self.found.uses.append(Use(method, line, position, sees, self.file.path))
+
+    def argument(self, node: ast.AST, parent: Union[ast.Call, ast.keyword]) -> None:
+        """Follows an argument: the pattern of a function of `re`, or elsewhere."""
+        call = parent if isinstance(parent, ast.Call) else self.names.parents.get(parent)
+        is_pattern = isinstance(call, ast.Call) and (
+            parent.arg == "pattern" if isinstance(parent, ast.keyword) else call.args[:1] == [node])
+        method = self.function_of_re(call.func) if is_pattern and isinstance(call, ast.Call) else None
+        if method is None or not isinstance(call, ast.Call):
+            raise Lost(f"it is given to a call in line {getattr(node, 'lineno', 0)}")
+        self.use(method, call.lineno, False, self.seen(call, method))
+
+    def function_of_re(self, node: ast.AST) -> Optional[str]:
+        """Returns the name of the function of `re` that an expression is, or None where it isn't one for sure."""
+        if isinstance(node, ast.Attribute) and isinstance(node.value, ast.Name):
+            bound = self.meant(node.value)
+            is_re = all(isinstance(it, ast.alias) and it.name == "re" and isinstance(self.names.parents.get(it), ast.Import)
+                        for it in bound)
+            return node.attr if bound and is_re and node.attr in MODES else None
+        if not isinstance(node, ast.Name):
+            return None
+        found = {self.imported_from_re(it) for it in self.meant(node)}
+        return found.pop() if len(found) == 1 else None
+
+    def meant(self, node: ast.Name) -> List[ast.AST]:
+        """Returns all that binds the name where it is loaded."""
+        return self.names.home(self.names.inside[node], node.id).bindings.get(node.id, [])
+
+    def imported_from_re(self, node: ast.AST) -> Optional[str]:
+        above = self.names.parents.get(node)
+        is_re = isinstance(above, ast.ImportFrom) and above.module == "re" and not above.level
+        return node.name if is_re and isinstance(node, ast.alias) and node.name in MODES else None
+
+    # What it is bound to
+
+    def assigned(self, node: Union[ast.Assign, ast.AnnAssign]) -> None:
+        targets = node.targets if isinstance(node, ast.Assign) else [node.target]
+        if len(targets) != 1:
+            raise Lost(f"it has several names in line {node.lineno}")
+        self.bound(targets[0])
+
+    def bound(self, target: ast.AST) -> None:
+        """Follows the name or the attribute that the pattern is bound to."""
+        if isinstance(target, ast.Attribute):
+            self.of_instance(target)
+            return
+        if not isinstance(target, ast.Name):
+            raise Lost(f"it is put into something in line {getattr(target, 'lineno', 0)}")
+        home = self.binding_home(target)
+        if len(home.bindings.get(target.id, ())) != 1:
+            raise Lost(f"the name {target.id} is bound more than once")
+        if home.kind == "class":
+            self.of_class(home, target.id)
+        else:
+            self.name(home, target.id)
+
+    def binding_home(self, target: ast.Name) -> Scope:
+        """Returns the scope in which a store binds its name."""
+        scope = self.names.inside[target]
+        while scope.kind == "comprehension" and scope.parent is not None:
+            scope = scope.parent
+        return self.names.home(scope, target.id)
+
+    def default(self, node: ast.AST, arguments: ast.arguments) -> None:
+        """Follows the parameter whose default it is."""
+        function = self.names.parents[arguments]
+        if getattr(function, "decorator_list", ()):
+            raise Lost(f"it is a default of a decorated function in line {getattr(node, 'lineno', 0)}")
+        placed = [*getattr(arguments, "posonlyargs", []), *arguments.args]
+        pairs = [*zip(reversed(placed), reversed(arguments.defaults)), *zip(arguments.kwonlyargs, arguments.kw_defaults)]
+        name = next(it.arg for it, default in pairs if default is node)
+        home = self.names.scopes[function]
+        if len(home.bindings[name]) != 1:
+            raise Lost(f"the name {name} is bound more than once")
+        self.name(home, name)
+
+    def name(self, home: Scope, name: str) -> None:
+        """Follows all loads of a name of the module, or of a function."""
+        self.refuse_loaded(_READS_GLOBALS if home.kind == "module" else _READS_LOCALS)
+        if home.kind == "module":
+            self.refuse_string(name)
+            self.refuse_open_modules()
+            self.found.names.append(Name(name, False))
+        for load in self.names.loads(home, name):
+            self.value(load)
+
+    def of_class(self, home: Scope, name: str) -> None:
+        """Follows a name that is bound in the body of a class."""
+        node = home.node
+        if isinstance(node, ast.ClassDef) and (node.decorator_list or node.keywords):
+            raise Lost(f"its class {node.name} is given to a decorator or a metaclass")
+        self.refuse_foreign_bases(home, set())
+        if any(_is_stored(it) for it in self.names.attributes.get(name, ())):
+            raise Lost(f"the attribute {name} is bound more than once")
+        for load in self.names.loads(home, name):
+            self.value(load)
+        self.of_attribute(home, name)
+
+    def of_instance(self, target: ast.Attribute) -> None:
+        """Follows `self.x` or `cls.x`."""
+        home = self.class_of(target)
+        if home is None:
+            raise Lost(f"it is put into an attribute in line {target.lineno}")
+        if target.attr in home.bindings or home.bindings.keys() & _CATCHES_ATTRIBUTES:
+            raise Lost(f"the class binds {target.attr} too, or catches its attributes")
+        self.refuse_foreign_bases(home, set())
+        stores = [it for it in self.names.attributes.get(target.attr, ()) if _is_stored(it)]
+        if any(it is not target and self.class_of(it) in (home, None) for it in stores):
+            raise Lost(f"the attribute {target.attr} is bound more than once")
+        self.of_attribute(home, target.attr)
+
+    def class_of(self, node: ast.Attribute) -> Optional[Scope]:
+        """Returns the scope of the class whose instance or self a method's first parameter is, where the node is of that."""
+        scope: Optional[Scope] = self.names.inside[node]
+        if not isinstance(node.value, ast.Name) or scope is None:
+            return None
+        scope = self.names.home(scope, node.value.id)
+        function = scope.node
+        if not isinstance(function, FUNCTIONS) or isinstance(function, ast.Lambda) or scope.parent is None:
+            return None
+        given = [*getattr(function.args, "posonlyargs", []), *function.args.args]
+        static = any(isinstance(it, ast.Name) and it.id == "staticmethod" for it in function.decorator_list)
+        is_first = bool(given) and given[0].arg == node.value.id and len(scope.bindings[node.value.id]) == 1
+        return scope.parent if scope.parent.kind == "class" and is_first and not static else None
+
+    def of_attribute(self, home: Scope, name: str) -> None:
+        """Follows all attributes of that name in the file."""
+        self.refuse_loaded(_READS_ATTRIBUTES)
+        if "__dict__" in self.names.attributes:
+            raise Lost("the file may read its attributes through __dict__")
+        self.found.names.append(Name(name, True))
+        private = name.startswith("__") and not name.endswith("__") and isinstance(home.node, ast.ClassDef)
+        self.attributes(name)
+        if private and isinstance(home.node, ast.ClassDef):
+            mangled = f"_{home.node.name.lstrip('_')}{name}"
+            for it in self.names.attributes.get(mangled, ()):
+                if it.attr == mangled:
+                    self.attribute_load(it)
+
+    def attributes(self, name: str) -> None:
+        """Follows what is loaded as an attribute of that name."""
+        self.refuse_string(name)
+        self.refuse_open_getattr(name)
+        self.refuse_open_attrgetter(name)
+        for it in self.names.attributes.get(name, ()):
+            if it.attr == name:
+                self.attribute_load(it)
+
+    def attribute_load(self, node: ast.Attribute) -> None:
+        if isinstance(node.ctx, ast.Load):
+            self.value(node)
+
+    def refuse_foreign_bases(self, home: Scope, seen: Set[Scope]) -> None:
+        """Raises Lost where a base of the class isn't in the file: its methods may use what the class binds."""
+        seen.add(home)
+        for base in getattr(home.node, "bases", ()):
+            above = self.class_named(base, home)
+            if above is None:
+                raise Lost("a base of its class is not in this file")
+            if above is not home and above not in seen:
+                self.refuse_foreign_bases(above, seen)
+        if getattr(home.node, "keywords", ()):
+            raise Lost("its class has a metaclass")
+
+    def class_named(self, base: ast.AST, home: Scope) -> Optional[Scope]:
+        """Returns the scope of the class of this file that a base is; `home` for a plain builtin; else None."""
+        if not isinstance(base, ast.Name):
+            return None
+        bound = self.meant(base)
+        if not bound:
+            return home if base.id in _PLAIN_BASES and base.id != "type" else None
+        one = bound[0] if len(bound) == 1 else None
+        return self.names.scopes[one] if isinstance(one, ast.ClassDef) else None
+
+    # What lets a name be read without being written
+
+    def refuse_loaded(self, names: FrozenSet[str]) -> None:
+        for it in names:
+            if self.names.loads(self.names.module, it) or it == "getmembers" and it in self.names.attributes:
+                raise Lost(f"the file uses {it}, which may reach the pattern")
+
+    def refuse_string(self, name: str) -> None:
+        if name in self.names.strings:
+            raise Lost(f"the name {name} is in a string, as for getattr or __all__")
+
+    def refuse_open_modules(self) -> None:
+        """Raises Lost where the file may take itself from `sys.modules`."""
+        nodes: List[ast.AST] = [*self.names.attributes.get("modules", ()), *self.names.loads(self.names.module, "modules")]
+        for it in nodes:
+            above = self.names.parents.get(it)
+            asked = above.slice if isinstance(above, ast.Subscript) and above.value is it else None
+            call = self.names.parents.get(above) if isinstance(above, ast.Attribute) else None
+            if isinstance(call, ast.Call) and call.func is above and call.args:
+                asked = call.args[0]
+            if not isinstance(above, ast.Compare) and not isinstance(asked, ast.Constant):
+                raise Lost(f"sys.modules in line {getattr(it, 'lineno', 0)} may give the file itself")
+
+    def refuse_open_attrgetter(self, name: str) -> None:
+        """Raises Lost where an `attrgetter` or `methodcaller` of the file may take that name."""
+        for it in ("attrgetter", "methodcaller"):
+            nodes: List[ast.expr] = [*self.names.attributes.get(it, ()), *self.names.loads(self.names.module, it)]
+            for node in nodes:
+                call = self.names.parents.get(node)
+                asked = call.args if isinstance(call, ast.Call) and call.func is node else []
+                told = [one.value for one in asked if isinstance(one, ast.Constant) and isinstance(one.value, str)]
+                if not asked or len(told) < len(asked) or any(name in one.split(".") for one in told):
+                    raise Lost(f"{it} in line {node.lineno} may take {name}")
+
+    def refuse_open_getattr(self, name: str) -> None:
+        """Raises Lost where a `getattr` of the file may take that name."""
+        for load in self.names.loads(self.names.module, "getattr"):
+            call = self.names.parents.get(load)
+            asked = call.args[1] if isinstance(call, ast.Call) and call.func is load and len(call.args) > 1 else None
+            if asked is None or not _is_other(asked, name):
+                raise Lost(f"getattr in line {load.lineno} may take {name}")
+
+    # What the code sees of a match
+
+    def seen(self, call: ast.Call, method: str) -> str:
+        """Returns what the code sees of the answer of a call of that method."""
+        if method in ("match", "fullmatch", "search"):
+            return self.seen_of(call)
+        if method in ("sub", "subn"):
+            return SPANS if _is_plain_replacement(call, self.function_of_re(call.func) is not None) else GROUPS
+        return GROUPS
+
+    def seen_of(self, node: ast.AST) -> str:
+        """Returns what is seen of a match that an expression gives."""
+        parent = self.names.parents.get(node)
+        if self.is_tested(node) or isinstance(parent, ast.Expr):
+            return TRUTH
+        if isinstance(parent, ast.Attribute):
+            return _seen_by_member(parent, self.names.parents.get(parent))
+        if isinstance(parent, ast.NamedExpr):
+            return max(self.seen_of(parent), self.seen_by_name(parent.target), key=_SEEN_ORDER.index)
+        if isinstance(parent, ast.Assign) and len(parent.targets) == 1 and isinstance(parent.targets[0], ast.Name):
+            return self.seen_by_name(parent.targets[0])
+        return GROUPS
+
+    def seen_by_name(self, target: ast.Name) -> str:
+        home = self.binding_home(target)
+        hidden = any(self.names.loads(self.names.module, it) for it in _READS_LOCALS)
+        if home.kind != "function" or hidden:
+            return GROUPS
+        kinds = [TRUTH]
+        for load in self.names.loads(home, target.id):
+            parent = self.names.parents.get(load)
+            if isinstance(parent, ast.Attribute):
+                kinds.append(_seen_by_member(parent, self.names.parents.get(parent)))
+            elif not self.is_tested(load):
+                return GROUPS
+        return max(kinds, key=_SEEN_ORDER.index)
+
+    def is_tested(self, node: ast.AST) -> bool:
+        """Returns whether only the truth of an expression, or whether it is None, is looked at."""
+        parent = self.names.parents.get(node)
+        while isinstance(parent, ast.BoolOp) and (isinstance(parent.op, ast.Or) or node is parent.values[-1]):
+            node, parent = parent, self.names.parents.get(parent)
+        if isinstance(parent, ast.Call):
+            named_bool = isinstance(parent.func, ast.Name) and parent.func.id == "bool" and not self.meant(parent.func)
+            return named_bool and parent.args == [node] and not parent.keywords
+        return _is_test(node, parent)
+
+
+def _is_test(node: ast.AST, parent: Optional[ast.AST]) -> bool:
+    if isinstance(parent, (ast.If, ast.While, ast.IfExp, ast.Assert)):
+        return parent.test is node
+    if isinstance(parent, ast.UnaryOp):
+        return isinstance(parent.op, ast.Not)
+    if isinstance(parent, ast.comprehension):
+        return node in parent.ifs
+    if isinstance(parent, ast.BoolOp):
+        return isinstance(parent.op, ast.And) and node is not parent.values[-1]
+    if isinstance(parent, ast.Compare):
+        sides: Tuple[ast.AST, ...] = (parent.left, *parent.comparators)
+        other = [it for it in sides if it is not node]
+        is_none = len(other) == 1 and isinstance(other[0], ast.Constant) and other[0].value is None
+        return is_none and isinstance(parent.ops[0], (ast.Is, ast.IsNot, ast.Eq, ast.NotEq))
+    return False
+
+
+def _has_position(call: ast.Call, method: str) -> bool:
+    if method not in PLACED:
+        return False
+    stars = any(isinstance(it, ast.Starred) for it in call.args) or any(it.arg is None for it in call.keywords)
+    return stars or len(call.args) > 1 or any(it.arg in ("pos", "endpos") for it in call.keywords)
+
+
+def _is_stored(node: ast.Attribute) -> bool:
+    return not isinstance(node.ctx, ast.Load)
+
+
+def _seen_by_member(node: ast.Attribute, parent: Optional[ast.AST]) -> str:
+    """What is seen by `m.attr`: spans alone where that asks for no group."""
+    if node.attr not in ("start", "end", "span", "group") or not isinstance(parent, ast.Call) or parent.func is not node:
+        return GROUPS
+    whole = all(isinstance(it, ast.Constant) and it.value == 0 for it in parent.args) and not parent.keywords
+    return SPANS if whole and len(parent.args) < 2 else GROUPS
+
+
+def _is_plain_replacement(call: ast.Call, is_function: bool) -> bool:
+    """Whether a `sub` puts in a literal without a backslash, which asks for no group."""
+    at = 1 if is_function else 0
+    given = [it.value for it in call.keywords if it.arg == "repl"] or call.args[at:at + 1]
+    value = given[0].value if len(given) == 1 and isinstance(given[0], ast.Constant) else None
+    if any(isinstance(it, ast.Starred) for it in call.args[:at + 1]):
+        return False
+    return isinstance(value, str) and "\\" not in value or isinstance(value, bytes) and b"\\" not in value
+
+
+def _is_other(asked: ast.AST, name: str) -> bool:
+    """Whether an expression surely is another name: a literal, or one that begins with other letters."""
+    fronts = list(_fronts(asked))
+    if isinstance(asked, ast.Constant) and isinstance(asked.value, str):
+        return asked.value != name
+    return bool(fronts) and not name.startswith(fronts[0])
+
+
+def _fronts(asked: ast.AST) -> Iterator[str]:
+    """Yields the literal that the text of an expression begins with, where it has one."""
+    first: ast.AST = asked
+    while isinstance(first, ast.BinOp) and isinstance(first.op, (ast.Add, ast.Mod)):
+        first = first.left
+    if isinstance(first, ast.JoinedStr) and first.values:
+        first = first.values[0]
+    if isinstance(first, ast.Constant) and isinstance(first.value, str):
+        front = first.value.partition("%")[0]
+        if front:
+            yield front

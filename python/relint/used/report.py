@@ -1,0 +1,49 @@
+"""The entries of a report as the code uses their patterns."""
+from __future__ import annotations
+
+from dataclasses import replace
+from typing import Callable, Dict, FrozenSet, List, Optional, Sequence, Tuple
+
+from ..reports import Entry
+from ..sites import Site, Source
+from .classes import Asked, AsUsed, judged
+from .follow import MODES, mode_of
+from .run import Run
+from .sites import Follower, Used
+
+Behind = Callable[[Entry], Tuple[Optional[Source], Optional[Site]]]
+
+
+def as_used(entries: Sequence[Entry], compile_as: str, behind: Behind, run: Run, max_pairs: Optional[int] = None
+            ) -> Dict[Entry, AsUsed]:
+    """Returns how the patterns of entries are used, and their classes so; entries whose pattern isn't followed are missing.
+
+    `compile_as` is the mode that the report has for compile; `behind` gives the source and the pattern of an entry; `run` has
+    the files of the run, those of the entries among them. Raises ProgramError where relint can't be asked.
+    """
+    wanted: List[Tuple[Entry, Source, Site, str]] = []
+    for entry in entries:
+        source, site = behind(entry) if entry.call in MODES or entry.call == "compile" else (None, None)
+        if source is not None and site is not None and site.flags is not None and entry.place and entry.verdict():
+            wanted.append((entry, source, site, entry.call or ""))
+    followed = Follower(run).used((it.path, source, it.place, call) for it, source, _, call in wanted if it.place)
+    known = [(entry, site, used) for (entry, _, site, _), used in zip(wanted, followed) if isinstance(used, Used)]
+    asked = [Asked(site.value, site.flags or 0, _others(entry, used, compile_as)) for entry, site, used in known]
+    whole: Dict[Entry, AsUsed] = {}
+    for (entry, _, used), found in zip(known, judged(asked, max_pairs)):
+        mode = mode_of(entry.call, compile_as)
+        own = {mode: entry} if mode in used.modes() else {}
+        whole[entry] = AsUsed(used, {**{it: _at(entry, other) for it, other in found.items()}, **own})
+    return whole
+
+
+def _at(entry: Entry, other: Optional[Entry]) -> Optional[Entry]:
+    """What relint says of a pattern in another mode, at the place of its entry; places inside the pattern are left out."""
+    if other is None:
+        return None
+    return replace(other, path=entry.path, place=entry.place, call=entry.call, fault=None, dropped=(), merged=(), passed=())
+
+
+def _others(entry: Entry, used: Used, compile_as: str) -> FrozenSet[str]:
+    """The modes of the uses, without that in which the entry is judged already."""
+    return used.modes() - {mode_of(entry.call, compile_as)}

@@ -1,0 +1,252 @@
+"""Finds in one source what is given as a pattern, to `re` and to what the table of takers names."""
+from __future__ import annotations
+
+import ast
+import fnmatch
+from dataclasses import dataclass, replace
+from typing import Any, Dict, Iterator, List, Optional, Sequence, Tuple
+
+from ..reports import Place, Text
+from ..sites import FLAGS_AT, LINE_END
+from .fold import Folder
+from .known import Held, Known, NotKnown
+from .modules import Module
+from .scopes import Binding, Scope, last_name
+from .takers import Taker
+
+# Names that PLY reads beside its rules.
+NO_RULES = ("t_ignore", "t_error", "t_eof", "t_literals")
+
+
+@dataclass(frozen=True)
+class Found:
+    """What a source gives as a pattern. `pattern` and `flags` are None where they can't be told; `why` names the reason.
+
+    `call` is the function of `re` that has the same mode, and `taker` what really takes the pattern. `is_literal` says that
+    relint reads the pattern itself. `needs` are the names that no other file may bind. `cell` is that of a notebook.
+    """
+
+    path: str
+    start: Place
+    end: Place
+    call: str
+    taker: str
+    pattern: Optional[Text] = None
+    flags: Optional[int] = None
+    held: Tuple[Held, ...] = ()
+    notes: Tuple[str, ...] = ()
+    needs: Tuple[Tuple[str, str], ...] = ()
+    why: str = ""
+    is_literal: bool = False
+    engine: str = "re"
+    cell: Optional[int] = None
+
+
+class Finder:
+    """Finds the patterns of sources, one module after the other."""
+
+    def __init__(self, folder: Folder, takers: Sequence[Taker]) -> None:
+        self._folder = folder
+        self._calls: Dict[str, List[Taker]] = {}
+        self._methods: Dict[str, List[Taker]] = {}
+        self._attributes = [it for it in takers if it.attribute]
+        for taker in takers:
+            for name in taker.calls:
+                self._calls.setdefault(name, []).append(taker)
+            if taker.method:
+                self._methods.setdefault(taker.method.rpartition(".")[2], []).append(taker)
+
+    def find(self, module: Module) -> List[Found]:
+        """Returns what a module gives as patterns, by place."""
+        self._folder.begin()
+        one = _One(module, self._folder)
+        found = [it for call, scope in module.scopes.calls for it in self._of_call(one, call, scope)]
+        for taker in self._attributes:
+            if one.imports(taker.needs):
+                found += one.of_attribute(taker)
+        return sorted(found, key=lambda it: (it.start.line, it.start.column))
+
+    def _of_call(self, one: "_One", call: ast.Call, scope: Scope) -> Iterator[Found]:
+        name = call.func.attr if isinstance(call.func, ast.Attribute) else ""
+        for taker in self._methods.get(name, ()):
+            if one.imports(taker.needs) and one.is_method(call.func, taker.method) and one.fits(taker, call, scope):
+                yield from one.of_taker(taker, call, scope)
+                return
+        full = one.folder.qualified(call.func, scope, one.module)
+        if full is None:
+            return
+        front, _, last = full.rpartition(".")
+        if front == "re" and last in FLAGS_AT:
+            yield one.of_re(last, call, scope)
+        for taker in self._calls.get(full, ()):
+            yield from one.of_taker(taker, call, scope)
+
+
+class _One:
+    """One module, with what is asked of it."""
+
+    def __init__(self, module: Module, folder: Folder) -> None:
+        self.module, self.folder = module, folder
+        self.lines = LINE_END.split(module.text)
+
+    def imports(self, name: str) -> bool:
+        """Whether the module imports another one, or a part of it, anywhere; "" is always imported."""
+        return not name or name in self.module.scopes.imported
+
+    def is_method(self, function: ast.expr, method: str) -> bool:
+        """Whether a call is of a method on an object, with the attributes before it."""
+        names = method.split(".")
+        for name in reversed(names):
+            if not isinstance(function, ast.Attribute) or function.attr != name:
+                return False
+            function = function.value
+        return len(names) > 1 or not isinstance(function, ast.Name) or function.id != "re"
+
+    def fits(self, taker: Taker, call: ast.Call, scope: Scope) -> bool:
+        """Whether the call has the arguments on which it depends whether this is a pattern."""
+        given = {it.arg: it.value for it in call.keywords if it.arg}
+        for name, value in taker.unless:
+            if name in given and self._constant(given[name], scope) in (value, None):
+                return False
+        return all(name in given and self._constant(given[name], scope) == value for name, value in taker.when)
+
+    def _constant(self, node: ast.AST, scope: Scope) -> Any:
+        try:
+            return self.folder.fold(node, scope, self.module).value
+        except NotKnown:
+            return None
+
+    def place(self, line: int, column: int) -> Place:
+        """Returns the place of a position of `ast`, whose columns count bytes."""
+        text = self.lines[line - 1] if line <= len(self.lines) else ""
+        if text.isascii():
+            return Place(line, column + 1)
+        return Place(line, len(text.encode("utf-8", "surrogatepass")[:column].decode("utf-8", "replace")) + 1)
+
+    def of_re(self, name: str, call: ast.Call, scope: Scope) -> Found:
+        """What a call of a function of `re` gives as its pattern."""
+        node = _argument(call, 0, ("pattern",))
+        flags = _argument(call, FLAGS_AT[name], ("flags",))
+        return self._found(node or call, scope, name, "re." + name, flags, node is None)
+
+    def of_taker(self, taker: Taker, call: ast.Call, scope: Scope) -> Iterator[Found]:
+        """What a call gives as a pattern, or as several."""
+        node = _argument(call, taker.pattern, taker.keywords)
+        if node is None:
+            return
+        flags = _argument(call, taker.flags, (taker.flags_keyword,))
+        nodes = list(node.elts) if taker.is_list and isinstance(node, (ast.List, ast.Tuple)) else [node]
+        for it in nodes:
+            if not (isinstance(it, ast.Constant) and it.value is None):
+                yield self._found(it, scope, taker.mode, taker.name, flags, False, taker)
+
+    def _found(
+        self, node: ast.expr, scope: Scope, call: str, name: str, flags: Optional[ast.AST], is_missing: bool,
+        taker: Optional[Taker] = None,
+    ) -> Found:
+        first = _first_literal(node)
+        start = self.place(first.lineno, first.col_offset)
+        end = self.place(node.end_lineno or node.lineno, node.end_col_offset or node.col_offset)
+        is_literal = isinstance(node, ast.Constant) and isinstance(node.value, (str, bytes))
+        empty = Found(self.module.path, start, end, call, name, is_literal=is_literal, engine=taker.engine if taker else "re")
+        try:
+            if is_missing:
+                raise NotKnown("no pattern argument")
+            known = self.folder.fold(node, scope, self.module)
+            text = known.text()
+            number, given = self._flags(flags, scope, taker)
+        except NotKnown as error:
+            return replace(empty, why=error.why)
+        return _filled(empty, text, number, [known, *given], taker)
+
+    def _flags(self, node: Optional[ast.AST], scope: Scope, taker: Optional[Taker]) -> Tuple[int, List[Known]]:
+        if node is None:
+            return (taker.always if taker else 0), []
+        try:
+            known = self.folder.fold(node, scope, self.module)
+        except NotKnown as error:
+            raise NotKnown(f"flags: {error.why}") from error
+        if known.value is None and taker is not None:
+            return taker.always, []
+        if not isinstance(known.value, int):
+            raise NotKnown("flags: no number")
+        return int(known.value), [known]
+
+    def of_attribute(self, taker: Taker) -> Iterator[Found]:
+        """The patterns that attributes of classes hold, or names of the module by their form."""
+        for node, _ in self.module.scopes.classes:
+            inside = self.module.scopes.inner[node]
+            if taker.classes and not _is_base(node, taker.classes):
+                continue
+            yield from self._of_body(taker, inside)
+        if not taker.classes:
+            yield from self._of_body(taker, self.module.scopes.module)
+
+    def _of_body(self, taker: Taker, inside: Scope) -> Iterator[Found]:
+        for name, bindings in inside.bindings.items():
+            if not fnmatch.fnmatchcase(name, taker.attribute) or len(bindings) != 1 or name in NO_RULES:
+                continue
+            flags = inside.bindings.get(taker.flags_keyword, [])
+            node = flags[0].node if len(flags) == 1 else None
+            for it in _held_by(taker.shape, bindings[0]):
+                found = self._found(it, bindings[0].scope or inside, taker.mode, name, node, False, taker)
+                if found.why != "not a text":
+                    yield found
+
+
+def _argument(call: ast.Call, position: int, names: Sequence[str]) -> Optional[ast.expr]:
+    for it in call.keywords:
+        if it.arg and it.arg in names:
+            return it.value
+    if position < 0 or position >= len(call.args) or any(isinstance(it, ast.Starred) for it in call.args[:position + 1]):
+        return None
+    return call.args[position]
+
+
+def _first_literal(node: ast.expr) -> ast.expr:
+    """The literal with which an expression begins, or the expression."""
+    first = node
+    while isinstance(first, ast.BinOp):
+        first = first.left
+    if isinstance(first, ast.Call) and isinstance(first.func, ast.Attribute):
+        first = first.func.value
+    is_text = isinstance(first, ast.Constant) and isinstance(first.value, (str, bytes))
+    return first if is_text or isinstance(first, ast.JoinedStr) else node
+
+
+def _is_base(node: ast.ClassDef, names: Sequence[str]) -> bool:
+    return any(last_name(it) in names for it in node.bases)
+
+
+def _held_by(shape: str, binding: Binding) -> Iterator[ast.expr]:
+    """The expressions of patterns that a binding holds, by the form that the table names."""
+    node: Any = binding.node
+    if shape == "rules" and binding.kind == "function":
+        yield from _rule_of(node)
+    if node is None or binding.kind != "value":
+        return
+    if shape != "tokens":
+        yield node
+    elif isinstance(node, ast.Dict):
+        for state in node.values:
+            for it in state.elts if isinstance(state, (ast.List, ast.Tuple)) else []:
+                if isinstance(it, ast.Tuple) and len(it.elts) > 1:
+                    yield it.elts[0]
+
+
+def _rule_of(node: Any) -> Iterator[ast.expr]:
+    """The pattern of a rule of PLY that is a function: that of its decorator TOKEN, or its docstring."""
+    for it in getattr(node, "decorator_list", []):
+        if isinstance(it, ast.Call) and last_name(it) == "TOKEN" and it.args:
+            yield it.args[0]
+            return
+    body = getattr(node, "body", None)
+    if body and isinstance(body[0], ast.Expr) and isinstance(body[0].value, ast.Constant):
+        yield body[0].value
+
+
+def _filled(empty: Found, text: Text, flags: int, parts: Sequence[Known], taker: Optional[Taker]) -> Found:
+    held = tuple(dict.fromkeys(it for part in parts for it in part.held))
+    notes = [it for part in parts for it in part.notes] + ([taker.note] if taker and taker.note else [])
+    needs = sorted({it for part in parts for it in part.needs if it[1] and it[0]})
+    return replace(empty, pattern=text, flags=flags, held=held, notes=tuple(dict.fromkeys(notes)), needs=tuple(needs))

@@ -1,0 +1,94 @@
+"""What relint itself says of patterns that no source holds as literals: each is written as one, and the whole is checked.
+
+Python's literals of relint's own form have exactly the value that they were made from, so what is judged is the very text.
+"""
+from __future__ import annotations
+
+import os
+import tempfile
+from concurrent.futures import ThreadPoolExecutor
+from dataclasses import dataclass, replace
+from pathlib import Path
+from typing import Dict, Iterable, Iterator, List, Optional, Sequence, Tuple
+
+from .. import plain, program
+from ..reports import Entry, ReportError, Text, read_report
+
+MOST_AT_ONCE = 200
+MOST_BYTES = 1_000_000
+LONGEST_PATTERN = 100_000
+# The flags that change what a pattern matches, with their names; DEBUG only prints.
+NAMED_FLAGS = ((256, "A"), (2, "I"), (4, "L"), (8, "M"), (16, "S"), (32, "U"), (64, "X"))
+
+
+class JudgeError(Exception):
+    """relint gave no report on the patterns; the message says why."""
+
+
+@dataclass(frozen=True)
+class Question:
+    """A pattern with its flags, and the mode in which it is used: search, match or fullmatch."""
+
+    pattern: Text
+    flags: int
+    mode: str
+
+
+def flag_words(flags: int) -> str:
+    """Returns the flags as an expression, as "re.I | re.M"; "0" where there is none."""
+    return " | ".join(f"re.{name}" for value, name in NAMED_FLAGS if flags & value) or "0"
+
+
+def source_line(question: Question) -> str:
+    """Returns a line of a source that holds a question as a call with a literal."""
+    return f"re.{question.mode}({plain.quoted(question.pattern)}, t, {flag_words(question.flags)})\n"
+
+
+def judged(questions: Iterable[Question], options: Sequence[str], jobs: int) -> Dict[Question, Entry]:
+    """Returns relint's entry for each question; its path and its places mean nothing. Raises JudgeError and ProgramError.
+
+    A pattern above a limit on its length has the entry that relint would have for it, and isn't written.
+    """
+    distinct = list(dict.fromkeys(questions))
+    found = {it: Entry("", "refused", call=it.mode, cause="too-long") for it in distinct if len(it.pattern) > LONGEST_PATTERN}
+    parts = list(_parts([it for it in distinct if it not in found]))
+    with tempfile.TemporaryDirectory(prefix="relint-wide-") as folder, ThreadPoolExecutor(max(jobs, 1)) as pool:
+        asked = [pool.submit(_asked, os.path.join(folder, f"{number}.py"), part, options) for number, part in enumerate(parts)]
+        for part, answer in zip(parts, asked):
+            found.update(zip(part, answer.result()))
+    return found
+
+
+def _parts(questions: Sequence[Question]) -> Iterator[List[Question]]:
+    part: List[Question] = []
+    size = 0
+    for it in questions:
+        part.append(it)
+        size += 10 * len(it.pattern)
+        if len(part) >= MOST_AT_ONCE or size >= MOST_BYTES:
+            yield part
+            part, size = [], 0
+    if part:
+        yield part
+
+
+def _asked(path: str, questions: Sequence[Question], options: Sequence[str]) -> List[Entry]:
+    Path(path).write_text("import re\n" + "".join(map(source_line, questions)), encoding="ascii")
+    answer = program.run(["check", "--format", "json", "--report", "2", *options, "--", path])
+    try:
+        entries = read_report(answer.out).entries
+    except ReportError as error:
+        raise JudgeError(f"relint gave no report on the patterns that were found (status {answer.status})") from error
+    by_line = {it.place.line: it for it in entries if it.place is not None}
+    if len(entries) != len(questions) or set(by_line) != set(range(2, len(questions) + 2)):
+        raise JudgeError("relint's report on the patterns that were found doesn't have one entry for each")
+    return [_without_places(by_line[it]) for it in range(2, len(questions) + 2)]
+
+
+def _without_places(entry: Entry) -> Entry:
+    return replace(entry, path="", place=None, fault=None, dropped=(), merged=(), passed=())
+
+
+def has_kind(entry: Optional[Entry], causes: Tuple[str, ...]) -> bool:
+    """Whether an entry is refused for one of the causes."""
+    return entry is not None and entry.kind == "refused" and entry.cause in causes

@@ -1,0 +1,208 @@
+"""What one file of a run holds, as a child process finds it: its patterns, and what it binds in other files."""
+from __future__ import annotations
+
+import ast
+import io
+import os
+import re
+import tokenize
+from dataclasses import dataclass, replace
+from typing import Any, Dict, Iterable, List, Optional, Sequence, Set, Tuple
+
+from ..opening import LARGEST_SOURCE, OpenError, read_below
+from ..reports import Place, Text
+from ..sites import Source, SourceError
+from .find import Finder, Found
+from .fold import Folder
+from .known import Held
+from .modules import Module, ModuleError, Modules, parsed
+from .notebook import Notebook, NotebookError, read_notebook
+from .scopes import last_name
+from .takers import Taker
+
+LARGEST_NOTEBOOK = 33_554_432
+CODINGS = ("utf-8", "utf-8-sig", "ascii")
+
+
+@dataclass(frozen=True)
+class Looked:
+    """What was found in a file.
+
+    `binds` are names of other files or classes that it binds, as `Known.needs` names them; `bases` the bases of its classes
+    by name; `why` says why the file couldn't be read, and `left_out` are cells of a notebook that couldn't.
+    """
+
+    path: str
+    found: Tuple[Found, ...] = ()
+    binds: Tuple[Tuple[str, str], ...] = ()
+    bases: Tuple[Tuple[str, str], ...] = ()
+    why: str = ""
+    left_out: Tuple[int, ...] = ()
+    is_skipped: bool = False
+
+
+class Looker:
+    """Looks into the files of a run, one after the other."""
+
+    def __init__(self, paths: Sequence[str], takers: Sequence[Taker], folders: Sequence[str]) -> None:
+        self._folders = folders
+        self._modules = Modules((it for it in paths if not it.endswith(".ipynb")), self._text)
+        self._folder = Folder(self._modules)
+        self._finder = Finder(self._folder, takers)
+        self._words = _words(takers)
+
+    def _text(self, path: str) -> str:
+        """The text of a Python file. Raises ModuleError."""
+        data = self._bytes(path, LARGEST_SOURCE)
+        try:
+            coding, _ = tokenize.detect_encoding(io.BytesIO(data).readline)
+            if coding not in CODINGS:
+                raise ModuleError(f"its coding is {coding}, and only UTF-8 is read")
+            return Source(data).text
+        except (SourceError, SyntaxError) as error:
+            raise ModuleError(f"its coding can't be read: {error}") from error
+
+    def _bytes(self, path: str, most: int) -> bytes:
+        try:
+            return read_below(path, self._folders, most)
+        except OpenError as error:
+            raise ModuleError(str(error)) from error
+
+    def look(self, path: str) -> Looked:
+        """Returns what a file holds."""
+        try:
+            if path.endswith(".ipynb"):
+                return self._notebook(path)
+            text = self._text(path)
+            if not self._words.search(text):
+                return Looked(path, is_skipped=True)
+            return self._looked(path, parsed(os.path.normpath(path), text), is_kept=True)
+        except (ModuleError, NotebookError) as error:
+            return Looked(path, why=str(error))
+        except RecursionError:
+            return Looked(path, why="it is nested too deep")
+        except MemoryError:
+            return Looked(path, why="it takes too much memory")
+
+    def binds(self, path: str, names: Iterable[str]) -> Looked:
+        """Returns what a file that was skipped binds in others, if one of the names stands in it."""
+        try:
+            text = self._text(path)
+            wanted = "|".join(map(re.escape, sorted(names)))
+            if not wanted or not re.search(rf"\b(?:{wanted})\b", text):
+                return Looked(path)
+            return replace(self._looked(path, parsed(os.path.normpath(path), text), is_kept=True), found=())
+        except (ModuleError, RecursionError, MemoryError):
+            return Looked(path)
+
+    def _looked(self, path: str, module: Module, is_kept: bool) -> Looked:
+        if is_kept:
+            self._modules.keep(module.path, module)
+        found = tuple(_named_as(it, path) for it in self._finder.find(module))
+        return Looked(path, found, tuple(sorted(self._bound(module))), tuple(sorted(_bases(module))))
+
+    def _bound(self, module: Module) -> Set[Tuple[str, str]]:
+        """What a module binds in other modules and in classes."""
+        bound: Set[Tuple[str, str]] = set()
+        for stores in module.scopes.stores.values():
+            for store in stores:
+                self._bind(store.base, store.name, store.scope, module, bound)
+        for node, scope in module.scopes.changed:
+            if isinstance(node, ast.Attribute):
+                self._bind(node.value, node.attr, scope, module, bound)
+            elif isinstance(node, ast.Name):
+                full = self._folder.qualified(node, scope, module) or ""
+                path = self._modules.find(full.rpartition(".")[0], module.path) if "." in full else None
+                if path:
+                    bound.add((path, full.rpartition(".")[2]))
+        for node, _ in module.scopes.classes:
+            inside = module.scopes.inner[node]
+            bound.update(("class " + base, name) for base in _base_names(node) for name in inside.bindings)
+        return bound
+
+    def _bind(self, base: ast.AST, name: str, scope: Any, module: Module, bound: Set[Tuple[str, str]]) -> None:
+        full = self._folder.qualified(base, scope, module)
+        path = self._modules.find(full, module.path) if full else None
+        if path and path != module.path:
+            bound.add((path, name))
+        last = last_name(base)
+        if last and last not in ("self", "cls"):
+            bound.update((("class " + last, name), ("object " + last, name)))
+
+    def _notebook(self, path: str) -> Looked:
+        notebook = read_notebook(self._bytes(path, LARGEST_NOTEBOOK))
+        found = self._looked(path, parsed(os.path.normpath(path), notebook.text), is_kept=False)
+        return replace(found, found=tuple(_in_cell(it, notebook) for it in found.found), left_out=notebook.left_out)
+
+
+def _words(takers: Sequence[Taker]) -> "re.Pattern[str]":
+    """A pattern for texts without which a file gives no pattern to anything: names of modules, and of some methods."""
+    names = {"re", "regex"}
+    for taker in takers:
+        names.update(it.split(".")[0] for it in taker.calls)
+        names.add(taker.needs or taker.method.rpartition(".")[2] or taker.attribute)
+    forms = [re.escape(it).replace(r"\*", r"\w*") for it in sorted(names) if it]
+    return re.compile(r"\b(?:" + "|".join(forms) + r")\b")
+
+
+def _named_as(found: Found, path: str) -> Found:
+    """What was found, with the file's path as the user named it."""
+    held = tuple(replace(it, path=path) if it.path == os.path.normpath(path) else it for it in found.held)
+    return replace(found, path=path, held=held)
+
+
+def _in_cell(found: Found, notebook: Notebook) -> Found:
+    cell, line = notebook.origin(found.start.line)
+    _, last = notebook.origin(found.end.line)
+    held = tuple(replace(it, line=notebook.origin(it.line)[1], name=f"{it.name}, cell {notebook.origin(it.line)[0]}")
+                 if it.path == found.path else it for it in found.held)
+    return replace(found, start=Place(line, found.start.column), end=Place(last, found.end.column), cell=cell, held=held,
+                   is_literal=False)
+
+
+def _base_names(node: ast.ClassDef) -> List[str]:
+    return [it for it in map(last_name, node.bases) if it]
+
+
+def _bases(module: Module) -> Set[Tuple[str, str]]:
+    return {(node.name, base) for node, _ in module.scopes.classes for base in _base_names(node)}
+
+
+def as_json(looked: Looked) -> Dict[str, Any]:
+    """Returns what was found as values for JSON."""
+    return {
+        "path": looked.path, "found": [_found_as_json(it) for it in looked.found], "binds": looked.binds,
+        "bases": looked.bases, "why": looked.why, "left_out": looked.left_out, "is_skipped": looked.is_skipped,
+    }
+
+
+def _found_as_json(found: Found) -> Dict[str, Any]:
+    whole = {name: getattr(found, name) for name in ("path", "call", "taker", "flags", "why", "is_literal", "engine", "cell")}
+    whole["start"], whole["end"] = (found.start.line, found.start.column), (found.end.line, found.end.column)
+    whole["held"] = [(it.name, it.path, it.line) for it in found.held]
+    whole["notes"], whole["needs"] = found.notes, found.needs
+    whole["bytes"] = isinstance(found.pattern, bytes)
+    text = found.pattern.decode("latin-1") if isinstance(found.pattern, bytes) else found.pattern
+    whole["pattern"] = text
+    return whole
+
+
+def from_json(given: Dict[str, Any]) -> Looked:
+    """Returns what `as_json` gave the values of."""
+    found = tuple(_found_from_json(it) for it in given["found"])
+    binds, bases = _pairs(given["binds"]), _pairs(given["bases"])
+    return Looked(given["path"], found, binds, bases, given["why"], tuple(given["left_out"]), given["is_skipped"])
+
+
+def _pairs(given: Sequence[Sequence[str]]) -> Tuple[Tuple[str, str], ...]:
+    return tuple((it[0], it[1]) for it in given)
+
+
+def _found_from_json(given: Dict[str, Any]) -> Found:
+    text: Optional[Text] = given["pattern"]
+    return Found(
+        path=given["path"], start=Place(*given["start"]), end=Place(*given["end"]), call=given["call"], taker=given["taker"],
+        pattern=text.encode("latin-1") if given["bytes"] and isinstance(text, str) else text, flags=given["flags"],
+        held=tuple(Held(*it) for it in given["held"]), notes=tuple(given["notes"]), needs=_pairs(given["needs"]),
+        why=given["why"], is_literal=given["is_literal"], engine=given["engine"], cell=given["cell"],
+    )

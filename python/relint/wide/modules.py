@@ -1,0 +1,115 @@
+"""The files of a run as modules: their trees, their scopes, and which file an import names."""
+from __future__ import annotations
+
+import ast
+import os
+import warnings
+from collections import OrderedDict
+from dataclasses import dataclass
+from typing import Callable, Dict, FrozenSet, Iterable, List, Optional, Tuple
+
+from .scopes import Scopes, read_scopes
+
+MOST_KEPT = 64
+
+
+class ModuleError(Exception):
+    """A file that can't be read as Python here; the message says why in one line."""
+
+
+@dataclass(eq=False)
+class Module:
+    """A file of the run with its text and its scopes. `lines` are those of its text with their ends."""
+
+    path: str
+    text: str
+    tree: ast.Module
+    scopes: Scopes
+
+
+def parsed(path: str, text: str) -> Module:
+    """Returns the module that a text is. Raises ModuleError where the running Python doesn't parse it."""
+    try:
+        with warnings.catch_warnings():
+            warnings.simplefilter("ignore")
+            tree = ast.parse(text)
+            return Module(path, text, tree, read_scopes(tree))
+    except SyntaxError as error:
+        raise ModuleError(f"this Python can't parse it: {error.msg}, line {error.lineno}") from error
+    except (ValueError, RecursionError, MemoryError) as error:
+        raise ModuleError(f"this Python can't parse it: {type(error).__name__}") from error
+
+
+class Modules:
+    """Finds and keeps the modules of a run. `read` gives the text of a path, or raises ModuleError."""
+
+    def __init__(self, paths: Iterable[str], read: Callable[[str], str]) -> None:
+        self._paths: FrozenSet[str] = frozenset(os.path.normpath(it) for it in paths)
+        self._read = read
+        self._named: Dict[str, List[str]] = {}
+        self._kept: "OrderedDict[str, Optional[Module]]" = OrderedDict()
+        for path in sorted(self._paths):
+            self._named.setdefault(self.name_of(path), []).append(path)
+
+    def _root(self, path: str) -> str:
+        """The folder from which a file's package is imported."""
+        folder = os.path.dirname(path)
+        while os.path.join(folder, "__init__.py") in self._paths:
+            folder = os.path.dirname(folder)
+        return folder
+
+    def name_of(self, path: str) -> str:
+        """Returns the name by which a file of the run is imported."""
+        root = self._root(path)
+        inside = os.path.relpath(path, root or ".") if root else path
+        parts = inside[:-len(".py")].split(os.sep) if inside.endswith(".py") else [inside]
+        return ".".join(parts[:-1] if parts[-1] == "__init__" else parts)
+
+    def get(self, path: str) -> Optional[Module]:
+        """Returns the module at a path of the run, or None where it can't be read."""
+        if path in self._kept:
+            self._kept.move_to_end(path)
+            return self._kept[path]
+        try:
+            found: Optional[Module] = parsed(path, self._read(path))
+        except ModuleError:
+            found = None
+        self.keep(path, found)
+        return found
+
+    def keep(self, path: str, module: Optional[Module]) -> None:
+        """Keeps a module that was parsed already."""
+        self._kept[os.path.normpath(path)] = module
+        while len(self._kept) > MOST_KEPT:
+            self._kept.popitem(last=False)
+
+    def find(self, name: str, importer: str) -> Optional[str]:
+        """Returns the path of a module that a file imports by this name, with dots in front if it is relative.
+
+        None means that it isn't a file of the run, or that several could be meant.
+        """
+        if name.startswith("."):
+            return self._relative(name, importer)
+        found = self._named.get(name, [])
+        root = self._root(os.path.normpath(importer))
+        near = [it for it in found if self._root(it) == root]
+        if len(near) == 1:
+            return near[0]
+        return found[0] if len(found) == 1 and not near else None
+
+    def _relative(self, name: str, importer: str) -> Optional[str]:
+        rest = name.lstrip(".")
+        folder = os.path.dirname(os.path.normpath(importer))
+        for _ in range(len(name) - len(rest) - 1):
+            folder = os.path.dirname(folder)
+        base = os.path.join(folder, *rest.split(".")) if rest else folder
+        for path in (os.path.join(base, "__init__.py"), base + ".py"):
+            if os.path.normpath(path) in self._paths:
+                return os.path.normpath(path)
+        return None
+
+
+def split_name(name: str) -> Tuple[str, str]:
+    """Returns a dotted name without its last part, and that part."""
+    front, _, last = name.rpartition(".")
+    return front, last

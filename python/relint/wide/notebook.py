@@ -1,0 +1,94 @@
+"""Notebooks as sources: the code of all cells in one text, with the cell and the line that each line of it comes from."""
+from __future__ import annotations
+
+import ast
+import json
+import warnings
+from dataclasses import dataclass
+from typing import Any, Iterator, List, Optional, Tuple
+
+from ..sites import LINE_END
+
+
+class NotebookError(Exception):
+    """The file is no notebook; the message says why in one line."""
+
+
+@dataclass(frozen=True)
+class Notebook:
+    """A notebook's code. `origins` has the cell and the line in it for each line of `text`; cells count from 1, all kinds.
+
+    `left_out` are the cells that can't be read as Python, each of which is blank in `text`.
+    """
+
+    text: str
+    origins: Tuple[Tuple[int, int], ...]
+    left_out: Tuple[int, ...]
+
+    def origin(self, line: int) -> Tuple[int, int]:
+        """Returns the cell and the line in it of a line of the text."""
+        return self.origins[min(max(line, 1), len(self.origins)) - 1]
+
+
+def read_notebook(data: bytes) -> Notebook:
+    """Returns the notebook of the bytes of a file. Raises NotebookError."""
+    try:
+        found = json.loads(data.decode("utf-8-sig"))
+    except (ValueError, RecursionError) as error:
+        raise NotebookError("it isn't JSON in UTF-8") from error
+    cells = _cells(found)
+    if cells is None:
+        raise NotebookError("it is JSON, but no notebook: it has no list of cells")
+    lines: List[str] = []
+    origins: List[Tuple[int, int]] = []
+    left_out: List[int] = []
+    for number, text in _code(cells):
+        of_cell = [_without_magic(it) for it in LINE_END.split(text)]
+        if text.lstrip().startswith("%%") or not _is_python("\n".join(of_cell)):
+            if not text.lstrip().startswith("%%"):
+                left_out.append(number)
+            of_cell = [""] * len(of_cell)
+        lines += of_cell
+        origins += [(number, line) for line in range(1, len(of_cell) + 1)]
+    return Notebook("\n".join(lines) + "\n", tuple(origins) or ((1, 1),), tuple(left_out))
+
+
+def _cells(found: Any) -> Optional[List[Any]]:
+    if not isinstance(found, dict):
+        return None
+    if isinstance(found.get("cells"), list):
+        return list(found["cells"])
+    sheets = found.get("worksheets")
+    if isinstance(sheets, list) and sheets and isinstance(sheets[0], dict) and isinstance(sheets[0].get("cells"), list):
+        return list(sheets[0]["cells"])
+    return None
+
+
+def _code(cells: List[Any]) -> Iterator[Tuple[int, str]]:
+    """The numbers and the texts of the cells that hold code."""
+    for number, cell in enumerate(cells, 1):
+        if not isinstance(cell, dict) or cell.get("cell_type") != "code":
+            continue
+        source = cell.get("source", cell.get("input", ""))
+        if isinstance(source, list) and all(isinstance(it, str) for it in source):
+            source = "".join(source)
+        if isinstance(source, str):
+            yield number, source
+
+
+def _without_magic(line: str) -> str:
+    """A line, or `pass` in place of one that only a notebook understands."""
+    begun = line.lstrip()
+    if begun[:1] in ("%", "!", "?") or line.rstrip().endswith("?"):
+        return line[:len(line) - len(begun)] + "pass"
+    return line
+
+
+def _is_python(text: str) -> bool:
+    try:
+        with warnings.catch_warnings():
+            warnings.simplefilter("ignore")
+            ast.parse(text)
+        return True
+    except (SyntaxError, ValueError, RecursionError, MemoryError):
+        return False

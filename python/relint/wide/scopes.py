@@ -1,0 +1,369 @@
+"""Which names the scopes of a source bind, and where: by Python's own rules, without running anything.
+
+`read_scopes` walks over a parsed source once. It needs no stack for deep sources.
+"""
+from __future__ import annotations
+
+import ast
+from dataclasses import dataclass, field
+from typing import Any, Callable, Dict, List, Optional, Set, Tuple
+
+CHANGING = frozenset((
+    "append", "extend", "insert", "remove", "pop", "clear", "sort", "reverse", "update", "setdefault", "popitem", "add",
+    "discard",
+))
+
+
+@dataclass(frozen=True)
+class Binding:
+    """One binding of a name. `kind` is value, import, class, function, parameter, or a word for what can't be followed.
+
+    `node` is the expression that gives the value, or the class; `scope` is the one that reads it. For an import, `module` is
+    the module with the dots before it, and `member` what is taken from it, or None for the module itself. `inside` is the
+    scope of a class's body.
+    """
+
+    kind: str
+    line: int
+    node: Optional[ast.AST] = None
+    scope: Optional["Scope"] = None
+    module: str = ""
+    member: Optional[str] = None
+    inside: Optional["Scope"] = None
+    conditional: bool = False
+
+
+@dataclass(eq=False)
+class Scope:
+    """A module, a class, a function (a lambda too) or a comprehension, with what it binds."""
+
+    kind: str
+    parent: Optional["Scope"]
+    node: Optional[ast.AST] = None
+    bindings: Dict[str, List[Binding]] = field(default_factory=dict)
+    outer: Dict[str, str] = field(default_factory=dict)
+
+    def top(self) -> "Scope":
+        """Returns the scope of the module."""
+        scope = self
+        while scope.parent is not None:
+            scope = scope.parent
+        return scope
+
+
+@dataclass(frozen=True)
+class Store:
+    """An assignment to an attribute: `base.name = value`; `value` is None where it isn't a plain one."""
+
+    name: str
+    base: ast.AST
+    scope: Scope
+    value: Optional[ast.AST]
+    line: int
+
+
+@dataclass
+class Scopes:
+    """What was read of a source: its module's scope, its calls and classes, and what is changed in place.
+
+    `imported` has the first names of modules that are imported anywhere; `is_open` says that names may be bound by their text.
+    """
+
+    module: Scope
+    calls: List[Tuple[ast.Call, Scope]] = field(default_factory=list)
+    classes: List[Tuple[ast.ClassDef, Scope]] = field(default_factory=list)
+    stores: Dict[str, List[Store]] = field(default_factory=dict)
+    changed: List[Tuple[ast.AST, Scope]] = field(default_factory=list)
+    stars: List[Tuple[str, int]] = field(default_factory=list)
+    imported: Set[str] = field(default_factory=set)
+    is_open: bool = False
+    inner: Dict[ast.AST, Scope] = field(default_factory=dict)
+
+    def changed_names(self) -> Set[str]:
+        """Returns the names and attributes whose values are changed in place somewhere in the source."""
+        return {last_name(node) for node, _ in self.changed}
+
+
+def last_name(node: ast.AST) -> str:
+    """Returns the last part of a dotted name, called or not; "" for what is no name."""
+    named = node.func if isinstance(node, ast.Call) else node
+    return named.attr if isinstance(named, ast.Attribute) else named.id if isinstance(named, ast.Name) else ""
+
+
+class _Reader:
+    """Walks over a tree with a list of what is still to be read: a node, its scope, and whether it may be passed by."""
+
+    def __init__(self, tree: ast.Module) -> None:
+        self.found = Scopes(Scope("module", None, tree))
+        self.left: List[Tuple[ast.AST, Scope, bool]] = []
+        self.later: List[Tuple[str, str, Binding, Scope]] = []
+        self._put(tree.body, self.found.module, False)
+
+    def read(self) -> Scopes:
+        while self.left:
+            node, scope, conditional = self.left.pop()
+            reader = READERS.get(type(node).__name__)
+            if reader is not None:
+                reader(self, node, scope, conditional)
+            else:
+                self._children(node, scope, conditional)
+        for kind, name, binding, scope in self.later:
+            self._bind_outside(kind, name, binding, scope)
+        return self.found
+
+    def _put(self, nodes: Any, scope: Scope, conditional: bool) -> None:
+        for node in reversed([it for it in nodes if it is not None]):
+            self.left.append((node, scope, conditional))
+
+    def _children(self, node: ast.AST, scope: Scope, conditional: bool) -> None:
+        inside = conditional or isinstance(node, CONDITIONAL)
+        found: List[ast.AST] = []
+        for name in node._fields:
+            value = getattr(node, name, None)
+            for it in value if isinstance(value, list) else (value,):
+                if isinstance(it, ast.AST) and type(it) not in LEAVES:
+                    found.append(it)
+        self.left += [(it, scope, inside) for it in reversed(found)]
+
+    def bind(self, name: str, binding: Binding, scope: Scope) -> None:
+        """Adds a binding to the scope. What `global` and `nonlocal` say is known only once all is read."""
+        scope.bindings.setdefault(name, []).append(binding)
+
+    def _bind_outside(self, kind: str, name: str, binding: Binding, scope: Scope) -> None:
+        """Moves the bindings of a name that is said to be of an outer scope there."""
+        target: Optional[Scope] = scope.top()
+        if kind == "nonlocal":
+            target = scope.parent
+            while target is not None and not (target.kind == "function" and name in target.bindings):
+                target = target.parent
+        found = scope.bindings.pop(name, [])
+        if target is not None and target is not scope:
+            target.bindings.setdefault(name, []).extend(found)
+
+    def target(self, node: ast.AST, value: Optional[ast.AST], scope: Scope, kind: str, conditional: bool) -> None:
+        """Reads what an assignment binds; parts of a pair or a list go with the parts of a value of the same form."""
+        if isinstance(node, ast.Name):
+            known = "value" if value is not None else kind
+            self.bind(node.id, Binding(known, node.lineno, value, scope, conditional=conditional), scope)
+        elif isinstance(node, (ast.Tuple, ast.List)):
+            for part, of in zip(node.elts, _parts(node.elts, value)):
+                self.target(part, of, scope, kind, conditional)
+        elif isinstance(node, ast.Starred):
+            self.target(node.value, None, scope, kind, conditional)
+        elif isinstance(node, ast.Attribute):
+            self.found.stores.setdefault(node.attr, []).append(Store(node.attr, node.value, scope, value, node.lineno))
+            self._put([node.value], scope, conditional)
+        elif isinstance(node, ast.Subscript):
+            self.found.changed.append((node.value, scope))
+            self._open_if_globals(node.value, scope)
+            self._put([node.value, node.slice], scope, conditional)
+
+    def _open_if_globals(self, node: ast.AST, scope: Scope) -> None:
+        """Notes that names of the module may be bound by their text: by globals(), or outside of functions by locals() too."""
+        if isinstance(node, ast.Call) and isinstance(node.func, ast.Name) and not node.args:
+            if node.func.id == "globals" or (node.func.id in ("vars", "locals") and scope.kind == "module"):
+                self.found.is_open = True
+
+    def function(self, node: Any, scope: Scope, conditional: bool) -> None:
+        """A function: its head is read outside, its body in a scope of its own."""
+        inside = Scope("function", scope, node)
+        self.found.inner[node] = inside
+        arguments = node.args
+        if not isinstance(node, ast.Lambda):
+            self.bind(node.name, Binding("function", node.lineno, node, scope, inside=inside, conditional=conditional), scope)
+            self._put([*node.decorator_list, node.returns], scope, conditional)
+            self._type_names(node, inside)
+        named = [*getattr(arguments, "posonlyargs", []), *arguments.args, *arguments.kwonlyargs]
+        for it in [*named, arguments.vararg, arguments.kwarg]:
+            if it is not None:
+                self.bind(it.arg, Binding("parameter", it.lineno, it, scope), inside)
+                self._put([it.annotation], scope, conditional)
+        self._put([*arguments.defaults, *arguments.kw_defaults], scope, conditional)
+        self._put(node.body if isinstance(node.body, list) else [node.body], inside, False)
+
+    def _type_names(self, node: Any, inside: Scope) -> None:
+        for it in getattr(node, "type_params", []):
+            self.bind(it.name, Binding("type parameter", it.lineno), inside)
+
+    def class_(self, node: ast.ClassDef, scope: Scope, conditional: bool) -> None:
+        """A class: its bases are read outside, its body in a scope that its methods don't see."""
+        inside = Scope("class", scope, node)
+        self.found.inner[node] = inside
+        self.found.classes.append((node, scope))
+        self.bind(node.name, Binding("class", node.lineno, node, scope, inside=inside, conditional=conditional), scope)
+        self._type_names(node, inside)
+        self._put([*node.decorator_list, *node.bases, *node.keywords], scope, conditional)
+        self._put(node.body, inside, False)
+
+    def comprehension(self, node: Any, scope: Scope, conditional: bool) -> None:
+        """A comprehension: the first sequence is read outside, all else in a scope of its own."""
+        inside = Scope("comprehension", scope, node)
+        self.found.inner[node] = inside
+        elements = [node.key, node.value] if isinstance(node, ast.DictComp) else [node.elt]
+        for number, it in enumerate(node.generators):
+            self.target(it.target, None, inside, "loop", True)
+            self._put([it.iter], scope if number == 0 else inside, conditional)
+            self._put(it.ifs, inside, True)
+        self._put(elements, inside, True)
+
+    def assign(self, node: ast.Assign, scope: Scope, conditional: bool) -> None:
+        """An assignment, to one target or several."""
+        for it in node.targets:
+            self.target(it, node.value, scope, "value", conditional)
+        self._put([node.value], scope, conditional)
+
+    def annotated(self, node: ast.AnnAssign, scope: Scope, conditional: bool) -> None:
+        """An assignment with a type; without a value it only makes the name one of its scope."""
+        if node.value is not None:
+            self.target(node.target, node.value, scope, "value", conditional)
+        elif isinstance(node.target, ast.Name) and scope.kind == "function":
+            scope.bindings.setdefault(node.target.id, [])
+        self._put([node.value, node.annotation], scope, conditional)
+
+    def augmented(self, node: ast.AugAssign, scope: Scope, conditional: bool) -> None:
+        """An assignment as `+=`."""
+        self.target(node.target, None, scope, "changed", conditional)
+        if isinstance(node.target, (ast.Name, ast.Attribute)):
+            self.found.changed.append((node.target, scope))
+        self._put([node.value], scope, conditional)
+
+    def walrus(self, node: ast.NamedExpr, scope: Scope, conditional: bool) -> None:
+        """`(name := value)`, which a comprehension binds outside of itself."""
+        outside = scope
+        while outside.kind == "comprehension" and outside.parent is not None:
+            outside = outside.parent
+        self.bind(node.target.id, Binding("walrus", node.lineno, node.value, scope, conditional=True), outside)
+        self._put([node.value], scope, conditional)
+
+    def loop(self, node: Any, scope: Scope, conditional: bool) -> None:
+        """A `for` loop."""
+        self.target(node.target, None, scope, "loop", True)
+        self._put([node.iter], scope, conditional)
+        self._put([*node.body, *node.orelse], scope, True)
+
+    def with_item(self, node: ast.withitem, scope: Scope, conditional: bool) -> None:
+        """An item of `with`."""
+        if node.optional_vars is not None:
+            self.target(node.optional_vars, None, scope, "with", conditional)
+        self._put([node.context_expr], scope, conditional)
+
+    def handler(self, node: ast.ExceptHandler, scope: Scope, conditional: bool) -> None:
+        """An `except` clause, whose name is bound and deleted."""
+        if node.name:
+            self.bind(node.name, Binding("except", node.lineno), scope)
+        self._put([node.type, *node.body], scope, True)
+
+    def capture(self, node: Any, scope: Scope, conditional: bool) -> None:
+        """A part of a `case` that binds a name."""
+        name = node.rest if type(node).__name__ == "MatchMapping" else node.name
+        if name:
+            self.bind(name, Binding("match", node.lineno), scope)
+        self._children(node, scope, True)
+
+    def deleted(self, node: ast.Delete, scope: Scope, conditional: bool) -> None:
+        """`del`, which counts as a binding that can't be followed."""
+        for it in node.targets:
+            self.target(it, None, scope, "deleted", conditional)
+
+    def imports(self, node: ast.Import, scope: Scope, conditional: bool) -> None:
+        """`import a.b` binds `a`, and with `as` the module itself."""
+        for it in node.names:
+            self.found.imported.add(it.name.split(".")[0])
+            name, module = (it.asname, it.name) if it.asname else (it.name.split(".")[0], it.name.split(".")[0])
+            self.bind(name, Binding("import", node.lineno, module=module, conditional=conditional), scope)
+
+    def imports_from(self, node: ast.ImportFrom, scope: Scope, conditional: bool) -> None:
+        """`from .a import b`, and the star."""
+        module = "." * node.level + (node.module or "")
+        self.found.imported.add(module.split(".")[0])
+        for it in node.names:
+            if it.name == "*":
+                self.found.stars.append((module, node.lineno))
+                continue
+            binding = Binding("import", node.lineno, module=module, member=it.name, conditional=conditional)
+            self.bind(it.asname or it.name, binding, scope)
+
+    def outer(self, node: Any, scope: Scope, conditional: bool) -> None:
+        """`global` and `nonlocal`."""
+        kind = "global" if isinstance(node, ast.Global) else "nonlocal"
+        for name in node.names:
+            if name not in scope.outer:
+                scope.outer[name] = kind
+                self.later.append((kind, name, Binding(kind, node.lineno), scope))
+
+    def call(self, node: ast.Call, scope: Scope, conditional: bool) -> None:
+        """A call, which is noted; some change what they are called on."""
+        self.found.calls.append((node, scope))
+        function = node.func
+        if isinstance(function, ast.Attribute) and function.attr in CHANGING:
+            self.found.changed.append((function.value, scope))
+            if function.attr == "update":
+                self._open_if_globals(function.value, scope)
+        elif isinstance(function, ast.Name) and function.id == "exec" and len(node.args) == 1 and scope.kind == "module":
+            self.found.is_open = True
+        elif isinstance(function, ast.Name) and function.id in ("setattr", "delattr") and len(node.args) > 1:
+            self._set_by_name(node, scope)
+        self._children(node, scope, conditional)
+
+    def _set_by_name(self, node: ast.Call, scope: Scope) -> None:
+        name = node.args[1]
+        if isinstance(name, ast.Constant) and isinstance(name.value, str):
+            self.found.stores.setdefault(name.value, []).append(Store(name.value, node.args[0], scope, None, node.lineno))
+
+    def alias(self, node: Any, scope: Scope, conditional: bool) -> None:
+        """`type X = ..`"""
+        self.target(node.name, None, scope, "type", conditional)
+
+
+def _parts(targets: List[ast.expr], value: Optional[ast.AST]) -> List[Optional[ast.AST]]:
+    """The parts of a value that go with targets, or as many None."""
+    if isinstance(value, (ast.Tuple, ast.List)) and len(value.elts) == len(targets):
+        if not any(isinstance(it, ast.Starred) for it in [*targets, *value.elts]):
+            return list(value.elts)
+    return [None] * len(targets)
+
+
+CONDITIONAL = tuple(
+    getattr(ast, name) for name in ("If", "While", "Try", "TryStar", "match_case", "IfExp", "BoolOp") if hasattr(ast, name)
+)
+# Nodes below which nothing is bound or called.
+LEAVES = frozenset(
+    kind for kind in vars(ast).values()
+    if isinstance(kind, type) and (
+        issubclass(kind, (ast.operator, ast.unaryop, ast.boolop, ast.cmpop, ast.expr_context))
+        or kind in (ast.Name, ast.Constant, ast.Pass, ast.Break, ast.Continue)
+    )
+)
+READERS: Dict[str, Callable[[_Reader, Any, Scope, bool], None]] = {
+    "FunctionDef": _Reader.function, "AsyncFunctionDef": _Reader.function, "Lambda": _Reader.function,
+    "ClassDef": _Reader.class_, "ListComp": _Reader.comprehension, "SetComp": _Reader.comprehension,
+    "DictComp": _Reader.comprehension, "GeneratorExp": _Reader.comprehension, "Assign": _Reader.assign,
+    "AnnAssign": _Reader.annotated, "AugAssign": _Reader.augmented, "NamedExpr": _Reader.walrus, "For": _Reader.loop,
+    "AsyncFor": _Reader.loop, "withitem": _Reader.with_item, "ExceptHandler": _Reader.handler, "MatchAs": _Reader.capture,
+    "MatchStar": _Reader.capture, "MatchMapping": _Reader.capture, "Delete": _Reader.deleted, "Import": _Reader.imports,
+    "ImportFrom": _Reader.imports_from, "Global": _Reader.outer, "Nonlocal": _Reader.outer, "Call": _Reader.call,
+    "TypeAlias": _Reader.alias,
+}
+
+
+def read_scopes(tree: ast.Module) -> Scopes:
+    """Returns what a parsed source binds, calls and changes."""
+    return _Reader(tree).read()
+
+
+def lookup(name: str, scope: Scope) -> Tuple[Optional[Scope], List[Binding]]:
+    """Returns the scope that a name is read from, and the bindings that it has there; None and none if nothing binds it.
+
+    The scope of a class is looked into only by what stands directly in its body.
+    """
+    at: Optional[Scope] = scope
+    is_first = True
+    while at is not None:
+        said = at.outer.get(name)
+        if said == "global":
+            at = scope.top()
+            return at, at.bindings.get(name, [])
+        if said is None and name in at.bindings and (is_first or at.kind != "class"):
+            return at, at.bindings[name]
+        at, is_first = at.parent, False
+    return None, []

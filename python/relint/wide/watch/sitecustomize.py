@@ -1,0 +1,140 @@
+"""Put first on the path of a program that relint-record runs: notes each pattern that `re` or `regex` is asked for.
+
+It changes nothing else: the module's own function does the work, a sitecustomize that was there before is run, and errors of
+the notes are silent. It imports almost nothing, since it is run at the start of each Python.
+"""
+import os
+import sys
+
+TYPE_CHECKING = False
+if TYPE_CHECKING:
+    from typing import Any, Set, Tuple
+
+WATCHED = ("re", "regex.regex", "regex._main")
+# Of each process at most so many patterns are noted, and none that is longer.
+MOST = 200000
+LONGEST = 100000
+FOLDER = os.environ.get("RELINT_RECORD", "")
+
+
+class Notes:
+    """The notes of one process: a line for each new pattern at each place, written at once."""
+
+    def __init__(self) -> None:
+        self.seen: "Set[Any]" = set()
+        self.file: "Any" = None
+        self.process = 0
+
+    def note(self, engine: str, module: "Any", pattern: "Any", flags: "Any") -> None:
+        """Notes a pattern with the function that was called and the place that called it."""
+        try:
+            frame = sys._getframe(2)
+            method = frame.f_code
+            caller: "Any" = frame
+            if frame.f_globals is module.__dict__ and frame.f_back is not None:
+                caller = frame.f_back
+            key = (pattern, flags, method, caller.f_code, caller.f_lineno)
+            if key in self.seen:
+                return
+            self.seen.add(key)
+            if isinstance(pattern, (str, bytes)):
+                name = method.co_name if caller is not frame else "compile"
+                self._write(engine, name, pattern, int(flags), caller.f_code.co_filename, caller.f_lineno)
+        except Exception:
+            pass
+
+    def _write(self, engine: str, name: str, pattern: "Any", flags: int, path: str, line: int) -> None:
+        if len(self.seen) > MOST or len(pattern) > LONGEST:
+            said: "Tuple[Any, ...]" = ("left out", engine, name, "", 0, "", 0)
+        else:
+            said = ("made", engine, name, pattern, flags, path if path.startswith("<") else os.path.abspath(path), line)
+        if self.process != os.getpid():
+            self.process = os.getpid()
+            name = "{}-{}".format(self.process, os.urandom(4).hex())
+            self.file = os.open(os.path.join(FOLDER, name), os.O_WRONLY | os.O_CREAT | os.O_APPEND | os.O_EXCL, 0o600)
+        os.write(self.file, ascii(said).encode("ascii") + b"\n")
+
+
+class Loader:
+    """Loads a watched module with its own loader, and watches it then."""
+
+    def __init__(self, inner: "Any") -> None:
+        self.inner = inner
+
+    def __getattr__(self, name: str) -> "Any":
+        return getattr(self.inner, name)
+
+    def create_module(self, spec: "Any") -> "Any":
+        """Makes the module as its loader does."""
+        return self.inner.create_module(spec)
+
+    def exec_module(self, module: "Any") -> None:
+        """Runs the module as its loader does."""
+        module.__spec__.loader = module.__loader__ = self.inner
+        self.inner.exec_module(module)
+        watch(module)
+
+
+class Finder:
+    """Finds the watched modules as the other finders do."""
+
+    def find_spec(self, name: str, path: "Any" = None, target: "Any" = None) -> "Any":
+        """Returns what the other finders say, with a loader that watches."""
+        if name not in WATCHED:
+            return None
+        finders: "Any" = sys.meta_path
+        for finder in finders:
+            if finder is not self and hasattr(finder, "find_spec"):
+                spec = finder.find_spec(name, path, target)
+                if spec is not None:
+                    if spec.loader is not None:
+                        spec.loader = Loader(spec.loader)
+                    return spec
+        return None
+
+
+NOTES = Notes()
+
+
+def watch(module: "Any") -> None:
+    """Has a module note each pattern that its functions are given."""
+    inner: "Any" = getattr(module, "_compile", None)
+    if inner is None or hasattr(inner, "relint_record"):
+        return
+    engine = module.__name__.split(".")[0]
+
+    def _compile(pattern: "Any", flags: "Any", *more: "Any", **named: "Any") -> "Any":
+        NOTES.note(engine, module, pattern, flags)
+        return inner(pattern, flags, *more, **named)
+
+    _compile.relint_record = True  # type: ignore[attr-defined]
+    module._compile = _compile
+
+
+def go_on() -> None:
+    """Runs the sitecustomize that would have been run without this one."""
+    here = os.path.dirname(os.path.abspath(__file__))
+    sys.path[:] = [it for it in sys.path if os.path.abspath(it) != here]
+    from importlib.machinery import PathFinder
+
+    spec = PathFinder.find_spec("sitecustomize", sys.path)
+    if spec is None or spec.loader is None:
+        return
+    from importlib.util import module_from_spec
+
+    module = module_from_spec(spec)
+    sys.modules["sitecustomize"] = module
+    spec.loader.exec_module(module)
+
+
+def main() -> None:
+    """Watches what is there, and what will be imported."""
+    if FOLDER and os.path.isdir(FOLDER):
+        sys.meta_path.insert(0, Finder())
+        for name in WATCHED:
+            if name in sys.modules:
+                watch(sys.modules[name])
+    go_on()
+
+
+main()

@@ -1,0 +1,155 @@
+"""Writes what others chose, as names and patterns, so that no terminal, build server or file system obeys it."""
+from __future__ import annotations
+
+import os
+import re
+import stat
+
+from .opening import OpenError, names_below, open_folder, read_in, reason
+
+TYPE_CHECKING = False
+if TYPE_CHECKING:  # (it takes as long to import as thousands of files take to list)
+    from typing import List, Optional, Tuple
+
+# What Python counts as printable, though nothing is seen of it: fillers, joiners, and selectors of a letter's form.
+UNSEEN = frozenset(map(chr, (
+    0x034F, 0x115F, 0x1160, 0x17B4, 0x17B5, *range(0x180B, 0x1810), 0x2800, 0x3164, *range(0xFE00, 0xFE10), 0xFFA0,
+    *range(0xE0100, 0xE01F0),
+)))
+# What a build server takes as a command wherever it is in a line, as ##[error] and ##vso[..].
+SERVER_COMMAND = re.compile(r"##(?=[a-z]*\[)")
+OWN_FILE = os.O_WRONLY | os.O_CREAT | os.O_EXCL | os.O_NOFOLLOW | os.O_CLOEXEC
+
+
+class WriteError(Exception):
+    """A file can't be written, or may not be; the message says why, without the file's name."""
+
+
+def is_seen(letter: str) -> bool:
+    """Returns whether a character shows itself and nothing else: no control code, mark of direction, line end or lone half."""
+    return letter.isprintable() and letter not in UNSEEN
+
+
+def _escape(letter: str) -> str:
+    code = ord(letter)
+    if code < 0x100:
+        return letter.encode("unicode_escape").decode("ascii")
+    return f"\\u{code:04x}" if code < 0x10000 else f"\\U{code:08x}"
+
+
+def escaped(text: str, but: str = "") -> str:
+    """Returns a text with everything that doesn't show itself written as an escape, except some characters."""
+    if text.isascii() and text.isprintable():
+        return text
+    return "".join(it if is_seen(it) or it in but else _escape(it) for it in text)
+
+
+def visible(text: str) -> str:
+    """Returns a text with everything that a terminal or a build server could take as a command written as an escape."""
+    shown = escaped(text)
+    return SERVER_COMMAND.sub(r"#\\x23", shown) if "##" in shown else shown
+
+
+def line(text: str) -> str:
+    """Returns a text as a line that shows it, also where a build server reads it: no line that it shows begins with `::`."""
+    shown = visible(text)
+    start = len(shown) - len(shown.lstrip())
+    return shown[:start] + "\\x3a" + shown[start + 1:] if shown.startswith("::", start) else shown
+
+
+def _data(text: str) -> str:
+    """A text as the message of a workflow command: what would end it is coded; what else can't be seen is an escape."""
+    coded = {"%": "%25", "\r": "%0D", "\n": "%0A"}
+    return "".join(coded.get(it) or visible(it) for it in re.split("([%\r\n])", text))
+
+
+def _property(text: str) -> str:
+    """A text as a property of a workflow command, which a colon or a comma would end too."""
+    return _data(text).replace(":", "%3A").replace(",", "%2C")
+
+
+def workflow_command(level: str, properties: List[Tuple[str, str]], message: str) -> str:
+    """Returns a line by which a build server shows a message: a level (error, warning or notice), and properties as file."""
+    parts = ",".join(f"{name}={_property(value)}" for name, value in properties)
+    return f"::{level} {parts}::{_data(message)}"
+
+
+def replace_file(path: str, data: bytes, was: Optional[bytes] = None, within: str = os.curdir) -> List[str]:
+    """Puts bytes in the place of a file, or makes it: written beside it, flushed and renamed, so it is the old one or the new.
+
+    Its mode and owner are kept; returns in words what couldn't be kept. Raises WriteError where it is a link or no regular
+    file, where it lies in the folder `within` and a name between the two is a link, where it can't be written, and, if `was`
+    says what has to be in it, where it has something else. Then the old file stays as it was.
+    """
+    names = names_below(path, within)
+    try:
+        folder = open_folder(*((within, names[:-1]) if names else (os.path.dirname(path), [])))
+        try:
+            return _replace(folder, os.path.basename(path), data, was)
+        finally:
+            os.close(folder)
+    except (OSError, ValueError) as error:
+        raise WriteError(reason(error)) from error
+
+
+def _replace(folder: int, name: str, data: bytes, was: Optional[bytes]) -> List[str]:
+    old = _status(folder, name)
+    beside = f".relint-{os.getpid()}-{os.urandom(6).hex()}"
+    file = os.open(beside, OWN_FILE, 0o666 if old is None else 0o600, dir_fd=folder)
+    try:
+        try:
+            lost = [] if old is None else _keep(file, old)
+            _write(file, data)
+            os.fsync(file)
+        finally:
+            os.close(file)
+        if was is not None:
+            _compare(folder, name, was)
+        os.rename(beside, name, src_dir_fd=folder, dst_dir_fd=folder)
+    except BaseException:
+        os.unlink(beside, dir_fd=folder)
+        raise
+    return lost
+
+
+def _status(folder: int, name: str) -> Optional[os.stat_result]:
+    """What is known of a file that is there. Raises WriteError where it isn't a regular one."""
+    try:
+        found = os.stat(name, dir_fd=folder, follow_symlinks=False)
+    except FileNotFoundError:
+        return None
+    if not stat.S_ISREG(found.st_mode):
+        raise WriteError("it is a link" if stat.S_ISLNK(found.st_mode) else "it is no regular file")
+    return found
+
+
+def _keep(file: int, old: os.stat_result) -> List[str]:
+    """Gives a new file the owner and the mode of the old one; returns in words what it can't be given."""
+    lost = []
+    new = os.fstat(file)
+    if (new.st_uid, new.st_gid) != (old.st_uid, old.st_gid):
+        try:
+            os.fchown(file, old.st_uid, old.st_gid)
+        except OSError:
+            lost.append("it has another owner or group now")
+    # (a file that changed its owner must not run with the rights of the new one)
+    os.fchmod(file, stat.S_IMODE(old.st_mode) & (0o777 if lost else 0o7777))
+    if old.st_nlink > 1:
+        others = old.st_nlink - 1
+        lost.append(f"{others} other name{'' if others == 1 else 's'} of the file (hard links) keep the old text")
+    return lost
+
+
+def _write(file: int, data: bytes) -> None:
+    left = memoryview(data)
+    while left:
+        left = left[os.write(file, left):]
+
+
+def _compare(folder: int, name: str, was: bytes) -> None:
+    try:
+        same = read_in(folder, name, len(was)) == was
+    except (OSError, OpenError):
+        same = False
+    if not same:
+        raise WriteError("it changed meanwhile")

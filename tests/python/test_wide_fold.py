@@ -1,0 +1,281 @@
+"""Folding expressions of sources to patterns: what is known, and above all what isn't."""
+from __future__ import annotations
+
+import textwrap
+import unittest
+from typing import Dict, List, Tuple, Union
+
+from relint.wide.find import Finder, Found
+from relint.wide.fold import Folder
+from relint.wide.modules import ModuleError, Modules, parsed
+from relint.wide.takers import own_takers
+
+Text = Union[str, bytes]
+
+
+def found_in(source: str, **others: str) -> List[Found]:
+    """What is found in a source, beside other files of its package."""
+    files: Dict[str, str] = {f"pkg/{name}.py": textwrap.dedent(text) for name, text in others.items()}
+    files["pkg/__init__.py"] = files.get("pkg/__init__.py", "")
+    files["pkg/main.py"] = textwrap.dedent(source)
+
+    def read(path: str) -> str:
+        return files[path]
+
+    modules = Modules(files, read)
+    module = parsed("pkg/main.py", files["pkg/main.py"])
+    modules.keep(module.path, module)
+    return Finder(Folder(modules), own_takers()).find(module)
+
+
+def only(source: str, **others: str) -> Found:
+    """The one pattern of a source that isn't a whole literal."""
+    its = [it for it in found_in("import re\n" + textwrap.dedent(source), **others) if not it.is_literal]
+    assert len(its) == 1, its
+    return its[0]
+
+
+# Sources whose last call has this pattern.
+KNOWN: Tuple[Tuple[str, Text], ...] = (
+    ("P = r'a+'\nre.compile(P)", "a+"),
+    ("P: str = 'a'\nre.compile(P)", "a"),
+    ("P = Q = 'a'\nre.compile(Q)", "a"),
+    ("P, Q = 'a', 'b'\nre.compile(Q)", "b"),
+    ("P = 'a' 'b'\nre.compile(P + 'c')", "abc"),
+    ("re.compile('a' + 'b' * 3)", "abbb"),
+    ("W = r'\\w+'\nre.compile('^%s$' % W)", r"^\w+$"),
+    ("W = 'a'\nre.compile('%s-%s%%' % (W, 'b'))", "a-b%"),
+    ("re.compile('a{%d}' % 3)", "a{3}"),
+    ("re.compile('%(one)s' % {'one': 'a'})", "a"),
+    ("W = 'a'\nre.compile('{}{{2}}{0}'.format(W) if False else W)", ""),
+    ("W = 'a'\nre.compile('{0}{{2}}{0}'.format(W))", "a{2}a"),
+    ("W = 'a'\nre.compile('{w}|{}'.format('b', w=W))", "a|b"),
+    ("W = 'a'\nre.compile(f'^{W}{{2}}$')", "^a{2}$"),
+    ("N = 3\nre.compile(f'a{{{N}}}')", "a{3}"),
+    ("WORDS = ('a', 'b')\nre.compile('|'.join(WORDS))", "a|b"),
+    ("WORDS = ['a.', 'b']\nre.compile('|'.join(re.escape(it) for it in WORDS))", r"a\.|b"),
+    ("WORDS = ['a.', 'b']\nre.compile('|'.join(map(re.escape, WORDS)))", r"a\.|b"),
+    ("D = {'a': 'x', 'b': 'y'}\nre.compile('|'.join(D))", "a|b"),
+    ("D = {'a': 'x', 'b': 'y'}\nre.compile('|'.join(D.values()))", "x|y"),
+    ("D = {'a': 'x'}\nre.compile(D['a'])", "x"),
+    ("WORDS = ['b', 'a']\nre.compile('|'.join(sorted(WORDS)))", "a|b"),
+    ("WORDS = ('a', 'b')\nre.compile(WORDS[-1] + WORDS[0])", "ba"),
+    ("P = 'abc'\nre.compile(P[1:])", "bc"),
+    ("re.compile(re.escape('a.b') + '+')", r"a\.b+"),
+    ("import textwrap\nP = '''\n    a\n      b\n'''\nre.compile(textwrap.dedent(P), re.X)", "\na\n  b\n"),
+    ("from textwrap import dedent\nre.compile(dedent('  a'))", "a"),
+    ("P = 'a'\nre.compile(P.encode('ascii'))", b"a"),
+    ("P = b'a'\nre.compile(P + b'b')", b"ab"),
+    ("P = 'a-b'\nre.compile(P.replace('-', '+'))", "a+b"),
+    ("class A:\n    P = 'a'\n    Q = re.compile(P)", "a"),
+    ("class A:\n    P = 'a'\n    def f(self):\n        return re.search(self.P, 'x')", "a"),
+    ("class A:\n    P = 'a'\n    @classmethod\n    def f(cls):\n        return re.search(cls.P, 'x')", "a"),
+    ("class A:\n    P = 'a'\nre.compile(A.P)", "a"),
+    ("class B:\n    P = 'a'\nclass A(B):\n    def f(self):\n        re.compile(self.P)", "a"),
+    ("class A:\n    def __init__(self):\n        self.p = 'a'\n    def f(self):\n        re.compile(self.p)", "a"),
+    ("from enum import Enum\nclass E(Enum):\n    P = 'a'\nre.compile(E.P.value)", "a"),
+    ("from dataclasses import dataclass\n@dataclass\nclass A:\n    p: str = 'a'\nre.compile(A.p)", "a"),
+    ("def f():\n    p = 'a'\n    return re.compile(p)", "a"),
+    ("def f():\n    p = 'a'\n    def g():\n        return re.compile(p)\n    return g", "a"),
+    ("P = 'a'\nclass A:\n    P = 'b'\n    def f(self):\n        re.compile(P)", "a"),
+    ("P = 'a'\ndef f(it):\n    return [re.compile(P) for it in it]", "a"),
+    ("def f():\n    global P\n    P = 'a'\ndef g():\n    re.compile(P)", "a"),
+    ("if True:\n    P = 'a'\nre.compile(P)", "a"),
+    ("c = re.compile\nP = 'a'\nc(P)", "a"),
+    ("from re import compile as c, I\nP = 'a'\nc(P, I)", "a"),
+    ("P = 'a'\ndef f():\n    import re as r\n    r.search(P, 'x')", "a"),
+    ("P = 'a'\nre.sub(pattern=P, repl='', string='')", "a"),
+    ("P = [*('a', 'b'), 'c']\nre.compile(''.join(P))", "abc"),
+)
+
+# Sources whose call has no pattern that is known, with the reason.
+UNKNOWN: Tuple[Tuple[str, str], ...] = (
+    ("def f(p):\n    re.compile(p)", "parameter"),
+    ("def f(p='a'):\n    re.compile(p)", "parameter"),
+    ("P = 'a'\ndef f(P):\n    re.compile(P)", "parameter"),
+    ("P = 'a'\nf = lambda P: re.compile(P)", "parameter"),
+    ("P = 'a'\ndef f(*P):\n    re.compile(P)", "parameter"),
+    ("if x:\n    P = 'a'\nelse:\n    P = 'b'\nre.compile(P)", "bound more than once"),
+    ("P = 'a'\nP = 'b'\nre.compile(P)", "bound more than once"),
+    ("P = 'a'\nP += 'b'\nre.compile(P)", "bound more than once"),
+    ("P = 'a'\ndel P\nre.compile(P)", "bound more than once"),
+    ("P = 'a'\ndef f():\n    global P\n    P = 'b'\nre.compile(P)", "bound more than once"),
+    ("def f():\n    p = 'a'\n    def g():\n        nonlocal p\n        p = 'b'\n    re.compile(p)", "bound more than once"),
+    ("try:\n    P = 'a'\nexcept E:\n    P = 'b'\nre.compile(P)", "bound more than once"),
+    ("for P in x:\n    re.compile(P)", "loop"),
+    ("P = 'a'\nfor P in x:\n    pass\nre.compile(P)", "bound more than once"),
+    ("[re.compile(P) for P in x]", "loop"),
+    ("P = 'a'\n[re.compile(P) for P in x]", "loop"),
+    ("with x as P:\n    re.compile(P)", "with"),
+    ("try:\n    pass\nexcept E as P:\n    re.compile(P)", "except"),
+    ("if (P := 'a'):\n    re.compile(P)", "walrus"),
+    ("P = P + 'a'\nre.compile(P)", "recursion"),
+    ("A = B + 'a'\nB = A + 'b'\nre.compile(A)", "recursion"),
+    ("re.compile(P)", "not bound"),
+    ("from elsewhere import P\nre.compile(P)", "import from outside"),
+    ("P = 'a'\nfrom elsewhere import *\nre.compile(P)", "star import"),
+    ("from elsewhere import *\nre.compile(P)", "star import"),
+    ("def P():\n    pass\nre.compile(P)", "function"),
+    ("class P:\n    pass\nre.compile(P)", "class"),
+    ("re.compile(f())", "call"),
+    ("re.compile(x.y)", "attribute"),
+    ("W = 'a'\nre.compile('%5s' % W)", "formatting with a width"),
+    ("W = 'a'\nre.compile(f'{W:>5}')", "formatting with a width"),
+    ("W = 'a'\nre.compile('{:>5}'.format(W))", "formatting with a width"),
+    ("re.compile('%s %s' % ('a',))", "formatting that fails"),
+    ("W = ['a']\nW.append('b')\nre.compile('|'.join(W))", "changed in place"),
+    ("W = ['a']\nW[0] = 'b'\nre.compile('|'.join(W))", "changed in place"),
+    ("W = {'a': 'b'}\nW.update(x)\nre.compile('|'.join(W))", "changed in place"),
+    ("W = {'a', 'b'}\nre.compile('|'.join(W))", "expression"),
+    ("P = 'a' if x else 'b'\nre.compile(P)", "choice"),
+    ("P = x or 'b'\nre.compile(P)", "choice"),
+    ("P = 'a'\nglobals()['P'] = 'b'\nre.compile(P)", "names set by exec or globals()"),
+    ("P = 'a'\nexec('P = 1')\nre.compile(P)", "names set by exec or globals()"),
+    ("class A:\n    P = 'a'\n    def f(self):\n        self.P = 'b'\n        re.compile(self.P)", "attribute that is set"),
+    ("class A:\n    P = 'a'\nsetattr(A, 'P', 'b')\nre.compile(A.P)", "attribute that is set"),
+    ("class A:\n    @staticmethod\n    def f(self):\n        re.compile(self.P)\n    P = 'a'", "attribute"),
+    ("class A:\n    re.compile(P)\n    P = 'b'\nP = 'a'", "bound later"),
+    ("P = 'a'\nclass A:\n    if x:\n        P = 'b'\n    re.compile(P)", "bound in a branch"),
+    ("from enum import Enum\nclass E(Enum):\n    P = 'a'\nre.compile(E.P)", "member of an enum"),
+    ("from typing import NamedTuple\nclass A(NamedTuple):\n    p: str = 'a'\nre.compile(A.p)", "field"),
+    ("P = 'a'\nre.compile(P, f())", "flags: call"),
+    ("P = 'a'\nF = re.I\nF |= re.M\nre.compile(P, F)", "flags: bound more than once"),
+    ("P = 'a' * 200000\nre.compile(P)", "too large"),
+    ("A = 'aaaa'\n" + "".join(f"{b} = {a} * 9\n" for a, b in zip("ABCDEFG", "BCDEFGH")) + "re.compile(H)", "too large"),
+    ("P = 3\nre.compile(P)", "not a text"),
+    ("re.compile()", "no pattern argument"),
+    ("re.compile(*x)", "no pattern argument"),
+)
+
+
+class Known(unittest.TestCase):
+    """What is folded."""
+
+    def test_patterns(self) -> None:
+        for source, pattern in KNOWN:
+            if pattern == "":
+                continue
+            with self.subTest(source=source):
+                found = only(source)
+                self.assertEqual((found.pattern, found.why), (pattern, ""))
+
+    def test_value_is_that_of_python(self) -> None:
+        for source, pattern in KNOWN:
+            if pattern == "" or "def " in source or "class" in source:
+                continue
+            with self.subTest(source=source):
+                taken: List[Text] = []
+                names: Dict[str, object] = {"keep": lambda it, *_: taken.append(it)}
+                exec("import re\n" + source.replace("re.compile(", "keep("), names)
+                self.assertEqual(taken or [pattern], [pattern])
+
+    def test_flags(self) -> None:
+        for words, flags in (
+            ("re.I", 2), ("re.IGNORECASE | re.M", 10), ("F", 24), ("0", 0), ("flags=F | re.X", 88), ("re.RegexFlag.S", 16),
+        ):
+            with self.subTest(words=words):
+                self.assertEqual(only(f"P = 'a'\nF = re.M | re.S\nre.compile(P, {words})").flags, flags)
+
+    def test_flags_of_sub_are_its_fifth_argument(self) -> None:
+        self.assertEqual(only("P = 'a'\nre.sub(P, '', 'x', 0, re.I)").flags, 2)
+
+    def test_names_are_told_with_their_lines(self) -> None:
+        found = only("A = 'a'\nB = A + 'b'\nre.compile(B)")
+        self.assertEqual([(it.name, it.path, it.line) for it in found.held],
+                         [("B", "pkg/main.py", 3), ("A", "pkg/main.py", 2)])
+
+    def test_place_is_that_of_the_first_literal(self) -> None:
+        found = only("A = 'a'\né = re.compile('é' 'b'\n  + A)")
+        self.assertEqual((found.start.line, found.start.column, found.end.line, found.end.column), (3, 16, 4, 6))
+
+    def test_stand_in_is_said(self) -> None:
+        found = only("def f(name):\n    re.compile('^' + re.escape(name) + r'\\w+')")
+        self.assertEqual(found.pattern, r"^word\w+")
+        self.assertEqual(found.notes, ("with 'word' for re.escape(name)",))
+
+    def test_stand_in_for_several(self) -> None:
+        found = only("def f(names):\n    re.compile('|'.join(re.escape(it) for it in names))")
+        self.assertEqual(found.pattern, "word|text")
+        self.assertIn("re.escape(it)", found.notes[0])
+
+    def test_default_of_a_field_is_said(self) -> None:
+        found = only("from dataclasses import dataclass\n@dataclass\nclass A:\n    p: str = 'a'\n"
+                     "    def f(self):\n        re.compile(self.p)")
+        self.assertEqual(found.pattern, "a")
+        self.assertIn("default", found.notes[0])
+
+
+class Unknown(unittest.TestCase):
+    """What isn't folded, as it may have another value."""
+
+    def test_reasons(self) -> None:
+        for source, why in UNKNOWN:
+            with self.subTest(source=source):
+                found = only(source)
+                self.assertEqual((found.pattern, found.why), (None, why))
+
+    def test_match_captures(self) -> None:
+        try:
+            found = only("match x:\n    case P:\n        re.compile(P)")
+        except ModuleError:
+            self.skipTest("this Python has no match")
+        self.assertEqual(found.why, "match")
+
+    def test_work_on_one_file_is_limited(self) -> None:
+        names = "".join(f"A{it} = [*A{it - 1}, *A{it - 1}]\n" for it in range(1, 30))
+        found = only("A0 = ['a']\n" + names + "re.compile(''.join(A29))")
+        self.assertIn(found.why, ("too large", "too much work", "too deep"))
+
+    def test_a_long_sum_isnt_deep(self) -> None:
+        self.assertEqual(only("P = " + " + ".join(["'a'"] * 500) + "\nre.compile(P)").pattern, "a" * 500)
+
+    def test_nested_deep(self) -> None:
+        self.assertEqual(only("P = 'a'\nre.compile(" + "(P + " * 70 + "'b'" + ")" * 70 + ")").why, "too deep")
+
+    def test_a_source_of_another_python_is_named(self) -> None:
+        with self.assertRaisesRegex(ModuleError, "this Python can't parse it: .*line 1"):
+            parsed("a.py", "print 'x'\n")
+
+
+class Imports(unittest.TestCase):
+    """Names of other files of the run."""
+
+    def test_from_a_file_beside(self) -> None:
+        for source in ("from .consts import P\nre.compile(P)", "from pkg.consts import P as Q\nre.compile(Q)",
+                       "from . import consts\nre.compile(consts.P)", "import pkg.consts as c\nre.compile(c.P)",
+                       "import pkg.consts\nre.compile(pkg.consts.P)", "from .consts import *\nre.compile(P)"):
+            with self.subTest(source=source):
+                found = only(source, consts="P = 'a+'\n")
+                self.assertEqual((found.pattern, found.held[-1].path, found.held[-1].line), ("a+", "pkg/consts.py", 1))
+
+    def test_through_another_file(self) -> None:
+        found = only("from .b import P\nre.compile(P)", b="from .c import P\n", c="P = 'a'\n")
+        self.assertEqual(found.pattern, "a")
+
+    def test_class_of_another_file(self) -> None:
+        self.assertEqual(only("from .b import A\nre.compile(A.P)", b="class A:\n    P = 'a'\n").pattern, "a")
+
+    def test_circle(self) -> None:
+        found = only("from .b import P\nre.compile(P)", b="from .c import P\n", c="from .b import P\n")
+        self.assertEqual(found.why, "recursion")
+
+    def test_bound_twice_there(self) -> None:
+        found = only("from .b import P\nre.compile(P)", b="P = 'a'\nP = 'b'\n")
+        self.assertEqual(found.why, "bound more than once")
+
+    def test_flags_of_another_file(self) -> None:
+        found = only("from .b import P, F\nre.compile(P, F)", b="import re\nP = 'a'\nF = re.M\n")
+        self.assertEqual((found.pattern, found.flags), ("a", 8))
+
+    def test_re_of_another_file(self) -> None:
+        self.assertEqual(len(found_in("from .b import re\nP = 'a'\nre.compile(P)", b="import re\n")), 1)
+
+    def test_not_re(self) -> None:
+        for source in ("import other as re\nP = 'a'\nre.compile(P)", "def f(re):\n    P = 'a'\n    re.compile(P)",
+                       "P = 'a'\ncompile(P)", "class re:\n    pass\nP = 'a'\nre.compile(P)"):
+            with self.subTest(source=source):
+                self.assertEqual(found_in(source), [])
+
+
+if __name__ == "__main__":
+    unittest.main()

@@ -1,0 +1,252 @@
+"""The part `release`: the programs of release/ as files: what they need of a machine, and how they are linked."""
+from __future__ import annotations
+
+import hashlib
+import json
+import os
+import platform
+import re
+import shutil
+import tempfile
+from functools import partial
+from pathlib import Path
+from typing import Callable, Dict, List, Set, Tuple
+
+from runner import elf, scratch
+from runner.examples import FINDING
+from runner.programs import TREE, Program, run_command
+from runner.results import Failed, Result, Skipped
+
+MACHINES = ("x86_64", "aarch64")
+_SYMBOLS = 2
+_BUILD_ID = ("GNU", 3)
+_OLDEST_KERNEL = ("GNU", 1)
+# The oldest kernel that each wheel's tag stands for: manylinux2014 is CentOS 7, whose kernel is 3.10.
+_KERNEL_OF_TAGS = (3, 10)
+# The system calls that the programs make, and the kernel that each came with, as the manual pages of Linux say. Where that is
+# before 2.6.18, it is 2.6.0 here. On ARM64 all that are older came with the port, in 3.7.
+_CALLS: Dict[str, Tuple[int, ...]] = {name: (2, 6, 0) for name in (
+    "execve brk arch_prctl set_tid_address set_robust_list mprotect mmap munmap mremap read write open openat close fstat "
+    "newfstatat lseek getdents64 exit exit_group rt_sigaction rt_sigprocmask readlink readlinkat madvise futex getpid gettid "
+    "writev uname ioctl fcntl access faccessat").split()}
+_CALLS.update({"prlimit64": (2, 6, 36), "getrandom": (3, 17), "statx": (4, 11), "rseq": (4, 18)})
+# What is newer than the tags promise has to be missed without harm; the kernel's answer is then ENOSYS.
+_NEWER = sorted(name for name, since in _CALLS.items() if since > _KERNEL_OF_TAGS)
+_CALL = re.compile(r"^(?:\[pid +[0-9]+\] |[0-9]+ +)?([a-z_0-9]+)\(", re.MULTILINE)
+
+
+def released(machine: str) -> Path:
+    """The program of release/ for a machine."""
+    return TREE / "release" / machine / "relint"
+
+
+def info() -> Dict[str, str]:
+    """The lines `KEY VALUE` of release/INFO."""
+    lines = (TREE / "release" / "INFO").read_text(encoding="utf-8").splitlines()
+    return {key: value for key, _, value in (line.partition(" ") for line in lines)}
+
+
+def command_for(machine: str, program: str) -> List[str]:
+    """The words that run a program for a machine here. Raises `Skipped`."""
+    if platform.machine() in (machine, {"aarch64": "arm64", "x86_64": "amd64"}[machine]):
+        return [program]
+    emulator = "qemu-%s-static" % machine
+    if not shutil.which(emulator):
+        raise Skipped("the emulator %s isn't installed: tools/release-packages" % emulator)
+    return [emulator, program]
+
+
+def _require(holds: bool, why: str) -> None:
+    if not holds:
+        raise Failed(why)
+
+
+def _is_hardened(machine: str) -> None:
+    """Static, position-independent, with read-only relocations, and no page that is written and executed."""
+    file = elf.Elf(released(machine).read_bytes())
+    dynamic, loads = file.dynamic(), file.of_kind(elf.LOAD)
+    _require(file.machine == machine, "it is for another machine: " + file.machine)
+    _require(file.is_position_independent, "it isn't position-independent")
+    _require(not file.of_kind(elf.INTERPRETER) and elf.NEEDED not in dynamic, "it needs libraries of the system")
+    both = elf.WRITE | elf.EXECUTE
+    _require(all(it.rights & both != both for it in loads), "a page is writable and executable")
+    stacks = file.of_kind(elf.STACK)
+    _require(len(stacks) == 1 and not stacks[0].rights & elf.EXECUTE, "its stack is executable")
+    _require(len(file.of_kind(elf.READ_ONLY_AFTER_START)) == 1, "no relocation becomes read-only")
+    flags, more = dynamic.get(elf.FLAGS, 0), dynamic.get(elf.FLAGS_1, 0)
+    wanted = elf.NOW | elf.PIE
+    _require(bool(flags & elf.BIND_NOW) and more & wanted == wanted, "its relocations aren't made at the start")
+    _require(elf.TEXT_RELOCATIONS not in dynamic and not flags & 4, "it has relocations in its code")
+    _require(_SYMBOLS not in file.section_types(), "its symbols are left in it")
+
+
+def _is_named(machine: str) -> None:
+    """Its sum and size are those of INFO, and its build ID is the sum of the tree."""
+    content, said = released(machine).read_bytes(), info()
+    _require(hashlib.sha256(content).hexdigest() == said["program-" + machine], "its SHA-256 isn't that of release/INFO")
+    _require(str(len(content)) == said["size-" + machine], "its size isn't that of release/INFO")
+    notes = {(name, kind): text for name, kind, text in elf.Elf(content).notes()}
+    _require(notes[_BUILD_ID].hex() == said["sum"], "its build ID isn't the sum of release/INFO")
+    oldest = tuple(notes[_OLDEST_KERNEL][at] for at in (4, 8))
+    _require(oldest <= _KERNEL_OF_TAGS, "it needs Linux %d.%d, later than the wheel's tags promise" % oldest)
+
+
+def _in_an_empty_root(machine: str) -> None:
+    """A folder that holds nothing but the program, and for another machine its emulator, as the root."""
+    words = command_for(machine, "/relint")
+    with tempfile.TemporaryDirectory() as folder:
+        shutil.copy(str(released(machine)), folder + "/relint")
+        if len(words) > 1:
+            shutil.copy(str(shutil.which(words[0])), folder + "/emulator")
+            words[0] = "/emulator"
+        (Path(folder) / "bad.py").write_text(FINDING, encoding="utf-8")
+        root = ["chroot", folder] if os.geteuid() == 0 else ["unshare", "--user", "--map-root-user", "chroot", folder]
+        if not shutil.which(root[0]):
+            raise Skipped("%s isn't installed" % root[0])
+        first = run_command([*root, *words, "cost", "a*", "aa"], TREE)
+        if first.status != 0 and re.search("not permitted|Operation|denied", first.stderr):
+            raise Skipped("no other root may be taken here: " + first.stderr.strip())
+        _require(first.stdout == "steps 5 matched\n", "it answers %r and %r" % (first.stdout, first.stderr))
+        found = run_command([*root, *words, "check", "--format", "brief", "/bad.py"], TREE)
+        right = found.status == 1 and found.stdout.startswith("/bad.py:2:12: compile: exponential\n")
+        _require(right, "it answers %r" % found.stdout)
+
+
+_RUNS: List[List[str]] = [
+    ["check", "--format", "json", "examples"], ["class", r"(\w+,?)*"], ["cost", "a*", "aa"], ["sample", "1", "20"],
+    ["prove", "(a|a)*b"], ["compare", "a*", "(?:a|b)*"], ["check", "not-there.py"], ["nothing"]]
+
+
+def _traced(machine: str, words: List[str], more: List[str]) -> Tuple[Set[str], Tuple[str, str, int]]:
+    """The system calls of a run, and what it answers; `more` are options of strace."""
+    command = command_for(machine, str(released(machine)))
+    with tempfile.TemporaryDirectory() as folder:
+        if len(command) > 1:
+            ran = run_command([command[0], "-strace", "-D", folder + "/calls", *command[1:], *words], TREE)
+        elif shutil.which("strace"):
+            ran = run_command(["strace", "-f", "-qq", "-o", folder + "/calls", *more, *command, *words], TREE)
+        else:
+            raise Skipped("strace isn't installed: tools/release-packages")
+        calls = Path(folder) / "calls"
+        text = calls.read_text(encoding="utf-8", errors="replace") if calls.is_file() else ""
+        if not text:
+            raise Skipped("the system calls can't be seen here: " + ran.stderr.strip()[:200])
+        return set(_CALL.findall(text)), (ran.stdout, ran.stderr, ran.status)
+
+
+def _asks_no_more_of_the_kernel(machine: str) -> None:
+    """Each system call is one that the table knows."""
+    made: Set[str] = set()
+    for words in _RUNS:
+        made |= _traced(machine, words, [])[0]
+    unknown = sorted(made - set(_CALLS))
+    _require(not unknown, "it makes system calls that the table doesn't have: " + ", ".join(unknown))
+
+
+def _does_without_newer_calls(machine: str) -> None:
+    """A kernel that answers each call that is newer than the tags promise as one that it doesn't know."""
+    if len(command_for(machine, "")) > 1:
+        raise Skipped("the emulator can't refuse system calls")
+    plain = Program(released(machine))
+    for words in _RUNS:
+        options = ["-e", "inject=%s:error=ENOSYS" % ",".join(_NEWER)]
+        answer = plain.run(words, TREE)
+        _require(_traced(machine, words, options)[1] == (answer.stdout, answer.stderr, answer.status),
+                 "it answers otherwise: " + " ".join(words))
+
+
+def _runs_on_the_oldest_kernel(machine: str) -> None:
+    """The emulator says that the kernel is the oldest that the file names, and the processor the oldest that it needs."""
+    emulator = shutil.which("qemu-%s-static" % machine)
+    if not emulator:
+        raise Skipped("the emulator qemu-%s-static isn't installed: tools/release-packages" % machine)
+    processor = {"x86_64": "Nehalem", "aarch64": "cortex-a53"}[machine]
+    words = [emulator, "-r", "3.10.0", "-cpu", processor, str(released(machine))]
+    for call in _RUNS[:3]:
+        ran = run_command([*words, *call], TREE, seconds=120)
+        _require(ran.status in (0, 1) and bool(ran.stdout), "it ends with status %d: %s" % (ran.status, ran.stderr))
+
+
+def _ends_well_in_narrow_memory() -> None:
+    """With less memory than a run takes, the answer is whole, or the status 5 and nothing on standard output."""
+    machine = next((it for it in MACHINES if len(_words_or_none(it)) == 1), "")
+    _require(bool(machine), "no program is for this machine")
+    words = [str(released(machine)), "check", "--format", "json", "python/relint"]
+    whole = run_command(words, TREE)
+    statuses: Set[int] = set()
+    for kilobytes in range(2_000, 40_000, 500):
+        ran = run_command(["sh", "-c", 'ulimit -v %d; exec "$@"' % kilobytes, "", *words], TREE)
+        if ran.status < 0 or ran.status > 125:
+            _require(not statuses, "with %d kB it ends with status %d" % (kilobytes, ran.status))
+            continue
+        statuses.add(ran.status)
+        right = ran.stdout == whole.stdout and ran.status == whole.status
+        _require(right or (ran.status == 5 and not ran.stdout), "with %d kB it ends with status %d" % (kilobytes, ran.status))
+    _require(statuses == {5, whole.status}, "the statuses are %s" % sorted(statuses))
+
+
+def _words_or_none(machine: str) -> List[str]:
+    try:
+        return command_for(machine, "")
+    except Skipped:
+        return []
+
+
+def _links_alike_in_two_folders() -> None:
+    """The objects of release/ give the same programs in whatever folder."""
+    missing = [it for it in MACHINES if not shutil.which(it + "-linux-gnu-gcc")]
+    if missing or not shutil.which("xz"):
+        raise Skipped("there is no compiler for %s, or no xz: tools/release-packages" % " and ".join(missing))
+    with tempfile.TemporaryDirectory() as folder:
+        for name in ("one", "another place"):
+            copy = Path(folder) / name
+            scratch.copy_tree(copy)
+            ran = run_command([str(copy / "tools" / "release"), "--relink"], copy, together=True)
+            _require(ran.status == 0, ran.stdout)
+            if "linked with other packages" in ran.stdout:
+                raise Skipped("other packages are here than release/INFO names")
+            _require(ran.stdout.count("byte for byte") == len(MACHINES), ran.stdout)
+
+
+def _documents_agree() -> None:
+    """The provenance and the bill name the programs of release/INFO."""
+    said = info()
+    statement = json.loads((TREE / "release" / "provenance.json").read_text(encoding="utf-8"))
+    subjects = {it["name"]: it["digest"]["sha256"] for it in statement["subject"]}
+    named = {"release/%s/relint" % it: said["program-" + it] for it in MACHINES}
+    _require(subjects == named, "the provenance names other programs")
+    bill = json.loads((TREE / "release" / "sbom.cdx.json").read_text(encoding="utf-8"))
+    about = bill["metadata"]["component"]
+    _require((about["name"], about["version"]) == ("relint", said["version"]), "the bill is of another version")
+    held = {it["hashes"][0]["content"] for it in about["components"]}
+    _require(held == set(subjects.values()), "the bill names other programs")
+    names = {it["name"] for it in bill["components"]}
+    _require({"glibc", "clap", "unicode", "std"} <= names, "the bill leaves out what is linked")
+
+
+def _check_passes() -> None:
+    """`tools/release --check`, in an environment without the kit."""
+    bare = {"PATH": "/usr/bin:/bin", "LC_ALL": "C"}
+    ran = run_command([str(TREE / "tools" / "release"), "--check"], TREE, bare, together=True)
+    if ran.status == 1 and "isn't of this tree" in ran.stdout:
+        raise Skipped("release/ isn't of this tree")
+    _require(ran.status == 0, ran.stdout)
+
+
+def run(program: Program) -> Result:
+    """Tries both programs of release/."""
+    result = Result()
+    if not all(released(it).is_file() for it in MACHINES):
+        result.skip("release", "there is no release/: tools/release makes it")
+        return result
+    tests: List[Tuple[str, Callable[[], None]]] = [
+        ("tools/release --check", _check_passes), ("narrow memory", _ends_well_in_narrow_memory),
+        ("linked in two folders", _links_alike_in_two_folders), ("provenance and bill", _documents_agree)]
+    for machine in MACHINES:
+        for name, test in (("hardened", _is_hardened), ("named", _is_named), ("an empty root", _in_an_empty_root),
+                           ("system calls", _asks_no_more_of_the_kernel), ("newer system calls", _does_without_newer_calls),
+                           ("the oldest kernel and processor", _runs_on_the_oldest_kernel)):
+            tests.append(("%s: %s" % (machine, name), partial(test, machine)))
+    for title, test_of in tests:
+        result.take(title, test_of)
+    return result
