@@ -1,15 +1,15 @@
-//! The command `relint`: the real file system and the real outputs, handed to the top call.
+//! The command `relint`: it runs the top function of `rl_lint` with the real file system and the real outputs.
 //!
-//! `main` makes a [`DiskTree`] over the file system and a [`StdSink`] over each of the two outputs, and calls [`relint_main`]
-//! with the words after the program's name. It ends with the status that this returns. Where the system doesn't give the
-//! words, for example because one isn't UTF-8, it writes nothing and ends with status 6, or with status 5 where memory for
-//! them was refused.
+//! `main` makes a [`DiskTree`] for the file system and a [`StdSink`] for each of the two outputs, and calls [`relint_main`]
+//! with the words after the program's name. It ends with the status that this function returns. If the system doesn't give it
+//! the words, for example because one isn't UTF-8, it writes nothing and ends with status 6, or with status 5 if there isn't
+//! enough memory for them.
 //!
 //! # What is proved
 //!
-//! All that [`relint_main`] promises holds here too, as far as the traits promise it of a real disk and real outputs. `main`
-//! itself has no contract: its handful of lines is all that you have to read to believe that the real outside is passed on as
-//! it is.
+//! Everything that [`relint_main`] promises holds here too, as far as the traits promise it for a real disk and real outputs.
+//! `main` itself has no contract: you have to read its few lines to believe that the real disk and outputs are passed on
+//! unchanged.
 //!
 //! # Example
 //!
@@ -26,7 +26,7 @@ use rl_source::{DiskTree, StdSink};
 use std::process::ExitCode;
 use std::{env, io};
 
-/// The words after the program's name.
+/// Returns the words after the program's name.
 fn words(rt: &HostRuntime) -> io::Result<Vec<String>> {
     let words = env::args(rt)?.skip(1).collect(rt.alloc())?;
     Ok(words)

@@ -3,7 +3,7 @@ use Rattle.std.proofs.Common.{◌≡◌, ◌∙◌, ℕ, ◌+◌, ◌<◌, ◌�
 use Rattle.std.proofs.lemmas.List.{drop_more, length-drop}
 use Rattle.rl_cert.specs.Form.{all_of}
 
--- what was made, and what is made of the rows that are left
+-- What was made, and what is made of the rows that are left.
 abbrev pub all_on : {X A : Type 0} → (X → Option A) → List A → List X → Option (List A)
 all_on f done rows = option_map (λ more. done ++ more) (all_of f rows)
 

@@ -50,11 +50,11 @@ has-cycle g p q parts lt on =
     never : (n : ℕ) → 1 ≤ n → n ≡ 0 → ⊥
     never n le e = omega (arith, le, e)
 
--- where a limit is passed no certificate holds
+-- If a limit is exceeded, no certificate holds.
 pub none-holds : (q : Question) (c : Certificate) (limit : Limit) → IsPassed q limit → IsTrue false ↔ Holds q c
 none-holds q c limit passed = (λ e. absurd (true≢false (sym e)), λ h. absurd (h.within limit passed))
 
--- else what the graph that was found shows decides
+-- Else what the graph that was found shows decides.
 pub shown-decides : (q : Question) (c : Certificate) (a : Automaton) (next : ℕ → ℕ → List ℕ) (at : ℕ → Pair) (n : ℕ) → StandsFor a q.tree q.ending → a.table.codes ≡ code_count q.universe → IsAutomaton a
     → size q.tree ≤ MOST_NODES → length (letters q.tree (code_count q.universe)) ≤ MOST_LETTERS → longest q.tree ≤ MOST_MOVES → IsPairGraph a next at n → IsNumbered a next at n → n ≤ q.max_pairs → (MoreThan MOST_COUNTED_SETS (CountedSet a) → ⊥)
     → (held : Bool) → IsTrue held ↔ Shows q a next at n c c.verdict → IsTrue held ↔ Holds q c
@@ -72,7 +72,7 @@ result-decides q c a next at n (Ok held) stands codes whole s l m g numbered few
     shown-decides q c a next at n stands codes whole s l m g numbered few sets held (h q refl)
 result-decides q c a next at n (Err e) stands codes whole s l m g numbered few sets h = tt
 
--- yes says that the verdict is right
+-- Yes says that the verdict is right.
 pub held-sound : {E : Type 0} (q : Question) (c : Certificate) (r : Result Bool E) → IfOk r (λ held. IsTrue held ↔ Holds q c) → IfOk r (λ held. IsTrue held → RightVerdict q c.verdict)
 held-sound q c (Ok held) h = λ yes. sound q c (h.0 yes)
 held-sound q c (Err e) h = tt

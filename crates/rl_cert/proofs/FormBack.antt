@@ -11,6 +11,7 @@ use Rattle.rl_cert.specs.declared.certificate.Anchor.{Anchor}
 use Rattle.rl_numbers.specs.declared.double.Double.{Double}
 use Rattle.rl_numbers.specs.declared.triple.Triple.{Triple}
 use Rattle.rl_cert.specs.declared.certificate.Certificate.{Certificate}
+use Rattle.rl_cert.specs.declared.limits.TheConstants.{MOST_CERTIFICATE_BYTES}
 use Rattle.rl_cert.specs.Form.{whole, row_data, rows_data, anchor_row, double_row, triple_row, common_members, form_members, form_text, number_read, items_read, row_read, rows_read, all_of, anchor_of, double_of, triple_of, anchors_read, doubles_read, triples_read, lists_read, verdict_read, certificate_read, IsForm, IsSmall, AreSmall, IsSmallVerdict, IsWritten}
 use Rattle.rl_json.proofs.Writable.{IsWritable, AreWritable, AreWritableItems, put-writable, line-reads, line-utf8}
 
@@ -93,7 +94,7 @@ rows-writable : (n : ℕ) (rows : List (List ℕ)) → AreSmall rows → AreWrit
 rows-writable n [] all = tt
 rows-writable n (row ∷ rows) all = (row-writable n row (All-head (All IsSmall) row rows all), rows-writable n rows (All-tail (All IsSmall) row rows all))
 
--- a member with a name in ASCII
+-- A member with a name in ASCII.
 put-named : (n : ℕ) (k : List ℕ) (d : Data) (ms : Members) → are_ascii k ≡ true → IsWritable n d → AreWritable n ms → AreWritable n (put k d ms)
 put-named n k d ms ascii w all = put-writable n k d ms (IsUtf8-are_ascii k ascii) w all
 
@@ -121,7 +122,7 @@ members-writable c (Expo f) ok told =
     put-named 2 (codes "kind") (string (codes "exponential")) (common_members c f) refl (IsUtf8-are_ascii (codes "exponential") refl) (common-writable c f ok told.0 told.1)
 members-writable c (Undecided limit) ok told = absurd told
 
-pub back : (c : Certificate) → IsWritten c → length (form_text c) ≤ 67108864 → IsForm (form_text c) c
+pub back : (c : Certificate) → IsWritten c → length (form_text c) ≤ MOST_CERTIFICATE_BYTES → IsForm (form_text c) c
 back c ok short =
     let d = object (form_members c c.verdict) in
     let writable = members-writable c c.verdict ok ok.verdict in

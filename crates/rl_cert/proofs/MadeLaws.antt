@@ -53,6 +53,7 @@ use Rattle.rl_numbers.specs.declared.triple.Triple.{Triple}
 use Rattle.rl_numbers.specs.Doubled.{AreDoubles}
 use Rattle.rl_numbers.specs.Least.{LeastTriple, AreMoreThan}
 use Rattle.rl_numbers.specs.Numbered.{AreTriples}
+use Rattle.rl_numbers.specs.declared.numbering.TheConstants.{MOST_TRIPLES}
 use Rattle.rl_cert.specs.declared.certificate.Anchor.{Anchor}
 use Rattle.rl_cert.specs.declared.certificate.Certificate.{Certificate}
 use Rattle.rl_cert.specs.Ways.{IsWay, IsTwinWay, chain_anchors}
@@ -63,7 +64,7 @@ use Rattle.rl_cert.proofs.WayLaws.{same-way}
 use Rattle.rl_cert.proofs.ChainWays.{way_of, levels_of}
 use Rattle.rl_cert.proofs.TooLargeLaws.{too_large}
 
--- the anchors of splits
+-- The anchors of splits
 
 abbrev pub anchor_at : Split → Anchor
 anchor_at s = record { r = s.from; q = s.to }
@@ -92,7 +93,7 @@ bare-anchors (m ∷ links) z = ap (λ (l : List Anchor). (record { r = m.from; q
 pub one-pushed : (old new : List Anchor) (a : Anchor) → old ≡ [] → new ≡ old ++ a ∷ [] → new ≡ a ∷ []
 one-pushed old new a none pushed = pushed ∙ ap (λ (l : List Anchor). l ++ a ∷ []) none
 
--- a twin's certificate
+-- A twin's certificate
 
 same-twin-way : (a : Automaton) (next : ℕ → ℕ → List ℕ) (at : ℕ → Pair) (n : ℕ) (anchors others : List Anchor) (heads tops pumps turns : List (List ℕ)) → anchors ≡ others → heads ≡ tops → pumps ≡ turns
     → IsTwinWay a next at n anchors heads pumps → IsTwinWay a next at n others tops turns
@@ -120,7 +121,7 @@ module _ (q : Question) (a : Automaton) (next : ℕ → ℕ → List ℕ) (at : 
       two-paths : (s : ℕ) (y : List ℕ) → 2 ≤ paths next s s y → HasNoTwin next → ⊥
       two-paths s y two none = absurd (omega (arith, two, none s y))
 
-  -- and that of a graph without a cycle
+  -- The same for a graph without a cycle.
   pub flat-made : (f : Family) → HasNoCycle next → f.heads ≡ [] ∷ [] → f.pumps ≡ [] → (IsFamily q.universe 0 f × HasNoCycle next) × (IsTooLarge q → ⊥)
   flat-made f none heads pumps =
       let right = flat_right q a next at n field.machine field.whole field.graph field.numbered within f heads pumps none in
@@ -132,7 +133,7 @@ module _ (q : Question) (a : Automaton) (next : ℕ → ℕ → List ℕ) (at : 
       flat : (s : ℕ) → OnCycle next s → ⊥
       flat s c = absurd (omega (arith, c.2, none s c.0 c.1))
 
-  -- the states along a chain are among the first `n`
+  -- The states along a chain are among the first `n`.
   module _ (ranks : List ℕ) (ranked : AreRanks next n ranks) where
     ends : (s t : ℕ) (w : List ℕ) → s < n → 1 ≤ paths next s t w → t < n
     ends s t w lt h =
@@ -160,7 +161,7 @@ module _ (q : Question) (a : Automaton) (next : ℕ → ℕ → List ℕ) (at : 
 
   pub chain-made : (f : Family) (anchors : List Anchor) (ranks : List ℕ) (doubles : List Double) (triples : List Triple) (splits : List Split) (alone power : ℕ) (heads pumps : List (List ℕ)) → IsChainWords a next at splits alone heads pumps
       → Spells a f heads pumps → HasNoTwin next → ((s : ℕ) (ms : List Link) → s < n → ChainFrom next s ms → length ms ≤ length splits) → AreRanks next n ranks → power ≡ length splits + 1
-      → anchors ≡ chain_anchors (links_of splits) (state_after splits alone) → AreDoubles next n doubles → AreTriples next n (slice_index ranks) triples → (AreMoreThan 1000000 (LeastTriple next n (slice_index ranks)) → ⊥)
+      → anchors ≡ chain_anchors (links_of splits) (state_after splits alone) → AreDoubles next n doubles → AreTriples next n (slice_index ranks) triples → (AreMoreThan MOST_TRIPLES (LeastTriple next n (slice_index ranks)) → ⊥)
       → (IsFamily q.universe power f × ShowsDegreeOf a next at n (record { verdict = Degree power f; anchors = anchors; ranks = ranks; doubles = doubles; triples = triples }) f power) × (IsTooLarge q → ⊥)
   chain-made f anchors ranks doubles triples splits alone power heads pumps w spells none longest ranked count same_anchors are_doubles are_triples few =
       let c : Certificate = record { verdict = Degree power f; anchors = anchors; ranks = ranks; doubles = doubles; triples = triples } in
@@ -178,7 +179,7 @@ module _ (q : Question) (a : Automaton) (next : ℕ → ℕ → List ℕ) (at : 
   on-cycle s [] some h = absurd (omega (arith, some))
   on-cycle s (l ∷ w) some h = (l, w, h)
 
-  pub large-made : (ranks : List ℕ) (state : ℕ) (word : List ℕ) → HasNoTwin next → AreRanks next n ranks → 1 ≤ length word → 1 ≤ paths next state state word → AreMoreThan 1000000 (LeastTriple next n (slice_index ranks)) → IsTooLarge q
+  pub large-made : (ranks : List ℕ) (state : ℕ) (word : List ℕ) → HasNoTwin next → AreRanks next n ranks → 1 ≤ length word → 1 ≤ paths next state state word → AreMoreThan MOST_TRIPLES (LeastTriple next n (slice_index ranks)) → IsTooLarge q
   large-made ranks state word none ranked some cycle more = record {
     within = within;
     automaton = a;
@@ -194,12 +195,12 @@ module _ (q : Question) (a : Automaton) (next : ℕ → ℕ → List ℕ) (at : 
     more = more;
   }
 
--- ranks allow no split between states of one rank
+-- Ranks allow no split between states of one rank.
 pub no-equal-split : (a : Automaton) (next : ℕ → ℕ → List ℕ) (at : ℕ → Pair) (n : ℕ) (ranks : List ℕ) → StandsForSome a → IsPairGraph a next at n → AreRanks next n ranks → HasNoEqualSplit next n (slice_index ranks)
 no-equal-split a next at n ranks stands g ranked =
     ranks-split next n (bound_k (size stands.0)) (slice_index ranks) (graph-within a stands.0 stands.1 (all_sets stands.0) next at n stands.3 g) ranked.right
 
--- what was made answers the question
+-- What was made answers the question
 
 pub made-holds : (q : Question) (a : Automaton) (g : PairTable) (r : Result Certificate CertError) → StandsFor a q.tree q.ending → a.table.codes ≡ code_count q.universe → IsAutomaton a
     → size q.tree ≤ MOST_NODES → length (letters q.tree (code_count q.universe)) ≤ MOST_LETTERS → longest_list q.tree ≤ MOST_MOVES → IsPairGraph a (moves_in g) (pair_in g) g.graph.states → IsNumbered a (moves_in g) (pair_in g) g.graph.states → g.graph.states ≤ q.max_pairs → (MoreThan MOST_COUNTED_SETS (CountedSet a) → ⊥)
@@ -228,18 +229,18 @@ limit_of (Undecided limit) = limit
 limit_of TooLarge = Size
 limit_of OutOfMemory = Size
 
--- the limit that is named
+-- The limit that is named.
 pub limit-named : (q : Question) (limit other : Limit) → IsNamed q limit → Undecided limit ≡ Undecided other → IsNamed q other
 unfolding limit_of
 limit-named q limit other named same = subst (IsNamed q) (ap limit_of same) named
 
--- a verdict that is shown isn't undecided
+-- A verdict that is shown isn't undecided.
 pub shown-told : (q : Question) (a : Automaton) (next : ℕ → ℕ → List ℕ) (at : ℕ → Pair) (n : ℕ) (c : Certificate) (v : Verdict) → Shows q a next at n c v → IsTold v
 shown-told q a next at n c (Degree d f) shows = tt
 shown-told q a next at n c (Expo f) shows = tt
 shown-told q a next at n c (Open limit) shows = absurd shows
 
--- the same of what the calls answered
+-- The same of what the calls answered.
 module _ (a : Automaton) (g : PairTable) (chain : Chain) (longest : IsLongest (moves_in g) g.graph.states chain) where
   ranks-right : (ranks : List ℕ) → ranks ≡ chain.ranks → AreRanks (moves_in g) g.graph.states ranks
   ranks-right ranks same = subst (AreRanks (moves_in g) g.graph.states) (sym same) (record { size = longest.long; right = longest.ranked })
@@ -252,23 +253,23 @@ module _ (a : Automaton) (g : PairTable) (chain : Chain) (longest : IsLongest (m
   pub graded-made : (h k : Graph) (splits : List Split) (ranks given : List ℕ) (f : Family) (anchors : List Anchor) (doubles : List Double) (triples : List Triple) (alone power : ℕ) (heads pumps : List (List ℕ)) → h ≡ g.graph → k ≡ g.graph → splits ≡ chain.links
       → ranks ≡ chain.ranks → given ≡ ranks → HasNoTwin (moves_in g) → IsChainWords a (moves_in g) (pair_in g) splits alone heads pumps → Spells a f heads pumps → power ≡ length splits + 1
       → anchors ≡ chain_anchors (links_of splits) (state_after splits alone) → AreDoubles (edges_of h) h.states doubles → AreTriples (edges_of k) k.states (slice_index given) triples
-      → (AreMoreThan 1000000 (LeastTriple (edges_of k) k.states (slice_index given)) → ⊥) → IsMade a g (record { verdict = Degree power f; anchors = anchors; ranks = ranks; doubles = doubles; triples = triples })
+      → (AreMoreThan MOST_TRIPLES (LeastTriple (edges_of k) k.states (slice_index given)) → ⊥) → IsMade a g (record { verdict = Degree power f; anchors = anchors; ranks = ranks; doubles = doubles; triples = triples })
   graded-made h k splits ranks given f anchors doubles triples alone power heads pumps here there links same slice none w spells count same_anchors are_doubles are_triples few = λ q field within.
       let n = g.graph.states in
       let in-h : AreDoubles (moves_in g) n doubles = subst (λ (x : Graph). AreDoubles (edges_of x) x.states doubles) here are_doubles in
       let in-k : AreTriples (moves_in g) n (slice_index given) triples = subst (λ (x : Graph). AreTriples (edges_of x) x.states (slice_index given) triples) there are_triples in
-      let few-k : AreMoreThan 1000000 (LeastTriple (moves_in g) n (slice_index given)) → ⊥ = subst (λ (x : Graph). AreMoreThan 1000000 (LeastTriple (edges_of x) x.states (slice_index given)) → ⊥) there few in
+      let few-k : AreMoreThan MOST_TRIPLES (LeastTriple (moves_in g) n (slice_index given)) → ⊥ = subst (λ (x : Graph). AreMoreThan MOST_TRIPLES (LeastTriple (edges_of x) x.states (slice_index given)) → ⊥) there few in
       chain-made q a (moves_in g) (pair_in g) n field within f anchors ranks doubles triples splits alone power heads pumps w spells none
       (subst (λ (l : List Split). (s : ℕ) (ms : List Link) → s < n → ChainFrom (moves_in g) s ms → length ms ≤ length l) (sym links) longest.longest) (ranks-right ranks same) count same_anchors in-h
-      (subst (λ (r : List ℕ). AreTriples (moves_in g) n (slice_index r) triples) slice in-k) (subst (λ (r : List ℕ). AreMoreThan 1000000 (LeastTriple (moves_in g) n (slice_index r)) → ⊥) slice few-k)
+      (subst (λ (r : List ℕ). AreTriples (moves_in g) n (slice_index r) triples) slice in-k) (subst (λ (r : List ℕ). AreMoreThan MOST_TRIPLES (LeastTriple (moves_in g) n (slice_index r)) → ⊥) slice few-k)
 
   pub graded-large : (k : Graph) (ranks given : List ℕ) (state : ℕ) (word : List ℕ) → k ≡ g.graph → ranks ≡ chain.ranks → given ≡ ranks → HasNoTwin (moves_in g) → 1 ≤ length word → 1 ≤ paths (moves_in g) state state word
-      → AreMoreThan 1000000 (LeastTriple (edges_of k) k.states (slice_index given)) → IsLarge a g
+      → AreMoreThan MOST_TRIPLES (LeastTriple (edges_of k) k.states (slice_index given)) → IsLarge a g
   graded-large k ranks given state word there same slice none some cycle more = λ q field within.
       large-made q a (moves_in g) (pair_in g) g.graph.states field within given state word none (ranks-right given (slice ∙ same)) some cycle
-      (subst (λ (x : Graph). AreMoreThan 1000000 (LeastTriple (edges_of x) x.states (slice_index given))) there more)
+      (subst (λ (x : Graph). AreMoreThan MOST_TRIPLES (LeastTriple (edges_of x) x.states (slice_index given))) there more)
 
--- of a result
+-- Of a result
 
 pub ok-holds : (q : Question) (r : Result Certificate CertError) → IfOk r (λ c. Holds q c × (IsTooLarge q → ⊥)) → IfOk r (Holds q)
 ok-holds q (Ok c) h = h.0
@@ -282,7 +283,7 @@ pub ok-told : (q : Question) (r : Result Certificate CertError) → IfOk r (λ c
 ok-told q (Ok c) h = shown-told q h.0.automaton h.0.moves h.0.pairs h.0.count c c.verdict h.0.shows
 ok-told q (Err e) h = tt
 
--- the limits that are named
+-- The limits that are named
 
 pub letters-named : (q : Question) → size q.tree ≤ MOST_NODES → MOST_LETTERS < length (letters q.tree (code_count q.universe)) → IsNamed q Letters
 letters-named q s h = (λ over. absurd (omega (arith, over, s)), h)

@@ -6,7 +6,7 @@ use Rattle.serde_json.specs.View.{items_view, view}
 use Rattle.serde_json.specs.declared.value.Value.{Value}
 use Rattle.rl_cert.specs.Form.{items_read}
 
--- what was read, and what is read of the values that are left
+-- What was read, and what is read of the values that are left.
 abbrev pub read_on : {A : Type 0} → (Data → Option A) → List A → List Value → Option (List A)
 read_on f done values = option_map (λ more. done ++ more) (items_read f (items_view values))
 

@@ -6,11 +6,11 @@ use Rattle.serde_json.specs.View.{items_of, view}
 use Rattle.serde_json.specs.declared.value.Value.{Value, Array}
 use Rattle.serde_json.proofs.Views.{view-Array}
 
--- the value that was made, of what another name stands for
+-- The value that was made, for another name of the same data.
 pub value-of : {X E : Type 0} (f : X → Data) (made : Result Value E) (x y : X) → x ≡ y → IfOk made (λ v. view v ≡ f x) → IfOk made (λ v. view v ≡ f y)
 value-of f made x y same h = subst (λ z. IfOk made (λ v. view v ≡ f z)) same h
 
--- the values of the items so far, and one more
+-- The values of the items so far, and one more.
 pub row_more : {X : Type 0} (f : X → Data) (vs ws : List Value) (xs : List X) (i : ℕ) (x d : X) (v : Value) → i < length xs → x ≡ get_or xs i d → view v ≡ f x
     → map view vs ≡ map f (take i xs) → ws ≡ vs ++ v ∷ [] → map view ws ≡ map f (take (i + 1) xs)
 row_more f vs ws xs i x d v h e is so_far pushed =
@@ -20,7 +20,7 @@ row_more f vs ws xs i x d v h e is so_far pushed =
 pub row_all : {X : Type 0} (f : X → Data) (vs : Vec Value Global) (xs : List X) (i : ℕ) → length xs ≤ i → map view vs.items ≡ map f (take i xs) → view (Array vs) ≡ array (items_of (map f xs))
 row_all f vs xs i h so_far = view-Array vs ∙ ap (λ ds. array (items_of ds)) (so_far ∙ ap (λ l. map f l) (take_all i xs h))
 
--- the same where each item is a row first
+-- The same if each item is first made a row.
 map-twice : {X Y Z : Type 0} (f : Y → Z) (g : X → Y) (xs : List X) → map (λ x. f (g x)) xs ≡ map f (map g xs)
 map-twice f g [] = refl
 map-twice {Z = Z} f g (x ∷ xs) = ap (λ (l : List Z). f (g x) ∷ l) (map-twice f g xs)

@@ -35,7 +35,7 @@ use Rattle.rl_cert.specs.Numbered.{AreLevels}
 use Rattle.rl_cert.specs.Ways.{IsWay, IsTwinWay}
 use Rattle.rl_cert.specs.Holds.{IsField, words_of, ShowsDegreeOf, Shows, Holds}
 
--- the chain along a way
+-- The chain along a way.
 record IsChainOf (a : Automaton) (next : ℕ → ℕ → List ℕ) (at : ℕ → Pair) (s : ℕ) (heads pumps : List (List ℕ)) : Type 0 where
   pub links : List Link
   pub lead : List ℕ
@@ -124,7 +124,7 @@ module _ (q : Question) (a : Automaton) (next : ℕ → ℕ → List ℕ) (at : 
           by (inl lt) = field.graph.targets s l m lt h
           by (inr out) = absurd (no-member (next s l) m (field.graph.empty s l (inl out)) h)
 
-  -- the bound from above
+  -- The bound from above.
   upper : (d : ℕ) (c : Certificate) → AreLevels next n (suc d) c.ranks → AreDoubles next n c.doubles → AreTriples next n (λ s. get_or c.ranks s 0) c.triples → IsBoundedCost q (suc d)
   upper d c levels doubles triples =
       bounded_degree q a next at n field.machine field.whole field.graph field.numbered d

@@ -17,7 +17,7 @@ module _ {X : Type 0} (P : X → Type 0) (xs : List X) (i : ℕ) where
   pub all-passed : length xs ≤ i → All P (take i xs) → IsTrue true ↔ All P xs
   all-passed past all = (λ e. subst (All P) (take_all i xs past) all, λ h. refl)
 
--- one more item made of one more text
+-- One more item made of one more text.
 pub map-more : {X Y : Type 0} (f : X → Y) (xs : List X) (i : ℕ) (x : X) (y : Y) (old new : List Y) → i < length xs → x ≡ get_or xs i x → old ≡ map f (take i xs) → y ≡ f x → new ≡ old ++ y ∷ [] → new ≡ map f (take (i + 1) xs)
 map-more {X = X} {Y = Y} f xs i x y old new lt is so_far same pushed =
     pushed ∙ (ap (λ (l : List Y). l ++ y ∷ []) so_far ∙ (ap (λ (z : Y). map f (take i xs) ++ z ∷ []) (same ∙ ap f is)

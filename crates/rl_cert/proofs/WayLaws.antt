@@ -7,7 +7,7 @@ use Rattle.rl_cert.specs.declared.certificate.Anchor.{Anchor}
 use Rattle.rl_cert.specs.Ways.{IsWay}
 use Rattle.rl_cert.specs.internal.WayParts.{IsLinkTo, IsEnd, Fits}
 
--- what stands for an item that isn't there
+-- The value for an item that isn't there.
 abbrev pub no_anchor : Anchor
 no_anchor = record { r = 0; q = 0 }
 
@@ -79,11 +79,11 @@ same-default [] i x y lt = absurd (omega (arith, lt))
 same-default (w ∷ l) zero x y lt = refl
 same-default (w ∷ l) (suc i) x y lt = same-default l i x y (omega (arith, lt))
 
--- a word of a list that was looked up
+-- A word of a list that was looked up.
 pub word-at : (l : List (List ℕ)) (i : ℕ) (x y : List ℕ) → i < length l → x ≡ get_or l i x → y ≡ x → y ≡ get_or l i []
 word-at l i x y lt is e = e ∙ (is ∙ same-default l i x [] lt)
 
--- the last anchor decides
+-- The last anchor decides.
 pub way-decided : (a : Automaton) (next : ℕ → ℕ → List ℕ) (at : ℕ → Pair) (n : ℕ) (anchors : List Anchor) (heads pumps : List (List ℕ)) → Fits (length anchors) (length heads) (length pumps) → (s i k : ℕ) (head pump last : List ℕ)
     → i ≡ k → k + 1 ≡ length anchors → head ≡ get_or heads k [] → pump ≡ get_or pumps k [] → last ≡ get_or heads (length anchors) []
     → (IsWay a next at n 0 anchors heads pumps → IsWay a next at n s (drop i anchors) (drop i heads) (drop i pumps))

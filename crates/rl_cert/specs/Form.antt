@@ -1,4 +1,4 @@
--- The form of a certificate: one compact line of JSON.
+-- The JSON form of a certificate: how it is written, as one compact line, and how it is read, in any layout.
 use Rattle.std.specs.Prelude.{◌≡◌, ℕ, ◌<◌, ◌≤◌, ◌^◌, Bool, false, ◌&&◌, ◌==◌, nat_lt, List, [], ◌∷◌, ◌++◌, map, length, All, Option, Some, None, option_map, option_and_then, codes, IsUtf8, if◌then◌else◌}
 use Rattle.std.specs.Option.{option_map_or}
 use Rattle.std.specs.Str.{bytes_eq}
@@ -15,28 +15,35 @@ use Rattle.rl_cert.specs.declared.certificate.Anchor.{Anchor}
 use Rattle.rl_numbers.specs.declared.double.Double.{Double}
 use Rattle.rl_numbers.specs.declared.triple.Triple.{Triple}
 use Rattle.rl_cert.specs.declared.certificate.Certificate.{Certificate}
+use Rattle.rl_cert.specs.declared.limits.TheConstants.{MOST_CERTIFICATE_BYTES}
 
 -- ---- writing
 
+-- A whole number in JSON.
 abbrev pub whole : ℕ → Data
 whole n = number (unsigned n)
 
+-- A row of numbers as a JSON array.
 abbrev pub row_data : List ℕ → Data
 row_data row = array (items_of (map whole row))
 
+-- Rows of numbers as a JSON array of arrays.
 abbrev pub rows_data : List (List ℕ) → Data
 rows_data rows = array (items_of (map row_data rows))
 
+-- An anchor as the row `[r, q]`.
 abbrev pub anchor_row : Anchor → List ℕ
 anchor_row a = a.r ∷ (a.q ∷ [])
 
+-- A double as the row `[p, q, number]`.
 abbrev pub double_row : Double → List ℕ
 double_row d = d.p ∷ (d.q ∷ (d.number ∷ []))
 
+-- A triple as the row `[p, q, r, number]`.
 abbrev pub triple_row : Triple → List ℕ
 triple_row t = t.p ∷ (t.q ∷ (t.r ∷ (t.number ∷ [])))
 
--- the members that each certificate has, but for its kind
+-- The members that every certificate has, except its kind and its degree.
 abbrev pub common_members : Certificate → Family → Members
 common_members c f =
     put (codes "version") (whole 1)
@@ -47,87 +54,103 @@ common_members c f =
     (put (codes "doubles") (rows_data (map double_row c.doubles))
     (put (codes "anchors") (rows_data (map anchor_row c.anchors)) no_members))))))
 
+-- The members of a certificate. A degree has a member more than exponential growth: the degree itself.
 abbrev pub form_members : Certificate → Verdict → Members
 form_members c (Degree d f) = put (codes "kind") (string (codes "degree")) (put (codes "degree") (whole d) (common_members c f))
 form_members c (Expo f) = put (codes "kind") (string (codes "exponential")) (common_members c f)
 form_members c (Undecided limit) = no_members
 
+-- The text that is written for a certificate: its object as compact JSON, followed by a line feed.
 abbrev pub form_text : Certificate → List ℕ
 form_text c = compact_text (object (form_members c c.verdict)) ++ codes "\n"
 
 -- ---- reading
 
+-- The number, if it fits 32 bits.
 abbrev pub fitting : ℕ → Option ℕ
 fitting n = if nat_lt n (2 ^ 32) then Some n else None
 
+-- The value read as a whole number that fits 32 bits.
 abbrev pub number_read : Data → Option ℕ
 number_read d = option_and_then fitting (option_and_then as_u64 (as_number d))
 
--- what is read of each item, where something is read of all of them
+-- The items read one by one by `f`, or none if one of them can't be read.
 abbrev pub items_read : {A : Type 0} → (Data → Option A) → Items → Option (List A)
 items_read f no_items = Some []
 items_read f (item d ds) = option_and_then (λ x. option_map (λ xs. x ∷ xs) (items_read f ds)) (f d)
 
+-- The value read as a row of numbers.
 abbrev pub row_read : Data → Option (List ℕ)
 row_read d = option_and_then (items_read number_read) (as_array d)
 
+-- The value read as rows of numbers.
 abbrev pub rows_read : Data → Option (List (List ℕ))
 rows_read d = option_and_then (items_read row_read) (as_array d)
 
--- what is made of each row, where something is made of all of them
+-- The results of `f` for all members of the list, or none if there is no result for one of them.
 abbrev pub all_of : {A B : Type 0} → (A → Option B) → List A → Option (List B)
 all_of f [] = Some []
 all_of f (x ∷ l) = option_and_then (λ y. option_map (λ ys. y ∷ ys) (all_of f l)) (f x)
 
+-- The anchor that a row describes, if the row has two numbers.
 abbrev pub anchor_of : List ℕ → Option Anchor
 anchor_of (r ∷ (q ∷ [])) = Some (record { r = r; q = q })
 anchor_of row = None
 
+-- The double that a row describes, if the row has three numbers.
 abbrev pub double_of : List ℕ → Option Double
 double_of (p ∷ (q ∷ (k ∷ []))) = Some (record { p = p; q = q; number = k })
 double_of row = None
 
+-- The triple that a row describes, if the row has four numbers.
 abbrev pub triple_of : List ℕ → Option Triple
 triple_of (p ∷ (q ∷ (r ∷ (k ∷ [])))) = Some (record { p = p; q = q; r = r; number = k })
 triple_of row = None
 
+-- The value read as a list of anchors.
 abbrev pub anchors_read : Data → Option (List Anchor)
 anchors_read d = option_and_then (all_of anchor_of) (rows_read d)
 
+-- The value read as a list of doubles.
 abbrev pub doubles_read : Data → Option (List Double)
 doubles_read d = option_and_then (all_of double_of) (rows_read d)
 
+-- The value read as a list of triples.
 abbrev pub triples_read : Data → Option (List Triple)
 triples_read d = option_and_then (all_of triple_of) (rows_read d)
 
--- what is read at a key
+-- The member at a key read by `f`, or none if there is no such member or it can't be read.
 abbrev pub read_at : {A : Type 0} → (Data → Option A) → List ℕ → Data → Option A
 read_at f key d = option_and_then f (get key d)
 
+-- The family of a certificate: its heads and its pumps.
 abbrev pub family_read : Data → Option Family
 family_read d =
     option_and_then (λ heads. option_map (λ pumps. record { heads = heads; pumps = pumps }) (read_at rows_read (codes "pumps") d))
     (read_at rows_read (codes "heads") d)
 
--- how many members an object has; another value has none
+-- The number of members of an object, or 0 for any other value.
 abbrev pub member_count : Data → ℕ
 member_count d = option_map_or members_len (as_object d) 0
 
--- a degree has nine members, and an exponential verdict eight
+-- The verdict of the given kind. The certificate of a degree has exactly nine members, and the certificate of exponential
+-- growth has exactly eight, so no unknown key is accepted.
 abbrev pub verdict_of : List ℕ → Family → Data → Option Verdict
 verdict_of kind f d =
     if bytes_eq kind (codes "degree")
     then (if member_count d == 9 then option_map (λ n. Degree n f) (read_at number_read (codes "degree") d) else None)
     else (if bytes_eq kind (codes "exponential") && (member_count d == 8) then Some (Expo f) else None)
 
+-- The verdict of a certificate, which its kind determines.
 abbrev pub verdict_read : Data → Option Verdict
 verdict_read d =
     option_and_then (λ kind. option_and_then (λ f. verdict_of kind f d) (family_read d)) (read_at as_str (codes "kind") d)
 
+-- Whether the version is there and is 1.
 abbrev pub is_version : Option ℕ → Bool
 is_version version = option_map_or (λ n. n == 1) version false
 
--- the lists, behind the verdict
+-- The certificate with the given verdict and with the lists that are read.
 abbrev pub lists_read : Verdict → Data → Option Certificate
 lists_read verdict d =
     option_and_then (λ anchors. option_and_then (λ ranks. option_and_then (λ doubles. option_map (λ triples.
@@ -135,13 +158,14 @@ lists_read verdict d =
     (read_at triples_read (codes "triples") d)) (read_at doubles_read (codes "doubles") d))
     (read_at row_read (codes "ranks") d)) (read_at anchors_read (codes "anchors") d)
 
+-- The value read as a certificate of version 1.
 abbrev pub certificate_read : Data → Option Certificate
 certificate_read d =
     if is_version (read_at number_read (codes "version") d) then option_and_then (λ verdict. lists_read verdict d) (verdict_read d) else None
 
--- the bytes are the form of the certificate
+-- The bytes are a form of the certificate: they aren't too many, and they are JSON in UTF-8 that is read as the certificate.
 pub record IsForm (bytes : List ℕ) (c : Certificate) : Type 0 where
-  pub small : length bytes ≤ 67108864
+  pub small : length bytes ≤ MOST_CERTIFICATE_BYTES
   pub utf8 : IsUtf8 bytes
   pub value : Data
   pub reads : read bytes ≡ Some value
@@ -149,25 +173,27 @@ pub record IsForm (bytes : List ℕ) (c : Certificate) : Type 0 where
 
 -- ---- what can be written
 
+-- The number fits 32 bits.
 abbrev pub IsSmall : ℕ → Type 0
 IsSmall n = n < 2 ^ 32
 
+-- All numbers of the rows fit 32 bits.
 abbrev pub AreSmall : List (List ℕ) → Type 0
 AreSmall rows = All (All IsSmall) rows
 
--- a verdict that isn't undecided
+-- The verdict isn't undecided.
 abbrev pub IsTold : Verdict → Type 0
 IsTold (Degree d f) = Unit {0}
 IsTold (Expo f) = Unit {0}
 IsTold (Undecided limit) = ⊥
 
--- such a verdict, whose numbers fit
+-- The verdict isn't undecided, and all its numbers fit 32 bits.
 abbrev pub IsSmallVerdict : Verdict → Type 0
 IsSmallVerdict (Degree d f) = IsSmall d × AreSmall f.heads × AreSmall f.pumps
 IsSmallVerdict (Expo f) = AreSmall f.heads × AreSmall f.pumps
 IsSmallVerdict (Undecided limit) = ⊥
 
--- the numbers of a certificate fit, and its verdict isn't undecided
+-- The verdict isn't undecided, and all numbers of the certificate fit 32 bits.
 pub record IsWritten (c : Certificate) : Type 0 where
   pub verdict : IsSmallVerdict c.verdict
   pub anchors : AreSmall (map anchor_row c.anchors)

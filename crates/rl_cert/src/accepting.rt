@@ -1,4 +1,4 @@
-//! Which states of an automaton accept a list of letters.
+//! The states of an automaton that accept a list of letters.
 
 ghost use Rattle.std.specs.Prelude.{◌≡◌, ℕ, ◌+◌, ◌<◌, ◌≤◌, ◌∷◌, [], All, List, length, slice_index_or, false, IfOk, IsTrue, ◌↔◌};
 ghost use Rattle.std.specs.List.{list_any};
@@ -13,7 +13,7 @@ use rl_pairs::PairGraph;
 use rl_prio::Prio;
 use std::alloc::Global;
 
-/// Whether some state of a list is in a column.
+/// Whether some state of a list is marked in a column.
 fn any_in(states: &[u32], column: &[bool]) -> bool
     ensures { result ≡ list_any (λ m. slice_index_or column.now m false) states.now }
 {
@@ -26,7 +26,7 @@ fn any_in(states: &[u32], column: &[bool]) -> bool
     false
 }
 
-/// The states that accept the empty list.
+/// Marks the states that accept the empty list.
 fn start(alloc: Global, a: &Prio) -> Result<Vec<bool>, OutOfMemory>
     ensures { IfOk result (λ v. IsAccepting a.now [] v.items) }
 {
@@ -38,7 +38,7 @@ fn start(alloc: Global, a: &Prio) -> Result<Vec<bool>, OutOfMemory>
     Ok(column)
 }
 
-/// The states that accept a list with one more letter in front.
+/// Marks the states that accept a list with one more letter in front, given the column of the list.
 fn before(alloc: Global, a: &Prio, letter: u32, column: &[bool]) -> Result<Vec<bool>, OutOfMemory>
     requires letter_in { letter ≤ letters_count a.now }
     ensures { IfOk result (λ v. (word : List ℕ) → IsAccepting a.now word column.now → IsAccepting a.now (letter ∷ word) v.items) }
@@ -51,10 +51,10 @@ fn before(alloc: Global, a: &Prio, letter: u32, column: &[bool]) -> Result<Vec<b
     Ok(longer)
 }
 
-/// The states that accept letters and then the end letter.
+/// Marks the states that accept the word followed by the end letter.
 ///
 /// # Errors
-/// [`OutOfMemory`] where there was no memory for the columns.
+/// [`OutOfMemory`] if there is not enough memory for the columns.
 pub fn accepting(alloc: Global, a: &Prio, word: &[u32]) -> Result<Vec<bool>, OutOfMemory>
     requires { All (λ l. l < letters_count a.now) word.now }
     ensures { IfOk result (λ v. IsAccepting a.now (to_end a.now word.now) v.items) }
@@ -69,10 +69,10 @@ pub fn accepting(alloc: Global, a: &Prio, word: &[u32]) -> Result<Vec<bool>, Out
     Ok(column)
 }
 
-/// Whether the set of a live pair refuses letters and then the end letter.
+/// Whether the set of a live pair refuses the word followed by the end letter.
 ///
 /// # Errors
-/// [`OutOfMemory`] where there was no memory for the columns.
+/// [`OutOfMemory`] if there is not enough memory for the columns.
 pub fn refuses(
     alloc: Global,
     a: &Prio,

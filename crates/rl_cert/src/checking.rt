@@ -1,4 +1,4 @@
-//! Whether a certificate holds.
+//! Checking whether a certificate holds.
 
 ghost use Rattle.std.specs.Prelude.{◌≡◌, ℕ, ◌+◌, ◌<◌, ◌≤◌, ◌↔◌, All, IsTrue, IfOk, length};
 ghost use Rattle.rl_graph.specs.Graph.{edges_of};
@@ -42,7 +42,7 @@ fn is_flat(g: &Multigraph) -> Result<bool, OutOfMemory>
     Ok(true)
 }
 
-/// Whether a certificate's anchors are on the way of its family.
+/// Whether the anchors of a certificate are on the path of its family.
 fn shows_way(
     alloc: Global,
     a: &Prio,
@@ -63,7 +63,7 @@ fn shows_way(
     is_way(alloc, a, g, anchors, heads.as_slice(), pumps.as_slice())
 }
 
-/// Whether a certificate shows its family and its numbers, for a degree of at least 1.
+/// Whether a certificate shows its family and its upper bound, for a degree of 1 or more.
 fn shows_degree(
     alloc: Global,
     a: &Prio,
@@ -112,7 +112,7 @@ fn shows_expo(
     is_twin_way(alloc, a, g, anchors, heads.as_slice(), pumps.as_slice())
 }
 
-/// Whether a certificate shows what is asked for its verdict in the graph of live pairs.
+/// Whether a certificate shows, in the graph of live pairs, what its verdict requires.
 fn shown(
     alloc: Global,
     u: Universe,
@@ -146,7 +146,7 @@ fn shown(
     }
 }
 
-/// Whether a certificate holds for a tree that an automaton stands for.
+/// Whether a certificate holds for a tree for which an automaton stands.
 fn checked_over(
     alloc: Global,
     l: &Lowered,
@@ -176,7 +176,7 @@ fn checked_over(
     }
 }
 
-/// Whether a certificate holds for a tree within the limit of its size.
+/// Whether a certificate holds for a tree that is within the limit on its size.
 fn checked_small(
     alloc: Global,
     l: &Lowered,
@@ -202,11 +202,10 @@ fn checked_small(
     }
 }
 
-/// Whether a certificate holds for a lowered pattern, over the texts of the universe, where at most `max_pairs` live pairs are
-/// looked at.
+/// Whether a certificate holds for a lowered pattern, over the texts of the universe, with at most `max_pairs` live pairs.
 ///
 /// # Errors
-/// [`OutOfMemory`] where there was no memory for the automaton, the graph or the index of the numbers.
+/// [`OutOfMemory`] if there is not enough memory for the automaton, the graph or the index of the numbers.
 pub fn check(
     alloc: Global,
     l: &Lowered,

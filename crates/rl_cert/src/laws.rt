@@ -4,6 +4,7 @@ ghost use Rattle.std.specs.Prelude.{◌≡◌, ℕ, suc, ◌<◌, ◌≤◌, tru
 ghost use Rattle.rl_graph.specs.Paths.{Each, paths};
 ghost use Rattle.rl_graph.specs.Twins.{Link, ChainFrom, IsRank};
 ghost use Rattle.rl_numbers.specs.Least.{LeastTriple, AreMoreThan};
+ghost use Rattle.rl_numbers.specs.declared.numbering.TheConstants.{MOST_TRIPLES};
 ghost use Rattle.rl_cert.specs.TooLarge.{IsTooLarge};
 ghost use Rattle.rl_degree.specs.Chains.{AreRanks};
 ghost use Rattle.rl_pairs.specs.Families.{Chained, chain_heads, chain_pumps, to_end};
@@ -14,6 +15,7 @@ ghost use Rattle.rl_prio.specs.Automaton.{Automaton};
 ghost use Rattle.rl_pairs.specs.declared.pair.Pair.{Pair};
 ghost use Rattle.rl_pairs.specs.RightVerdict.{Question, RightVerdict};
 ghost use Rattle.rl_cert.specs.declared.certificate.Certificate.{Certificate};
+ghost use Rattle.rl_cert.specs.declared.limits.TheConstants.{MOST_CERTIFICATE_BYTES};
 ghost use Rattle.rl_cert.specs.Holds.{Holds, IsField, Shows};
 ghost use Rattle.rl_cert.specs.Form.{IsForm, form_text, IsWritten};
 
@@ -22,8 +24,8 @@ pub fn certificates_are_sound()
     ensures { (q : Question) (c : Certificate) → Holds q c → RightVerdict q c.verdict }
 {}
 
-/// The graph of live pairs of a question is one, with its numbers: whichever automaton stands for it, and whichever graph of its
-/// pairs is numbered by first sight, a certificate shows the same.
+/// A question has only one numbered graph of live pairs: a certificate shows the same, whichever automaton stands for the
+/// question, and whichever graph of its pairs, numbered in the order of first sight, is used.
 pub fn one_graph_decides()
     ensures graph { (q : Question) (a b : Automaton) (next other : ℕ → ℕ → List ℕ) (at with : ℕ → Pair) (n m : ℕ)
         → IsField q a next at n → IsField q b other with m
@@ -32,7 +34,7 @@ pub fn one_graph_decides()
         → IsField q a next at n → IsField q b other with m → Shows q a next at n c c.verdict → Shows q b other with m c c.verdict }
 {}
 
-/// A chain of splits that ends on a cycle is the way of a certificate, and the ranks are its ranks.
+/// A chain of splits that ends on a cycle gives the path of a certificate, and the ranks of its states give the ranks.
 pub fn chains_make_certificates()
     ensures way { (a : Automaton) (next : ℕ → ℕ → List ℕ) (at : ℕ → Pair) (n s : ℕ) (links : List Link) (x : List ℕ) (z : ℕ) (y last : List ℕ)
         → Each (λ m. (m.from < n) × (m.to < n)) links → z < n → Chained next s links x z → 1 ≤ paths next z z y → refused a at z (to_end a last) ≡ true
@@ -41,14 +43,14 @@ pub fn chains_make_certificates()
         → ((s : ℕ) (ms : List Link) → s < n → ChainFrom next s ms → length ms ≤ d) → AreLevels next n (suc d) ranks }
 {}
 
-/// The graph and the ranks that are found decide whether the triples of a question are too many.
+/// Any numbered graph of the question's live pairs, with its ranks, decides whether the question needs too many triples.
 pub fn one_list_decides()
     ensures { (q : Question) (a : Automaton) (next : ℕ → ℕ → List ℕ) (at : ℕ → Pair) (n : ℕ) (rank : ℕ → ℕ) → IsField q a next at n → ((s : ℕ) → s < n → IsRank next s (rank s))
-        → IsTooLarge q → AreMoreThan 1000000 (LeastTriple next n rank) }
+        → IsTooLarge q → AreMoreThan MOST_TRIPLES (LeastTriple next n rank) }
 {}
 
-/// What is written of a certificate is read back, and bytes are the form of one certificate at most.
+/// What is written for a certificate is read back as this certificate, and bytes are the form of at most one certificate.
 pub fn forms_are_read_back()
-    ensures back { (c : Certificate) → IsWritten c → length (form_text c) ≤ 67108864 → IsForm (form_text c) c }
+    ensures back { (c : Certificate) → IsWritten c → length (form_text c) ≤ MOST_CERTIFICATE_BYTES → IsForm (form_text c) c }
     ensures one { (bytes : List ℕ) (c d : Certificate) → IsForm bytes c → IsForm bytes d → c ≡ d }
 {}

@@ -1,21 +1,22 @@
-//! Certificates: what shows that a verdict is right, so that it can be checked without the search that found it.
+//! Certificates: data that shows that a verdict is right, so that the verdict can be checked without the search that found
+//! it.
 //!
-//! [`make`] finds the verdict on a lowered pattern and returns a [`Certificate`]: the family, the states on its way through
-//! the graph of live pairs, and for a degree of at least 1 also ranks, doubles and triples with numbers that exclude any
-//! higher growth. [`write`] makes one line of JSON of it, and [`read`] reads such a line back. [`check`] builds the graph of
-//! live pairs again and goes through the certificate move by move. It searches for no twin, no chain and no family.
+//! [`make`] finds the verdict on a lowered pattern and returns a [`Certificate`]: the family; the states on its path through
+//! the graph of live pairs; and, for a degree of 1 or more, ranks, and doubles and triples with numbers that exclude any
+//! faster growth. [`write`] writes it as one line of JSON, and [`read`] reads such a line. [`check`] builds the graph of live
+//! pairs again and checks the certificate against it, move by move, without searching for a twin, a chain or a family.
 //!
 //! # What is proved
 //!
-//! [`check`] returns true exactly where the certificate holds, and then its verdict is right, the upper bound included. A
-//! certificate that [`make`] returns holds; where it returns none, it names the limit that is passed, or the triples are too
-//! many. [`read`] takes exactly the bytes that are the form of a certificate. By the law [`laws::one_graph_decides`] it
-//! doesn't matter which automaton the graph was built from.
+//! [`check`] returns true if and only if the certificate holds, and then its verdict is right, including the upper bound. A
+//! certificate that [`make`] returns holds. If it returns none, it names a limit that is exceeded, or too many triples are
+//! needed. [`read`] accepts exactly the bytes that have the form of a certificate. By the law [`laws::one_graph_decides`], it
+//! doesn't matter from which automaton the graph was built.
 //!
 //! # Example
 //!
 //! ```
-//! // the tree is that of `(a|a)*`, over text, matched whole
+//! // the tree is the one of `(a|a)*`, over text, matched to the end of the text
 //! let certificate = make(alloc, &lowered, Universe::Str, 600)?;
 //! check(alloc, &lowered, Universe::Str, 600, &certificate)?; // true
 //! write(alloc, &certificate)?;
@@ -33,6 +34,7 @@ mod checking;
 pub mod laws;
 mod lettering;
 mod leveling;
+pub mod limits;
 mod making;
 mod reading;
 mod walking;
@@ -40,6 +42,7 @@ mod writing;
 
 pub use certificate::{Anchor, Anchors, Certificate};
 pub use checking::check;
+pub use limits::MOST_CERTIFICATE_BYTES;
 pub use making::{CertError, make};
 pub use reading::{ReadError, read};
 pub use rl_numbers::double::{Double, Doubles};

@@ -1,4 +1,4 @@
-//! Certificates made.
+//! Making certificates.
 
 ghost use Rattle.std.specs.Prelude.{◌≡◌, ℕ, ◌+◌, ◌<◌, ◌≤◌, [], ◌∷◌, List, length, slice_index, IfOk, IfErr, OnOk};
 ghost use Rattle.rl_graph.specs.Graph.{edges_of};
@@ -10,6 +10,7 @@ ghost use Rattle.rl_degree.specs.Leavers.{HasNoEqualSplit};
 ghost use Rattle.rl_numbers.specs.Doubled.{AreDoubles};
 ghost use Rattle.rl_numbers.specs.Least.{LeastTriple, AreMoreThan};
 ghost use Rattle.rl_numbers.specs.Numbered.{AreTriples};
+ghost use Rattle.rl_numbers.specs.declared.numbering.TheConstants.{MOST_TRIPLES};
 ghost use Rattle.rl_pairs.specs.PairTable.{moves_in, pair_in};
 ghost use Rattle.rl_growth.specs.Questions.{StandsForSome, IsLed};
 ghost use Rattle.rl_growth.specs.Routes.{state_after, IsRoute, IsLongest};
@@ -46,10 +47,10 @@ use rl_prio::{Prio, PrioError};
 use rl_syntax::{Family, Limit, Lowered, MOST_NODES, Universe, Verdict};
 use std::alloc::Global;
 
-/// Why no certificate was made.
+/// The reason why no certificate is made.
 #[derive(Clone, Copy, Debug, PartialEq, Eq)]
 pub enum CertError {
-    /// A limit is passed.
+    /// A limit is exceeded.
     Undecided(Limit),
     /// More than 1,000,000 triples would be needed.
     TooLarge,
@@ -67,7 +68,7 @@ impl From<OutOfMemory> for CertError {
     }
 }
 
-/// The family of a twin.
+/// Returns the family of a twin.
 fn twin_family(
     alloc: Global,
     a: &Prio,
@@ -87,7 +88,7 @@ fn twin_family(
     family
 }
 
-/// The anchor on the loop of a state, alone in a list.
+/// Returns a list with one anchor, for a state with a loop.
 fn one_anchor(alloc: Global, state: u32) -> Result<Anchors, OutOfMemory>
     ensures { IfOk result (λ l. l ≡ chain_anchors [] state) }
 {
@@ -96,7 +97,8 @@ fn one_anchor(alloc: Global, state: u32) -> Result<Anchors, OutOfMemory>
     Ok(anchors)
 }
 
-/// The certificate of a graph of live pairs that has a twin: one anchor, what leads to it, and the twin's word.
+/// Makes the certificate of a graph of live pairs that has a twin: one anchor, the word that leads to it, and the word of the
+/// twin.
 fn exponential(
     alloc: Global,
     a: &Prio,
@@ -122,7 +124,7 @@ fn exponential(
     })
 }
 
-/// The family of no pump and one empty head.
+/// Returns the family with one empty head and no pump.
 fn flat_family(alloc: Global) -> Result<Family, OutOfMemory>
     ensures heads { IfOk result (λ f. f.heads ≡ [] ∷ []) }
     ensures pumps { IfOk result (λ f. f.pumps ≡ []) }
@@ -135,7 +137,7 @@ fn flat_family(alloc: Global) -> Result<Family, OutOfMemory>
     })
 }
 
-/// The certificate of a graph of live pairs that has no cycle.
+/// Makes the certificate of a graph of live pairs that has no cycle.
 fn flat(alloc: Global, a: &Prio, g: &PairGraph) -> Result<Certificate, OutOfMemory>
     requires no_cycle { HasNoCycle (moves_in g.now) }
     ensures { IfOk result (IsMade a.now g.now) }
@@ -150,7 +152,7 @@ fn flat(alloc: Global, a: &Prio, g: &PairGraph) -> Result<Certificate, OutOfMemo
     })
 }
 
-/// The state behind the last split, or the given one where there is none.
+/// Returns the end of the last split, or `alone` if there are no splits.
 fn state_behind(splits: &[Split], alone: u32) -> u32
     ensures { result ≡ state_after splits.now alone }
 {
@@ -160,8 +162,8 @@ fn state_behind(splits: &[Split], alone: u32) -> u32
     splits[splits.len() - 1].to
 }
 
-/// The anchors of a chain of splits that ends on a cycle: on the loop of its last split, or, where it has no split, at the given
-/// state.
+/// Returns the anchors of a chain of splits that ends on a cycle: at the end of its last split, or at the state `alone` if
+/// there are no splits.
 fn anchors_of(alloc: Global, splits: &[Split], alone: u32) -> Result<Anchors, OutOfMemory>
     ensures { IfOk result (λ l. l ≡ chain_anchors (links_of splits.now) (state_after splits.now alone)) }
 {
@@ -178,7 +180,7 @@ fn anchors_of(alloc: Global, splits: &[Split], alone: u32) -> Result<Anchors, Ou
     Ok(anchors)
 }
 
-/// The family of a chain of splits that ends on a cycle.
+/// Returns the family of a chain of splits that ends on a cycle.
 fn chain_family(
     alloc: Global,
     a: &Prio,
@@ -201,7 +203,8 @@ fn chain_family(
     family
 }
 
-/// The anchors and the ranks of a chain that ends on a cycle, which stands on the given state where the chain has no split.
+/// Returns the anchors and the ranks of a chain that ends on a cycle, which is at the state `alone` if the chain has no
+/// splits.
 fn places_of(alloc: Global, chain: &Chain, alone: u32) -> Result<(Anchors, Ranks), OutOfMemory>
     ensures anchors { IfOk result (λ p. p.0 ≡ chain_anchors (links_of chain.now.links) (state_after chain.now.links alone)) }
     ensures ranks { IfOk result (λ p. p.1 ≡ chain.now.ranks) }
@@ -211,7 +214,7 @@ fn places_of(alloc: Global, chain: &Chain, alone: u32) -> Result<(Anchors, Ranks
     Ok((anchors, ranks))
 }
 
-/// The doubles and the triples of a graph, by its ranks.
+/// Returns the doubles and the triples of a graph with the given ranks.
 fn numbers_of(alloc: Global, g: &Multigraph, ranks: &[u32]) -> Result<(Doubles, Triples), CertError>
     requires few_states { g.now.states < 65536 }
     requires no_twin { HasNoTwin (edges_of g.now) }
@@ -219,9 +222,9 @@ fn numbers_of(alloc: Global, g: &Multigraph, ranks: &[u32]) -> Result<(Doubles, 
     requires no_split { HasNoEqualSplit (edges_of g.now) g.now.states (slice_index ranks.now) }
     ensures doubles { IfOk result (λ n. AreDoubles (edges_of g.now) g.now.states n.0) }
     ensures triples { IfOk result (λ n. AreTriples (edges_of g.now) g.now.states (slice_index ranks.now) n.1) }
-    ensures few { OnOk result (AreMoreThan 1000000 (LeastTriple (edges_of g.now) g.now.states (slice_index ranks.now)) → ⊥) }
+    ensures few { OnOk result (AreMoreThan MOST_TRIPLES (LeastTriple (edges_of g.now) g.now.states (slice_index ranks.now)) → ⊥) }
     ensures told { IfErr result (λ e. (limit : Limit) → e ≡ CertError.Undecided limit → ⊥) }
-    ensures too_many { IfErr result (λ e. e ≡ CertError.TooLarge → AreMoreThan 1000000 (LeastTriple (edges_of g.now) g.now.states (slice_index ranks.now))) }
+    ensures too_many { IfErr result (λ e. e ≡ CertError.TooLarge → AreMoreThan MOST_TRIPLES (LeastTriple (edges_of g.now) g.now.states (slice_index ranks.now))) }
 {
     let triples = match triples_of(alloc, g, ranks) {
         Ok(triples) => triples,
@@ -232,7 +235,7 @@ fn numbers_of(alloc: Global, g: &Multigraph, ranks: &[u32]) -> Result<(Doubles, 
     Ok((doubles, triples))
 }
 
-/// The certificate of a longest chain of splits and a cycle.
+/// Makes the certificate of a longest chain of splits that ends on a cycle.
 fn graded(
     alloc: Global,
     a: &Prio,
@@ -274,7 +277,7 @@ fn graded(
     })
 }
 
-/// The certificate of a graph of live pairs that has no twin, over its components.
+/// Makes the certificate of a graph of live pairs that has no twin, given its components.
 fn polynomial(
     alloc: Global,
     a: &Prio,
@@ -304,7 +307,7 @@ fn polynomial(
     }
 }
 
-/// The certificate of a graph of live pairs, over its components.
+/// Makes the certificate of a graph of live pairs, given its components.
 fn made_by(
     alloc: Global,
     a: &Prio,
@@ -333,7 +336,7 @@ fn made_by(
     }
 }
 
-/// The certificate of a graph of live pairs. Its components are made once, for both searches.
+/// Makes the certificate of a graph of live pairs. The components are computed once and used by both searches.
 fn made(alloc: Global, a: &Prio, g: &PairGraph) -> Result<Certificate, CertError>
     requires stands { StandsForSome a.now }
     requires led { IsLed a.now g.now }
@@ -345,7 +348,7 @@ fn made(alloc: Global, a: &Prio, g: &PairGraph) -> Result<Certificate, CertError
     made_by(alloc, a, g, components)
 }
 
-/// The certificate for a tree that an automaton stands for.
+/// Makes the certificate for a tree for which an automaton stands.
 fn made_over(
     alloc: Global,
     l: &Lowered,
@@ -378,7 +381,7 @@ fn made_over(
     }
 }
 
-/// The certificate for a tree within the limit of its size.
+/// Makes the certificate for a tree that is within the limit on its size.
 fn made_small(
     alloc: Global,
     l: &Lowered,
@@ -407,12 +410,12 @@ fn made_small(
     }
 }
 
-/// A certificate for a lowered pattern, over the texts of the universe, where at most `max_pairs` live pairs are looked at.
+/// Makes a certificate for a lowered pattern, over the texts of the universe, with at most `max_pairs` live pairs.
 ///
 /// # Errors
-/// [`CertError::Undecided`] names the limit that is passed. [`CertError::TooLarge`] where none is passed, the degree is at least 1,
-/// and the least list of triples has more than 1,000,000. [`CertError::OutOfMemory`] where there was no memory for the automaton,
-/// the graph, its products or the certificate.
+/// [`CertError::Undecided`], with the limit, if a limit is exceeded; [`CertError::TooLarge`] if no limit is exceeded, the
+/// degree is 1 or more and the least list of triples has more than 1,000,000 triples; [`CertError::OutOfMemory`] if there is
+/// not enough memory for the automaton, the graph, its products or the certificate.
 pub fn make(
     alloc: Global,
     l: &Lowered,

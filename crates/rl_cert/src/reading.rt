@@ -1,4 +1,4 @@
-//! Certificates read.
+//! Reading certificates.
 
 ghost use Rattle.std.specs.Prelude.{◌≡◌, ◌++◌, ◌==◌, codes, false, map, length, List, None, Some, IfOk, IsUtf8, option_and_then, option_map};
 ghost use Rattle.serde_json.specs.Find.{get, as_str};
@@ -9,6 +9,7 @@ ghost use Rattle.rl_cert.specs.internal.FormParts.{places_read, numbers_read};
 ghost use Rattle.rl_cert.specs.Form.{number_read, row_read, rows_read, anchor_of, double_of, triple_of, anchors_read, doubles_read, triples_read, items_read, all_of, read_at, family_read, member_count, verdict_of, verdict_read, is_version, certificate_read, IsForm};
 
 use crate::certificate::{Anchor, Anchors, Certificate};
+use crate::limits::MOST_CERTIFICATE_BYTES;
 use rl_lists::{Bytes, Items, OutOfMemory, Ranks, Word};
 use rl_numbers::double::{Double, Doubles};
 use rl_numbers::triple::{Triple, Triples};
@@ -16,10 +17,10 @@ use rl_syntax::{Family, Texts, Verdict};
 use serde_json::Value;
 use std::alloc::{AllocError, AllocFailed, Global};
 
-/// Why bytes gave no certificate.
+/// The reason why bytes give no certificate.
 #[derive(Clone, Copy, Debug, PartialEq, Eq)]
 pub enum ReadError {
-    /// They are too many, no JSON, or not in the form of a certificate.
+    /// There are too many bytes, they aren't JSON, or they don't have the form of a certificate.
     Refused,
     /// Out of memory.
     OutOfMemory,
@@ -35,7 +36,7 @@ impl From<OutOfMemory> for ReadError {
     }
 }
 
-/// A whole number that fits 32 bits.
+/// Returns the value as a whole number if it is one and fits 32 bits.
 fn number_of(value: &Value) -> Option<u32>
     ensures { result ≡ number_read (view value.now) }
 {
@@ -47,7 +48,7 @@ fn number_of(value: &Value) -> Option<u32>
     }
 }
 
-/// A row of numbers.
+/// Reads a row of numbers.
 #[tactic(auto, using(crate::proofs::ReadRows::reading))]
 fn row_of(alloc: Global, value: &Value) -> Result<Word, ReadError>
     ensures row { IfOk result (λ row. row_read (view value.now) ≡ Some row) }
@@ -59,7 +60,7 @@ fn row_of(alloc: Global, value: &Value) -> Result<Word, ReadError>
     numbers_of(alloc, values.as_slice())
 }
 
-/// The numbers of values.
+/// Reads each of the values as a number.
 #[tactic(auto, using(crate::proofs::ReadRows::reading))]
 fn numbers_of(alloc: Global, values: &[Value]) -> Result<Word, ReadError>
     ensures row { IfOk result (λ row. items_read number_read (items_view values.now) ≡ Some row) }
@@ -75,7 +76,7 @@ fn numbers_of(alloc: Global, values: &[Value]) -> Result<Word, ReadError>
     Ok(row)
 }
 
-/// The rows of values.
+/// Reads each of the values as a row of numbers.
 #[tactic(auto, using(crate::proofs::ReadRows::reading))]
 fn rows_of(alloc: Global, values: &[Value]) -> Result<Texts, ReadError>
     ensures rows { IfOk result (λ rows. items_read row_read (items_view values.now) ≡ Some rows) }
@@ -89,7 +90,7 @@ fn rows_of(alloc: Global, values: &[Value]) -> Result<Texts, ReadError>
     Ok(rows)
 }
 
-/// A value as rows of numbers.
+/// Reads a value as a list of rows of numbers.
 fn all_rows(alloc: Global, value: &Value) -> Result<Texts, ReadError>
     ensures rows { IfOk result (λ rows. rows_read (view value.now) ≡ Some rows) }
     ensures refused { result ≡ Err ReadError.Refused → rows_read (view value.now) ≡ None }
@@ -100,7 +101,7 @@ fn all_rows(alloc: Global, value: &Value) -> Result<Texts, ReadError>
     rows_of(alloc, values.as_slice())
 }
 
-/// An anchor of a row.
+/// Returns the anchor that a row describes, or `None` if the row doesn't have two numbers.
 fn anchor_of(row: &[u32]) -> Option<Anchor>
     ensures { result ≡ anchor_of row.now }
 {
@@ -114,7 +115,7 @@ fn anchor_of(row: &[u32]) -> Option<Anchor>
     }
 }
 
-/// Anchors of rows.
+/// Returns the anchors that the rows describe.
 #[tactic(auto, using(crate::proofs::AllRows::all_rows))]
 fn anchors_of(alloc: Global, rows: &[Word]) -> Result<Anchors, ReadError>
     ensures anchors { IfOk result (λ l. all_of anchor_of rows.now ≡ Some l) }
@@ -130,7 +131,7 @@ fn anchors_of(alloc: Global, rows: &[Word]) -> Result<Anchors, ReadError>
     Ok(anchors)
 }
 
-/// The anchors of a certificate.
+/// Reads the anchors of a certificate.
 fn anchors_at(alloc: Global, value: &Value) -> Result<Anchors, ReadError>
     ensures anchors { IfOk result (λ l. read_at anchors_read (codes "anchors") (view value.now) ≡ Some l) }
     ensures refused { result ≡ Err ReadError.Refused → read_at anchors_read (codes "anchors") (view value.now) ≡ None }
@@ -142,7 +143,7 @@ fn anchors_at(alloc: Global, value: &Value) -> Result<Anchors, ReadError>
     anchors_of(alloc, rows.as_slice())
 }
 
-/// A double of a row.
+/// Returns the double that a row describes, or `None` if the row doesn't have three numbers.
 fn double_of(row: &[u32]) -> Option<Double>
     ensures { result ≡ double_of row.now }
 {
@@ -157,7 +158,7 @@ fn double_of(row: &[u32]) -> Option<Double>
     }
 }
 
-/// Doubles of rows.
+/// Returns the doubles that the rows describe.
 #[tactic(auto, using(crate::proofs::AllRows::all_rows))]
 fn doubles_of(alloc: Global, rows: &[Word]) -> Result<Doubles, ReadError>
     ensures doubles { IfOk result (λ l. all_of double_of rows.now ≡ Some l) }
@@ -173,7 +174,7 @@ fn doubles_of(alloc: Global, rows: &[Word]) -> Result<Doubles, ReadError>
     Ok(doubles)
 }
 
-/// The doubles of a certificate.
+/// Reads the doubles of a certificate.
 fn doubles_at(alloc: Global, value: &Value) -> Result<Doubles, ReadError>
     ensures doubles { IfOk result (λ l. read_at doubles_read (codes "doubles") (view value.now) ≡ Some l) }
     ensures refused { result ≡ Err ReadError.Refused → read_at doubles_read (codes "doubles") (view value.now) ≡ None }
@@ -185,7 +186,7 @@ fn doubles_at(alloc: Global, value: &Value) -> Result<Doubles, ReadError>
     doubles_of(alloc, rows.as_slice())
 }
 
-/// A triple of a row.
+/// Returns the triple that a row describes, or `None` if the row doesn't have four numbers.
 fn triple_of(row: &[u32]) -> Option<Triple>
     ensures { result ≡ triple_of row.now }
 {
@@ -201,7 +202,7 @@ fn triple_of(row: &[u32]) -> Option<Triple>
     }
 }
 
-/// Triples of rows.
+/// Returns the triples that the rows describe.
 #[tactic(auto, using(crate::proofs::AllRows::all_rows))]
 fn triples_of(alloc: Global, rows: &[Word]) -> Result<Triples, ReadError>
     ensures triples { IfOk result (λ l. all_of triple_of rows.now ≡ Some l) }
@@ -217,7 +218,7 @@ fn triples_of(alloc: Global, rows: &[Word]) -> Result<Triples, ReadError>
     Ok(triples)
 }
 
-/// The triples of a certificate.
+/// Reads the triples of a certificate.
 fn triples_at(alloc: Global, value: &Value) -> Result<Triples, ReadError>
     ensures triples { IfOk result (λ l. read_at triples_read (codes "triples") (view value.now) ≡ Some l) }
     ensures refused { result ≡ Err ReadError.Refused → read_at triples_read (codes "triples") (view value.now) ≡ None }
@@ -229,7 +230,7 @@ fn triples_at(alloc: Global, value: &Value) -> Result<Triples, ReadError>
     triples_of(alloc, rows.as_slice())
 }
 
-/// The ranks of a certificate.
+/// Reads the ranks of a certificate.
 fn ranks_at(alloc: Global, value: &Value) -> Result<Ranks, ReadError>
     ensures ranks { IfOk result (λ l. read_at row_read (codes "ranks") (view value.now) ≡ Some l) }
     ensures refused { result ≡ Err ReadError.Refused → read_at row_read (codes "ranks") (view value.now) ≡ None }
@@ -240,7 +241,7 @@ fn ranks_at(alloc: Global, value: &Value) -> Result<Ranks, ReadError>
     row_of(alloc, member)
 }
 
-/// The rows at a key.
+/// Reads the rows of numbers at a key.
 fn rows_at(alloc: Global, value: &Value, key: &str) -> Result<Texts, ReadError>
     ensures rows { IfOk result (λ l. read_at rows_read key.now (view value.now) ≡ Some l) }
     ensures refused { result ≡ Err ReadError.Refused → read_at rows_read key.now (view value.now) ≡ None }
@@ -251,7 +252,7 @@ fn rows_at(alloc: Global, value: &Value, key: &str) -> Result<Texts, ReadError>
     all_rows(alloc, member)
 }
 
-/// The family of a certificate.
+/// Reads the family of a certificate.
 fn family_at(alloc: Global, value: &Value) -> Result<Family, ReadError>
     ensures family { IfOk result (λ f. family_read (view value.now) ≡ Some f) }
     ensures refused { result ≡ Err ReadError.Refused → family_read (view value.now) ≡ None }
@@ -261,7 +262,7 @@ fn family_at(alloc: Global, value: &Value) -> Result<Family, ReadError>
     Ok(Family { heads, pumps })
 }
 
-/// A number at a key.
+/// Reads the number at a key.
 fn number_at(value: &Value, key: &str) -> Option<u32>
     ensures { result ≡ read_at number_read key.now (view value.now) }
 {
@@ -271,7 +272,7 @@ fn number_at(value: &Value, key: &str) -> Option<u32>
     }
 }
 
-/// How many members an object has; another value has none.
+/// Returns the number of members of an object, or 0 for any other value.
 fn member_count(value: &Value) -> usize
     ensures { result ≡ member_count (view value.now) }
 {
@@ -281,14 +282,14 @@ fn member_count(value: &Value) -> usize
     }
 }
 
-/// The kind of a certificate.
+/// Returns the kind of a certificate.
 fn kind_at(value: &Value) -> Option<&str>
     ensures { option_map (λ t. t.now) result ≡ read_at as_str (codes "kind") (view value.now) }
 {
     value.get("kind").and_then(Value::as_str)
 }
 
-/// The verdict of a kind with the family of a certificate.
+/// Reads the verdict of a certificate of the given kind, with its family.
 fn verdict_of(alloc: Global, value: &Value, kind: &str) -> Result<Verdict, ReadError>
     ensures verdict { IfOk result (λ v. option_and_then (λ f. verdict_of kind.now f (view value.now)) (family_read (view value.now)) ≡ Some v) }
     ensures refused { result ≡ Err ReadError.Refused → option_and_then (λ f. verdict_of kind.now f (view value.now)) (family_read (view value.now)) ≡ None }
@@ -310,7 +311,7 @@ fn verdict_of(alloc: Global, value: &Value, kind: &str) -> Result<Verdict, ReadE
     }
 }
 
-/// The verdict of a certificate.
+/// Reads the verdict of a certificate.
 fn verdict_at(alloc: Global, value: &Value) -> Result<Verdict, ReadError>
     ensures verdict { IfOk result (λ v. verdict_read (view value.now) ≡ Some v) }
     ensures refused { result ≡ Err ReadError.Refused → verdict_read (view value.now) ≡ None }
@@ -331,7 +332,7 @@ fn has_version(value: &Value) -> bool
     }
 }
 
-/// The anchors and the ranks of a certificate.
+/// Reads the anchors and the ranks of a certificate.
 fn places_at(alloc: Global, value: &Value) -> Result<(Anchors, Ranks), ReadError>
     ensures places { IfOk result (λ p. places_read (view value.now) ≡ Some p) }
     ensures refused { result ≡ Err ReadError.Refused → places_read (view value.now) ≡ None }
@@ -341,7 +342,7 @@ fn places_at(alloc: Global, value: &Value) -> Result<(Anchors, Ranks), ReadError
     Ok((anchors, ranks))
 }
 
-/// The doubles and the triples of a certificate.
+/// Reads the doubles and the triples of a certificate.
 fn numbers_at(alloc: Global, value: &Value) -> Result<(Doubles, Triples), ReadError>
     ensures numbers { IfOk result (λ n. numbers_read (view value.now) ≡ Some n) }
     ensures refused { result ≡ Err ReadError.Refused → numbers_read (view value.now) ≡ None }
@@ -351,7 +352,7 @@ fn numbers_at(alloc: Global, value: &Value) -> Result<(Doubles, Triples), ReadEr
     Ok((doubles, triples))
 }
 
-/// The certificate that a value is.
+/// Reads a value as a certificate.
 fn certificate_of(alloc: Global, value: &Value) -> Result<Certificate, ReadError>
     ensures certificate { IfOk result (λ c. certificate_read (view value.now) ≡ Some c) }
     ensures refused { result ≡ Err ReadError.Refused → certificate_read (view value.now) ≡ None }
@@ -371,10 +372,7 @@ fn certificate_of(alloc: Global, value: &Value) -> Result<Certificate, ReadError
     })
 }
 
-/// The most bytes of a certificate.
-const MAX_BYTES: usize = 67_108_864;
-
-/// The value that the bytes are in JSON.
+/// Parses the bytes as JSON.
 fn value_of(alloc: Global, bytes: &[u8]) -> Result<Value, ReadError>
     ensures value { IfOk result (λ v. IsUtf8 bytes.now × (read bytes.now ≡ Some (view v))) }
     ensures refused { result ≡ Err ReadError.Refused → IsUtf8 bytes.now → read bytes.now ≡ None }
@@ -391,16 +389,16 @@ fn value_of(alloc: Global, bytes: &[u8]) -> Result<Value, ReadError>
     }
 }
 
-/// The certificate that the bytes are.
+/// Reads a certificate from its JSON form.
 ///
 /// # Errors
-/// [`ReadError::Refused`] where the bytes aren't in the form of a certificate, and [`ReadError::OutOfMemory`] where memory was
-/// refused.
+/// [`ReadError::Refused`] if the bytes don't have the form of a certificate; [`ReadError::OutOfMemory`] if there is not
+/// enough memory.
 pub fn read(alloc: Global, bytes: &Bytes) -> Result<Certificate, ReadError>
     ensures certificate { IfOk result (IsForm bytes.now) }
     ensures refused { result ≡ Err ReadError.Refused → (c : Certificate) → ¬ IsForm bytes.now c }
 {
-    if bytes.len() > MAX_BYTES {
+    if bytes.len() > MOST_CERTIFICATE_BYTES {
         return Err(ReadError::Refused);
     }
     let value = value_of(alloc, bytes.as_slice())?;

@@ -1,4 +1,4 @@
-//! Certificates written.
+//! Writing certificates.
 
 ghost use Rattle.std.specs.Prelude.{◌≡◌, codes, false, map, IfOk, OnOk};
 ghost use Rattle.serde_json.specs.Data.{Data, put, no_members, object, string};
@@ -14,10 +14,10 @@ use rl_syntax::{Family, Verdict};
 use serde_json::{Map, Value, put};
 use std::alloc::Global;
 
-/// The members of an object.
+/// The members of a JSON object.
 type Members = Map<String, Value>;
 
-/// A row of numbers.
+/// Converts a row of numbers into a JSON array.
 #[tactic(auto, using(crate::proofs::Rows::rows))]
 fn row_value(alloc: Global, row: &[u32]) -> Result<Value, OutOfMemory>
     ensures { IfOk result (λ v. view v ≡ row_data row.now) }
@@ -29,7 +29,7 @@ fn row_value(alloc: Global, row: &[u32]) -> Result<Value, OutOfMemory>
     Ok(Value::Array(values))
 }
 
-/// Rows of numbers.
+/// Converts rows of numbers into a JSON array of arrays.
 #[tactic(auto, using(crate::proofs::Rows::rows))]
 fn rows_value(alloc: Global, rows: &[Word]) -> Result<Value, OutOfMemory>
     ensures { IfOk result (λ v. view v ≡ rows_data rows.now) }
@@ -41,7 +41,7 @@ fn rows_value(alloc: Global, rows: &[Word]) -> Result<Value, OutOfMemory>
     Ok(Value::Array(values))
 }
 
-/// Anchors as rows.
+/// Converts anchors into rows.
 #[tactic(auto, using(crate::proofs::Rows::rows))]
 fn anchors_value(alloc: Global, anchors: &[Anchor]) -> Result<Value, OutOfMemory>
     ensures { IfOk result (λ v. view v ≡ rows_data (map anchor_row anchors.now)) }
@@ -54,7 +54,7 @@ fn anchors_value(alloc: Global, anchors: &[Anchor]) -> Result<Value, OutOfMemory
     Ok(Value::Array(values))
 }
 
-/// Triples as rows.
+/// Converts triples into rows.
 #[tactic(auto, using(crate::proofs::Rows::rows))]
 fn triples_value(alloc: Global, triples: &[Triple]) -> Result<Value, OutOfMemory>
     ensures { IfOk result (λ v. view v ≡ rows_data (map triple_row triples.now)) }
@@ -67,7 +67,7 @@ fn triples_value(alloc: Global, triples: &[Triple]) -> Result<Value, OutOfMemory
     Ok(Value::Array(values))
 }
 
-/// Doubles as rows.
+/// Converts doubles into rows.
 #[tactic(auto, using(crate::proofs::Rows::rows))]
 fn doubles_value(alloc: Global, doubles: &[Double]) -> Result<Value, OutOfMemory>
     ensures { IfOk result (λ v. view v ≡ rows_data (map double_row doubles.now)) }
@@ -80,7 +80,7 @@ fn doubles_value(alloc: Global, doubles: &[Double]) -> Result<Value, OutOfMemory
     Ok(Value::Array(values))
 }
 
-/// Puts a value that was made at a key.
+/// Adds a value to the members at a key, unless making the value failed.
 fn put_made(
     members: &mut Members,
     alloc: Global,
@@ -94,7 +94,7 @@ fn put_made(
     Ok(())
 }
 
-/// Puts the members that each certificate has, but for its kind.
+/// Adds the members that every certificate has, except its kind.
 fn put_common(
     members: &mut Members,
     alloc: Global,
@@ -118,7 +118,7 @@ fn put_common(
     put_made(members, alloc, "version", Ok(Value::from(1u32)))
 }
 
-/// Puts the kind of a certificate.
+/// Adds the kind of a certificate.
 fn put_kind(members: &mut Members, alloc: Global, kind: &str) -> Result<(), OutOfMemory>
     ensures { OnOk result (members_view members.new.entries ≡ put (codes "kind") (string kind.now) (members_view members.old.entries)) }
 {
@@ -127,7 +127,7 @@ fn put_kind(members: &mut Members, alloc: Global, kind: &str) -> Result<(), OutO
     Ok(())
 }
 
-/// Puts the members of a certificate.
+/// Adds the members of a certificate.
 fn put_form(members: &mut Members, alloc: Global, c: &Certificate) -> Result<(), OutOfMemory>
     requires { IsTold c.now.verdict }
     ensures { OnOk result (members_view members.old.entries ≡ no_members → members_view members.new.entries ≡ form_members c.now c.now.verdict) }
@@ -146,7 +146,7 @@ fn put_form(members: &mut Members, alloc: Global, c: &Certificate) -> Result<(),
     }
 }
 
-/// The object of a certificate.
+/// Converts a certificate into a JSON object.
 fn object_of(alloc: Global, c: &Certificate) -> Result<Value, OutOfMemory>
     requires { IsTold c.now.verdict }
     ensures { IfOk result (λ v. view v ≡ object (form_members c.now c.now.verdict)) }
@@ -161,10 +161,10 @@ fn object_of(alloc: Global, c: &Certificate) -> Result<Value, OutOfMemory>
     }
 }
 
-/// A certificate as one line of JSON.
+/// Writes a certificate as one line of JSON.
 ///
 /// # Errors
-/// [`OutOfMemory`] when out of memory.
+/// [`OutOfMemory`] if there is not enough memory.
 pub fn write(alloc: Global, c: &Certificate) -> Result<Bytes, OutOfMemory>
     requires { IsTold c.now.verdict }
     ensures { IfOk result (λ bytes. bytes ≡ form_text c.now) }

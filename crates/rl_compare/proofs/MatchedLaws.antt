@@ -21,7 +21,7 @@ code-in : (u : Universe) (w : List ℕ) (k : ℕ) → IsText u w → k < length 
 unfolding is_in is_code
 code-in u w k text lt = ap (is_in (is_code u)) (slice_get-get_or w k 0 lt) ∙ lt-ltb (get_or w k 0) (code_count u) (text k 0 lt)
 
--- any codes span the rest of a text
+-- Any number of codes spans the rest of a text.
 rest-spans : (u : Universe) (w : List ℕ) → IsText u w → (n k : ℕ) → k + n ≡ length w → Rounds (Spans (one (is_code u)) w) k (length w)
 rest-spans u w text zero k e = let here : k ≡ length w = omega arith in subst (λ (j : ℕ). Rounds (Spans (one (is_code u)) w) k j) here stop
 rest-spans u w text (suc n) k e = again (omega arith) (code-in u w k text (omega arith), refl) (rest-spans u w text n (suc k) (omega arith))
@@ -47,7 +47,7 @@ matched-spans u t Anywhere w text =
       λ h. let s = m.0 h in let r = rest-of s.0 (length w) (span-within t w s.0 s.1) in (s.0, s.1, rest-spans u w text r.0 s.0 r.1),
     )
 
--- a matched tree is over the universe of its tree
+-- If a tree is over a universe, so is its matched tree.
 pub matched-over : (u : Universe) (t : Tree) (ending : Ending) → IsOver u t → IsOver u (matched_tree u t ending)
 unfolding is_code
 matched-over u t AtEnd over = over

@@ -1,2 +1,2 @@
--- What the texts of a comparison tell of two patterns: the words of the comparison of their matched trees.
+-- What the texts of a comparison say about two patterns: the same that they say about two trees.
 pub use Rattle.rl_equiv.specs.Told.{IsOfRegion, AreTold}

@@ -1,4 +1,4 @@
-//! A law of matched trees, for all trees and texts. The function does nothing: what it ensures is what is proved.
+//! A law of matched trees, for all trees and texts. The function does nothing: its contract is what is proved.
 
 ghost use Rattle.std.specs.Prelude.{ℕ, ◌↔◌, List, IsTrue};
 ghost use Rattle.rl_ranges.specs.declared.universe.Universe.{Universe};
@@ -9,7 +9,7 @@ ghost use Rattle.rl_syntax.specs.Cost.{matched};
 ghost use Rattle.rl_equiv.specs.Languages.{IsIn};
 ghost use Rattle.rl_compare.specs.Matched.{matched_tree};
 
-/// The language of a matched tree is the texts that are matched with its ending.
+/// A matched tree spans a text exactly if the tree matches the text with its ending.
 pub fn matched_trees_span_matches()
     ensures { (u : Universe) (t : Tree) (ending : Ending) (w : List ℕ) → IsText u w → IsIn (matched_tree u t ending) w ↔ IsTrue (matched t ending w) }
 {}

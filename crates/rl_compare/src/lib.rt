@@ -1,15 +1,16 @@
-//! How the texts that two patterns match are related, in the mode in which each of them is used.
+//! Compares what two patterns match, each in the mode in which it is used.
 //!
-//! [`compare`] takes two lowered patterns. Where a match may end anywhere, it puts any number of characters behind the tree,
-//! so that the question becomes one about whole texts. Then it asks `rl_equiv` for a text of each region: of what the first
-//! pattern alone matches, the second alone, and both. [`Compared`] has these texts, and whether more set pairs are reached
-//! than were looked at. Two patterns are equal where the first two regions are empty and nothing more is reached.
+//! [`compare`] takes two lowered patterns. If a match may end anywhere, it adds any number of characters to the end of
+//! the tree, so that the question becomes one about whole texts. Then it asks `rl_equiv` for a text that only the first
+//! pattern matches, one that only the second matches, and one that both match. [`Compared`] has these texts, and says
+//! whether more set pairs are reached than were looked at. Two patterns match the same texts if the first two texts are
+//! missing and no more set pairs are reached.
 //!
 //! # What is proved
 //!
-//! Each text lies in its region. Where no more set pairs are reached than the limit, a region without a text is empty. A
-//! refusal names the first limit that is passed. The law [`laws::matched_trees_span_matches`] says that the trees with the
-//! characters behind them span exactly the texts that are matched.
+//! Each text is in its region. If no more set pairs are reached than the limit, a region without a text is empty. An
+//! error names the first limit that is exceeded. By the law [`laws::matched_trees_span_matches`], the trees with the
+//! added characters span exactly the texts that are matched.
 //!
 //! # Example
 //!

@@ -12,6 +12,7 @@ pub mod FallingPairLaws
 pub mod KernelLaws
 pub mod GroupLaws
 pub mod TableLaws
+pub mod ReachLaws
 pub mod RowLaws
 pub mod SearchLaws
 pub mod RankLaws

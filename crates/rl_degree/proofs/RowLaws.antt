@@ -20,7 +20,7 @@ use Rattle.rl_degree.specs.declared.rows.Step.{Step}
 use Rattle.rl_degree.specs.declared.rows.Found.{Found}
 use Rattle.rl_kernel.proofs.MemberLaws.{member-there}
 use Rattle.rl_kernel.proofs.InnerPaths.{pair-first}
-use Rattle.rl_degree.proofs.TableLaws.{cell-one_back, cell-one_here, cell-none, cell-or_back, cell-or_here, cell-or_stays}
+use Rattle.rl_degree.proofs.TableLaws.{cell-within, cell-one_back, cell-one_here, cell-one_stays, cell-or_back, cell-or_here, cell-or_stays}
 
 -- words
 
@@ -449,48 +449,49 @@ settle d f s letters none h all other = record {
 
 -- the start
 
-pub searching-start : (d : Field) (keeps : Bool) (pairs place from to : ℕ) → pairs ≡ length d.members → place < pairs → from < d.states → IsSearching d (start_stand keeps d.states pairs place from to)
-searching-start d keeps pairs place from to e hp hf = record {
-  high = length-set (replicate pairs (replicate d.states false)) place (set (get_or (replicate pairs (replicate d.states false)) place []) from true) ∙ (length-replicate pairs (replicate d.states false) ∙ e);
+pub searching-start : (d : Field) (keeps : Bool) (hopeless : List Bool) (pairs place from to : ℕ) → pairs ≡ length d.members → place < pairs → from < d.states → length hopeless ≡ d.states
+    → ((m l k : ℕ) → get_or hopeless m false ≡ true → Has k (d.next m l) → get_or hopeless k false ≡ true) → (get_or hopeless to false ≡ true → ⊥) → IsSearching d (start_stand keeps hopeless pairs place from to)
+searching-start d keeps hopeless pairs place from to e hp hf wide-row closed lacks = record {
+  high = length-set (replicate pairs hopeless) place (set (get_or (replicate pairs hopeless) place []) from true) ∙ (length-replicate pairs hopeless ∙ e);
   wide = λ i lt. wide i (omega (arith, e)) (cases_eq i place);
   rooted = λ k s h. absurd (omega arith);
   found = λ f has. found f has;
-  start = cell-one_here (replicate pairs (replicate d.states false)) place from hr hw;
-  settled = λ i m on. inl (waits i m (cell-one_back (replicate pairs (replicate d.states false)) place from i m hr on));
-  goal = λ on. waits place to (cell-one_back (replicate pairs (replicate d.states false)) place from place to hr on);
+  start = cell-one_here (replicate pairs hopeless) place from hr hw;
+  settled = λ i m on. settled i m (cell-one_back (replicate pairs hopeless) place from i m hr on);
+  goal = λ on. goal (cell-one_back (replicate pairs hopeless) place from place to hr on);
 }
   where
-    hr : place < length (replicate pairs (replicate d.states false))
-    hr = omega (arith, length-replicate pairs (replicate d.states false))
+    hr : place < length (replicate pairs hopeless)
+    hr = omega (arith, length-replicate pairs hopeless)
 
-    row-there : (i : ℕ) → i < pairs → get_or (replicate pairs (replicate d.states false)) i [] ≡ replicate d.states false
-    row-there i lt = get_or-replicate pairs i (replicate d.states false) [] lt
+    row-there : (i : ℕ) → i < pairs → get_or (replicate pairs hopeless) i [] ≡ hopeless
+    row-there i lt = get_or-replicate pairs i hopeless [] lt
 
-    hw : from < length (get_or (replicate pairs (replicate d.states false)) place [])
-    hw = omega (arith, ap length (row-there place hp), length-replicate d.states false)
+    hw : from < length (get_or (replicate pairs hopeless) place [])
+    hw = omega (arith, ap length (row-there place hp), wide-row)
 
-    wide : (i : ℕ) → i < pairs → (i ≡ place) ⊎ (i ≢ place) → length (get_or (with_cell (replicate pairs (replicate d.states false)) place from) i []) ≡ d.states
+    wide : (i : ℕ) → i < pairs → (i ≡ place) ⊎ (i ≢ place) → length (get_or (with_cell (replicate pairs hopeless) place from) i []) ≡ d.states
     wide i lt (inr n) =
-        ap length (get_or-set_other (replicate pairs (replicate d.states false)) place i (set (get_or (replicate pairs (replicate d.states false)) place []) from true) [] n)
-        ∙ (ap length (row-there i lt) ∙ length-replicate d.states false)
+        ap length (get_or-set_other (replicate pairs hopeless) place i (set (get_or (replicate pairs hopeless) place []) from true) [] n)
+        ∙ (ap length (row-there i lt) ∙ wide-row)
     wide i lt (inl a) =
-        ap (λ z. length (get_or (with_cell (replicate pairs (replicate d.states false)) place from) z [])) a
-        ∙ (ap length (get_or-set_same (replicate pairs (replicate d.states false)) place (set (get_or (replicate pairs (replicate d.states false)) place []) from true) [] hr)
-        ∙ (length-set (get_or (replicate pairs (replicate d.states false)) place []) from true ∙ (ap length (row-there place hp) ∙ length-replicate d.states false)))
+        ap (λ z. length (get_or (with_cell (replicate pairs hopeless) place from) z [])) a
+        ∙ (ap length (get_or-set_same (replicate pairs hopeless) place (set (get_or (replicate pairs hopeless) place []) from true) [] hr)
+        ∙ (length-set (get_or (replicate pairs hopeless) place []) from true ∙ (ap length (row-there place hp) ∙ wide-row)))
 
-    fresh-first : has_middle (record { step = 0; place = place; middle = row_with d.states from }) from ≡ true
-    fresh-first = get_or-set_same (replicate d.states false) from true false (omega (arith, length-replicate d.states false))
+    fresh-first : has_middle (record { step = 0; place = place; middle = row_with (length hopeless) from }) from ≡ true
+    fresh-first = get_or-set_same (replicate (length hopeless) false) from true false (omega (arith, length-replicate (length hopeless) false, wide-row))
 
-    only-from : (m : ℕ) → (m ≡ from) ⊎ (m ≢ from) → get_or (row_with d.states from) m false ≡ true → m ≡ from
+    only-from : (m : ℕ) → (m ≡ from) ⊎ (m ≢ from) → get_or (row_with (length hopeless) from) m false ≡ true → m ≡ from
     only-from m (inl a) on = a
     only-from m (inr a) on =
-        absurd (both_ways (get_or (row_with d.states from) m false) (get_or-set_other (replicate d.states false) from m true false a ∙ get_or-replicate_false d.states m) on)
+        absurd (both_ways (get_or (row_with (length hopeless) from) m false) (get_or-set_other (replicate (length hopeless) false) from m true false a ∙ get_or-replicate_false (length hopeless) m) on)
 
-    found : (f : Found) → Has f (record { step = 0; place = place; middle = row_with d.states from } ∷ []) → IsFound d (start_stand keeps d.states pairs place from to) f
-    found f (inl here) = subst (IsFound d (start_stand keeps d.states pairs place from to)) (sym here) (record {
+    found : (f : Found) → Has f (record { step = 0; place = place; middle = row_with (length hopeless) from } ∷ []) → IsFound d (start_stand keeps hopeless pairs place from to) f
+    found f (inl here) = subst (IsFound d (start_stand keeps hopeless pairs place from to)) (sym here) (record {
       place_in = omega (arith, e);
       step_in = omega arith;
-      wide = length-set (replicate d.states false) from true ∙ length-replicate d.states false;
+      wide = length-set (replicate (length hopeless) false) from true ∙ (length-replicate (length hopeless) false ∙ wide-row);
       word = [];
       outer = omega (arith, paths-nil d.pairs (get_or d.members place 0));
       inner = λ m on. let same = only-from m (cases_eq m from) on in rw same (omega (arith, paths-nil d.next from));
@@ -498,9 +499,25 @@ searching-start d keeps pairs place from to e hp hf = record {
     })
     found f (inr none) = absurd none
 
-    waits : (i m : ℕ) → (cell (replicate pairs (replicate d.states false)) i m ≡ true) ⊎ ((i ≡ place) × (m ≡ from)) → Waits (start_stand keeps d.states pairs place from to) i m
-    waits i m (inl a) = absurd (cell-none pairs d.states i m a)
-    waits i m (inr a) = (record { step = 0; place = place; middle = row_with d.states from }, inl refl, sym a.0, rw a.1 fresh-first)
+    waits : (i m : ℕ) → i ≡ place → m ≡ from → Waits (start_stand keeps hopeless pairs place from to) i m
+    waits i m a b = (record { step = 0; place = place; middle = row_with (length hopeless) from }, inl refl, sym a, rw b fresh-first)
+
+    -- a cell of the rows before the start was set
+    in-row : (i m : ℕ) → cell (replicate pairs hopeless) i m ≡ true → get_or hopeless m false ≡ true
+    in-row i m on =
+        let lt : i < pairs = omega (arith, cell-within (replicate pairs hopeless) i m on, length-replicate pairs hopeless) in
+        ap (λ (r : List Bool). get_or r m false) (sym (row-there i lt)) ∙ on
+
+    settled : (i m : ℕ) → (cell (replicate pairs hopeless) i m ≡ true) ⊎ ((i ≡ place) × (m ≡ from))
+        → Waits (start_stand keeps hopeless pairs place from to) i m ⊎ ((l : ℕ) → AreMovesSeen d (start_stand keeps hopeless pairs place from to) l i m)
+    settled i m (inr a) = inl (waits i m a.0 a.1)
+    settled i m (inl a) = inr (λ l y k hy member hk.
+        let lt : get_or d.places y 0 < pairs = omega (arith, e, (member-there d.members d.places y member).0) in
+        cell-one_stays (replicate pairs hopeless) place from (get_or d.places y 0) k hr hw (ap (λ (r : List Bool). get_or r k false) (row-there (get_or d.places y 0) lt) ∙ closed m l k (in-row i m a) hk))
+
+    goal : (cell (replicate pairs hopeless) place to ≡ true) ⊎ ((place ≡ place) × (to ≡ from)) → Waits (start_stand keeps hopeless pairs place from to) place to
+    goal (inl a) = absurd (lacks (in-row place to a))
+    goal (inr a) = waits place to refl a.1
 
 -- the end
 

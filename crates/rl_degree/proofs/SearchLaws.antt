@@ -21,6 +21,8 @@ use Rattle.rl_degree.specs.declared.pairs.PairTable.{PairTable}
 use Rattle.rl_kernel.proofs.InnerPaths.{inner-path, path-inner, bounded-inner, pair-first, pair-second, pair-both, cycle-same}
 use Rattle.rl_degree.proofs.SplitLaws.{split_in_component, split_falls}
 use Rattle.rl_kernel.proofs.MemberLaws.{there-member, member-there}
+use Rattle.rl_degree.specs.internal.Reached.{reaches, IsHopeless}
+use Rattle.rl_degree.proofs.ReachLaws.{path-reached, hopeless-closed, hopeless-lacks}
 use Rattle.rl_degree.proofs.FallingPairLaws.{falls-along, pair-falling, falling-pair}
 use Rattle.rl_degree.proofs.RowLaws.{searching-start, settle, never-reached}
 
@@ -193,6 +195,10 @@ module _ (g : Graph) (t : PairTable) (whole : IsWhole g) (table : IsTable g t) w
       cycle [] s = absurd (s.apart (nil-same (edges_of g) (first x) (second x) s.over))
       cycle (l ∷ y) s = (l, y, pair-falling g t.components (seats_of t.kernel) t.inner table.kernel.seats table.inner x x (l ∷ y) (falls-from x hx less) (split-pair none x (l ∷ y) hx s))
 
+  -- a state of a split reaches the other one
+  pub split-reaches : (r q : ℕ) → r < g.states → q < g.states → HasSplit (edges_of g) r q → reaches t.components t.reached.items r q ≡ true
+  split-reaches r q hr hq s = path-reached g t.components t.reached.items whole table.components table.reached r q s.0 hr hq s.1.over
+
   -- the pair of two states
 
   pub not-there : HasNoTwin (edges_of g) → (r q : ℕ) → r < g.states → q < g.states → HasSplit (edges_of g) r q
@@ -269,15 +275,15 @@ module _ (g : Graph) (t : PairTable) (whole : IsWhole g) (table : IsTable g t) w
       start-there x part (row_of (lists_of t.placed) part) (lists_of t.placed).places f.pair.within f.pair.wanted f.of_part refl refl
 
   -- the search begins right
-  pub search-start : (keeps : Bool) (x part pairs place n r q : ℕ) (s : Stand) → r < g.states → IsPairFor t r q x → part ≡ number_of t.parts x
-      → place ≡ get_or (lists_of t.placed).places x 0 → pairs ≡ length (row_of (lists_of t.placed) part) → n ≡ g.states → s ≡ start_stand keeps n pairs place r q
+  pub search-start : (keeps : Bool) (hopeless : List Bool) (x part pairs place r q : ℕ) (s : Stand) → r < g.states → q < g.states → IsHopeless g.states t.components t.reached.items q hopeless → IsPairFor t r q x → part ≡ number_of t.parts x
+      → place ≡ get_or (lists_of t.placed).places x 0 → pairs ≡ length (row_of (lists_of t.placed) part) → s ≡ start_stand keeps hopeless pairs place r q
       → IsSearching (field_of g t part) s × IsFor g t x part s
-  search-start keeps x part pairs place n r q s hr pair of_part at long en es =
-      let e : s ≡ start_stand keeps g.states pairs place r q = es ∙ ap (λ (z : ℕ). start_stand keeps z pairs place r q) en in
-      let is : IsFor g t x part (start_stand keeps g.states pairs place r q) = record { pair = pair; of_part = of_part; place = at } in
-      let start = start-of x part (start_stand keeps g.states pairs place r q) is in (
-        subst (IsSearching (field_of g t part)) (sym e) (searching-start (field_of g t part) keeps pairs place r q long (omega (arith, at, long, start.within)) hr),
-        subst (IsFor g t x part) (sym e) is,
+  search-start keeps hopeless x part pairs place r q s hr hq lost pair of_part at long es =
+      let is : IsFor g t x part (start_stand keeps hopeless pairs place r q) = record { pair = pair; of_part = of_part; place = at } in
+      let start = start-of x part (start_stand keeps hopeless pairs place r q) is in (
+        subst (IsSearching (field_of g t part)) (sym es) (searching-start (field_of g t part) keeps hopeless pairs place r q long (omega (arith, at, long, start.within)) hr lost.wide
+            (hopeless-closed g t.components t.reached.items whole table.components table.reached q hopeless lost) (hopeless-lacks g t.components t.reached.items whole table.components table.reached q hopeless hq lost)),
+        subst (IsFor g t x part) (sym es) is,
       )
 
   -- and goes on right
@@ -342,7 +348,7 @@ module _ (g : Graph) (t : PairTable) (whole : IsWhole g) (table : IsTable g t) w
       (λ h. part-splits none x y hx hy same (at.0 h), λ s. at.1 (part-splits none y x hy hx (sym same) s))
 
   -- what a search answers
-  pub search-tells : (r q : ℕ) (o : Option (List ℕ)) (b : Bool) → b ≡ is_some o → IfSome o (λ w. HasSplit (edges_of g) r q) → IfNone o (HasSplit (edges_of g) r q → ⊥) → IsTrue b ↔ HasSplit (edges_of g) r q
+  pub search-tells : {A : Type 0} (r q : ℕ) (o : Option A) (b : Bool) → b ≡ is_some o → IfSome o (λ w. HasSplit (edges_of g) r q) → IfNone o (HasSplit (edges_of g) r q → ⊥) → IsTrue b ↔ HasSplit (edges_of g) r q
   search-tells r q (Some w) b e s o = (λ h. s, λ h. e)
   search-tells r q None b e s o = (λ h. absurd (both_ways b e h), λ h. absurd (o h))
 

@@ -5,7 +5,7 @@ use Rattle.rl_graph.specs.Twins.{Link, ChainFrom, IsRank}
 use Rattle.rl_degree.specs.declared.chains.Split.{Split}
 use Rattle.rl_degree.specs.declared.chains.Loop.{Loop}
 
--- a split as a link of a chain; no word that leads to it is given
+-- a split as a link of a chain; the word that leads to it is left empty
 abbrev pub link_of : Split → Link
 link_of s = record { lead = []; from = s.from; to = s.to; word = s.word }
 

@@ -1,9 +1,9 @@
--- The states of a path, and what is asked of a graph in the bounds on its paths.
+-- The states of a path, and the conditions on a graph in the bounds on its paths.
 use Rattle.std.specs.Prelude.{◌≡◌, ℕ, suc, ◌<◌, ◌≤◌, List, [], ◌∷◌}
 use Rattle.rl_graph.specs.Paths.{Has}
 use Rattle.rl_graph.specs.Twins.{IsSplit}
 
--- the states `at 0`, `at 1` and so on are those of a path along the word
+-- the states `at 0`, `at 1` and so on form a path along the word
 abbrev pub Runs : (ℕ → ℕ → List ℕ) → List ℕ → (ℕ → ℕ) → Type 0
 Runs next [] at = Unit {0}
 Runs next (l ∷ w) at = Has (at 1) (next (at 0) l) × Runs next w (λ j. at (suc j))

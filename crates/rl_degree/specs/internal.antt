@@ -5,6 +5,7 @@ pub mod Entries
 pub mod FallingPairs
 pub mod Pairs
 pub mod Moves
+pub mod Reached
 pub mod Rows
 pub mod Splits
 pub mod Ranks

@@ -1,4 +1,4 @@
-//! Chains of splits of the greatest length.
+//! The longest chains of splits.
 
 ghost use Rattle.std.specs.Prelude.{◌≡◌, ℕ, ◌<◌, ◌≤◌, List, length, replicate, slice_index, All, IfOk, IfSome, IfNone, IsTrue};
 ghost use Rattle.rl_graph.specs.Graph.{edges_of};
@@ -49,11 +49,11 @@ pub struct Chain {
     pub links: Splits,
     /// For each state the length of the longest chain from it.
     pub ranks: Ranks,
-    /// A state on a cycle, where there is one.
+    /// A state on a cycle and its loop, if there is one.
     pub cycle: Option<Loop>,
 }
 
-/// A place of the greatest rank.
+/// The place of a greatest rank.
 fn top_place(ranks: &[u32]) -> usize
     requires { 0 < length ranks.now }
     ensures place_in { result < length ranks.now }
@@ -68,7 +68,7 @@ fn top_place(ranks: &[u32]) -> usize
     top
 }
 
-/// A longest chain from a state.
+/// A longest chain from a state, found by the best of each component.
 fn chain_from(
     alloc: Global,
     g: &Multigraph,
@@ -84,7 +84,6 @@ fn chain_from(
     ensures long { IfOk result (λ l. length l ≡ (best_at bests.now (number_of table.now.components start)).rank) }
     ensures states { IfOk result (All (IsSplitIn g.now.states)) }
 {
-    let _states = g.states();
     let mut links = Items::new(alloc);
     let mut state = start;
     let mut best = bests[table.components.of(state) as usize];
@@ -105,7 +104,7 @@ fn chain_from(
     Ok(links)
 }
 
-/// A cycle through a state that lies on one.
+/// A loop through a state that lies on a cycle.
 fn loop_at(
     alloc: Global,
     g: &Multigraph,
@@ -126,7 +125,7 @@ fn loop_at(
     }
 }
 
-/// A cycle of a graph.
+/// A loop of a graph, if it has a cycle.
 fn some_loop(
     alloc: Global,
     g: &Multigraph,
@@ -153,7 +152,7 @@ fn no_ranks(alloc: Global, count: u32) -> Result<Ranks, OutOfMemory>
     Ok(Items::from_vec(ranks))
 }
 
-/// The chain of no split, the ranks and a cycle of a graph that has no split.
+/// The answer for a graph that has no split: an empty chain, ranks of 0, and a loop if there is one.
 fn without_split(
     alloc: Global,
     g: &Multigraph,
@@ -172,7 +171,7 @@ fn without_split(
     })
 }
 
-/// The splits of a longest chain of a graph, by the ranks.
+/// The splits of a longest chain of a graph: a longest one from a state of the greatest rank.
 fn longest_links(
     alloc: Global,
     g: &Multigraph,
@@ -186,14 +185,13 @@ fn longest_links(
     requires ranks { AreRanks (edges_of g.now) g.now.states ranks.now }
     ensures { IfOk result (AreLongest (edges_of g.now) g.now.states) }
 {
-    let _states = g.states();
     if ranks.is_empty() {
         return Ok(Items::new(alloc));
     }
     chain_from(alloc, g, table, bests, top_place(ranks) as u32)
 }
 
-/// A longest chain of splits of a graph, all ranks and a cycle, by the parts of its product.
+/// The answer for a graph, found by the parts of its product.
 fn chain_by(alloc: Global, g: &Multigraph, table: &PairTable) -> Result<Chain, OutOfMemory>
     requires table { IsTable g.now table.now }
     requires no_twin { HasNoTwin (edges_of g.now) }
@@ -210,7 +208,7 @@ fn chain_by(alloc: Global, g: &Multigraph, table: &PairTable) -> Result<Chain, O
     })
 }
 
-/// A longest chain of splits of a graph that may have one, all ranks and a cycle.
+/// The answer for a graph that may have a split.
 fn with_splits(alloc: Global, g: &Multigraph, components: Components) -> Result<Chain, OutOfMemory>
     requires parts { IsParts (edges_of g.now) g.now.states components }
     requires no_twin { HasNoTwin (edges_of g.now) }
@@ -220,7 +218,7 @@ fn with_splits(alloc: Global, g: &Multigraph, components: Components) -> Result<
     chain_by(alloc, g, &table)
 }
 
-/// The same of a graph without a twin: it may have a split only where two components have states on cycles.
+/// The answer for a graph without a twin. Such a graph has no split unless two of its components have states on cycles.
 fn greatest(alloc: Global, g: &Multigraph, components: Components) -> Result<Chain, OutOfMemory>
     requires parts { IsParts (edges_of g.now) g.now.states components }
     requires no_twin { HasNoTwin (edges_of g.now) }
@@ -236,12 +234,12 @@ fn greatest(alloc: Global, g: &Multigraph, components: Components) -> Result<Cha
 /// A longest chain of splits of a graph without a twin, all ranks and a cycle, found over the graph's strongly connected
 /// components.
 ///
-/// The components must be those of the graph, as [`Multigraph::components`] makes them: so a caller that needs them for more than
-/// one search makes them once. The search is that of [`degree`]. Where no two components have states on cycles there is no split,
-/// and nothing is searched for one.
+/// The components must be those of the graph, as [`Multigraph::components`] makes them. A caller that needs them for more than
+/// one search makes them only once. The search is the same as in [`degree`]. If no two components have states on cycles, there
+/// is no split, and nothing is searched.
 ///
 /// # Errors
-/// [`OutOfMemory`] where there was no memory for the search or the answer.
+/// [`OutOfMemory`] if there was no memory for the search or the answer.
 pub fn degree_over(
     alloc: Global,
     g: &Multigraph,
@@ -262,16 +260,19 @@ pub fn degree_over(
 
 /// A longest chain of splits of a graph without a twin, all ranks and a cycle.
 ///
-/// A split leads from a state on a cycle to one in a lower component. Where two components have such states, it takes the parts
-/// of the product of two copies of the moves between these states that stay in a component: there a pair of states falls where
-/// the second one is in a lower component than the first, each move leads from a pair that falls to one that falls, and those of
-/// the other pairs and letters without a move are left out. For a part that holds a cycle it makes at most one search for one of
-/// its pairs (the test for IDA of Weber and Seidl 1991), over triples of states whose outer ones lie in that part. For each of its
-/// pairs a row of bits holds the middle states, so that a search meets no triple twice, and a bit stands for each. Ranks and
-/// chains go by the components of the graph in their order, and only a split that lengthens a chain is looked for.
+/// A split leads from a state on a cycle to a state on a cycle of a lower component. If two components have such states, the
+/// search takes the moves between these states that stay in a component, and makes the product of two copies of them. A pair of
+/// the product falls if its second state is in a lower component than the first. Moves lead from pairs that fall to pairs that
+/// fall, so all other pairs are left out, and so are letters without a move.
+///
+/// Each part of the product that holds a cycle is searched at most once, from one of its pairs (the test for IDA of Weber and
+/// Seidl 1991). The search goes over triples of states whose outer two are a pair of that part. Each of these pairs has a row of
+/// bits for the middle states, so no triple is met twice. Middle states that can't reach the second state of the split are left
+/// out, and nothing is searched if the first state can't reach it. Ranks and chains are found component by component, and only a
+/// split that lengthens a chain is looked for.
 ///
 /// # Errors
-/// [`OutOfMemory`] where there was no memory for the search or the answer.
+/// [`OutOfMemory`] if there was no memory for the search or the answer.
 pub fn degree(alloc: Global, g: &Multigraph) -> Result<Chain, OutOfMemory>
     requires no_twin { HasNoTwin (edges_of g.now) }
     ensures links { IfOk result (λ c. IsChain (edges_of g.now) c.links) }

@@ -1,4 +1,4 @@
-//! On which letters the states of a graph are entered.
+//! The letters on which moves lead to the states of a graph.
 
 ghost use Rattle.std.specs.Prelude.{◌≡◌, ℕ, ◌<◌, ◌+◌, ◌%◌, All, length, IfOk};
 ghost use Rattle.std.specs.Int.{bit_at};
@@ -9,7 +9,7 @@ use rl_graph::Multigraph;
 use rl_lists::OutOfMemory;
 use std::alloc::Global;
 
-/// The word with the bit of a letter set.
+/// Sets the bit of a letter in a word.
 fn with_letter(word: u64, letter: u32) -> u64
     ensures set { bit_at result (letter % 64) ≡ 1 }
     ensures kept { (k : ℕ) → bit_at word k ≡ 1 → bit_at result k ≡ 1 }
@@ -31,7 +31,7 @@ fn mark_targets(entries: &mut Vec<u64>, targets: &[u32], letter: u32)
     }
 }
 
-/// Sets the bits of the moves of a state.
+/// Marks the targets of all moves of a state.
 fn mark_moves(entries: &mut Vec<u64>, g: &Multigraph, state: u32)
     requires state_in { state < g.now.states }
     requires so_far { AreEntriesUpTo g.now state entries.old.items }
@@ -42,11 +42,11 @@ fn mark_moves(entries: &mut Vec<u64>, g: &Multigraph, state: u32)
     }
 }
 
-/// For each state of a graph the letters on which moves lead to it, as a word in which each letter has a bit. Letters that are a
-/// multiple of 64 apart have one bit.
+/// For each state of a graph, the letters on which moves lead to it, as the bits of a word. Letters whose numbers differ by a
+/// multiple of 64 share a bit.
 ///
 /// # Errors
-/// [`OutOfMemory`] where there was no memory for them.
+/// [`OutOfMemory`] if there was no memory for them.
 pub(crate) fn entries_of(alloc: Global, g: &Multigraph) -> Result<Vec<u64>, OutOfMemory>
     ensures { IfOk result (λ v. AreEntries g.now v.items) }
 {

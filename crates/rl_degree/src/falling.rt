@@ -1,9 +1,9 @@
-//! The parts of the product of two copies of a graph, as far as its pairs fall: the second state of such a pair is in a lower
-//! component than the first.
+//! The parts of the product of two copies of a graph, with only the moves of the pairs that fall. A pair falls if its second
+//! state is in a lower component than the first.
 
 ghost use Rattle.std.specs.Prelude.{◌≡◌, ◌+◌, ◌*◌, ◌<◌, ◌&&◌, not, nat_lt, nat_eq, length, slice_index, IfOk, OnOk};
 ghost use Rattle.std.specs.Int.Bits.{bit_and};
-ghost use Rattle.rl_graph.specs.Graph.{edges_of};
+ghost use Rattle.rl_graph.specs.Graph.{edges_of, IsWhole};
 ghost use Rattle.rl_degree.specs.internal.FallingPairs.{falling_moves, AreFlags, AreFlagsUpTo, IsParted};
 
 use crate::entries::entries_of;
@@ -11,8 +11,8 @@ use rl_graph::{Multigraph, Parts, pair_parts};
 use rl_lists::OutOfMemory;
 use std::alloc::Global;
 
-/// Whether a pair falls and a move may lead to it: to each of its states some move leads on one letter, or on letters that are
-/// a multiple of 64 apart.
+/// Whether a pair falls and a move may lead to it, which needs a letter on which moves lead to both of its states. Letters whose
+/// numbers differ by a multiple of 64 count as the same.
 fn is_walked(levels: &[u32], entries: &[u64], first: usize, second: usize) -> bool
     requires first_in { first < length levels.now }
     requires second_in { second < length levels.now }
@@ -22,7 +22,7 @@ fn is_walked(levels: &[u32], entries: &[u64], first: usize, second: usize) -> bo
     levels[second] < levels[first] && entries[first] & entries[second] != 0
 }
 
-/// Appends for each pair with a first state whether it falls and a move may lead to it.
+/// Appends the flags of the pairs with this first state: whether the pair falls and a move may lead to it.
 fn push_flags(
     flags: &mut Vec<bool>,
     levels: &[u32],
@@ -40,7 +40,7 @@ fn push_flags(
     Ok(())
 }
 
-/// For each pair whether it falls and a move may lead to it.
+/// For each pair, whether it falls and a move may lead to it.
 fn falling_flags(alloc: Global, levels: &[u32], entries: &[u64]) -> Result<Vec<bool>, OutOfMemory>
     requires { length entries.now ≡ length levels.now }
     ensures { IfOk result (λ v. AreFlags levels.now entries.now (length levels.now) v.items) }
@@ -52,20 +52,20 @@ fn falling_flags(alloc: Global, levels: &[u32], entries: &[u64]) -> Result<Vec<b
     Ok(flags)
 }
 
-/// The parts of the product of two copies of a graph with the moves of the pairs that fall alone, by the number of each state's
-/// component. Only pairs that a move may lead to are walked, since no other pair is in a part with a second one.
+/// The parts of the product of two copies of a graph, with only the moves of the pairs that fall. `levels` has the number of each
+/// state's component. The search visits only pairs that a move may lead to, since every other pair is a part by itself.
 ///
 /// # Errors
-/// [`OutOfMemory`] where there was no memory for them.
+/// [`OutOfMemory`] if there was no memory for them.
 pub(crate) fn falling_parts(
     alloc: Global,
     g: &Multigraph,
     levels: &[u32],
 ) -> Result<Parts, OutOfMemory>
-    requires { length levels.now ≡ g.now.states }
+    requires whole { IsWhole g.now }
+    requires size { length levels.now ≡ g.now.states }
     ensures { IfOk result (IsParted (falling_moves (edges_of g.now) levels.now g.now.states) (g.now.states * g.now.states)) }
 {
-    let _states = g.states();
     let entries = entries_of(alloc, g)?;
     let flags = falling_flags(alloc, levels, &entries)?;
     let parts = pair_parts(alloc, g, &flags)?;

@@ -1,4 +1,4 @@
-//! The states of each component.
+//! Lists of the states of each component.
 
 ghost use Rattle.std.specs.Prelude.{◌≡◌, ℕ, ◌<◌, length, IfOk};
 ghost use Rattle.rl_graph.specs.Parts.{number_of};
@@ -8,18 +8,18 @@ use rl_graph::Components;
 use rl_lists::OutOfMemory;
 use std::alloc::Global;
 
-/// The first state of each component, and for each state the next one of its component. Where there is none, the number of
-/// states stands for it.
+/// The first state of each component, and for each state the next one of its component. If there is none, the entry is the
+/// number of states.
 #[derive(Drop)]
 pub(crate) struct Groups {
     pub(crate) firsts: Vec<u32>,
     pub(crate) nexts: Vec<u32>,
 }
 
-/// The states of each component of a graph with so many states.
+/// Lists the states of each component of a graph with `count` states.
 ///
 /// # Errors
-/// [`OutOfMemory`] where there was no memory for them.
+/// [`OutOfMemory`] if there was no memory for them.
 pub(crate) fn groups_of(
     alloc: Global,
     components: &Components,

@@ -1,4 +1,4 @@
-//! Laws of paths in multigraphs, for all graphs. The functions do nothing: what they ensure is what is proved. A graph is a
+//! Laws of paths in multigraphs, for all graphs. The functions do nothing: their contracts are the theorems. A graph is a
 //! function from a state and a letter to the ordered list of the targets of its moves.
 
 ghost use Rattle.std.specs.Prelude.{◌≡◌, ◌≢◌, ℕ, suc, ◌+◌, ◌*◌, ◌^◌, ◌<◌, ◌≤◌, Bool, List, [], ◌∷◌, ◌++◌, length};
@@ -9,11 +9,11 @@ ghost use Rattle.rl_degree.specs.Leavers.{NeverRises, HasNoSplit, HasNoEqualSpli
 ghost use Rattle.rl_degree.specs.Passages.{Passage, Later, FiveOfOneColour};
 ghost use Rattle.rl_degree.specs.FallingNumbers.{IsDoubles, IsTriples};
 
-/// Five times. In a graph without a twin at most one path leads along a word between states that reach each other: so says
-/// `alone`. Let `a` and `b` lie in different strong components, and let there be `bound_b n` different times, the later ones
-/// first, for each of which a path from `s` to `t` along `w` moves from `a` to `b` at that time. The colour of two times is the
-/// state of the later one's path at the earlier time, and that of the earlier one's path at the later time. Then there are five
-/// of the times of which each two have one colour, and that colour is a split: so says `cross`.
+/// Five times. In a graph without a twin at most one path leads along a word between states that reach each other (`alone`).
+/// Let `a` and `b` lie in different strong components. Take `bound_b n` different times, latest first, and for each of them a path
+/// from `s` to `t` along `w` that moves from `a` to `b` at that time. The colour of two times is a pair of states: the state of
+/// the later time's path at the earlier time, and the state of the earlier time's path at the later time. Then five of the times
+/// are such that any two of them have the same colour, and this colour is a split (`cross`).
 pub fn five_times()
     ensures alone { (next : ℕ → ℕ → List ℕ) → HasNoTwin next → (s t : ℕ) (w back : List ℕ) → 1 ≤ paths next t s back → paths next s t w ≤ 1 }
     ensures cross { (next : ℕ → ℕ → List ℕ) (n k : ℕ) → IsWithin next n k
@@ -22,8 +22,8 @@ pub fn five_times()
         → FiveOfOneColour next s t a b w passages }
 {}
 
-/// Paths without a split. In a graph without a twin and without a split the number of paths between two states along a word has
-/// a bound that does not depend on the word. So it is in a graph without a cycle, by `no_cycle`.
+/// Paths without a split. In a graph without a twin and without a split, the number of paths between two states along a word has
+/// a bound that does not depend on the word. The same holds in a graph without a cycle (`no_cycle`).
 pub fn paths_without_a_split()
     ensures no_split { (next : ℕ → ℕ → List ℕ) (n k : ℕ) → IsWithin next n k → HasNoTwin next → HasNoSplit next n
         → (s t : ℕ) (w : List ℕ) → s < n → paths next s t w ≤ bound_h n k }
@@ -32,8 +32,8 @@ pub fn paths_without_a_split()
 {}
 
 /// Paths by ranks. Let the states of a graph without a twin have numbers that never rise along a move, with no split between
-/// states of equal number. Then `numbers` bounds the paths from a state of a number up to `d` by the `d`-th power of the
-/// length of the word and one. So does `ranks` where the numbers are the ranks, the lengths of the longest chains.
+/// states of equal number. Then the paths from a state whose number is at most `d` are bounded by the `d`-th power of one more
+/// than the length of the word (`numbers`). The ranks, which are the lengths of the longest chains, are such numbers (`ranks`).
 pub fn paths_by_ranks()
     ensures numbers { (next : ℕ → ℕ → List ℕ) (n k : ℕ) (rank : ℕ → ℕ) → IsWithin next n k → HasNoTwin next
         → NeverRises next n rank → HasNoEqualSplit next n rank
@@ -45,9 +45,8 @@ pub fn paths_by_ranks()
         → paths next s t w ≤ (bound_h n k * (1 + n * k)) ^ suc (rank s) * suc (length w) ^ rank s }
 {}
 
-/// One pair of states speaks for its part of the product. In a graph without a twin, where a pair is a split, each pair that
-/// reaches it and is reached from it is a split too: so says `split`. By `kinds` no part holds both a pair of equal states and
-/// a pair of different ones.
+/// One pair of states speaks for its part of the product. In a graph without a twin, each pair that reaches a split and is
+/// reached from it is a split too (`split`). No part has both a pair of equal states and a pair of different ones (`kinds`).
 pub fn one_pair_speaks_for_its_part()
     ensures split { (next : ℕ → ℕ → List ℕ) (r q other_r other_q : ℕ) (v to back : List ℕ) → HasNoTwin next → IsSplit next r q v
         → 1 ≤ paths next other_r r to → 1 ≤ paths next other_q q to → 1 ≤ paths next r other_r back → 1 ≤ paths next q other_q back
@@ -63,16 +62,15 @@ pub fn splits_are_never_undone()
         → (s : ℕ) (chain : List Link) → s < n → ChainFrom next s chain → length chain < n }
 {}
 
-/// A state that is reached has no higher rank than the state that it is reached from, behind a split the rank is lower, and a
-/// state without moves has rank 0.
+/// Along a path the rank never rises, along a split it falls, and a state without moves has rank 0.
 pub fn ranks_fall()
     ensures reached { (next : ℕ → ℕ → List ℕ) (s t d e : ℕ) → IsRank next s d → IsRank next t e → Reaches next s t → e ≤ d }
     ensures split { (next : ℕ → ℕ → List ℕ) (r q d e : ℕ) (y : List ℕ) → IsRank next r d → IsRank next q e → IsSplit next r q y → e < d }
     ensures still { (next : ℕ → ℕ → List ℕ) (s : ℕ) → ((l : ℕ) → next s l ≡ []) → IsRank next s 0 }
 {}
 
-/// Falling numbers. Numbers on the doubles of a graph exclude a twin, and numbers on its triples exclude a split between states
-/// of one rank, where the ranks never rise along a move.
+/// Falling numbers. Numbers on the doubles of a graph exclude a twin. If ranks never rise along a move, numbers on the triples of
+/// the graph exclude a split between states of the same rank.
 pub fn falling_numbers_exclude()
     ensures twins { (next : ℕ → ℕ → List ℕ) (n k : ℕ) (holds : ℕ → ℕ → Bool) (number : ℕ → ℕ → ℕ) → IsBounded next n k
         → IsDoubles next n holds number → HasNoTwin next }

@@ -1,17 +1,17 @@
 //! Chains of splits: the search that decides the degree of a polynomial growth.
 //!
 //! A split is a pair of different states `r` and `q` with one word that leads from `r` to `r`, from `r` to `q` and from `q`
-//! to `q`: a witness of IDA, the criterion of Weber and Seidl (1991) for an infinite degree of ambiguity, which is polynomial
-//! where there is no twin. [`degree`] takes a graph without a twin and returns a [`Chain`]: as many splits as possible, each
-//! reached from the one before. With them come the rank of each state, which is the length of the longest chain from it, and
-//! a [`Loop`], if the graph has a cycle. It works by strongly connected components, and searches triples of states only where
-//! a pair of the product may be a split. [`degree_over`] does the same over components that the caller has found.
+//! to `q`. It is a witness of IDA, the criterion of Weber and Seidl (1991) for an infinite degree of ambiguity. Without a twin
+//! that ambiguity is polynomial. [`degree`] takes a graph without a twin and returns a [`Chain`]: as many splits as possible,
+//! each reached from the one before. The chain also has the rank of each state, which is the length of the longest chain from
+//! it, and a [`Loop`] if the graph has a cycle. The search goes by strongly connected components. It looks at triples of states
+//! only if a pair of the product may be a split. [`degree_over`] does the same with components that the caller has found.
 //!
 //! # What is proved
 //!
-//! No chain from any state is longer, each rank is exact, and there is no loop exactly where no state lies on a cycle. The
+//! No chain from any state is longer, and each rank is exact. There is a loop if and only if some state lies on a cycle. The
 //! module [`laws`] bounds paths from above: in a graph without a twin, a word of n letters has at most `c (n + 1)^d` paths
-//! from a state of rank d to another state, where c depends on d and the size of the graph alone.
+//! from a state of rank d to another state, and c depends only on d and the size of the graph.
 //!
 //! # Example
 //!
@@ -38,6 +38,7 @@ pub mod laws;
 mod moves;
 mod pairs;
 mod ranks;
+mod reached;
 mod rows;
 mod searches;
 

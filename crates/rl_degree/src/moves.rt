@@ -8,7 +8,7 @@ use rl_lanes::BitTable;
 use rl_lists::OutOfMemory;
 use std::alloc::Global;
 
-/// Marks the targets of a state's moves on a letter in its row of the letter's table.
+/// Marks the targets of a state's moves on a letter, in the state's row of the letter's table.
 fn mark_moves(table: &mut BitTable, g: &Multigraph, state: u32, letter: u32)
     requires state_in { state < g.now.states }
     requires letter_in { letter < g.now.letters }
@@ -47,7 +47,7 @@ fn is_used(g: &Multigraph, letter: u32) -> bool
     false
 }
 
-/// The table of a letter, an empty one where no inner move is on the letter.
+/// The table of a letter, which is empty if no inner move is on the letter.
 fn table_on(
     alloc: Global,
     g: &Multigraph,
@@ -65,10 +65,10 @@ fn table_on(
     }
 }
 
-/// A table for each letter of a graph; on a letter that no inner move has it is empty.
+/// A table for each letter of a graph. It is empty if no inner move is on the letter.
 ///
 /// # Errors
-/// [`OutOfMemory`] where there was no memory for them.
+/// [`OutOfMemory`] if there was no memory for them.
 pub(crate) fn move_tables(
     alloc: Global,
     g: &Multigraph,

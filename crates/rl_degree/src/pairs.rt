@@ -1,4 +1,4 @@
-//! The pairs of states that may be splits, part by part of the product of two copies of the graph of inner moves.
+//! The pairs of states that may be splits, by the parts of the product of two copies of the graph of inner moves.
 
 ghost use Rattle.std.specs.Prelude.{◌≡◌, ℕ, ◌<◌, ◌+◌, ◌*◌, ◌^◌, false, length, slice_index, MatchOption, IfOk, OnOk};
 ghost use Rattle.rl_graph.specs.Graph.{edges_of};
@@ -10,14 +10,15 @@ ghost use Rattle.rl_degree.specs.internal.Pairs.{is_wanted, lists_of, row_of, Ha
 use crate::falling::falling_parts;
 use crate::kernel::kernel_of;
 use crate::moves::move_tables;
+use crate::reached::reached_rows;
 use rl_graph::{Components, Multigraph, Parts};
 use rl_kernel::{Kernel, inner_graph};
-use rl_lanes::BitTable;
+use rl_lanes::{BitRow, BitTable};
 use rl_lists::{Items, OutOfMemory};
 use std::alloc::Global;
 
-/// The pairs that lie on a cycle and fall, by parts: for each part of the product the number of its list, the lists of members,
-/// and for each pair its place among the members of its part. The list 0 is that of all parts with no member.
+/// The pairs that lie on a cycle and fall, by parts: for each part of the product the number of its list, then the lists of
+/// members, and for each pair its place in the list of its part. The list 0 is empty, and belongs to all parts without a member.
 #[derive(Drop)]
 pub(crate) struct Placed {
     pub(crate) numbers: Vec<u64>,
@@ -25,12 +26,14 @@ pub(crate) struct Placed {
     pub(crate) places: Vec<u64>,
 }
 
-/// A graph's components, the states that a split may join, their inner moves, the parts of the product of two copies of these
-/// with the moves of the pairs that fall alone, the pairs of each part, and for each letter that
-/// an inner move is on the table of the graph's moves, an empty one for the others; no table where no part has a pair.
+/// What the search for splits goes by: the components of the graph, those that are reached from each of them, the states that a split may lead from or to, the inner moves
+/// between these, the parts of the product of two copies of the inner moves with only the moves of the pairs that fall, and the
+/// pairs of each part. `moves` has a table of the graph's moves for each letter. The table is empty if no inner move is on the
+/// letter, and there are no tables at all if no part has a pair.
 #[derive(Drop)]
 pub(crate) struct PairTable {
     pub(crate) components: Components,
+    pub(crate) reached: Vec<BitRow>,
     pub(crate) kernel: Kernel,
     pub(crate) inner: Multigraph,
     pub(crate) parts: Parts,
@@ -38,7 +41,7 @@ pub(crate) struct PairTable {
     pub(crate) moves: Vec<BitTable>,
 }
 
-/// The pair of two states.
+/// The number of the pair of two states.
 pub(crate) fn pair_of(count: u64, from: u32, to: u32) -> u64
     requires { count < 2 ^ 32 }
     ensures { result ≡ from * count + to }
@@ -85,8 +88,8 @@ impl PairTable {
     }
 }
 
-/// Whether a pair lies on a cycle of the product, and falls: its second state is in a lower component than the first, one that
-/// may be reached from the first one's, but not the other way round.
+/// Whether a pair lies on a cycle of the product and falls: its second state is in a lower component than the first, so the
+/// first can't be reached from the second.
 pub(crate) fn wanted(levels: &[u32], parts: &Parts, count: u64, pair: u64) -> bool
     requires pair_in { pair < count * count }
     requires few { count < 2 ^ 32 }
@@ -98,7 +101,7 @@ pub(crate) fn wanted(levels: &[u32], parts: &Parts, count: u64, pair: u64) -> bo
 }
 
 impl Placed {
-    /// No pair in any of so many parts.
+    /// `count` parts without a pair.
     fn new(alloc: Global, count: usize) -> Result<Placed, OutOfMemory>
         ensures { IfOk result (λ p. IsBarePlaced count (lists_of p)) }
     {
@@ -113,7 +116,7 @@ impl Placed {
         })
     }
 
-    /// The number of a part's own list, which is made where the part has none yet.
+    /// The number of a part's own list. Makes the list if the part has none yet.
     fn own_list(&mut self, alloc: Global, part: u64) -> Result<u64, OutOfMemory>
         requires part_in { part < length self.old.numbers.items }
         requires lists { HaveOwnLists (lists_of self.old) }
@@ -129,7 +132,7 @@ impl Placed {
         Ok(next)
     }
 
-    /// Puts a pair behind the members of a part.
+    /// Appends a pair to the members of a part.
     fn put(&mut self, alloc: Global, part: u64, pair: u64) -> Result<(), OutOfMemory>
         requires part_in { part < length self.old.numbers.items }
         requires pair_in { pair < length self.old.places.items }
@@ -168,7 +171,7 @@ fn placed_pairs(
     Ok(placed)
 }
 
-/// The tables of the letters of a graph, as far as its inner moves have them, none where no pair is placed.
+/// The tables of the letters that inner moves are on. There are none if no part has a pair.
 fn tables_for(
     alloc: Global,
     g: &Multigraph,
@@ -193,7 +196,7 @@ struct Walked {
     moves: Vec<BitTable>,
 }
 
-/// What a table has beside the components, the states that a split may join and the graph of their inner moves.
+/// The part of a [`PairTable`] that is made from the inner moves.
 fn walked_of(
     alloc: Global,
     g: &Multigraph,
@@ -218,7 +221,7 @@ fn walked_of(
 /// The tables of a graph with its components.
 ///
 /// # Errors
-/// [`OutOfMemory`] where there was no memory for them.
+/// [`OutOfMemory`] if there was no memory for them.
 pub(crate) fn table_of(
     alloc: Global,
     g: &Multigraph,
@@ -227,21 +230,10 @@ pub(crate) fn table_of(
     requires parts { IsParts (edges_of g.now) g.now.states components }
     ensures { IfOk result (IsTable g.now) }
 {
-    let Ok(kernel) = kernel_of(alloc, &components, g.states()) else {
-        drop(components);
-        return Err(OutOfMemory);
-    };
-    let Ok(inner) = inner_graph(alloc, g, &components, &kernel) else {
-        drop(kernel);
-        drop(components);
-        return Err(OutOfMemory);
-    };
-    let Ok(walked) = walked_of(alloc, g, &inner, &kernel.levels) else {
-        drop(inner);
-        drop(kernel);
-        drop(components);
-        return Err(OutOfMemory);
-    };
+    let reached = reached_rows(alloc, g, &components)?;
+    let kernel = kernel_of(alloc, &components, g.states())?;
+    let inner = inner_graph(alloc, g, &components, &kernel)?;
+    let walked = walked_of(alloc, g, &inner, &kernel.levels)?;
     let Walked {
         parts,
         placed,
@@ -249,6 +241,7 @@ pub(crate) fn table_of(
     } = walked;
     Ok(PairTable {
         components,
+        reached,
         kernel,
         inner,
         parts,

@@ -1,7 +1,8 @@
-//! The longest chains of splits, component by component in the order in which they are reached from one another.
+//! The lengths of the longest chains of splits, found component by component. A component that is reached from another one
+//! comes first.
 
 ghost use Rattle.std.specs.Prelude.{◌≡◌, ℕ, ◌<◌, ◌≤◌, ◌+◌, ◌⊎◌, IfOk, OnOk};
-ghost use Rattle.rl_graph.specs.Graph.{edges_of};
+ghost use Rattle.rl_graph.specs.Graph.{edges_of, IsWhole};
 ghost use Rattle.rl_graph.specs.Parts.{IsParts, number_of};
 ghost use Rattle.rl_graph.specs.Twins.{HasNoTwin};
 ghost use Rattle.rl_degree.specs.internal.Groups.{AreGroupsFrom};
@@ -17,7 +18,7 @@ use rl_graph::{Components, Multigraph};
 use rl_lists::{Items, OutOfMemory, Ranks};
 use std::alloc::Global;
 
-/// The number of links of a longest chain from the states of a component, and where it has some, the states of the first one.
+/// The number of links of a longest chain from the states of a component, and the two states of its first link, if it has one.
 #[derive(Clone, Copy)]
 pub(crate) struct Best {
     pub(crate) rank: u32,
@@ -25,7 +26,7 @@ pub(crate) struct Best {
     pub(crate) to: u32,
 }
 
-/// The one of the greater rank.
+/// The chain of the greater rank.
 fn better(best: Best, other: Best) -> Best
     ensures one { (result ≡ best) ⊎ (result ≡ other) }
     ensures least { best.rank ≤ result.rank }
@@ -34,7 +35,7 @@ fn better(best: Best, other: Best) -> Best
     if best.rank < other.rank { other } else { best }
 }
 
-/// The better one of a chain and those of the states in lower components that a state's moves on a letter lead to.
+/// The best of a chain and the chains of the states in lower components that a state's moves on a letter lead to.
 fn best_by_letter(
     g: &Multigraph,
     components: &Components,
@@ -64,7 +65,7 @@ fn best_by_letter(
     best
 }
 
-/// The same for the moves on all letters.
+/// The best of a chain and the chains of the states in lower components that a state's moves lead to.
 fn best_by_moves(
     g: &Multigraph,
     components: &Components,
@@ -72,6 +73,7 @@ fn best_by_moves(
     state: u32,
     start: Best,
 ) -> Best
+    requires whole { IsWhole g.now }
     requires state_in { state < g.now.states }
     requires parts { IsParts (edges_of g.now) g.now.states components.now }
     requires bests { AreBests (edges_of g.now) g.now.states components.now (number_of components.now state) bests.now }
@@ -80,7 +82,6 @@ fn best_by_moves(
     ensures least { start.rank ≤ result.rank }
     ensures moves { BeatsMoves (edges_of g.now) components.now bests.now state result.rank }
 {
-    let _states = g.states();
     let mut best = start;
     for letter in 0..g.letters() {
         best = best_by_letter(g, components, bests, state, letter, best);
@@ -88,8 +89,8 @@ fn best_by_moves(
     best
 }
 
-/// The better one of a chain and those that begin with the split from a state to another one, if that is one. It is looked for
-/// only where such a chain is better.
+/// The better of a chain and the one that begins with the split from a state to another one, if the two states are a split. This
+/// is tested only if such a chain would be longer.
 fn best_by_split(
     g: &Multigraph,
     table: &PairTable,
@@ -129,8 +130,7 @@ fn best_by_split(
     })
 }
 
-/// The better one of a chain and those that begin with a split from a state. Such a split leads from one of the states that a
-/// split may join to another one of them.
+/// The best of a chain and the chains that begin with a split from a state.
 fn best_by_splits(
     g: &Multigraph,
     table: &PairTable,
@@ -150,7 +150,6 @@ fn best_by_splits(
     ensures splits { IfOk result (λ b. BeatsSplits (edges_of g.now) g.now.states table.now.components bests.now state b.rank) }
     ensures marks { OnOk result (AreMarks g.now table.now marks.new.items) }
 {
-    let _states = g.states();
     let mut best = start;
     if table.kernel.place_of(state).is_none() {
         return Ok(best);
@@ -162,7 +161,7 @@ fn best_by_splits(
     Ok(best)
 }
 
-/// The best of a component, from those of the lower ones.
+/// The best chain of a component, by those of the lower components.
 fn best_of(
     g: &Multigraph,
     table: &PairTable,
@@ -196,10 +195,10 @@ fn best_of(
     Ok(best)
 }
 
-/// The best of each component.
+/// The best chain of each component.
 ///
 /// # Errors
-/// [`OutOfMemory`] where there was no memory for them.
+/// [`OutOfMemory`] if there was no memory for them.
 pub(crate) fn all_bests(
     alloc: Global,
     g: &Multigraph,
@@ -222,7 +221,7 @@ pub(crate) fn all_bests(
 /// The rank of each state.
 ///
 /// # Errors
-/// [`OutOfMemory`] where there was no memory for them.
+/// [`OutOfMemory`] if there was no memory for them.
 pub(crate) fn ranks_of(
     alloc: Global,
     g: &Multigraph,

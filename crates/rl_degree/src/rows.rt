@@ -1,6 +1,6 @@
-//! The search for the word of a split, by rows of states. It goes over triples of states that go side by side on the same
-//! letters. The outer two are a pair of a part of the product; for each of these pairs a row of bits holds the middle states
-//! that were met beside it. What was met at once stays together, so that a step moves a whole row.
+//! The search for the word of a split, by rows of states. It goes over triples of states that move side by side on the same
+//! letters. The outer two are a pair of a part of the product. For each of these pairs a row of bits holds the middle states
+//! that were met beside it. Middle states that were met together stay together, so one step moves a whole row.
 
 ghost use Rattle.std.specs.Prelude.{◌≡◌, ℕ, ◌<◌, ◌≤◌, ◌+◌, ◌*◌, ◌/◌, ◌%◌, [], ◌∷◌, true, false, length, replicate, slice_index_or, IfOk, OnOk, IfSome, IfNone};
 ghost use Rattle.rl_graph.specs.Paths.{Has};
@@ -14,15 +14,14 @@ use rl_lists::{Items, OutOfMemory, Word};
 use std::alloc::Global;
 use std::collections::VecDeque;
 
-/// A step of a search: the step that it follows, and the letter. The steps are numbered from 1; the number 0 stands for the
-/// start.
+/// A step of a search: the step that it follows, and the letter. The steps are numbered from 1, and 0 is the start.
 #[derive(Clone, Copy)]
 struct Step {
     from: usize,
     letter: u32,
 }
 
-/// What a step found: a pair, by its place among the members of the part, and the middle states that are new beside it.
+/// What a step found: a pair, by its place in the list of its part, and the middle states that are new beside it.
 #[derive(Drop)]
 pub(crate) struct Found {
     step: usize,
@@ -30,9 +29,9 @@ pub(crate) struct Found {
     middle: BitRow,
 }
 
-/// A search for a word that leads a pair of states to itself and one middle state to another one: for each pair of the part
-/// the middle states that were seen beside it, the steps, and what they found that was not followed yet. A search that is not
-/// asked for the word keeps no step, so that it has no more than a few bits for each triple.
+/// A search for a word that leads a pair of states to itself and one middle state to another one. It has the middle states that
+/// were seen beside each pair of the part, the steps, and what they found that was not followed yet. A search that is not asked
+/// for the word keeps no steps, and so needs no more than a few bits for each triple.
 #[derive(Drop)]
 pub(crate) struct SplitSearch {
     keeps: bool,
@@ -44,18 +43,18 @@ pub(crate) struct SplitSearch {
     queue: VecDeque<Found>,
 }
 
-/// So many rows of a number of bits that hold false.
-fn empty_rows(alloc: Global, rows: usize, len: usize) -> Result<Vec<BitRow>, OutOfMemory>
-    ensures { IfOk result (λ v. v.items ≡ replicate rows (replicate len false)) }
+/// `count` copies of a row.
+fn copies_of(alloc: Global, row: &BitRow, count: usize) -> Result<Vec<BitRow>, OutOfMemory>
+    ensures { IfOk result (λ v. v.items ≡ replicate count row.now) }
 {
-    let mut seen = Vec::with_capacity(alloc, rows)?;
-    for _row in 0..rows {
-        seen.push(BitRow::zeros(alloc, len)?)?;
+    let mut copies = Vec::with_capacity(alloc, count)?;
+    for _copy in 0..count {
+        copies.push(row.copy()?)?;
     }
-    Ok(seen)
+    Ok(copies)
 }
 
-/// The queue of a search's start: the pair at a place and one middle state.
+/// The queue at the start of a search: the pair at a place with one middle state.
 fn first_queue(
     alloc: Global,
     states: usize,
@@ -77,31 +76,27 @@ fn first_queue(
 }
 
 impl SplitSearch {
-    /// A search over a part of so many pairs of a graph with so many states. It begins with the pair at a place and the middle
-    /// state `from`, and looks for that pair with the middle state `to`.
+    /// A search over a part with `pairs` pairs. It begins with the pair at a place and the middle state `from`, and looks for that
+    /// pair with the middle state `to`. The states of the row `hopeless` count as seen from the start, so it never follows them.
     ///
     /// # Errors
-    /// [`OutOfMemory`] where there was no memory for the rows.
+    /// [`OutOfMemory`] if there was no memory for the rows.
     pub(crate) fn new(
         alloc: Global,
         keeps: bool,
-        states: u32,
+        hopeless: &BitRow,
         pairs: usize,
         place: usize,
         from: u32,
         to: u32,
     ) -> Result<SplitSearch, OutOfMemory>
         requires place_in { place < pairs }
-        requires from_in { from < states }
-        ensures { IfOk result (λ s. stand_of s ≡ start_stand keeps states pairs place from to) }
+        requires from_in { from < length hopeless.now }
+        ensures { IfOk result (λ s. stand_of s ≡ start_stand keeps hopeless.now pairs place from to) }
     {
-        let len = states as usize;
-        let mut seen = empty_rows(alloc, pairs, len)?;
+        let mut seen = copies_of(alloc, hopeless, pairs)?;
         seen[place].set(from as usize, true);
-        let Ok(queue) = first_queue(alloc, len, place, from) else {
-            drop(seen);
-            return Err(OutOfMemory);
-        };
+        let queue = first_queue(alloc, hopeless.len(), place, from)?;
         Ok(SplitSearch {
             keeps,
             place,
@@ -113,7 +108,7 @@ impl SplitSearch {
         })
     }
 
-    /// What was found first and not followed yet.
+    /// Takes what was found first of all that was not followed yet.
     pub(crate) fn next(&mut self) -> Option<Found>
         ensures found { IfSome result (λ f. stand_of self.old ≡ behind f (stand_of self.new)) }
         ensures none { IfNone result ((stand_of self.old).queue ≡ []) }
@@ -121,7 +116,7 @@ impl SplitSearch {
         self.queue.pop_front()
     }
 
-    /// Whether what was found has what is looked for.
+    /// Whether the search has met what it looks for.
     pub(crate) fn is_goal(&self, found: &Found) -> bool
         requires { self.now.to < length found.now.middle }
         ensures yes { result ≡ true → (found.now.place ≡ self.now.place) × (has_middle found.now self.now.to ≡ true) }
@@ -130,7 +125,7 @@ impl SplitSearch {
         found.place == self.place && found.middle.get(self.to as usize)
     }
 
-    /// Keeps one more step, and answers its number. Where no step is kept it is 0.
+    /// Keeps one more step, and returns its number. Returns 0 if the search keeps no steps.
     fn add_step(&mut self, from: usize, letter: u32) -> Result<usize, OutOfMemory>
         ensures number { IfOk result (λ k. k ≡ number_of_new (stand_of self.old)) }
         ensures steps { OnOk result (stand_of self.new ≡ record (stand_of self.old) { steps = steps_with from letter (stand_of self.old) }) }
@@ -142,7 +137,7 @@ impl SplitSearch {
         Ok(self.steps.len())
     }
 
-    /// Meets middle states beside the pair at a place, by a letter from a step. Those that are new go into the queue.
+    /// Notes that a letter, after a step, leads to these middle states beside the pair at a place. New ones go into the queue.
     fn reach(
         &mut self,
         from: usize,
@@ -169,7 +164,7 @@ impl SplitSearch {
         Ok(())
     }
 
-    /// Meets the middle states of a row beside a pair that the pair of what was found moves to on a letter.
+    /// Notes the middle states of a row beside one pair that the found pair moves to on a letter.
     fn meet(
         &mut self,
         g: &Multigraph,
@@ -193,7 +188,7 @@ impl SplitSearch {
         Ok(())
     }
 
-    /// Meets them beside the pairs of a first state with each of the second ones.
+    /// Notes them beside the pairs of one first state with each of the second states.
     fn spread_from(
         &mut self,
         g: &Multigraph,
@@ -220,7 +215,7 @@ impl SplitSearch {
         Ok(())
     }
 
-    /// Meets them beside the pairs of each of the first states with each of the second ones.
+    /// Notes them beside the pairs of each of the first states with each of the second states.
     fn spread(
         &mut self,
         g: &Multigraph,
@@ -245,7 +240,7 @@ impl SplitSearch {
         Ok(())
     }
 
-    /// Follows what was found, beside the pair of two states, on a letter.
+    /// Follows what was found on one letter. `first` and `second` are the states of the found pair.
     fn follow_on(
         &mut self,
         g: &Multigraph,
@@ -280,7 +275,7 @@ impl SplitSearch {
     /// Follows what was found on all letters.
     ///
     /// # Errors
-    /// [`OutOfMemory`] where there was no memory for what is found.
+    /// [`OutOfMemory`] if there was no memory for what is found.
     pub(crate) fn follow(
         &mut self,
         g: &Multigraph,
@@ -307,10 +302,10 @@ impl SplitSearch {
         Ok(())
     }
 
-    /// The letters of the steps from the start to the one that found something.
+    /// The letters of the steps from the start up to the one that found this.
     ///
     /// # Errors
-    /// [`OutOfMemory`] where there was no memory for the word.
+    /// [`OutOfMemory`] if there was no memory for the word.
     pub(crate) fn word_to(&self, alloc: Global, found: &Found) -> Result<Word, OutOfMemory>
         requires rooted { IsRooted self.now.steps.items }
         requires step_in { found.now.step ≤ length self.now.steps.items }

@@ -1,19 +1,50 @@
-//! The search for the words of splits.
+//! The tests whether two states are a split, and the words of splits.
 
 ghost use Rattle.std.specs.Prelude.{◌≡◌, ◌<◌, ◌+◌, ◌*◌, ◌↔◌, true, replicate, IfOk, OnOk, IfSome, IfNone, IsTrue};
 ghost use Rattle.rl_graph.specs.Graph.{edges_of};
 ghost use Rattle.rl_graph.specs.Twins.{HasNoTwin, IsSplit};
 ghost use Rattle.rl_degree.specs.internal.Pairs.{IsTable};
+ghost use Rattle.rl_degree.specs.internal.Reached.{reaches as has_reached, IsHopeless};
+ghost use Rattle.rl_degree.specs.internal.Rows.{stand_of, word_at, HasWord};
 ghost use Rattle.rl_degree.specs.internal.Splits.{HasSplit, IsPairFor, AreMarks};
 
 use crate::pairs::{PairTable, pair_of, wanted};
-use crate::rows::SplitSearch;
+use crate::rows::{Found, SplitSearch};
 use rl_graph::Multigraph;
 use rl_lanes::BitRow;
 use rl_lists::{OutOfMemory, Word};
 use std::alloc::Global;
 
-/// The number of the pair of two states, `None` only where they are no split.
+/// Whether one state may reach another one, by the row of its component.
+fn reaches(g: &Multigraph, table: &PairTable, from: u32, to: u32) -> bool
+    requires table { IsTable g.now table.now }
+    requires from_in { from < g.now.states }
+    requires to_in { to < g.now.states }
+    ensures { result ≡ has_reached table.now.components table.now.reached.items from to }
+{
+    let row = &table.reached[table.components.of(from) as usize];
+    row.get(table.components.of(to) as usize)
+}
+
+/// A row of all states that can't reach a state.
+fn hopeless_for(
+    alloc: Global,
+    g: &Multigraph,
+    table: &PairTable,
+    to: u32,
+) -> Result<BitRow, OutOfMemory>
+    requires table { IsTable g.now table.now }
+    requires to_in { to < g.now.states }
+    ensures { IfOk result (IsHopeless g.now.states table.now.components table.now.reached.items to) }
+{
+    let mut row = BitRow::zeros(alloc, g.states() as usize)?;
+    for state in 0..g.states() {
+        row.set(state as usize, !reaches(g, table, state, to));
+    }
+    Ok(row)
+}
+
+/// The number of the pair of two states. Returns `None` only if they are not a split.
 fn pair_for(g: &Multigraph, table: &PairTable, from: u32, to: u32) -> Option<u64>
     requires table { IsTable g.now table.now }
     requires no_twin { HasNoTwin (edges_of g.now) }
@@ -22,7 +53,9 @@ fn pair_for(g: &Multigraph, table: &PairTable, from: u32, to: u32) -> Option<u64
     ensures pair { IfSome result (IsPairFor table.now from to) }
     ensures none { IfNone result (HasSplit (edges_of g.now) from to → ⊥) }
 {
-    let _states = g.states();
+    if !reaches(g, table, from, to) {
+        return None;
+    }
     let count = u64::from(table.inner.states());
     let first = match table.kernel.place_of(from) {
         Some(place) => place,
@@ -40,11 +73,18 @@ fn pair_for(g: &Multigraph, table: &PairTable, from: u32, to: u32) -> Option<u64
     }
 }
 
-/// A word of the split of a wanted pair of states, `None` exactly where the pair is no split. Where the steps of the search are
-/// not kept the word is empty, and only whether there is one tells something.
+/// Where a search met what it looked for.
+#[derive(Drop)]
+struct Goal {
+    search: SplitSearch,
+    found: Found,
+}
+
+/// Searches for the split of a wanted pair of states. Returns `None` exactly if the pair is not a split. A search that keeps its
+/// steps can tell the word of the split.
 ///
 /// # Errors
-/// [`OutOfMemory`] where there was no memory for the search or the word.
+/// [`OutOfMemory`] if there was no memory for the search.
 fn search_for(
     alloc: Global,
     g: &Multigraph,
@@ -53,50 +93,37 @@ fn search_for(
     pair: u64,
     from: u32,
     to: u32,
-) -> Result<Option<Word>, OutOfMemory>
+) -> Result<Option<Goal>, OutOfMemory>
     requires table { IsTable g.now table.now }
     requires no_twin { HasNoTwin (edges_of g.now) }
     requires from_in { from < g.now.states }
     requires to_in { to < g.now.states }
     requires pair { IsPairFor table.now from to pair }
-    ensures word { keeps ≡ true → IfOk result (λ o. IfSome o (λ w. IsSplit (edges_of g.now) from to w)) }
+    ensures word { keeps ≡ true → IfOk result (λ o. IfSome o (λ k. IsSplit (edges_of g.now) from to (word_at (stand_of k.search).steps k.found.step))) }
+    ensures steps { IfOk result (λ o. IfSome o (λ k. HasWord (stand_of k.search).steps k.found.step)) }
     ensures found { IfOk result (λ o. IfSome o (λ _. HasSplit (edges_of g.now) from to)) }
     ensures none { IfOk result (λ o. IfNone o (HasSplit (edges_of g.now) from to → ⊥)) }
 {
-    let _states = g.states();
+    let states = g.states();
     let part = table.parts.of(pair);
     let place = table.placed.places[pair as usize] as usize;
     let pairs = table.members_of(part).len();
-    let mut search = SplitSearch::new(alloc, keeps, g.states(), pairs, place, from, to)?;
-    let Ok(mut image) = BitRow::zeros(alloc, g.states() as usize) else {
-        drop(search);
-        return Err(OutOfMemory);
-    };
+    let mut image = BitRow::zeros(alloc, states as usize)?;
+    let hopeless = hopeless_for(alloc, g, table, to)?;
+    let mut search = SplitSearch::new(alloc, keeps, &hopeless, pairs, place, from, to)?;
     while let Some(found) = search.next() {
         if search.is_goal(&found) {
-            let word = search.word_to(alloc, &found);
-            drop(found);
-            drop(image);
-            drop(search);
-            return Ok(Some(word?));
+            return Ok(Some(Goal { search, found }));
         }
-        let followed = search.follow(g, table, part, &found, &mut image);
-        drop(found);
-        let Ok(()) = followed else {
-            drop(image);
-            drop(search);
-            return Err(OutOfMemory);
-        };
+        search.follow(g, table, part, &found, &mut image)?;
     }
-    drop(image);
-    drop(search);
     Ok(None)
 }
 
-/// A word of the split of two states, `None` exactly where they are no split.
+/// A word of the split of two states. Returns `None` exactly if they are not a split.
 ///
 /// # Errors
-/// [`OutOfMemory`] where there was no memory for the search or the word.
+/// [`OutOfMemory`] if there was no memory for the search or the word.
 pub(crate) fn split_word(
     alloc: Global,
     g: &Multigraph,
@@ -112,15 +139,18 @@ pub(crate) fn split_word(
     ensures none { IfOk result (λ o. IfNone o (HasSplit (edges_of g.now) from to → ⊥)) }
 {
     match pair_for(g, table, from, to) {
-        Some(pair) => search_for(alloc, g, table, true, pair, from, to),
+        Some(pair) => match search_for(alloc, g, table, true, pair, from, to)? {
+            Some(goal) => Ok(Some(goal.search.word_to(alloc, &goal.found)?)),
+            None => Ok(None),
+        },
         None => Ok(None),
     }
 }
 
-/// For each part that nothing is known of it.
+/// No mark is known for any part yet.
 ///
 /// # Errors
-/// [`OutOfMemory`] where there was no memory for the marks.
+/// [`OutOfMemory`] if there was no memory for the marks.
 pub(crate) fn no_marks(alloc: Global, table: &PairTable) -> Result<Vec<Option<bool>>, OutOfMemory>
     ensures { IfOk result (λ v. v.items ≡ replicate (table.now.inner.states * table.now.inner.states) None) }
 {
@@ -129,10 +159,10 @@ pub(crate) fn no_marks(alloc: Global, table: &PairTable) -> Result<Vec<Option<bo
     Ok(marks)
 }
 
-/// Whether a pair of states is a split. Where the mark of its part is not known yet, one search tells it of all its pairs.
+/// Whether two states are a split. All pairs of a part agree, so a part is searched only if its mark isn't known yet.
 ///
 /// # Errors
-/// [`OutOfMemory`] where there was no memory for the search.
+/// [`OutOfMemory`] if there was no memory for the search.
 pub(crate) fn is_split(
     g: &Multigraph,
     table: &PairTable,
@@ -148,7 +178,6 @@ pub(crate) fn is_split(
     ensures split { IfOk result (λ b. IsTrue b ↔ HasSplit (edges_of g.now) from to) }
     ensures marks { OnOk result (AreMarks g.now table.now marks.new.items) }
 {
-    let _states = g.states();
     let pair = match pair_for(g, table, from, to) {
         Some(pair) => pair,
         None => return Ok(false),

@@ -1,4 +1,4 @@
--- Laws of a difference: the word that leads to a set pair that shows one is refused by one of the starts alone.
+-- Laws of a difference: if a word leads to a set pair that shows one, exactly one of the starts refuses the word.
 use Rattle.std.proofs.Common.{◌≡◌, ◌∙◌, ℕ, ◌<◌, List, [], ◌∷◌, ◌++◌, length, map, slice_get, Some, All, Bool, true, false, not, refl, sym, ap, subst, arith, append_assoc}
 use Rattle.std.proofs.lemmas.Bool.{false≢true}
 use Rattle.std.proofs.lemmas.List.Elements.{All-nil, All-push}
@@ -14,7 +14,7 @@ use Rattle.rl_equiv.specs.internal.Searching.{AreReaders, State, no_way, pair_at
 use Rattle.rl_equiv.proofs.ClosedLaws.{proper-free, first-proper, second-proper, same-ends}
 use Rattle.rl_equiv.proofs.RunLaws.{found-proper}
 
--- what a word that leads to a set pair gives
+-- What a word that leads to a set pair gives.
 pub record IsLead (a b : Automaton) (s : State) (k : ℕ) (word : List ℕ) : Type 0 where
   pub small : All (λ letter. letter < letters_count a) word
   pub first : (tail : List ℕ) → refuses a (0 ∷ []) (word ++ tail) ≡ refuses a (pair_at s k).first tail
@@ -56,7 +56,7 @@ module _ (a b : Automaton) (readers : AreReaders a b) (s : State) (search : IsSe
   lead-is _ _ lt start = lead-start
   lead-is k _ lt (onward {way = way} {word = word} some read l) = lead-onward k way word some lt read (lead-is way.parent word (earlier-in k way some lt read) l)
 
-  -- the end letter after it
+  -- The end letter after it.
   end-first : (k : ℕ) → k < length s.keys → refuses a (pair_at s k).first (letters_count a ∷ []) ≡ not (ends a (pair_at s k).first)
   end-first k lt =
       let p = pair_at s k in

@@ -1,4 +1,5 @@
--- Where the sets of a second tree tell no more codes apart, the letters of both trees are those of the first one alone.
+-- If the sets of a second tree tell no more codes apart, the letters of both trees are those of the first tree by
+-- itself.
 use Rattle.std.proofs.Common.{◌≡◌, ◌∙◌, ◌⊎◌, inl, inr, ℕ, ◌<◌, ◌≤◌, Bool, true, false, ◌&&◌, List, length, Some, slice_get, refl, sym, ap, subst, arith}
 use Rattle.rl_ranges.specs.declared.universe.Universe.{Universe}
 use Rattle.rl_ranges.specs.Letters.{alike, classes, class_of, place_where, LetterTable, IsLetters, IsPlain, IsSample}
@@ -21,9 +22,9 @@ use Rattle.rl_prio.proofs.LikenessLemmas.{Finer-second}
 use Rattle.rl_equiv.specs.SetPairs.{joint_sets, joint_letters}
 use Rattle.rl_equiv.specs.Bases.{TellsNoMore, IsBase}
 use Rattle.rl_equiv.specs.Joined.{StandTogether}
-use Rattle.rl_equiv.specs.Limits.{AreSmall, AreWithin, IsPassed, same_error}
+use Rattle.rl_equiv.specs.Limits.{AreSmall, AreWithin, IsExceeded, same_error}
 
--- two lists of sets that tell the same codes apart
+-- Two lists of sets that tell the same codes apart.
 module _ (xs ys : List (ℕ → Bool)) (f : (c d : ℕ) → alike xs c d ≡ alike ys c d) where
   same-alike : alike xs ≡ alike ys
   same-alike = λ i c d. f c d i
@@ -62,25 +63,26 @@ module _ (xs ys : List (ℕ → Bool)) (f : (c d : ℕ) → alike xs c d ≡ ali
     same_moves = λ q letter q_in l_in. h.same_moves q letter q_in l_in ∙ ap (λ (least : List ℕ). moves_before t ending a.table.codes q (slice_get least letter)) (same-classes a.table.codes);
   }
 
--- an automaton of the tree that has the letters of another one stands over them, whatever sets have told them apart
+-- An automaton with the letters of another one stands for the tree over those letters, whichever sets have told them
+-- apart.
 abbrev pub OverAny : Universe → Tree → Automaton → Automaton → Type 0
 OverAny u t a b = (sets : List (ℕ → Bool)) → IsLetters a.table sets (code_count u) → ((c d : ℕ) → alike sets c d ≡ true → alike (all_sets t) c d ≡ true) → StandsOver b t AtEnd sets
 
--- what the error of the first automaton tells of both trees
-pub first-passed : (u : Universe) (s t : Tree) (sets : List (ℕ → Bool)) → sets ≡ joint_sets s t → AreSmall s t → (e : PrioError) → (e ≡ Letters → MOST_LETTERS < length (classes sets (code_count u)))
-    → (e ≡ Moves → (length (classes sets (code_count u)) ≤ MOST_LETTERS) × (MOST_MOVES < longest s)) → IsPassed u s t (same_error e)
-first-passed u s t sets same small Letters letters moves = (small, subst (λ (l : List (ℕ → Bool)). MOST_LETTERS < length (classes l (code_count u))) same (letters refl))
-first-passed u s t sets same small Moves letters moves =
+-- What the error of the first automaton says about both trees.
+pub first-exceeded : (u : Universe) (s t : Tree) (sets : List (ℕ → Bool)) → sets ≡ joint_sets s t → AreSmall s t → (e : PrioError) → (e ≡ Letters → MOST_LETTERS < length (classes sets (code_count u)))
+    → (e ≡ Moves → (length (classes sets (code_count u)) ≤ MOST_LETTERS) × (MOST_MOVES < longest s)) → IsExceeded u s t (same_error e)
+first-exceeded u s t sets same small Letters letters moves = (small, subst (λ (l : List (ℕ → Bool)). MOST_LETTERS < length (classes l (code_count u))) same (letters refl))
+first-exceeded u s t sets same small Moves letters moves =
     (small, subst (λ (l : List (ℕ → Bool)). length (classes l (code_count u)) ≤ MOST_LETTERS) same (moves refl).0, inl (moves refl).1)
-first-passed u s t sets same small OutOfMemory letters moves = tt
+first-exceeded u s t sets same small OutOfMemory letters moves = tt
 
--- what the error of the second automaton tells of both trees
-pub second-passed : (u : Universe) (s t : Tree) → AreSmall s t → length (joint_letters u s t) ≤ MOST_LETTERS → (e : PrioError) → (e ≡ Moves → MOST_MOVES < longest t) → (e ≡ Letters → ⊥) → IsPassed u s t (same_error e)
-second-passed u s t small few Letters moves none = absurd (none refl)
-second-passed u s t small few Moves moves none = (small, few, inr (moves refl))
-second-passed u s t small few OutOfMemory moves none = tt
+-- What the error of the second automaton says about both trees.
+pub second-exceeded : (u : Universe) (s t : Tree) → AreSmall s t → length (joint_letters u s t) ≤ MOST_LETTERS → (e : PrioError) → (e ≡ Moves → MOST_MOVES < longest t) → (e ≡ Letters → ⊥) → IsExceeded u s t (same_error e)
+second-exceeded u s t small few Letters moves none = absurd (none refl)
+second-exceeded u s t small few Moves moves none = (small, few, inr (moves refl))
+second-exceeded u s t small few OutOfMemory moves none = tt
 
--- the first automaton is built over the sets of both trees
+-- The first automaton is built over the sets of both trees.
 module _ (u : Universe) (s t : Tree) (sets : List (ℕ → Bool)) (same : sets ≡ joint_sets s t) (a : Automaton) (over : StandsOver a s AtEnd sets) (codes : a.table.codes ≡ code_count u) where
   first-stands : StandsOver a s AtEnd (joint_sets s t)
   first-stands = subst (StandsOver a s AtEnd) same over
@@ -112,7 +114,7 @@ module _ (u : Universe) (s t : Tree) (no : TellsNoMore s t) where
       by true e = ap (λ x. x && alike (all_sets t) c d) e ∙ no c d e ∙ sym e
       by false e = ap (λ x. x && alike (all_sets t) c d) e ∙ sym e
 
-  -- the letters of both are those of the first one
+  -- The letters of both trees are those of the first one.
   pub joint-known : joint_letters u s t ≡ classes (all_sets s) (code_count u)
   joint-known = same-classes (joint_sets s t) (all_sets s) joint-alike (code_count u)
 
@@ -129,10 +131,10 @@ module _ (u : Universe) (s t : Tree) (no : TellsNoMore s t) where
     pub base-within : AreSmall s t → longest t ≤ MOST_MOVES → AreWithin u s t
     base-within small short = record { small = small; few_letters = few-joint; first_moves = base.within.few_moves; second_moves = short }
 
-    pub base-passed : AreSmall s t → (e : PrioError) → (e ≡ Moves → MOST_MOVES < longest t) → (e ≡ Letters → ⊥) → IsPassed u s t (same_error e)
-    base-passed small e moves none = second-passed u s t small few-joint e moves none
+    pub base-exceeded : AreSmall s t → (e : PrioError) → (e ≡ Moves → MOST_MOVES < longest t) → (e ≡ Letters → ⊥) → IsExceeded u s t (same_error e)
+    base-exceeded small e moves none = second-exceeded u s t small few-joint e moves none
 
-    -- what is built over all letters stands together
+    -- What is built over all letters stands together.
     pub base-together : (b : Automaton) → IsAutomaton b → b.table ≡ a.table → OverAny u t a b → StandTogether u s t a b
     base-together b whole table over =
         let back : (c d : ℕ) → alike (all_sets s) c d ≡ alike (joint_sets s t) c d = λ c d. sym (joint-alike c d) in

@@ -22,14 +22,14 @@ use Rattle.rl_equiv.proofs.ClosedLaws.{not-false, true-beq, first-proper, second
 pub not-kept : (d : SetPairs) (relation : List SetPair) (p : SetPair) → d.proper p ≡ false → IsKept d relation p → ⊥
 not-kept d relation p e k = false≢true (sym e ∙ k.is_proper)
 
--- the first set of a walk is that of the members
+-- The first set of a walk is that of the members.
 pub set-image : (a : Automaton) (w : Walk) (set : List ℕ) (letter : ℕ) → set_at w 0 ≡ set_of a set → all_proper a set ≡ true → image a (set_at w 0) letter ≡ image a set letter
 set-image a w set letter is proper = ap (λ s. image a s letter) is ∙ image-set a set letter proper
 
 pub set-ends : (a : Automaton) (w : Walk) (set : List ℕ) → set_at w 0 ≡ set_of a set → all_proper a set ≡ true → ends a (set_at w 0) ≡ ends a set
 set-ends a w set is proper = ap (λ s. holds s (accepting_state a)) (set-image a w set (letters_count a) is proper)
 
--- where the letters of two walks' first sets have come so far: the walks, and the next set pairs
+-- What holds after the first letters: of the two walks, and of the next set pairs of their first sets.
 pub record AreNext (a b : Automaton) (relation : List SetPair) (p : SetPair) (v w : Walk) (letter : ℕ) : Type 0 where
   pub first_begun : IsBegun a v
   pub second_begun : IsBegun b w
@@ -87,7 +87,7 @@ module _ (a b : Automaton) (relation : List SetPair) (p : SetPair) where
           let here : letter ≡ l = omega arith in
           subst (λ (k : ℕ). Contains relation (pair_on a b p k)) here (subst (Contains relation) (sym (next-read v w letter x y n e e')) in')
 
--- two walks' first sets are kept where those of the members are
+-- The first sets of two walks are kept exactly if the members that they were made of are.
 module _ (a b : Automaton) (relation : List SetPair) (p : SetPair) (proper : (pairs_of a b).proper p ≡ true) (v w : Walk) (first : set_at v 0 ≡ set_of a p.first) (second : set_at w 0 ≡ set_of b p.second) where
   first-ends : ends a (set_at v 0) ≡ ends a p.first
   first-ends = set-ends a v p.first first (first-proper a b p proper)
@@ -117,7 +117,7 @@ module _ (a b : Automaton) (relation : List SetPair) (p : SetPair) (proper : (pa
     ),
   )
 
--- one more member is kept
+-- One more member is kept.
 pub kept-more : (d : SetPairs) (relation : List SetPair) (i : ℕ) (p : SetPair) → i < length relation → p ≡ get_or relation i p → IsKept d relation p
     → ((k : ℕ) (e : SetPair) → k < i → IsKept d relation (get_or relation k e)) → (k : ℕ) (e : SetPair) → k < i + 1 → IsKept d relation (get_or relation k e)
 kept-more d relation i p lt is kept before k e small = by (cases_lt k i)
@@ -128,7 +128,7 @@ kept-more d relation i p lt is kept before k e small = by (cases_lt k i)
         let here : i ≡ k = omega arith in
         subst (λ (j : ℕ). IsKept d relation (get_or relation j e)) here (subst (IsKept d relation) (is ∙ get_or_default relation i p e lt) kept)
 
--- the answer for two automata is that for the trees that they stand for
+-- The answer for two automata is the answer for the trees that they stand for.
 module _ (u : Universe) (s t : Tree) (a b : Automaton) (relation : List SetPair) (st : StandTogether u s t a b) (within : AreWithin u s t) where
   pub share-letters : ShareLetters a b
   share-letters = record {

@@ -1,4 +1,4 @@
--- A closed relation keeps two languages equal, by induction on the text: each letter is one step of the relation.
+-- If a relation is closed, two languages are equal, by induction on the text: each letter is one step of the relation.
 use Rattle.std.proofs.Common.{◌≡◌, ◌∙◌, ℕ, ◌<◌, List, [], ◌∷◌, ◌++◌, map, All, Contains, Bool, true, false, not, ◌||◌, IsTrue, refl, sym, ap, ap₂, subst, arith}
 use Rattle.std.proofs.Math.Bool.{beq}
 use Rattle.std.proofs.lemmas.Bool.{and_parts, false≢true, ne_eqb, false_from_ne_true}
@@ -32,7 +32,7 @@ pub start-accepts : (a : Automaton) → IsAutomaton a → (w : List ℕ) → wal
 start-accepts a is w =
     ap (λ b. b || has_hit (walk a 0 w)) (sym (ne_eqb 0 (accepting_state a) (λ e. omega (arith, is.three_states)))) ∙ walk-accepts a w 0
 
--- a set of proper states lacks the accepting one
+-- A proper set doesn't have the accepting state.
 
 pub proper-free : (a : Automaton) (set : List ℕ) → all_proper a set ≡ true → holds set (accepting_state a) ≡ false
 proper-free a set proper = false_from_ne_true (holds set (accepting_state a)) (λ e. let h = below-proper a set (accepting_state a) proper e in omega arith)
@@ -91,7 +91,7 @@ module _ (a b : Automaton) (first_whole : IsAutomaton a) (second_whole : IsAutom
       ∙ kept-refuses relation kept word (All-tail (λ x. x < letters_count a) l word small) (pair_on a b p l) (next-in a b relation p k.nexts_in l (All-head (λ x. x < letters_count a) l word small))
       ∙ sym (refuses-image b second_whole p.second l (word ++ letters_count b ∷ []) (proper-free b p.second (second-proper a b p k.is_proper)))
 
--- texts and the words of their letters
+-- Texts and the words of their letters.
 
 module _ (u : Universe) (s t : Tree) (a b : Automaton) (st : StandTogether u s t a b) where
   pub letters-same : (w : List ℕ) → IsText u w → map (letter_at a.table) w ≡ map (letter_at b.table) w
@@ -116,7 +116,7 @@ or-false : (b : Bool) → (b || false) ≡ b
 or-false true = refl
 or-false false = refl
 
--- a text is in the language of a tree exactly where the start doesn't refuse its letters
+-- A text is in the language of a tree exactly if the start doesn't refuse its letters.
 pub refuses-start : (a : Automaton) (w : List ℕ) → refuses a (0 ∷ []) w ≡ not (accepts a 0 w)
 unfolding refuses
 refuses-start a w = ap not (or-false (accepts a 0 w))

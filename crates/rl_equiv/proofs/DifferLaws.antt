@@ -1,4 +1,5 @@
--- A set pair that shows a difference gives a text of one language alone: the least codes of the letters of a word that leads to it.
+-- A set pair that shows a difference gives a text of exactly one language: the least codes of the letters of a word
+-- that leads to it.
 use Rattle.std.proofs.Common.{◌≡◌, ◌⊎◌, ◌∙◌, ℕ, ◌<◌, inl, inr, List, [], ◌∷◌, length, get_or, map, All, Any, length-take, Bool, true, false, not, refl, sym, ap, ap₂, subst, arith}
 use Rattle.std.proofs.Math.Bool.{beq}
 use Rattle.std.proofs.lemmas.Bool.{false≢true}
@@ -23,7 +24,7 @@ use Rattle.rl_equiv.proofs.ReadLaws.{text-told}
 use Rattle.rl_equiv.proofs.Together.{together}
 use Rattle.rl_equiv.proofs.WordLaws.{reached-found, reached-reads}
 
--- the least codes of letters
+-- The least codes of letters.
 least_codes : (sets : List (ℕ → Bool)) (n : ℕ) (word : List ℕ) → List ℕ
 least_codes sets n word = map (λ letter. get_or (classes sets n) letter 0) word
 
@@ -41,7 +42,7 @@ codes-letters sets n (l ∷ word) small =
     ap₂ (λ (x : ℕ) (xs : List ℕ). x ∷ xs) (class_of-first sets n l (All-head (λ x. x < length (classes sets n)) l word small))
     (codes-letters sets n word (All-tail (λ x. x < length (classes sets n)) l word small))
 
--- each set pair has a next one on each letter
+-- Each set pair has a next one on each letter.
 nexts-length : (u : Universe) (s t : Tree) (p : SetPair) → length ((set_pairs u s t).nexts p) ≡ length (joint_letters u s t)
 unfolding set_pairs
 nexts-length u s t p =
@@ -50,7 +51,7 @@ nexts-length u s t p =
     length-map (below (length (joint_letters u s t))) (λ letter. record { first = image_over sets s n p.first letter; second = image_over sets t n p.second letter })
     ∙ length-below (length (joint_letters u s t))
 
--- a word that leads from set pair to set pair has letters of both trees
+-- A word that leads from set pair to set pair has letters of both trees.
 reads-small : (u : Universe) (s t : Tree) (p q : SetPair) (word : List ℕ) → Reads (set_pairs u s t) p word q → All (λ l. l < length (joint_letters u s t)) word
 reads-small u s t p _ _ stay = All-nil (λ l. l < length (joint_letters u s t))
 reads-small u s t p q _ (onward {q = m} {letter = letter} {word = word} e more) =
@@ -58,14 +59,14 @@ reads-small u s t p q _ (onward {q = m} {letter = letter} {word = word} e more) 
     let small : letter < end = omega (arith, slice_get_within ((set_pairs u s t).nexts p) letter m e, nexts-length u s t p) in
     All-cons (λ l. l < end) letter word small (reads-small u s t m q word more)
 
--- one of two texts alone is matched
+-- The text is matched by exactly one of two trees.
 one-matched : (u : Universe) (s t : Tree) (w : List ℕ) (x y : Bool) → matched s AtEnd w ≡ x → matched t AtEnd w ≡ y → not (beq x y) ≡ true → (IsIn s w × (IsIn t w → ⊥)) ⊎ ((IsIn s w → ⊥) × IsIn t w)
 one-matched u s t w true true e f h = absurd (false≢true h)
 one-matched u s t w true false e f h = inl ((matched_to_end s w).0 e, λ i. false≢true (sym f ∙ (matched_to_end t w).1 i))
 one-matched u s t w false true e f h = inr (λ i. false≢true (sym e ∙ (matched_to_end s w).1 i), (matched_to_end t w).0 f)
 one-matched u s t w false false e f h = absurd (false≢true h)
 
--- the text of a reached set pair that shows a difference
+-- The text of a reached set pair that shows a difference.
 reached-text : (u : Universe) (s t : Tree) (r : Reached) → IsReached (set_pairs u s t) r → differs (set_pairs u s t) r.pair ≡ true → (w : List ℕ) × IsOfOne u s t w
 reached-text u s t r reads apart =
     let sets = joint_sets s t in

@@ -1,4 +1,4 @@
--- Laws of found set pairs with their words.
+-- Laws of set pairs that were found, with their words.
 use Rattle.std.proofs.Common.{◌≡◌, ◌∙◌, ℕ, zero, suc, ◌+◌, ◌<◌, List, [], ◌∷◌, ◌++◌, length, get_or, refl, sym, ap, arith}
 use Rattle.std.proofs.lemmas.List.{length_push, length-map, get_or-map}
 use Rattle.rl_equiv.specs.declared.pair.SetPair.{SetPair}

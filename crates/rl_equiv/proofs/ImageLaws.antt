@@ -1,4 +1,4 @@
--- Laws of images: those of an automaton that stands for a tree are those of the tree.
+-- Laws of images: those of an automaton that stands for a tree are those of the tree, and they are rising lists.
 use Rattle.std.proofs.Common.{◌≡◌, ◌≢◌, ◌∙◌, All, ℕ, zero, suc, ◌/◌, ◌<◌, ◌≤◌, inl, inr, List, [], ◌∷◌, ◌++◌, length, get_or, map, filter, Bool, true, not, ◌&&◌, nat_lt, eqb, eqb-true, slice_get, refl, sym, ap, ap₂, subst, arith}
 use Rattle.std.specs.List.{list_any, list_all}
 use Rattle.std.proofs.lemmas.Bool.{cases_lt, cond-false, le-ltb, and_parts, or_cases, ltb-true, false≢true}
@@ -20,11 +20,12 @@ use Rattle.rl_sets.specs.Walk.{set_of}
 use Rattle.rl_sets.proofs.SetLemmas.{same_tests, any-there, any-from}
 use Rattle.rl_sets.proofs.LiveLemmas.{found_in, found_from}
 use Rattle.rl_equiv.specs.declared.pair.SetPair.{SetPair}
-use Rattle.rl_equiv.specs.SetPairs.{joint_sets, image_over, set_pairs}
+use Rattle.rl_equiv.specs.SetPairs.{joint_sets, image_over, rises, set_pairs}
 use Rattle.rl_equiv.specs.Joined.{StandTogether}
 use Rattle.rl_equiv.specs.internal.Machines.{pair_on, ends, all_proper, pairs_of}
+use Rattle.rl_equiv.proofs.RiseLaws.{rises-parts, rises-holds, rises-below}
 
--- the numbers below `n`, in order
+-- The numbers below `n`, in order.
 
 pub length-below : (n : ℕ) → length (below n) ≡ n
 length-below zero = refl
@@ -47,7 +48,7 @@ get_or-below {A = A} f (suc n) l d lt =
           get_or_push (map f (below n)) (f n) d l (omega (arith, long)) ∙ ap f (sym here)
     ]
 
--- beyond the states there is no move
+-- Numbers that aren't states have no moves.
 
 no-moves-over : (t : Tree) (sets : List (ℕ → Bool)) (n letter q : ℕ) → state_count t n ≤ q → moves_over sets t AtEnd n q letter ≡ []
 no-moves-over t sets n letter zero le = absurd (omega arith)
@@ -71,7 +72,7 @@ image-over a t sets stands set letter le =
     let d : dead_state a ≡ dead t a.table.codes = omega (arith, stands.same_states) in
     λ i. filter (λ x. not (eqb x (d i)) && list_any (λ q. holds (m q i) x) set) (below (stands.same_states i))
 
--- the set pairs of automata that stand for two trees are those of the trees
+-- The set pairs of automata that stand for two trees are those of the trees.
 module _ (u : Universe) (s t : Tree) (a b : Automaton) (st : StandTogether u s t a b) where
   pub first_count : letters_count a ≡ length (classes (joint_sets s t) (code_count u))
   first_count = st.first_stands.same_letters.same_count ∙ ap (λ (n : ℕ). length (classes (joint_sets s t) n)) st.first_codes
@@ -130,19 +131,20 @@ module _ (u : Universe) (s t : Tree) (a b : Automaton) (st : StandTogether u s t
         nexts = λ p. e p i;
         ends_first = λ p. first_ends p.first i;
         ends_second = λ p. second_ends p.second i;
-        proper = λ p. list_all (λ q. nat_lt q (first_accepting i)) p.first && list_all (λ q. nat_lt q (second_accepting i)) p.second;
+        proper = λ p. rises 0 (first_accepting i) p.first && rises 0 (second_accepting i) p.second;
       }
 
--- members that are listed in some order, or more than once, have the image of their set
+-- An image rises.
+
+pub image-rises : (sets : List (ℕ → Bool)) (t : Tree) (n : ℕ) (set : List ℕ) (letter : ℕ) → rises 0 (state_count t n) (image_over sets t n set letter) ≡ true
+unfolding image_over
+image-rises sets t n set letter =
+    rises-below (λ q. not (eqb q (dead t n)) && list_any (λ p. holds (moves_over sets t AtEnd n p letter) q) set) (state_count t n)
+
+-- The image of members that rise is that of their set.
 
 pub below-proper : (a : Automaton) (set : List ℕ) (q : ℕ) → all_proper a set ≡ true → holds set q ≡ true → q < accepting_state a
-below-proper a [] q proper in' = absurd (false≢true in')
-below-proper a (x ∷ set) q proper in' =
-    let p = and_parts (nat_lt x (accepting_state a)) (all_proper a set) proper in
-    elim (or_cases (eqb x q) (holds set q) in') [
-      | inl here ↦ subst (λ (y : ℕ). y < accepting_state a) (eqb-true x q here) (ltb-true x (accepting_state a) p.0)
-      | inr later ↦ below-proper a set q p.1 later
-    ]
+below-proper a set q proper in' = (rises-holds 0 (accepting_state a) set q proper in').1
 
 any-set : (a : Automaton) (set : List ℕ) (f : ℕ → Bool) → all_proper a set ≡ true → list_any f (set_of a set) ≡ list_any f set
 any-set a set f proper =
@@ -156,9 +158,12 @@ image-set a set letter proper =
     let e = λ (t : ℕ). any-set a set (λ q. holds (moves_at a q letter) t) proper in
     λ i. set_where a (λ t. not (eqb t (dead_state a)) && e t i)
 
+states-from : (a : Automaton) (low : ℕ) (set : List ℕ) → 3 ≤ a.states → rises low (accepting_state a) set ≡ true → All (λ q. (q < a.states) × (q ≢ dead_state a)) set
+states-from a low [] three e = λ k d lt. absurd (omega arith)
+states-from a low (x ∷ set) three e =
+    let p = rises-parts low (accepting_state a) x set e in
+    let lt : x < accepting_state a = p.1 in
+    All-cons (λ q. (q < a.states) × (q ≢ dead_state a)) x set (omega arith, λ e. omega arith) (states-from a (suc x) set three p.2)
+
 pub proper-states : (a : Automaton) (set : List ℕ) → 3 ≤ a.states → all_proper a set ≡ true → All (λ q. (q < a.states) × (q ≢ dead_state a)) set
-proper-states a [] three proper = λ k d lt. absurd (omega arith)
-proper-states a (x ∷ set) three proper =
-    let p = and_parts (nat_lt x (accepting_state a)) (all_proper a set) proper in
-    let lt = ltb-true x (accepting_state a) p.0 in
-    All-cons (λ q. (q < a.states) × (q ≢ dead_state a)) x set (omega arith, λ e. omega arith) (proper-states a set three p.1)
+proper-states a set three proper = states-from a 0 set three proper

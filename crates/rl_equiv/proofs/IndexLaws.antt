@@ -19,7 +19,7 @@ use Rattle.rl_equiv.proofs.SearchLaws.{one-grows}
 abbrev pub sets_eq : Sets → Sets → Bool
 sets_eq x y = bytes_eq x.first.items y.first.items && bytes_eq x.second.items y.second.items
 
--- sets are looked up as their set pairs are
+-- Looking up two sets is looking up their set pair.
 any-same : (keys : List Sets) (k : Sets) → list_any (sets_eq k) keys ≡ list_any (same_pair (pair_of_sets k)) (map pair_of_sets keys)
 any-same [] k = refl
 any-same (x ∷ xs) k = ap (λ (b : Bool). sets_eq k x || b) (any-same xs k)
@@ -32,7 +32,7 @@ put-one keys k =
     by true = refl
     by false = map_push pair_of_sets keys k
 
--- a set pair is found exactly where it is there
+-- A set pair is found exactly if it is there.
 any-holds : (l : List SetPair) (p : SetPair) → list_any (same_pair p) l ≡ true → Contains l p
 any-holds l p e =
     let h = Any-from_list_any (same_pair p) l e in
@@ -52,7 +52,7 @@ found-there keys k p found e is =
     let here : found ≡ list_any (same_pair p) (map pair_of_sets keys) = e ∙ any-same keys k ∙ ap (λ (q : SetPair). list_any (same_pair q) (map pair_of_sets keys)) is in
     (λ i. any-holds (map pair_of_sets keys) p (sym here ∙ i), λ c. here ∙ holds-any (map pair_of_sets keys) p c)
 
--- the index has the first ones of a relation and no other
+-- The index has the first set pairs of a relation, and no others.
 pub record HasFirst (relation : List SetPair) (i : ℕ) (index : List SetPair) : Type 0 where
   pub within : All (Contains relation) index
   pub all : (k : ℕ) (d : SetPair) → k < i → Contains index (get_or relation k d)
@@ -89,7 +89,7 @@ all-first relation i index le h p = (
   λ c. subst (Contains index) c.2 (h.all c.0 p (omega (arith, c.1))),
 )
 
--- what is kept in a list is kept in another one that holds the same
+-- A set pair that is kept in a list is kept in another one with the same set pairs.
 pub kept-same : (d : SetPairs) (index relation : List SetPair) (p : SetPair) → HoldTheSame index relation → IsKept d index p → IsKept d relation p
 kept-same d index relation p same k = record {
   is_proper = k.is_proper;
@@ -100,7 +100,7 @@ kept-same d index relation p same k = record {
 pub same-back : (index relation : List SetPair) → HoldTheSame index relation → HoldTheSame relation index
 same-back index relation same p = ((same p).1, (same p).0)
 
--- the look-up of the sets of the starts is that of the first set pair
+-- Looking up the sets of the starts is looking up the first set pair.
 pub first-there : (index : List SetPair) (x y : List ℕ) (found : Bool) → x ≡ 0 ∷ [] → y ≡ 0 ∷ [] → IsTrue found ↔ Contains index (record { first = x; second = y }) → IsTrue found ↔ Contains index first_pair
 first-there index x y found e f h =
     let p : SetPair = record { first = x; second = y } in

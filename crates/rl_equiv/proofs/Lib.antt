@@ -1,5 +1,6 @@
 pub mod FoundLaws
 pub mod BaseLaws
+pub mod RiseLaws
 pub mod ImageLaws
 pub mod ClosedLaws
 pub mod CheckLaws

@@ -1,4 +1,4 @@
--- Laws of the words of texts: the set pair that a text leads to tells which trees match the text.
+-- Laws of the words of texts: the set pair that a text leads to says which of the trees match the text.
 use Rattle.std.proofs.Common.{◌≡◌, ◌∙◌, ℕ, ◌<◌, List, [], ◌∷◌, ◌++◌, length, map, slice_get, Some, All, Bool, true, false, not, refl, sym, ap, ap₂, subst, arith}
 use Rattle.std.proofs.lemmas.Bool.{false≢true}
 use Rattle.std.proofs.lemmas.List.{length-map}
@@ -44,7 +44,7 @@ next-is a b p q letter e =
     sym (get_or_from_slice_get ((pairs_of a b).nexts p) letter (pair_on a b p letter) first_pair (next-at a b p letter (next-small a b p q letter e)))
     ∙ get_or_from_slice_get ((pairs_of a b).nexts p) letter q first_pair e
 
--- what a word that leads from one set pair to another gives
+-- What a word that leads from one set pair to another gives.
 pub record IsRead (a b : Automaton) (p : SetPair) (word : List ℕ) (q : SetPair) : Type 0 where
   pub is_proper : (pairs_of a b).proper q ≡ true
   pub small : All (λ letter. letter < letters_count a) word
@@ -84,7 +84,7 @@ module _ (a b : Automaton) (readers : AreReaders a b) where
       refuses-image b readers.second_reads.whole p.second (letters_count b) [] (proper-free b p.second (second-proper a b p proper))
       ∙ refuses-nothing b (image b p.second (letters_count b))
 
--- a word of letters leads to some set pair
+-- A word of letters leads to some set pair.
 pub small-leads : (a b : Automaton) (p : SetPair) (word : List ℕ) → All (λ letter. letter < letters_count a) word → (q : SetPair) × Reads (pairs_of a b) p word q
 small-leads a b p [] small = (p, stay)
 small-leads a b p (letter ∷ word) small =

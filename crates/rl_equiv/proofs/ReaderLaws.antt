@@ -1,5 +1,5 @@
--- Laws of automata of a fullmatch: a letter leads to no accepting state, and the end letter to no other one. So what a search
--- tells of two automata is so of the trees that they stand for.
+-- Laws of automata of trees that are matched whole: no letter leads to the accepting state, and the end letter leads to
+-- no other one. So what a search says about two automata is true of the trees that they stand for.
 use Rattle.std.proofs.Common.{◌≡◌, ◌≢◌, ◌∙◌, ℕ, zero, suc, ◌/◌, ◌<◌, ◌⊎◌, inl, inr, List, [], ◌∷◌, ◌++◌, length, get_or, map, filter, slice_get, Option, Some, All, Bool, true, false, not, ◌||◌, ◌&&◌, cond, eqb, eqb-true, eq-eqb, ne_eqb, nat_lt, if◌then◌else◌, refl, sym, ap, ap₂, subst, arith}
 use Rattle.std.specs.List.{list_any, list_all}
 use Rattle.std.proofs.lemmas.Bool.{false≢true, both_ways, and_parts, and_from, or_cases, or_left, or_from, cond_both, lt-ltb, false_from_ne_true}
@@ -35,6 +35,7 @@ use Rattle.rl_equiv.specs.declared.sameness.Sameness.TheVariants.{Equal, Apart, 
 use Rattle.rl_equiv.specs.Joined.{StandTogether}
 use Rattle.rl_equiv.specs.internal.Machines.{all_proper, pairs_of}
 use Rattle.rl_equiv.specs.internal.Searching.{IsReader, AreReaders, sample_of, IsApart, TellsApart}
+use Rattle.rl_equiv.proofs.RiseLaws.{rises-under, rises-below}
 use Rattle.rl_equiv.proofs.ImageLaws.{moves-all, same_count, pairs_of-trees}
 use Rattle.rl_equiv.proofs.ClosedLaws.{letters-same, matched-refuses, closed-same}
 
@@ -43,7 +44,7 @@ use Rattle.rl_equiv.proofs.ClosedLaws.{letters-same, matched-refuses, closed-sam
 holds-append : (l m : List ℕ) (q : ℕ) → holds (l ++ m) q ≡ (holds l q || holds m q)
 holds-append l m q = list_any-append (λ x. eqb x q) l m
 
--- where one code follows, no move of known items leads to the accepting state
+-- If a code follows, no move of known items leads to the accepting state.
 module _ (t : Tree) (n c : ℕ) (in_codes : c < n) (before : Option ℕ) where
   place_below : (p : ℕ) → p < places t → state_of t n p (kind_of t n c) < accepting t n
   place_below p in_places =
@@ -85,7 +86,7 @@ all-filter f p (suc n) each =
     last true h = and_from (f n) true (h refl) refl
     last false h = refl
 
--- what holds of each move holds of this one
+-- What holds for each member of a list holds for this one.
 held : (P : ℕ → Type 0) (l : List ℕ) (x : ℕ) → All P l → holds l x ≡ true → P x
 held P [] x each e = absurd (false≢true e)
 held P (y ∷ l) x each e =
@@ -111,13 +112,15 @@ module _ (a : Automaton) (t : Tree) (sets : List (ℕ → Bool)) (whole : IsAuto
   on-letters : (set : List ℕ) (letter : ℕ) → letter < letters_count a → all_proper a (image a set letter) ≡ true
   unfolding image
   on-letters set letter lt =
-      all-filter (λ q. nat_lt q (accepting_state a)) (λ x. not (eqb x (dead_state a)) && list_any (λ q. holds (moves_at a q letter) x) set) a.states
+      let reached = λ (x : ℕ). not (eqb x (dead_state a)) && list_any (λ q. holds (moves_at a q letter) x) set in
+      rises-under 0 a.states (accepting_state a) (filter reached (below a.states)) (rises-below reached a.states)
+      (all-filter (λ q. nat_lt q (accepting_state a)) reached a.states
       (λ q small e.
       let p = and_parts (not (eqb q (dead_state a))) (list_any (λ r. holds (moves_at a r letter) q) set) e in
       let r = found_in (λ r. holds (moves_at a r letter) q) set p.1 in
       let alive : q ≢ dead_state a = λ d. false≢true (sym (ap not (eq-eqb q (dead_state a) d)) ∙ p.0) in
       let other : q ≢ accepting_state a = λ d. both_ways (holds (moves_at a r.0 letter) (accepting_state a)) (no-accept letter lt r.0) (subst (λ (x : ℕ). holds (moves_at a r.0 letter) x ≡ true) d r.2) in
-      lt-ltb q (accepting_state a) (omega (arith, whole.three_states)))
+      lt-ltb q (accepting_state a) (omega (arith, whole.three_states))))
 
   at-end : (set : List ℕ) → (image a set (letters_count a) ≡ set_of a []) ⊎ (image a set (letters_count a) ≡ set_of a (accepting_state a ∷ []))
   unfolding image
@@ -157,7 +160,7 @@ are-readers u s t a b st = record {
 
 -- ---- texts
 
--- the letters of the samples of letters are these letters
+-- The letters of the samples of letters are these letters.
 pub samples-back : (u : Universe) (s t : Tree) (a b : Automaton) → StandTogether u s t a b → (word : List ℕ) → All (λ l. l < letters_count a) word
     → IsText u (map (sample_of a) word) × (map (letter_at a.table) (map (sample_of a) word) ≡ word)
 samples-back u s t a b st [] small = (All-nil (λ c. c < code_count u), refl)
@@ -178,7 +181,7 @@ one-of u s t w text other = record { text = text; one = by (matched s AtEnd w) (
     by false true e f = inr (λ i. false≢true (sym e ∙ (matched_to_end s w).1 i), (matched_to_end t w).0 f)
     by false false e f = absurd (other (ap not (e ∙ sym f)))
 
--- a text that sets the automata apart is in one of the languages alone
+-- A text that tells the automata apart is in exactly one of the languages.
 module _ (u : Universe) (s t : Tree) (a b : Automaton) (st : StandTogether u s t a b) where
   apart-told : (w : List ℕ) → IsApart a b w → IsOfOne u s t w
   apart-told w i =

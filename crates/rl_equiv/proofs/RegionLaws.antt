@@ -28,7 +28,7 @@ use Rattle.rl_equiv.proofs.ApartLaws.{lead-is}
 use Rattle.rl_equiv.proofs.ReaderLaws.{are-readers}
 use Rattle.rl_equiv.proofs.SeenLaws.{seen-pairs}
 
--- ---- the word that the ways lead by is that of the place
+-- ---- the ways give the word of a place
 
 from-grows : (words : List (List ℕ)) (ways : List Way) → (more : List (List ℕ)) × (words_from words ways ≡ words ++ more)
 from-grows words [] = ([], sym (append-nil words))
@@ -90,7 +90,7 @@ where-nothing test [] each = refl
 where-nothing test (r ∷ rs) each =
     ap (λ (b : Bool). cond b (Some r.word) (word_where test rs)) (each 0 (omega arith)) ∙ where-nothing test rs (λ j less. each (suc j) (omega arith))
 
--- ---- once all are looked at no more are found
+-- ---- once all were looked at, no more are found
 
 reached-next : (d : SetPairs) (k : ℕ) → reached_after d (suc k) ≡ looked_at_reached d (reached_after d k) (slice_get (reached_after d k) k)
 unfolding reached_after

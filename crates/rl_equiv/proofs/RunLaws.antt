@@ -1,4 +1,4 @@
--- Laws of the whole search: what its answers say of the order of set pairs.
+-- Laws of the whole search: what its answers say about the order of set pairs.
 use Rattle.std.proofs.Common.{◌≡◌, ◌∙◌, ℕ, zero, suc, ◌+◌, ◌<◌, ◌≤◌, inl, inr, List, [], ◌∷◌, ◌++◌, length, get_or, take, slice_get, Option, Some, None, All, Contains, Bool, true, false, cond, nat_lt, refl, sym, ap, subst, arith, append_assoc}
 use Rattle.std.specs.List.{list_any}
 use Rattle.std.specs.Str.{bytes_eq}
@@ -16,6 +16,7 @@ use Rattle.rl_equiv.specs.SetPairs.{first_pair, SetPairs, differs, IsKept, IsClo
 use Rattle.rl_equiv.specs.Numbering.{same_pair, with_one, with_more, looked_at, found_after, AreAll, AreMore}
 use Rattle.rl_equiv.specs.internal.Machines.{pair_on, all_proper, pairs_of}
 use Rattle.rl_equiv.specs.internal.Searching.{AreReaders, State, pairs_in, pair_at, way_at, IsSearch, AreCapped}
+use Rattle.rl_equiv.proofs.RiseLaws.{rises-cons}
 use Rattle.rl_equiv.proofs.SearchLaws.{more-grows, pairs-length, pairs-get}
 
 -- ---- the order of set pairs
@@ -43,7 +44,7 @@ found-extends d k (suc j) le =
           (x.0 ++ y.0, found-next d j ∙ y.1 ∙ ap (λ (l : List SetPair). l ++ y.0) x.1 ∙ append_assoc (found_after d k) x.0 y.0)
     ]
 
--- once all are looked at no more are found
+-- Once all were looked at, no more are found.
 pub found-steady : (d : SetPairs) (k j : ℕ) → length (found_after d k) ≤ k → k ≤ j → found_after d j ≡ found_after d k
 found-steady d k zero all le = let e : zero ≡ k = omega arith in ap (found_after d) e
 found-steady d k (suc j) all le =
@@ -58,7 +59,7 @@ found-steady d k (suc j) all le =
 pub found-looked : (d : SetPairs) (k : ℕ) (p : SetPair) → slice_get (found_after d k) k ≡ Some p → found_after d (suc k) ≡ with_more (found_after d k) (d.nexts p)
 found-looked d k p e = found-next d k ∙ ap (looked_at d (found_after d k)) e
 
--- ---- what was put behind is there
+-- ---- what was appended is there
 
 pub one-holds : (found : List SetPair) (p : SetPair) → Contains (with_one found p) p
 one-holds found p = by (list_any (same_pair p) found) refl
@@ -83,7 +84,7 @@ more-holds found (p ∷ ps) =
     (grown-holds (with_one found p) (with_more (with_one found p) ps) p (more-grows (with_one found p) ps) (one-holds found p))
     (more-holds (with_one found p) ps)
 
--- ---- what holds at the first places
+-- ---- what holds of the first ones
 
 all-taken : (P : SetPair → Type 0) (l : List SetPair) (n : ℕ) → n ≤ length l → ((k : ℕ) → k < n → P (get_or l k first_pair)) → All P (take n l)
 all-taken P l zero le each = λ k d lt. absurd (omega (arith, length-take 0 l, lt))
@@ -107,7 +108,7 @@ capped-longer limit found whole (inr h) = omega (arith, ap length h.1.1, length-
 
 -- ---- the search
 
--- the first set pairs, up to a place, were looked at, and none of them differs
+-- The first set pairs, up to a place, were looked at, and none of them differs.
 pub record IsRunning (a b : Automaton) (old cur : State) (place : ℕ) : Type 0 where
   pub search : IsSearch a b cur
   pub limit_is : cur.limit ≡ old.limit
@@ -116,9 +117,9 @@ pub record IsRunning (a b : Automaton) (old cur : State) (place : ℕ) : Type 0 
   pub found : place ≤ length cur.keys
   pub none : (k : ℕ) → k < place → differs (pairs_of a b) (pair_at cur k) ≡ false
 
--- more set pairs are reached than the limit
-pub running-passed : (a b : Automaton) (old cur : State) (place : ℕ) → IsRunning a b old cur place → place < length cur.keys → place ≡ cur.limit → AreMore (pairs_of a b) old.limit
-running-passed a b old cur place r lt e =
+-- More set pairs are reached than the limit allows.
+pub running-exceeded : (a b : Automaton) (old cur : State) (place : ℕ) → IsRunning a b old cur place → place < length cur.keys → place ≡ cur.limit → AreMore (pairs_of a b) old.limit
+running-exceeded a b old cur place r lt e =
     let d = pairs_of a b in
     let F = pairs_in cur in
     let here : place ≡ old.limit = e ∙ r.limit_is in
@@ -128,13 +129,13 @@ running-passed a b old cur place r lt e =
           (all-taken (λ p. differs d p ≡ false) F place (omega (arith, pairs-length cur)) (λ k small. ap (differs d) (pairs-get cur k (omega arith)) ∙ r.none k small));
     })
 
--- each found set pair is proper
+-- Each set pair that is found is proper.
 pub first-proper' : (a b : Automaton) → AreReaders a b → (pairs_of a b).proper first_pair ≡ true
 unfolding pairs_of
 first-proper' a b readers =
     and_from (all_proper a (0 ∷ [])) (all_proper b (0 ∷ []))
-    (and_from (nat_lt 0 (accepting_state a)) true (lt-ltb 0 (accepting_state a) (omega (arith, readers.first_reads.whole.three_states))) refl)
-    (and_from (nat_lt 0 (accepting_state b)) true (lt-ltb 0 (accepting_state b) (omega (arith, readers.second_reads.whole.three_states))) refl)
+    (rises-cons 0 (accepting_state a) 0 [] (omega arith) (omega (arith, readers.first_reads.whole.three_states)) refl)
+    (rises-cons 0 (accepting_state b) 0 [] (omega arith) (omega (arith, readers.second_reads.whole.three_states)) refl)
 
 pub next-proper : (a b : Automaton) → AreReaders a b → (p : SetPair) (letter : ℕ) → letter < letters_count a → (pairs_of a b).proper (pair_on a b p letter) ≡ true
 unfolding pairs_of
@@ -147,7 +148,7 @@ found-proper a b s readers search (suc k) lt =
     let n = search.ways (suc k) (omega arith) lt in
     ap (pairs_of a b).proper n.is ∙ next-proper a b readers (pair_at s (way_at s (suc k)).parent) (way_at s (suc k)).letter n.small
 
--- the next set pairs of each found one are found
+-- Once all were looked at, the next set pairs of each are found.
 pub found-nexts : (d : SetPairs) (F : List SetPair) (place k : ℕ) → F ≡ found_after d place → k < length F → length F ≤ place → All (Contains F) (d.nexts (get_or F k first_pair))
 found-nexts d F place k e lt le =
     let early : k < length (found_after d k) = elim (cases_lt k (length (found_after d k))) [
@@ -167,7 +168,7 @@ found-nexts d F place k e lt le =
 get-any : (s : State) (k : ℕ) (x : SetPair) → k < length (pairs_in s) → get_or (pairs_in s) k x ≡ pair_at s k
 get-any s k x lt = get_or_default (pairs_in s) k x first_pair lt ∙ pairs-get s k (omega (arith, pairs-length s))
 
--- all set pairs are found
+-- All set pairs are found.
 pub found-closed : (a b : Automaton) (cur : State) (place : ℕ) → AreReaders a b → IsSearch a b cur → pairs_in cur ≡ found_after (pairs_of a b) place → length cur.keys ≤ place
     → ((k : ℕ) → k < length cur.keys → differs (pairs_of a b) (pair_at cur k) ≡ false) → IsClosed (pairs_of a b) (pairs_in cur)
 found-closed a b cur place readers search e le none = record {

@@ -10,8 +10,8 @@ use Rattle.rl_sets.specs.Live.{below}
 use Rattle.rl_sets.specs.Walk.{Walk, set_at, IsMadeFor}
 use Rattle.rl_sets.proofs.WalkLemmas.{get_kept}
 use Rattle.rl_equiv.specs.declared.pair.SetPair.{SetPair}
-use Rattle.rl_equiv.specs.declared.searching.Key.{Key}
-use Rattle.rl_equiv.specs.declared.searching.Search.{Search}
+use Rattle.rl_equiv.specs.declared.searching.PairKey.{PairKey}
+use Rattle.rl_equiv.specs.declared.searching.PairSearch.{PairSearch}
 use Rattle.rl_equiv.specs.SetPairs.{first_pair}
 use Rattle.rl_equiv.specs.Numbering.{same_pair, with_one, with_more, Reached, reached_by, next_reached, pairs_reached, with_reached, with_all_reached}
 use Rattle.rl_equiv.specs.internal.Machines.{pair_on, ends, pairs_of}
@@ -54,7 +54,7 @@ by-push : (word : List ℕ) (letter : ℕ) (ps : List SetPair) (p : SetPair) (la
 by-push word letter [] p last e = let here : letter ≡ last = omega (arith, e) in ap (λ (n : ℕ). record { pair = p; word = word ++ n ∷ [] } ∷ []) here
 by-push word letter (q ∷ ps) p last e = ap (λ (l : List Reached). record { pair = q; word = word ++ letter ∷ [] } ∷ l) (by-push word (suc letter) ps p last (omega (arith, e)))
 
--- one more set pair, on both sides
+-- One more set pair, on both sides.
 pub capped-one : (limit : ℕ) (found whole : List Reached) (p : Reached) → AreCapped limit found whole → AreCapped limit (with_reached_within limit found p) (with_reached whole p)
 capped-one limit found whole p (inl e) = by (cases_lt limit (length found))
   where
@@ -72,19 +72,19 @@ capped-one limit found whole p (inr h) =
     subst (λ (l : List Reached). AreCapped limit l (with_reached whole p)) (sym full)
     (inr (h.0, (h.1.0 ++ x.0, x.1 ∙ ap (λ (l : List Reached). l ++ x.0) h.1.1 ∙ append_assoc found h.1.0 x.0)))
 
--- what is found at a place
+-- What is found at a place.
 pub capped-get : {X : Type 0} (limit : ℕ) (found whole : List X) (k : ℕ) (d : X) → AreCapped limit found whole → k < length found → slice_get whole k ≡ Some (get_or found k d)
 capped-get {X = X} limit found whole k d (inl e) lt = ap (λ (l : List X). slice_get l k) (sym e) ∙ slice_get-get_or found k d lt
 capped-get {X = X} limit found whole k d (inr h) lt =
     ap (λ (l : List X). slice_get l k) h.1.1 ∙ get_kept found h.1.0 k (get_or found k d) (slice_get-get_or found k d lt)
 
--- the same without the words
+-- The same without the words.
 pub capped-pairs : (limit : ℕ) (found whole : List Reached) → AreCapped limit found whole → AreCapped limit (pairs_reached found) (pairs_reached whole)
 capped-pairs limit found whole (inl e) = inl (ap pairs_reached e)
 capped-pairs limit found whole (inr h) =
     inr (omega (arith, h.0, length-map found (λ (r : Reached). r.pair)), (pairs_reached h.1.0, ap pairs_reached h.1.1 ∙ map-append (λ (r : Reached). r.pair) found h.1.0))
 
--- ---- the pairs of a state
+-- ---- the set pairs of a search
 
 pub pairs-length : (s : State) → length (pairs_in s) ≡ length s.keys
 pairs-length s = length-map s.keys (pair_of s.first s.second)
@@ -114,7 +114,7 @@ onward-onward a b s t u o p = record {
   grown = p.grown ∙ ap (λ (l : List Reached). l ++ p.more) o.grown ∙ append_assoc (reached_in s) o.more p.more;
 }
 
--- the letters of one set pair that were visited
+-- How far a set pair is expanded: its first letters were visited.
 pub record IsExpanding (a b : Automaton) (old cur : State) (place letter : ℕ) : Type 0 where
   pub onward : IsOnward a b old cur
   pub reached : (whole : List Reached) → AreCapped old.limit (reached_in old) whole
@@ -152,31 +152,30 @@ unfolding pairs_of
 expanding-done a b old cur place letter e x whole capped =
     subst (λ (n : ℕ). AreCapped old.limit (reached_in cur) (with_all_reached whole (reached_by (word_at old place) 0 (map (pair_on a b (pair_at old place)) (below n))))) e (x.reached whole capped)
 
--- a key that was read
--- what was found is still there where the set pairs are the same
+-- What was found is still there if the set pairs are the same.
 pub still-found : (s t : State) (place : ℕ) → pairs_in t ≡ pairs_in s → place < length s.keys → place < length t.keys
 still-found s t place same lt =
     subst (λ (n : ℕ). place < n) (sym (length-map s.keys (pair_of s.first s.second)) ∙ ap length (sym same) ∙ length-map t.keys (pair_of t.first t.second)) lt
 
-pub key-read : (s : State) (place : ℕ) (key : Key) → slice_get s.keys place ≡ Some key → key_at s place ≡ key
+pub key-read : (s : State) (place : ℕ) (key : PairKey) → slice_get s.keys place ≡ Some key → key_at s place ≡ key
 key-read s place key e = get_or_from_slice_get s.keys place key no_key e
 
--- the ends of the set pair at a place are those of its sets
-pub ends-read : (a b : Automaton) (s : State) (place : ℕ) (key : Key) (x y : Bool) → key_at s place ≡ key → x ≡ ends a (set_at s.first key.first) → y ≡ ends b (set_at s.second key.second)
+-- The ends of the set pair at a place are those of its sets.
+pub ends-read : (a b : Automaton) (s : State) (place : ℕ) (key : PairKey) (x y : Bool) → key_at s place ≡ key → x ≡ ends a (set_at s.first key.first) → y ≡ ends b (set_at s.second key.second)
     → record { first = x; second = y } ≡ ends_of (pairs_of a b) (pair_at s place)
 unfolding pairs_of
 ends-read a b s place key x y e f g =
-    let first : ends a (set_at s.first key.first) ≡ ends a (pair_at s place).first = ap (λ (k : Key). ends a (set_at s.first k.first)) (sym e) in
-    let second : ends b (set_at s.second key.second) ≡ ends b (pair_at s place).second = ap (λ (k : Key). ends b (set_at s.second k.second)) (sym e) in
+    let first : ends a (set_at s.first key.first) ≡ ends a (pair_at s place).first = ap (λ (k : PairKey). ends a (set_at s.first k.first)) (sym e) in
+    let second : ends b (set_at s.second key.second) ≡ ends b (pair_at s place).second = ap (λ (k : PairKey). ends b (set_at s.second k.second)) (sym e) in
     let p = f ∙ first in
     let q = g ∙ second in
     λ i. record { first = p i; second = q i }
 
--- a search that has found the first set pair, by the numbers of its sets
+-- A search that has found the first set pair, by the numbers of its sets.
 abbrev pub first_state : ℕ → ℕ → ℕ → Walk → Walk → State
 first_state limit n m v w = record { limit = limit; first = v; second = w; keys = record { first = n; second = m } ∷ []; ways = no_way ∷ [] }
 
--- it goes on well
+-- What holds of a search holds of it.
 pub search-start : (a b : Automaton) (limit n m : ℕ) (v w : Walk) → 1 ≤ limit → limit ≤ MOST_SET_PAIRS → IsSide a MOST_SET_PAIRS 1 v → IsSide b MOST_SET_PAIRS 1 w
     → n < length v.sets → m < length w.sets → set_at v n ≡ 0 ∷ [] → set_at w m ≡ 0 ∷ [] → IsSearch a b (first_state limit n m v w)
 search-start a b limit n m v w some low one two n_in m_in e f = record {
@@ -201,24 +200,24 @@ search-start a b limit n m v w some low one two n_in m_in e f = record {
     by_second zero lt = m_in
     by_second (suc k) lt = absurd (omega arith)
 
--- the same of the search that was made, if it was
+-- The same for the search that was made, if it was.
 pub begun-search : {E : Type 0} (a b : Automaton) (limit n m : ℕ) (v w : Walk) → 1 ≤ limit → limit ≤ MOST_SET_PAIRS → IsSide a MOST_SET_PAIRS 1 v → IsSide b MOST_SET_PAIRS 1 w
-    → n < length v.sets → m < length w.sets → set_at v n ≡ 0 ∷ [] → set_at w m ≡ 0 ∷ [] → (r : Result Search E) → IfOk r (λ s. state_of s ≡ first_state limit n m v w) → IfOk r (λ s. IsSearch a b (state_of s))
+    → n < length v.sets → m < length w.sets → set_at v n ≡ 0 ∷ [] → set_at w m ≡ 0 ∷ [] → (r : Result PairSearch E) → IfOk r (λ s. state_of s ≡ first_state limit n m v w) → IfOk r (λ s. IsSearch a b (state_of s))
 begun-search a b limit n m v w some low one two n_in m_in e f (Err x) h = tt
 begun-search a b limit n m v w some low one two n_in m_in e f (Ok s) h = subst (IsSearch a b) (sym h) (search-start a b limit n m v w some low one two n_in m_in e f)
 
-pub begun-limit : {E : Type 0} (limit n m : ℕ) (v w : Walk) (r : Result Search E) → IfOk r (λ s. state_of s ≡ first_state limit n m v w) → IfOk r (λ s. s.limit ≡ limit)
+pub begun-limit : {E : Type 0} (limit n m : ℕ) (v w : Walk) (r : Result PairSearch E) → IfOk r (λ s. state_of s ≡ first_state limit n m v w) → IfOk r (λ s. s.limit ≡ limit)
 begun-limit limit n m v w (Err x) h = tt
 begun-limit limit n m v w (Ok s) h = ap (λ (t : State). t.limit) h
 
-pub begun-one : {E : Type 0} (limit n m : ℕ) (v w : Walk) → set_at v n ≡ 0 ∷ [] → set_at w m ≡ 0 ∷ [] → (r : Result Search E)
+pub begun-one : {E : Type 0} (limit n m : ℕ) (v w : Walk) → set_at v n ≡ 0 ∷ [] → set_at w m ≡ 0 ∷ [] → (r : Result PairSearch E)
     → IfOk r (λ s. state_of s ≡ first_state limit n m v w) → IfOk r (λ s. pairs_in (state_of s) ≡ first_pair ∷ [])
 begun-one limit n m v w e f (Err x) h = tt
 begun-one limit n m v w e f (Ok s) h =
     let first : pairs_in (first_state limit n m v w) ≡ first_pair ∷ [] = λ i. record { first = e i; second = f i } ∷ [] in
     ap pairs_in h ∙ first
 
--- a search whose walks have the sets that they had
+-- A search whose walks have the same sets as before.
 pub search-again : (a b : Automaton) (s : State) (v w : Walk) → IsSearch a b s → IsMadeFor v a → v.limit ≡ s.first.limit → v.sets ≡ s.first.sets → IsMadeFor w b → w.limit ≡ s.second.limit → w.sets ≡ s.second.sets
     → IsSearch a b (record { limit = s.limit; first = v; second = w; keys = s.keys; ways = s.ways })
 search-again a b s v w search made limit e made' limit' f = record {
@@ -235,7 +234,7 @@ search-again a b s v w search made limit e made' limit' f = record {
   ways = λ k lt below. by k (search.ways k lt below);
 }
   where
-    pair-again : (key : Key) → pair_of v w key ≡ pair_of s.first s.second key
+    pair-again : (key : PairKey) → pair_of v w key ≡ pair_of s.first s.second key
     pair-again key i = record { first = get_or (e i) key.first []; second = get_or (f i) key.second [] }
 
     by : (k : ℕ) → IsNext a b s k (way_at s k) → IsNext a b (record { limit = s.limit; first = v; second = w; keys = s.keys; ways = s.ways }) k (way_at s k)
@@ -246,14 +245,14 @@ search-again a b s v w search made limit e made' limit' f = record {
     }
 
 pub pairs-again : (s : State) (v w : Walk) → v.sets ≡ s.first.sets → w.sets ≡ s.second.sets → map (pair_of v w) s.keys ≡ pairs_in s
-pairs-again s v w e f = ap₂ (λ (x y : List (List ℕ)). map (λ (key : Key). record { first = get_or x key.first []; second = get_or y key.second [] }) s.keys) e f
+pairs-again s v w e f = ap₂ (λ (x y : List (List ℕ)). map (λ (key : PairKey). record { first = get_or x key.first []; second = get_or y key.second [] }) s.keys) e f
 
--- one more of the found set pairs was put down
-pub relation-more : (s : State) (relation : List SetPair) (place : ℕ) (key : Key) (x y : List ℕ) → relation ≡ take place (pairs_in s) → place < length s.keys → slice_get s.keys place ≡ Some key
+-- One more of the set pairs that were found was put into the relation.
+pub relation-more : (s : State) (relation : List SetPair) (place : ℕ) (key : PairKey) (x y : List ℕ) → relation ≡ take place (pairs_in s) → place < length s.keys → slice_get s.keys place ≡ Some key
     → x ≡ set_at s.first key.first → y ≡ set_at s.second key.second → relation ++ record { first = x; second = y } ∷ [] ≡ take (place + 1) (pairs_in s)
 relation-more s relation place key x y is lt read e f =
     let k = key-read s place key read in
-    let p : record { first = x; second = y } ≡ pair_at s place = λ i. record { first = (e ∙ ap (λ (q : Key). set_at s.first q.first) (sym k)) i; second = (f ∙ ap (λ (q : Key). set_at s.second q.second) (sym k)) i } in
+    let p : record { first = x; second = y } ≡ pair_at s place = λ i. record { first = (e ∙ ap (λ (q : PairKey). set_at s.first q.first) (sym k)) i; second = (f ∙ ap (λ (q : PairKey). set_at s.second q.second) (sym k)) i } in
     ap₂ (λ (l : List SetPair) (q : SetPair). l ++ q ∷ []) is (p ∙ sym (pairs-get s place lt))
     ∙ sym (take_more (pairs_in s) place first_pair (omega (arith, pairs-length s)))
 

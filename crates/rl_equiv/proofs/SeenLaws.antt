@@ -14,7 +14,7 @@ use Rattle.rl_equiv.specs.internal.Machines.{pairs_of}
 use Rattle.rl_equiv.specs.internal.Searching.{AreReaders, State, pairs_in, pair_at, words_of, reached_of, reached_in, reached_at, IsSearch, IsOnward, AreCapped, ends_of, is_apart, ends_in, no_ends, IsSeen, IsThrough, IsSeenApart}
 use Rattle.rl_equiv.proofs.FoundLaws.{no_reached, reached-pairs, reached-length, reached-get}
 use Rattle.rl_equiv.proofs.SearchLaws.{capped-get, capped-pairs, pairs-length, pairs-get, onward-longer, onward-reached}
-use Rattle.rl_equiv.proofs.RunLaws.{IsRunning, running-passed, running-all, found-extends, get-taken}
+use Rattle.rl_equiv.proofs.RunLaws.{IsRunning, running-exceeded, running-all, found-extends, get-taken}
 use Rattle.rl_equiv.proofs.WordLaws.{reached-found}
 
 reached-zero : (d : SetPairs) → reached_after d 0 ≡ record { pair = first_pair; word = [] } ∷ []
@@ -43,7 +43,7 @@ seen-start a b s seen search one none = subst (λ (l : List Ends). IsSeen a b s.
   are = λ k lt. absurd (omega arith);
 })
 
--- the set pairs are the same after one was tried
+-- Looking at the ends of a set pair leaves the set pairs as they are.
 module _ (s t : State) (pairs : pairs_in t ≡ pairs_in s) (ways : t.ways ≡ s.ways) where
   tried-reached : reached_in t ≡ reached_in s
   tried-reached = ap₂ reached_of pairs (ap words_of ways)
@@ -54,7 +54,7 @@ module _ (s t : State) (pairs : pairs_in t ≡ pairs_in s) (ways : t.ways ≡ s.
   tried-get : (k : ℕ) → k < length s.keys → reached_at t k ≡ reached_at s k
   tried-get k lt = sym (reached-get t k (omega (arith, tried-length))) ∙ ap (λ (l : List Reached). get_or l k no_reached) tried-reached ∙ reached-get s k lt
 
--- one more was looked at
+-- One more set pair was looked at.
 pub seen-more : (a b : Automaton) (limit : ℕ) (cur t new : State) (seen longer : List Ends) (ends : Ends) → IsSeen a b limit cur seen → length seen < length cur.keys → length seen < limit
     → t.limit ≡ cur.limit → pairs_in t ≡ pairs_in cur → t.ways ≡ cur.ways → ends ≡ ends_of (pairs_of a b) (pair_at cur (length seen)) → IsOnward a b t new
     → ((whole : List Reached) → AreCapped t.limit (reached_in t) whole → AreCapped t.limit (reached_in new) (with_all_reached whole (next_reached (pairs_of a b) (reached_at t (length seen)))))
@@ -88,7 +88,7 @@ seen-more a b limit cur t new seen longer ends r lt small same_limit same_pairs 
       ];
     }
 
--- none was apart so far
+-- None was apart so far.
 pub calm-more : (all : Bool) (seen longer : List Ends) (ends : Ends) → (all ≡ false → (k : ℕ) → k < length seen → is_apart (ends_in seen k) ≡ false) → (all ≡ false → is_apart ends ≡ false)
     → longer ≡ seen ++ ends ∷ [] → all ≡ false → (k : ℕ) → k < length longer → is_apart (ends_in longer k) ≡ false
 calm-more all seen longer ends before now pushed not_all k lt = ap (λ (l : List Ends). is_apart (ends_in l k)) pushed ∙ elim (cases_lt k (length seen)) [
@@ -96,7 +96,7 @@ calm-more all seen longer ends before now pushed not_all k lt = ap (λ (l : List
   | inr ge ↦ ap is_apart (get_or_push seen ends no_ends k (omega (arith, lt, ap length pushed, length_push seen ends))) ∙ now not_all
 ]
 
--- the last one is apart
+-- The last one is apart.
 pub apart-last : (limit : ℕ) (s : State) (seen longer : List Ends) (ends : Ends) → ((k : ℕ) → k < length seen → is_apart (ends_in seen k) ≡ false) → is_apart ends ≡ true → longer ≡ seen ++ ends ∷ []
     → IsSeenApart limit s longer
 apart-last limit s seen longer ends before now pushed =
@@ -136,7 +136,7 @@ module _ (a b : Automaton) (limit : ℕ) (s : State) (seen : List Ends) (r : IsS
       get-taken (found_after d limit) limit k p (omega (arith, r.in_limit)) (ap (λ (l : List SetPair). slice_get l k) x.1 ∙ get_kept (found_after d n) x.0 k p there) in
       (k, p, slice_get_within (first_ones d limit) k p then, get_or_from_slice_get (first_ones d limit) k p p then, seen-differs k lt ∙ e)
 
-  -- none was apart
+  -- None was apart.
   module _ (old : State) (is : old.limit ≡ limit) (apart : IsSeenApart limit s seen) (place : ℕ) (count : length seen ≡ suc place) (calm : is_apart (ends_in seen place) ≡ false) where
     seen-through : IsThrough limit s seen
     seen-through = by apart.last
@@ -158,11 +158,11 @@ module _ (a b : Automaton) (limit : ℕ) (s : State) (seen : List Ends) (r : IsS
       ];
     }
 
-    pub seen-passed : limit < length s.keys → AreMore (pairs_of a b) old.limit
-    seen-passed more = by seen-through
+    pub seen-exceeded : limit < length s.keys → AreMore (pairs_of a b) old.limit
+    seen-exceeded more = by seen-through
       where
         by : IsThrough limit s seen → AreMore (pairs_of a b) old.limit
-        by (inl le) = running-passed a b old s (length seen) seen-running (omega (arith, r.in_limit, more)) (omega (arith, r.in_limit, le, r.limit_is))
+        by (inl le) = running-exceeded a b old s (length seen) seen-running (omega (arith, r.in_limit, more)) (omega (arith, r.in_limit, le, r.limit_is))
         by (inr le) = absurd (omega (arith, r.in_limit, more, le))
 
     pub seen-all : AreReaders a b → length s.keys ≤ limit → (relation : List SetPair) → relation ≡ pairs_in s → AreAll (pairs_of a b) old.limit relation
@@ -172,7 +172,7 @@ module _ (a b : Automaton) (limit : ℕ) (s : State) (seen : List Ends) (r : IsS
         by (inl le) = running-all a b old s (length seen) relation readers seen-running (omega (arith, few, le)) e
         by (inr le) = running-all a b old s (length seen) relation readers seen-running le e
 
--- a search that doesn't ask for all stops where the last one is apart
+-- A search that isn't asked to look at all stops at the first one that is apart.
 pub stop-parts : (all apart : Bool) → (not all && apart) ≡ true → (all ≡ false) × (apart ≡ true)
 stop-parts true apart e = absurd (false≢true e)
 stop-parts false apart e = (refl, e)
@@ -181,7 +181,7 @@ pub calm-from : (all apart : Bool) → (not all && apart) ≡ false → all ≡ 
 calm-from true apart e f = absurd (false≢true (sym f))
 calm-from false apart e f = e
 
--- the same at a place that was read
+-- The same, with the place as a number of its own.
 pub seen-more-at : (a b : Automaton) (limit : ℕ) (cur t new : State) (seen longer : List Ends) (ends : Ends) (place : ℕ) → place ≡ length seen → IsSeen a b limit cur seen → place < length cur.keys → place < limit
     → t.limit ≡ cur.limit → pairs_in t ≡ pairs_in cur → t.ways ≡ cur.ways → ends ≡ ends_of (pairs_of a b) (pair_at cur place) → IsOnward a b t new
     → ((whole : List Reached) → AreCapped t.limit (reached_in t) whole → AreCapped t.limit (reached_in new) (with_all_reached whole (next_reached (pairs_of a b) (reached_at t place))))

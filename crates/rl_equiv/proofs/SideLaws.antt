@@ -12,7 +12,7 @@ use Rattle.rl_sets.proofs.SetLemmas.{filter_gap, filter_next}
 use Rattle.rl_equiv.specs.internal.Searching.{Gets}
 use Rattle.rl_equiv.specs.Sides.{IsSide}
 
--- the set of the start
+-- The set of the start.
 pub start-set : (a : Automaton) → 3 ≤ a.states → set_of a (0 ∷ []) ≡ 0 ∷ []
 start-set a three =
     filter_gap (holds (0 ∷ [])) 1 a.states (omega arith) (λ k le lt. or_from (eqb 0 k) false (ne_eqb 0 k (λ e. omega arith)) refl)
@@ -56,7 +56,7 @@ module _ (a : Automaton) (old new : Walk) (set : List ℕ) (n : ℕ) (g : Gets a
       by (inl e) = subst (λ (l : List (List ℕ)). Contains l s) (sym e) c
       by (inr m) = subst (λ (l : List (List ℕ)). Contains l s) (sym m.1) (Contains-append_left old.sets (set ∷ []) s c)
 
-  -- a number that was there before is that of a set that was there before
+  -- If the number was there before, so was the set.
   pub gets-old : n < length old.sets → new.sets ≡ old.sets
   gets-old lt = by g.listed.grown
     where
@@ -64,7 +64,7 @@ module _ (a : Automaton) (old new : Walk) (set : List ℕ) (n : ℕ) (g : Gets a
       by (inl e) = e
       by (inr m) = absurd (m.0 (subst (Contains old.sets) (sym (gets-same n lt) ∙ gets-set) (Contains-get_or old.sets n [] lt)))
 
--- the first two sets of a walk
+-- A walk that begins with the two sets that the end letter may lead to.
 pub side-begun : (a : Automaton) (w x y : Walk) (k l : ℕ) → w.sets ≡ [] → w.limit ≡ 60000 → Gets a w x (set_of a []) k → Gets a x y (set_of a (accepting_state a ∷ [])) l → IsSide a MOST_SET_PAIRS 0 y
 side-begun a w x y k l none is g h = record {
   made = h.made;
@@ -74,7 +74,7 @@ side-begun a w x y k l none is g h = record {
   has_end = gets-contains a x y (set_of a (accepting_state a ∷ [])) l h;
 }
 
--- one more set pair is found, and the walk has got one set
+-- One more set pair is found, and the walk has gained at most one set.
 pub side-gets : (a : Automaton) (limit count more : ℕ) (old new : Walk) (set : List ℕ) (n : ℕ) → more ≡ count + 1 → IsSide a limit count old → Gets a old new set n → IsSide a limit more new
 side-gets a limit count more old new set n e side g = record {
   made = g.made;
@@ -84,7 +84,7 @@ side-gets a limit count more old new set n e side g = record {
   has_end = gets-keeps a old new set n g (set_of a (accepting_state a ∷ [])) side.has_end;
 }
 
--- no set pair is found, and the walk has the sets that it had
+-- No set pair is found, and the walk has the same sets as before.
 pub side-stays : (a : Automaton) (limit count : ℕ) (old new : Walk) (set : List ℕ) (n : ℕ) → new.sets ≡ old.sets → IsSide a limit count old → Gets a old new set n → IsSide a limit count new
 side-stays a limit count old new set n e side g = record {
   made = g.made;
@@ -94,7 +94,7 @@ side-stays a limit count old new set n e side g = record {
   has_end = gets-keeps a old new set n g (set_of a (accepting_state a ∷ [])) side.has_end;
 }
 
--- a side with room for more set pairs has room for fewer
+-- A side with room for more set pairs has room for fewer.
 pub side-lower : (a : Automaton) (limit most count : ℕ) (w : Walk) → limit ≤ most → IsSide a most count w → IsSide a limit count w
 side-lower a limit most count w low side = record {
   made = side.made;
@@ -104,7 +104,7 @@ side-lower a limit most count w low side = record {
   has_end = side.has_end;
 }
 
--- a side whose walk has the sets that it had
+-- A side whose walk has the same sets as before.
 pub side-same : (a : Automaton) (limit count : ℕ) (v w : Walk) → IsSide a limit count v → IsMadeFor w a → w.limit ≡ v.limit → w.sets ≡ v.sets → IsSide a limit count w
 side-same a limit count v w side made e f = record {
   made = made;
@@ -114,7 +114,7 @@ side-same a limit count v w side made e f = record {
   has_end = subst (λ (l : List (List ℕ)). Contains l (set_of a (accepting_state a ∷ []))) (sym f) side.has_end;
 }
 
--- a side is kept
+-- A side may be kept.
 pub side-kept : (a : Automaton) (limit count : ℕ) (w : Walk) → IsSide a limit count w → IsSide a 0 1 w
 side-kept a limit count w side = record {
   made = side.made;
@@ -124,7 +124,7 @@ side-kept a limit count w side = record {
   has_end = side.has_end;
 }
 
--- one that was kept, and hasn't grown too large, has room again
+-- A walk that was kept has room again, unless it has grown too large.
 pub side-again : (a : Automaton) (w : Walk) → length w.sets ≤ 30000 → IsSide a 0 1 w → IsSide a MOST_SET_PAIRS 0 w
 side-again a w few side = record {
   made = side.made;

@@ -6,7 +6,7 @@ use Rattle.rl_prio.specs.Automaton.{Automaton}
 use Rattle.rl_equiv.specs.declared.searching.Way.{Way}
 use Rattle.rl_equiv.specs.internal.Searching.{Leads, start, onward, sample_of}
 
--- what is read of the text so far, from its end, and where the rest leads from
+-- What was read so far of the text, from its end, and the place that the rest leads to.
 pub record IsBack (a : Automaton) (ways : List Way) (place at : ℕ) (back : List ℕ) : Type 0 where
   pub at_in : at < length ways
   pub rest : List ℕ

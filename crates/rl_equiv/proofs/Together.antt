@@ -1,4 +1,4 @@
--- Over the letters of two trees there is an automaton for each of them, whatever the trees.
+-- For any two trees there is an automaton for each of them, over the letters of both.
 use Rattle.std.proofs.Common.{◌≡◌, ◌⊎◌, ◌∙◌, ℕ, zero, suc, ◌+◌, ◌*◌, ◌-◌, ◌/◌, ◌%◌, ◌<◌, ◌≤◌, inl, inr, List, [], ◌∷◌, ◌++◌, length, map, get_or, slice_get, Option, All, Bool, true, false, ◌&&◌, nat_lt, nat_le, eqb, refl, sym, ap, ap₂, subst, arith}
 use Rattle.std.specs.Prelude.{if◌then◌else◌}
 use Rattle.std.proofs.lemmas.Bool.{cases_lt, cond-false, cond_both, le-ltb}
@@ -26,7 +26,7 @@ use Rattle.rl_equiv.specs.SetPairs.{joint_sets}
 use Rattle.rl_equiv.specs.Joined.{StandTogether}
 use Rattle.rl_equiv.proofs.ImageLaws.{length-below, get_or-below}
 
--- the least number below a bound that passes a test, if there is one
+-- The least number below a bound that passes a test, if there is one.
 least_below : (test : ℕ → Bool) (k : ℕ) → ((c : ℕ) × (c < k) × (test c ≡ true) × ((d : ℕ) → d < c → test d ≡ false)) ⊎ ((d : ℕ) → d < k → test d ≡ false)
 least_below test zero = inr (λ d l. absurd (omega (arith, l)))
 least_below test (suc k) = go (least_below test k) (test k) refl
@@ -194,7 +194,7 @@ module _ (sets : List (ℕ → Bool)) (n : ℕ) where
     unfolding made table
     made-codes = refl
 
--- automata that stand for two trees over the letters of both
+-- Automata that stand for two trees over the letters of both.
 pub together : (u : Universe) (s t : Tree) → (a : Automaton) × (b : Automaton) × StandTogether u s t a b
 together u s t =
     let sets = joint_sets s t in

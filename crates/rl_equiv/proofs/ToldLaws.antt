@@ -1,4 +1,4 @@
--- Laws of regions: what their texts tell of two trees.
+-- Laws of regions: what their texts say about two trees.
 use Rattle.std.proofs.Common.{◌≡◌, ◌∙◌, ℕ, suc, ◌<◌, ◌≤◌, inl, inr, List, [], ◌∷◌, length, map, Option, Some, None, All, Contains, Bool, true, false, not, ◌&&◌, cond, IsTrue, ◌↔◌, refl, sym, ap, ap₂, subst, arith}
 use Rattle.std.proofs.lemmas.Bool.{false≢true, cases_lt}
 use Rattle.std.proofs.lemmas.List.{take_all, length-map}
@@ -20,7 +20,7 @@ use Rattle.rl_equiv.specs.Told.{IsOfRegion, AreTold}
 use Rattle.rl_equiv.proofs.WordLaws.{reached-found, reached-reads, all-found}
 use Rattle.rl_equiv.proofs.ReadLaws.{text-leads, text-told}
 
--- a text that spells a word has that word
+-- A text that spells a word has that word.
 spelled-text : (sets : List (ℕ → Bool)) (u : Universe) (word text : List ℕ) → IsSpelled sets (code_count u) word text → IsText u text × (map (class_of sets (code_count u)) text ≡ word)
 spelled-text sets u [] [] i = (All-nil (λ c. c < code_count u), refl)
 spelled-text sets u (letter ∷ word) (code ∷ text) i =
@@ -29,7 +29,7 @@ spelled-text sets u (letter ∷ word) (code ∷ text) i =
 spelled-text sets u [] (code ∷ text) i = absurd i
 spelled-text sets u (letter ∷ word) [] i = absurd i
 
--- the word of the first set pair that passes a test is that of one of them
+-- The word of the first set pair that passes a test is that of one of them.
 where-some : (test : SetPair → Bool) (l : List Reached) (word : List ℕ) → word_where test l ≡ Some word → (r : Reached) × Contains l r × (test r.pair ≡ true) × (r.word ≡ word)
 where-some test [] word e = cc
 where-some test (r ∷ rs) word e = by (where-some test rs word) (test r.pair) refl e
@@ -38,7 +38,7 @@ where-some test (r ∷ rs) word e = by (where-some test rs word) (test r.pair) r
     by later true h e = (r, (0, omega arith, refl), h, cc)
     by later false h e = let m = later e in (m.0, (suc m.1.0, omega (arith, m.1.1), m.1.2), m.2, m.3)
 
--- where there is none, no set pair passes the test
+-- If there is none, no set pair passes the test.
 where-none : (test : SetPair → Bool) (l : List Reached) → word_where test l ≡ None → All (λ p. test p ≡ false) (pairs_reached l)
 where-none test [] e = All-nil (λ p. test p ≡ false)
 where-none test (r ∷ rs) e = by (where-none test rs) (test r.pair) refl e
@@ -47,7 +47,7 @@ where-none test (r ∷ rs) e = by (where-none test rs) (test r.pair) refl e
     by later true h e = cc
     by later false h e = All-cons (λ p. test p ≡ false) r.pair (pairs_reached rs) h (later e)
 
--- a test of the two ends of a set pair
+-- A test of the two ends of a set pair.
 abbrev ends_test : (Bool → Bool → Bool) → SetPairs → SetPair → Bool
 ends_test g d p = g (d.ends_first p) (d.ends_second p)
 
@@ -100,7 +100,7 @@ module _ (u : Universe) (s t : Tree) (a b : Automaton) (st : StandTogether u s t
         | inr le ↦ le
       ]
 
-  -- the texts of the regions tell which texts the trees match
+  -- The texts of the regions say which texts the trees match.
   pub regions-told : (c : Compared) → AreRegions u s t limit c → AreTold u (matched s AtEnd) (matched t AtEnd) c
   regions-told c r =
       let few = few-from c.more (length (found_after (set_pairs u s t) limit)) r.more in

@@ -1,4 +1,4 @@
--- Laws of one more set pair of a search.
+-- Laws of a search that finds one more set pair.
 use Rattle.std.proofs.Common.{◌≡◌, ◌∙◌, ℕ, suc, ◌+◌, ◌<◌, ◌≤◌, ◌⊎◌, inl, inr, List, [], ◌∷◌, ◌++◌, length, get_or, map, Bool, true, false, not, ◌||◌, ◌&&◌, cond, eqb, eqb-true, eq-eqb, nat_lt, refl, sym, ap, ap₂, subst, arith}
 use Rattle.std.specs.List.{list_any}
 use Rattle.std.specs.Str.{bytes_eq}
@@ -11,7 +11,7 @@ use Rattle.rl_sets.specs.Live.{image}
 use Rattle.rl_sets.specs.Walk.{Walk, set_at, IsMadeFor}
 use Rattle.rl_sets.proofs.SetLemmas.{same_tests}
 use Rattle.rl_equiv.specs.declared.pair.SetPair.{SetPair}
-use Rattle.rl_equiv.specs.declared.searching.Key.{Key}
+use Rattle.rl_equiv.specs.declared.searching.PairKey.{PairKey}
 use Rattle.rl_equiv.specs.declared.searching.Way.{Way}
 use Rattle.rl_equiv.specs.Numbering.{same_pair, Reached, with_reached}
 use Rattle.rl_equiv.specs.internal.Machines.{pair_on}
@@ -19,17 +19,17 @@ use Rattle.rl_equiv.specs.internal.Searching.{Gets, State, no_key, no_way, key_a
 use Rattle.rl_equiv.proofs.FoundLaws.{words-push, words-length, of-push, reached-pairs, reached-length}
 use Rattle.rl_equiv.proofs.SideLaws.{gets-within, gets-set, gets-longer, gets-same, gets-old, side-gets, side-stays}
 
-abbrev pub key_eq : Key → Key → Bool
+abbrev pub key_eq : PairKey → PairKey → Bool
 key_eq x y = eqb x.first y.first && eqb x.second y.second
 
-pub same-key : (x y : Key) → key_eq x y ≡ true → x ≡ y
+pub same-key : (x y : PairKey) → key_eq x y ≡ true → x ≡ y
 same-key x y e =
     let p = and_parts (eqb x.first y.first) (eqb x.second y.second) e in
     let f = eqb-true x.first y.first p.0 in
     let g = eqb-true x.second y.second p.1 in
     λ i. record { first = f i; second = g i }
 
--- one set has one number
+-- One set has one number.
 number-same : (a : Automaton) (v : Walk) (m n : ℕ) → IsMadeFor v a → m < length v.sets → n < length v.sets → set_at v m ≡ set_at v n → m ≡ n
 number-same a v m n made lt lt' e = by (cases_lt m n) (cases_lt n m)
   where
@@ -38,16 +38,16 @@ number-same a v m n made lt lt' e = by (cases_lt m n) (cases_lt n m)
     by (inr ge) (inl less) = absurd (made.apart n m less lt (sym e))
     by (inr ge) (inr le) = omega arith
 
--- the keys are of sets of the walks
-abbrev pub KeysIn : Walk → Walk → List Key → Type 0
+-- The keys are of sets of the walks.
+abbrev pub KeysIn : Walk → Walk → List PairKey → Type 0
 KeysIn v w [] = Unit {0}
 KeysIn v w (k ∷ ks) = (k.first < length v.sets) × (k.second < length w.sets) × KeysIn v w ks
 
-pub KeysIn-from : (v w : Walk) (keys : List Key) → ((k : ℕ) → k < length keys → (get_or keys k no_key).first < length v.sets) → ((k : ℕ) → k < length keys → (get_or keys k no_key).second < length w.sets) → KeysIn v w keys
+pub KeysIn-from : (v w : Walk) (keys : List PairKey) → ((k : ℕ) → k < length keys → (get_or keys k no_key).first < length v.sets) → ((k : ℕ) → k < length keys → (get_or keys k no_key).second < length w.sets) → KeysIn v w keys
 KeysIn-from v w [] f g = tt
 KeysIn-from v w (k ∷ ks) f g = (f 0 (omega arith), g 0 (omega arith), KeysIn-from v w ks (λ i lt. f (suc i) (omega arith)) (λ i lt. g (suc i) (omega arith)))
 
-pub pairs-same : (v w x y : Walk) (keys : List Key) → KeysIn v w keys → ((k : ℕ) → k < length v.sets → set_at x k ≡ set_at v k) → ((k : ℕ) → k < length w.sets → set_at y k ≡ set_at w k)
+pub pairs-same : (v w x y : Walk) (keys : List PairKey) → KeysIn v w keys → ((k : ℕ) → k < length v.sets → set_at x k ≡ set_at v k) → ((k : ℕ) → k < length w.sets → set_at y k ≡ set_at w k)
     → map (pair_of x y) keys ≡ map (pair_of v w) keys
 pairs-same v w x y [] in' f g = refl
 pairs-same v w x y (k ∷ ks) in' f g =
@@ -56,8 +56,8 @@ pairs-same v w x y (k ∷ ks) in' f g =
     let p : pair_of x y k ≡ pair_of v w k = λ i. record { first = e i; second = h i } in
     ap₂ (λ q qs. q ∷ qs) p (pairs-same v w x y ks in'.2 f g)
 
--- set pairs are the same exactly where their keys are
-one-same : (a b : Automaton) (v w : Walk) (key k : Key) → IsMadeFor v a → IsMadeFor w b → key.first < length v.sets → key.second < length w.sets → k.first < length v.sets → k.second < length w.sets
+-- Two set pairs are the same exactly if their keys are.
+one-same : (a b : Automaton) (v w : Walk) (key k : PairKey) → IsMadeFor v a → IsMadeFor w b → key.first < length v.sets → key.second < length w.sets → k.first < length v.sets → k.second < length w.sets
     → same_pair (pair_of v w key) (pair_of v w k) ≡ key_eq key k
 one-same a b v w key k made made' f g h i =
     same_tests _ _
@@ -72,13 +72,13 @@ one-same a b v w key k made made' f g h i =
     ((bytes_eq-Decides (set_at v key.first) (set_at v k.first)).1 (ap (set_at v) (eqb-true key.first k.first p.0)))
     ((bytes_eq-Decides (set_at w key.second) (set_at w k.second)).1 (ap (set_at w) (eqb-true key.second k.second p.1))))
 
-any-same : (a b : Automaton) (v w : Walk) (key : Key) (keys : List Key) → IsMadeFor v a → IsMadeFor w b → key.first < length v.sets → key.second < length w.sets → KeysIn v w keys
+any-same : (a b : Automaton) (v w : Walk) (key : PairKey) (keys : List PairKey) → IsMadeFor v a → IsMadeFor w b → key.first < length v.sets → key.second < length w.sets → KeysIn v w keys
     → list_any (same_pair (pair_of v w key)) (map (pair_of v w) keys) ≡ list_any (key_eq key) keys
 any-same a b v w key [] made made' f g in' = refl
 any-same a b v w key (k ∷ ks) made made' f g in' =
     ap₂ (λ x y. x || y) (one-same a b v w key k made made' f g in'.0 in'.1) (any-same a b v w key ks made made' f g in'.2)
 
--- what is known as a set pair is visited
+-- What is known when a set pair is visited.
 pub record IsVisit (a b : Automaton) (s : State) (v w : Walk) (place letter n m : ℕ) : Type 0 where
   pub search : IsSearch a b s
   pub place_in : place < length s.keys
@@ -88,7 +88,7 @@ pub record IsVisit (a b : Automaton) (s : State) (v w : Walk) (place letter n m 
   pub second_gets : Gets b s.second w (image b (pair_at s place).second letter) m
 
 module _ (a b : Automaton) (s : State) (v w : Walk) (place letter n m : ℕ) (i : IsVisit a b s v w place letter n m) where
-  abbrev pub key : Key
+  abbrev pub key : PairKey
   key = record { first = n; second = m }
 
   abbrev pub next : SetPair
@@ -127,7 +127,7 @@ module _ (a b : Automaton) (s : State) (v w : Walk) (place letter n m : ℕ) (i 
       let f = gets-set b s.second w (image b (pair_at s place).second letter) m i.second_gets in
       λ j. record { first = e j; second = f j }
 
-  -- whether the next set pair is among the found ones, by its key
+  -- Whether the next set pair was found already, by its key.
   any-is : list_any (same_pair next) (pairs_in s) ≡ list_any (key_eq key) s.keys
   any-is =
       ap₂ (λ (p : SetPair) (l : List SetPair). list_any (same_pair p) l) (sym next-is) (sym pairs-kept)
@@ -162,8 +162,8 @@ module _ (a b : Automaton) (s : State) (v w : Walk) (place letter n m : ℕ) (i 
   pub visited-old : list_any (key_eq key) s.keys ≡ true → IsOnward a b s old_state × (reached_in old_state ≡ with_reached_within s.limit (reached_in s) next_one)
   visited-old there =
       let h = found-key there in
-      let x = gets-old a s.first v (image a (pair_at s place).first letter) n i.first_gets (subst (λ (k : Key). k.first < length s.first.sets) h.2 (i.search.first_in h.0 h.1)) in
-      let y = gets-old b s.second w (image b (pair_at s place).second letter) m i.second_gets (subst (λ (k : Key). k.second < length s.second.sets) h.2 (i.search.second_in h.0 h.1)) in (
+      let x = gets-old a s.first v (image a (pair_at s place).first letter) n i.first_gets (subst (λ (k : PairKey). k.first < length s.first.sets) h.2 (i.search.first_in h.0 h.1)) in
+      let y = gets-old b s.second w (image b (pair_at s place).second letter) m i.second_gets (subst (λ (k : PairKey). k.second < length s.second.sets) h.2 (i.search.second_in h.0 h.1)) in (
         record {
           search = record {
             some_limit = i.search.some_limit;
@@ -218,12 +218,12 @@ module _ (a b : Automaton) (s : State) (v w : Walk) (place letter n m : ℕ) (i 
             first_side = side-gets a s.limit (length s.keys) (length (s.keys ++ key ∷ [])) s.first v x n long i.search.first_side i.first_gets;
             second_side = side-gets b s.limit (length s.keys) (length (s.keys ++ key ∷ [])) s.second w y m long i.search.second_side i.second_gets;
             first_in = λ k lt. elim (cases_lt k (length s.keys)) [
-              | inl less ↦ subst (λ (q : Key). q.first < length v.sets) (sym (key-old k less)) (omega (arith, i.search.first_in k less, first-longer))
-              | inr more ↦ subst (λ (q : Key). q.first < length v.sets) (sym (key-new k (omega arith))) first-there
+              | inl less ↦ subst (λ (q : PairKey). q.first < length v.sets) (sym (key-old k less)) (omega (arith, i.search.first_in k less, first-longer))
+              | inr more ↦ subst (λ (q : PairKey). q.first < length v.sets) (sym (key-new k (omega arith))) first-there
             ];
             second_in = λ k lt. elim (cases_lt k (length s.keys)) [
-              | inl less ↦ subst (λ (q : Key). q.second < length w.sets) (sym (key-old k less)) (omega (arith, i.search.second_in k less, second-longer))
-              | inr more ↦ subst (λ (q : Key). q.second < length w.sets) (sym (key-new k (omega arith))) second-there
+              | inl less ↦ subst (λ (q : PairKey). q.second < length w.sets) (sym (key-old k less)) (omega (arith, i.search.second_in k less, second-longer))
+              | inr more ↦ subst (λ (q : PairKey). q.second < length w.sets) (sym (key-new k (omega arith))) second-there
             ];
             some = omega (arith, long);
             few = omega (arith, long, i.room);
@@ -257,15 +257,15 @@ module _ (a b : Automaton) (s : State) (v w : Walk) (place letter n m : ℕ) (i 
 pub onward-refl : (a b : Automaton) (s : State) → IsSearch a b s → IsOnward a b s s
 onward-refl a b s search = record { search = search; limit_is = refl; more = []; grown = sym (append-nil (reached_in s)) }
 
-pub visit-read : (a b : Automaton) (s : State) (v w : Walk) (place letter n m : ℕ) (key : Key) → IsSearch a b s → place < length s.keys → letter < letters_count a → length s.keys ≤ s.limit → key_at s place ≡ key
+pub visit-read : (a b : Automaton) (s : State) (v w : Walk) (place letter n m : ℕ) (key : PairKey) → IsSearch a b s → place < length s.keys → letter < letters_count a → length s.keys ≤ s.limit → key_at s place ≡ key
     → Gets a s.first v (image a (set_at s.first key.first) letter) n → Gets b s.second w (image b (set_at s.second key.second) letter) m → IsVisit a b s v w place letter n m
 visit-read a b s v w place letter n m read search lt small room e g h = record {
   search = search;
   place_in = lt;
   letter_in = small;
   room = room;
-  first_gets = subst (λ (k : Key). Gets a s.first v (image a (set_at s.first k.first) letter) n) (sym e) g;
-  second_gets = subst (λ (k : Key). Gets b s.second w (image b (set_at s.second k.second) letter) m) (sym e) h;
+  first_gets = subst (λ (k : PairKey). Gets a s.first v (image a (set_at s.first k.first) letter) n) (sym e) g;
+  second_gets = subst (λ (k : PairKey). Gets b s.second w (image b (set_at s.second k.second) letter) m) (sym e) h;
 }
 
 not-true : (b : Bool) → not b ≡ true → b ≡ false
@@ -276,7 +276,7 @@ not-false : (b : Bool) → not b ≡ false → b ≡ true
 not-false true e = refl
 not-false false e = absurd (false≢true (sym e))
 
-module _ (a b : Automaton) (s : State) (v w : Walk) (place letter n m : ℕ) (i : IsVisit a b s v w place letter n m) (keys : List Key) (added : Bool)
+module _ (a b : Automaton) (s : State) (v w : Walk) (place letter n m : ℕ) (i : IsVisit a b s v w place letter n m) (keys : List PairKey) (added : Bool)
     (e : keys ≡ cond (list_any (key_eq (key a b s v w place letter n m i)) s.keys) s.keys (s.keys ++ key a b s v w place letter n m i ∷ []))
     (f : added ≡ not (list_any (key_eq (key a b s v w place letter n m i)) s.keys)) where
   pub visit-put : (ways : List Way) → added ≡ true → ways ≡ s.ways ++ way a b s v w place letter n m i ∷ []

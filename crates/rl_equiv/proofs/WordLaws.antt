@@ -10,7 +10,7 @@ use Rattle.rl_equiv.specs.SetPairs.{first_pair, SetPairs}
 use Rattle.rl_equiv.specs.Numbering.{same_pair, with_one, with_more, looked_at, found_after, Reached, reached_by, next_reached, pairs_reached, with_reached, with_all_reached, looked_at_reached, reached_after, Reads, stay, onward, IsReached}
 use Rattle.rl_equiv.proofs.RunLaws.{found-nexts, found-extends}
 
--- ---- without the words it is the order of set pairs
+-- ---- without the words, this is the order of set pairs
 
 by-pairs : (word : List ℕ) (letter : ℕ) (ps : List SetPair) → pairs_reached (reached_by word letter ps) ≡ ps
 by-pairs word letter [] = refl
@@ -78,7 +78,7 @@ reached-reads d (suc k) =
     let l = reached_after d k in
     looked-reads d l (slice_get l k) (reached-reads d k) (λ r e. subst (IsReached d) (get_or_from_slice_get l k r r e) (reached-reads d k k r (slice_get_within l k r e)))
 
--- ---- where no more are found, each set pair that a word leads to is there
+-- ---- once no more are found, each set pair that a word leads to is among them
 
 pub closed-reads : (d : SetPairs) (F : List SetPair) → ((p : SetPair) → Contains F p → All (Contains F) (d.nexts p)) → (p q : SetPair) (word : List ℕ) → Contains F p → Reads d p word q → Contains F q
 closed-reads d F each p _ _ there stay = there

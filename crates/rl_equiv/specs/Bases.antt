@@ -1,5 +1,5 @@
--- Trees with which one tree after another is compared, whose sets tell no more codes apart. The letters of both trees are then
--- those of the first one alone.
+-- A tree that is compared with one other tree after another. The sets of the others tell no more codes apart, so the
+-- letters of both are those of the first tree by itself.
 use Rattle.std.specs.Prelude.{◌≡◌, ℕ, true}
 use Rattle.rl_ranges.specs.declared.universe.Universe.{Universe}
 use Rattle.rl_ranges.specs.Letters.{alike}
@@ -12,16 +12,18 @@ use Rattle.rl_prio.specs.Letters.{all_sets}
 use Rattle.rl_prio.specs.StandsFor.{StandsFor}
 use Rattle.rl_equiv.specs.Limits.{IsWithin}
 
--- the tree with which others are compared, and the universe of the texts
+-- The tree with which others are compared, and the universe of the texts.
 pub record Base : Type 0 where
   pub tree : Re
   pub universe : Universe
 
--- the sets of the second tree, and those that its guards name, tell no codes apart that those of the first one don't
+-- If the first tree doesn't tell two codes apart, neither does the second: by their sets and those that their guards
+-- name.
 abbrev pub TellsNoMore : Tree → Tree → Type 0
 TellsNoMore s t = (c d : ℕ) → alike (all_sets s) c d ≡ true → alike (all_sets t) c d ≡ true
 
--- the automaton stands for the tree as fullmatch over the letters of its own sets, and no limit is passed
+-- The automaton stands for the tree, matched whole, over the letters of the tree's own sets, and the tree exceeds no
+-- limit.
 pub record IsBase (u : Universe) (t : Tree) (a : Automaton) : Type 0 where
   pub within : IsWithin u t
   pub stands : StandsFor a t AtEnd

@@ -8,7 +8,7 @@ use Rattle.rl_prio.specs.Automaton.{Automaton, IsAutomaton}
 use Rattle.rl_prio.specs.StandsFor.{StandsOver}
 use Rattle.rl_equiv.specs.SetPairs.{joint_sets}
 
--- the automata stand for two trees as fullmatch, over the letters of both
+-- The automata stand for two trees, each matched whole, over the letters of both.
 pub record StandTogether (u : Universe) (s t : Tree) (a b : Automaton) : Type 0 where
   pub first_stands : StandsOver a s AtEnd (joint_sets s t)
   pub second_stands : StandsOver b t AtEnd (joint_sets s t)

@@ -1,4 +1,5 @@
--- The limits of trees that are compared: their nodes, the letters of both, and the lengths of their item lists.
+-- The limits on trees that are compared: on their nodes, on the letters of both, and on the lengths of their lists of
+-- items.
 use Rattle.std.specs.Prelude.{◌<◌, ◌≤◌, ◌⊎◌, length}
 use Rattle.rl_ranges.specs.declared.universe.Universe.{Universe}
 use Rattle.rl_ranges.specs.Letters.{classes}
@@ -14,39 +15,39 @@ use Rattle.rl_equiv.specs.declared.error.SameError.{SameError}
 use Rattle.rl_equiv.specs.declared.error.SameError.TheVariants.{Size, Letters, Moves, OutOfMemory}
 use Rattle.rl_equiv.specs.SetPairs.{joint_letters}
 
--- neither tree has more nodes than a tree may have
+-- Neither tree has too many nodes.
 pub record AreSmall (s t : Tree) : Type 0 where
   pub first_small : size s ≤ MOST_NODES
   pub second_small : size t ≤ MOST_NODES
 
--- the tree alone passes no limit
+-- The tree by itself exceeds no limit.
 pub record IsWithin (u : Universe) (t : Tree) : Type 0 where
   pub small : size t ≤ MOST_NODES
   pub few_letters : length (classes (all_sets t) (code_count u)) ≤ MOST_LETTERS
   pub few_moves : longest t ≤ MOST_MOVES
 
--- no limit is passed
+-- The two trees exceed no limit.
 pub record AreWithin (u : Universe) (s t : Tree) : Type 0 where
   pub small : AreSmall s t
   pub few_letters : length (joint_letters u s t) ≤ MOST_LETTERS
   pub first_moves : longest s ≤ MOST_MOVES
   pub second_moves : longest t ≤ MOST_MOVES
 
--- the error names the first limit that is passed; it tells nothing when out of memory
-abbrev pub IsPassed : Universe → Tree → Tree → SameError → Type 0
-IsPassed u s t Size = (MOST_NODES < size s) ⊎ (MOST_NODES < size t)
-IsPassed u s t Letters = AreSmall s t × (MOST_LETTERS < length (joint_letters u s t))
-IsPassed u s t Moves = AreSmall s t × (length (joint_letters u s t) ≤ MOST_LETTERS) × ((MOST_MOVES < longest s) ⊎ (MOST_MOVES < longest t))
-IsPassed u s t OutOfMemory = Unit {0}
+-- The error names the first limit that the trees exceed; out of memory says nothing about them.
+abbrev pub IsExceeded : Universe → Tree → Tree → SameError → Type 0
+IsExceeded u s t Size = (MOST_NODES < size s) ⊎ (MOST_NODES < size t)
+IsExceeded u s t Letters = AreSmall s t × (MOST_LETTERS < length (joint_letters u s t))
+IsExceeded u s t Moves = AreSmall s t × (length (joint_letters u s t) ≤ MOST_LETTERS) × ((MOST_MOVES < longest s) ⊎ (MOST_MOVES < longest t))
+IsExceeded u s t OutOfMemory = Unit {0}
 
--- the same of one tree
-abbrev pub IsPassedBy : Universe → Tree → SameError → Type 0
-IsPassedBy u t Size = MOST_NODES < size t
-IsPassedBy u t Letters = (size t ≤ MOST_NODES) × (MOST_LETTERS < length (classes (all_sets t) (code_count u)))
-IsPassedBy u t Moves = (size t ≤ MOST_NODES) × (length (classes (all_sets t) (code_count u)) ≤ MOST_LETTERS) × (MOST_MOVES < longest t)
-IsPassedBy u t OutOfMemory = Unit {0}
+-- The same for one tree.
+abbrev pub IsExceededBy : Universe → Tree → SameError → Type 0
+IsExceededBy u t Size = MOST_NODES < size t
+IsExceededBy u t Letters = (size t ≤ MOST_NODES) × (MOST_LETTERS < length (classes (all_sets t) (code_count u)))
+IsExceededBy u t Moves = (size t ≤ MOST_NODES) × (length (classes (all_sets t) (code_count u)) ≤ MOST_LETTERS) × (MOST_MOVES < longest t)
+IsExceededBy u t OutOfMemory = Unit {0}
 
--- what the error of an automaton says of the two trees
+-- The error for two trees, by the error of an automaton.
 abbrev pub same_error : PrioError → SameError
 same_error LettersError = Letters
 same_error MovesError = Moves

@@ -3,8 +3,8 @@ use Rattle.std.specs.Prelude.{◌≡◌, ℕ, ◌+◌, ◌<◌, [], ◌∷◌, l
 use Rattle.rl_prio.specs.Automaton.{Automaton, accepting_state}
 use Rattle.rl_sets.specs.Walk.{Walk, set_of, IsMadeFor}
 
--- the walk is one of the automaton, with the sets that the end letter gives. Where `count` set pairs are found, it has room for
--- one more set with each further one, until there are more than the limit
+-- The walk is one of the automaton, and has the two sets that the end letter may lead to. After `count` set pairs it
+-- has room for one more set with each further one, until there are more than the limit.
 pub record IsSide (a : Automaton) (limit count : ℕ) (w : Walk) : Type 0 where
   pub made : IsMadeFor w a
   pub limit_is : w.limit ≡ 60000
@@ -12,7 +12,7 @@ pub record IsSide (a : Automaton) (limit count : ℕ) (w : Walk) : Type 0 where
   pub has_none : Contains w.sets (set_of a [])
   pub has_end : Contains w.sets (set_of a (accepting_state a ∷ []))
 
--- a walk that is kept from one search to the next is a side of the automaton, which need not have room
+-- A walk that is kept from one search to the next is such a walk, but it needn't have room.
 abbrev pub IsKeptSide : Automaton → Option Walk → Type 0
 IsKeptSide a None = Unit {0}
 IsKeptSide a (Some w) = IsSide a 0 1 w

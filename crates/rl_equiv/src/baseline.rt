@@ -1,4 +1,4 @@
-//! Comparisons of one tree with others that tell no more codes apart.
+//! Compares one tree with others whose sets tell no more codes apart.
 
 ghost use Rattle.std.specs.Prelude.{◌≡◌, ◌≤◌, Some, IfOk, IfErr, OnOk};
 ghost use Rattle.rl_syntax.specs.Tree.{tree_of, IsOver, Tree};
@@ -7,7 +7,7 @@ ghost use Rattle.rl_equiv.specs.SetPairs.{set_pairs};
 ghost use Rattle.rl_equiv.specs.Bases.{Base, IsBase, TellsNoMore};
 ghost use Rattle.rl_equiv.specs.Joined.{StandTogether};
 ghost use Rattle.rl_equiv.specs.Languages.{IsTold};
-ghost use Rattle.rl_equiv.specs.Limits.{AreWithin, IsPassed, IsWithin, IsPassedBy};
+ghost use Rattle.rl_equiv.specs.Limits.{AreWithin, IsExceeded, IsWithin, IsExceededBy};
 ghost use Rattle.rl_equiv.specs.Numbering.{IsAnswer};
 ghost use Rattle.rl_equiv.specs.Sides.{IsKeptSide};
 ghost use Rattle.rl_equiv.specs.internal.Machines.{pairs_of};
@@ -15,7 +15,7 @@ ghost use Rattle.rl_equiv.specs.internal.Searching.{AreReaders, TellsApart};
 
 use crate::error::SameError;
 use crate::sameness::Sameness;
-use crate::searching::Search;
+use crate::searching::PairSearch;
 use crate::sides::kept_side;
 use rl_lists::OutOfMemory;
 use rl_prio::Prio;
@@ -25,14 +25,14 @@ use rl_syntax::{Ending, MOST_NODES, Re};
 use std::alloc::Global;
 use std::marker::Model;
 
-/// A tree as fullmatch with which others are compared, one after another. Its letters and its automaton are made once,
-/// and so are the images of its sets of states.
+/// A tree, matched whole, with which other trees are compared one after another. Its letters and its automaton are
+/// built once, and each image of its sets of states is computed once.
 #[derive(Drop)]
 pub struct Baseline {
     tree: Re,
     universe: Universe,
     automaton: Prio,
-    /// The walk over the sets of the automaton, with the images that earlier comparisons made.
+    /// The walk over the sets of the automaton, with the images that earlier comparisons computed.
     walk: Option<SetWalk>,
 }
 
@@ -52,11 +52,11 @@ impl Model for Baseline {
     ghost invariant = { λ b. IsBase b.universe (tree_of b.tree) b.automaton × IsKeptSide b.automaton b.walk };
 }
 
-/// The automaton of another tree over the letters of the automaton of the first one.
+/// Builds the automaton of another tree, over the letters of the first automaton.
 ///
 /// # Errors
-/// [`SameError::Size`] or [`SameError::Moves`] for the first limit that the other tree passes, and [`SameError::OutOfMemory`]
-/// where there was no memory for the automaton.
+/// [`SameError::Size`] or [`SameError::Moves`] for the first limit that the other tree exceeds, and
+/// [`SameError::OutOfMemory`] if there was no memory for the automaton.
 fn beside(alloc: Global, first: &Prio, other: &Re, u: Universe) -> Result<Prio, SameError>
     requires base { (s : Tree) × IsBase u s first.now × TellsNoMore s (tree_of other.now) }
     requires inside { IsOver u (tree_of other.now) }
@@ -64,8 +64,8 @@ fn beside(alloc: Global, first: &Prio, other: &Re, u: Universe) -> Result<Prio, 
         → StandTogether u s (tree_of other.now) first.now b) }
     ensures within { OnOk result ((s : Tree) → IsBase u s first.now → TellsNoMore s (tree_of other.now)
         → AreWithin u s (tree_of other.now)) }
-    ensures passed { IfErr result (λ e. (s : Tree) → IsBase u s first.now → TellsNoMore s (tree_of other.now)
-        → IsPassed u s (tree_of other.now) e) }
+    ensures exceeded { IfErr result (λ e. (s : Tree) → IsBase u s first.now → TellsNoMore s (tree_of other.now)
+        → IsExceeded u s (tree_of other.now) e) }
 {
     if other.nodes() > MOST_NODES {
         return Err(SameError::Size);
@@ -76,8 +76,8 @@ fn beside(alloc: Global, first: &Prio, other: &Re, u: Universe) -> Result<Prio, 
     Ok(second)
 }
 
-/// What the first set pairs of two automata show, and the walk over the sets of the first automaton, which goes on with the
-/// images that the kept one has made.
+/// Compares two automata by their first set pairs. Returns what they show, and the walk over the sets of the first
+/// automaton, so that the next comparison can reuse its images.
 pub(crate) fn search_on(
     alloc: Global,
     a: &Prio,
@@ -94,7 +94,7 @@ pub(crate) fn search_on(
     ensures kept { IfOk result (λ r. IsKeptSide a.now (Some r.1)) }
 {
     let walk = kept_side(alloc, a, kept)?;
-    let mut search = Search::go_on(alloc, a, b, walk, limit)?;
+    let mut search = PairSearch::go_on(alloc, a, b, walk, limit)?;
     let found = search.run(alloc, a, b);
     let walk = search.into_first();
     match found {
@@ -107,17 +107,17 @@ pub(crate) fn search_on(
 }
 
 impl Baseline {
-    /// The tree with which others are compared, if it passes no limit.
+    /// Makes the tree with which others are compared, if it exceeds no limit.
     ///
     /// # Errors
-    /// [`SameError::Size`] where the tree has more than [`MOST_NODES`], else [`SameError::Letters`] where it has more than
-    /// [`MOST_LETTERS`](rl_syntax::MOST_LETTERS), else [`SameError::Moves`] where it has a list of more than
-    /// [`MOST_MOVES`](rl_syntax::MOST_MOVES) items. [`SameError::OutOfMemory`] where there was no memory.
+    /// [`SameError::Size`] if the tree has more than [`MOST_NODES`]; otherwise [`SameError::Letters`] if it has more
+    /// than [`MOST_LETTERS`](rl_syntax::MOST_LETTERS); otherwise [`SameError::Moves`] if it has a list of more than
+    /// [`MOST_MOVES`](rl_syntax::MOST_MOVES) items. [`SameError::OutOfMemory`] if there was no memory.
     pub fn new(alloc: Global, tree: Re, u: Universe) -> Result<Baseline, SameError>
         requires inside { IsOver u (tree_of tree) }
         ensures base { IfOk result (λ b. b ≡ record { tree = tree; universe = u }) }
         ensures within { OnOk result (IsWithin u (tree_of tree)) }
-        ensures passed { IfErr result (IsPassedBy u (tree_of tree)) }
+        ensures exceeded { IfErr result (IsExceededBy u (tree_of tree)) }
     {
         if tree.nodes() > MOST_NODES {
             drop(tree);
@@ -134,8 +134,8 @@ impl Baseline {
         })
     }
 
-    /// Whether the tree and another one, whose sets tell no more codes apart, span the same texts: what
-    /// [`same`](crate::same) answers of the two.
+    /// Compares the tree with another one, whose sets tell no more codes apart. The answer is that of
+    /// [`same`](crate::same).
     ///
     /// # Errors
     /// Those of [`same`](crate::same).
@@ -145,7 +145,7 @@ impl Baseline {
         requires some { 1 ≤ limit }
         requires low { limit ≤ MOST_SET_PAIRS }
         ensures within { OnOk result (AreWithin self.old.universe (tree_of self.old.tree) (tree_of other.now)) }
-        ensures passed { IfErr result (IsPassed self.old.universe (tree_of self.old.tree) (tree_of other.now)) }
+        ensures exceeded { IfErr result (IsExceeded self.old.universe (tree_of self.old.tree) (tree_of other.now)) }
         ensures answer { IfOk result (IsAnswer (set_pairs self.old.universe (tree_of self.old.tree) (tree_of other.now)) limit) }
         ensures told { IfOk result (IsTold self.old.universe (tree_of self.old.tree) (tree_of other.now)) }
         ensures unchanged { self.new ≡ self.old }

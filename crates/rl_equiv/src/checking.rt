@@ -1,4 +1,4 @@
-//! Whether a relation is closed.
+//! Checks whether a relation is closed.
 
 ghost use Rattle.std.specs.Prelude.{◌≡◌, ◌↔◌, ℕ, ◌<◌, ◌≤◌, true, IsTrue, length, IfOk, Contains};
 ghost use Rattle.rl_syntax.specs.Tree.{tree_of, IsOver};
@@ -23,7 +23,7 @@ use rl_sets::SetWalk;
 use rl_syntax::Re;
 use std::alloc::Global;
 
-/// Whether the sets of a set pair hold no other states than the start and those of places.
+/// Whether both sets of a set pair rise and have no other states than the start and those of places.
 fn is_proper(a: &Prio, b: &Prio, pair: &SetPair) -> bool
     ensures { result ≡ (pairs_of a.now b.now).proper pair.now }
 {
@@ -32,7 +32,7 @@ fn is_proper(a: &Prio, b: &Prio, pair: &SetPair) -> bool
     first && second
 }
 
-/// Whether the set pair of two walks' first sets shows no difference and has its next ones in the index.
+/// Whether the first sets of two walks, as a set pair, show no difference and have their next set pairs in the index.
 fn keeps_sets(
     a: &Prio,
     b: &Prio,
@@ -65,7 +65,7 @@ fn keeps_sets(
     Ok(true)
 }
 
-/// Whether a set pair, to whose first set this walk belongs, shows no difference and has its next ones in the index.
+/// Whether a set pair shows no difference and has its next ones in the index. The walk starts from its first set.
 fn keeps_beside(
     alloc: Global,
     a: &Prio,
@@ -116,7 +116,7 @@ fn has_start(alloc: Global, index: &Index) -> Result<bool, OutOfMemory>
     Ok(index.has(first, second))
 }
 
-/// Whether a list of set pairs of two automata, whose index this is, is closed.
+/// Whether a list of set pairs of two automata is closed. The index is that of the list.
 fn is_closed_in(
     alloc: Global,
     a: &Prio,
@@ -151,12 +151,13 @@ fn is_closed(alloc: Global, a: &Prio, b: &Prio, relation: &[SetPair]) -> Result<
     closed
 }
 
-/// Whether two trees, each as fullmatch, are within the limits of their sizes, letters and moves, and a relation of their set
-/// pairs is closed, as a bisimulation is: it holds the pair of their starts, the next pair of each of its members on each
-/// letter, and no member that shows a difference. Then both trees span the same texts of the universe.
+/// Whether two trees, each matched whole, are within the limits on sizes, letters and moves, and a relation of their
+/// set pairs is closed, as a bisimulation is. It has to have the pair of the starts and, for each of its set pairs, the
+/// next one on each letter. None of its set pairs may show a difference. The sets of each have to rise, and to have
+/// only the start and states of places. If all of this is so, both trees span the same texts of the universe.
 ///
 /// # Errors
-/// [`OutOfMemory`] where there was no memory for the automata or the sets.
+/// [`OutOfMemory`] if there was no memory for the automata or the sets.
 pub fn check(alloc: Global, a: &Re, b: &Re, u: Universe, r: &Relation) -> Result<bool, OutOfMemory>
     requires first_inside { IsOver u (tree_of a.now) }
     requires second_inside { IsOver u (tree_of b.now) }

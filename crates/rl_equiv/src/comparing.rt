@@ -1,11 +1,11 @@
-//! Whether two trees span the same texts.
+//! Compares two trees.
 
 ghost use Rattle.std.specs.Prelude.{◌≡◌, ◌≤◌, IfOk, IfErr, OnOk};
 ghost use Rattle.rl_syntax.specs.Tree.{tree_of, IsOver};
 ghost use Rattle.rl_syntax.specs.declared.limits.TheConstants.{MOST_SET_PAIRS};
 ghost use Rattle.rl_equiv.specs.SetPairs.{set_pairs};
 ghost use Rattle.rl_equiv.specs.Languages.{IsTold};
-ghost use Rattle.rl_equiv.specs.Limits.{AreWithin, IsPassed};
+ghost use Rattle.rl_equiv.specs.Limits.{AreWithin, IsExceeded};
 ghost use Rattle.rl_equiv.specs.Numbering.{IsAnswer};
 ghost use Rattle.rl_equiv.specs.internal.Machines.{pairs_of};
 ghost use Rattle.rl_equiv.specs.internal.Searching.{AreReaders, TellsApart};
@@ -20,7 +20,7 @@ use rl_ranges::Universe;
 use rl_syntax::Re;
 use std::alloc::Global;
 
-/// What the first set pairs of two automata show.
+/// Compares two automata by their first set pairs.
 fn sameness(alloc: Global, a: &Prio, b: &Prio, limit: u32) -> Result<Sameness, OutOfMemory>
     requires readers { AreReaders a.now b.now }
     requires some { 1 ≤ limit }
@@ -33,25 +33,25 @@ fn sameness(alloc: Global, a: &Prio, b: &Prio, limit: u32) -> Result<Sameness, O
     Ok(sameness)
 }
 
-/// Whether two trees, each as fullmatch, span the same texts of the universe, by their first set pairs, `limit` at most: a
-/// breadth-first search of the product of the powerset constructions of both.
+/// Whether two trees, each matched whole, span the same texts of the universe. It looks at their first `limit` set
+/// pairs: a breadth-first search of the product of both powerset constructions.
 ///
-/// [`Sameness::Equal`] has all their set pairs; [`check`](crate::check) accepts them. [`Sameness::Apart`] has a text that one of
-/// the trees alone spans. [`Sameness::Passed`] comes where more set pairs are reached than the limit and none of the first ones
-/// shows a difference.
+/// [`Sameness::Equal`] has all their set pairs, and [`check`](crate::check) accepts them. [`Sameness::Apart`] has a
+/// text that only one of the trees spans. [`Sameness::Passed`] says that the limit is exceeded: more set pairs are
+/// reached, and none of the first ones shows a difference.
 ///
 /// # Errors
-/// [`SameError::Size`] where one of the trees has more than [`MOST_NODES`](rl_syntax::MOST_NODES), else
-/// [`SameError::Letters`] where there are more than [`MOST_LETTERS`](rl_syntax::MOST_LETTERS), else [`SameError::Moves`] where
-/// one of the trees has a list of more than [`MOST_MOVES`](rl_syntax::MOST_MOVES) items. [`SameError::OutOfMemory`] where there
-/// was no memory.
+/// [`SameError::Size`] if one of the trees has more than [`MOST_NODES`](rl_syntax::MOST_NODES); otherwise
+/// [`SameError::Letters`] if there are more than [`MOST_LETTERS`](rl_syntax::MOST_LETTERS); otherwise
+/// [`SameError::Moves`] if one of the trees has a list of more than [`MOST_MOVES`](rl_syntax::MOST_MOVES) items.
+/// [`SameError::OutOfMemory`] if there was no memory.
 pub fn same(alloc: Global, a: &Re, b: &Re, u: Universe, limit: u32) -> Result<Sameness, SameError>
     requires first_inside { IsOver u (tree_of a.now) }
     requires second_inside { IsOver u (tree_of b.now) }
     requires some { 1 ≤ limit }
     requires low { limit ≤ MOST_SET_PAIRS }
     ensures within { OnOk result (AreWithin u (tree_of a.now) (tree_of b.now)) }
-    ensures passed { IfErr result (IsPassed u (tree_of a.now) (tree_of b.now)) }
+    ensures exceeded { IfErr result (IsExceeded u (tree_of a.now) (tree_of b.now)) }
     ensures answer { IfOk result (IsAnswer (set_pairs u (tree_of a.now) (tree_of b.now)) limit) }
     ensures told { IfOk result (IsTold u (tree_of a.now) (tree_of b.now)) }
 {

@@ -9,11 +9,11 @@ use rl_lists::OutOfMemory;
 pub enum SameError {
     /// One of the trees has more than [`MOST_NODES`](rl_syntax::MOST_NODES).
     Size,
-    /// The sizes are within their limit, and the sets of both trees tell more letters apart than
-    /// [`MOST_LETTERS`](rl_syntax::MOST_LETTERS).
+    /// The sizes are within their limit, but the sets of both trees tell more than
+    /// [`MOST_LETTERS`](rl_syntax::MOST_LETTERS) letters apart.
     Letters,
-    /// Sizes and letters are within their limits, and a list of items of one of the trees has more than
-    /// [`MOST_MOVES`](rl_syntax::MOST_MOVES).
+    /// Sizes and letters are within their limits, but one of the trees has a list of more than
+    /// [`MOST_MOVES`](rl_syntax::MOST_MOVES) items.
     Moves,
     /// Out of memory.
     OutOfMemory,

@@ -1,4 +1,4 @@
-//! Look-ups of set pairs by their sets.
+//! Looks up set pairs by their sets.
 
 ghost use Rattle.std.specs.Prelude.{◌≡◌, ◌↔◌, List, [], Contains, IsTrue, IfOk, OnOk};
 ghost use Rattle.rl_equiv.specs.Numbering.{with_one};
@@ -10,16 +10,16 @@ use rl_lists::{Members, OutOfMemory};
 use std::alloc::Global;
 use std::marker::Model;
 
-/// The sets of a set pair, by their members.
+/// The two sets of a set pair.
 #[derive(Debug, Drop, PartialEq, Eq, Hash)]
 pub(crate) struct Sets {
-    /// The first one.
+    /// Those of the first set.
     pub first: Vec<u32>,
-    /// The second one.
+    /// Those of the second set.
     pub second: Vec<u32>,
 }
 
-/// Different set pairs, which contracts see as their list.
+/// Set pairs, each once. Contracts see the list of them.
 #[derive(Drop)]
 pub(crate) struct Index {
     alloc: Global,
@@ -37,7 +37,7 @@ impl Model for Index {
 }
 
 impl Index {
-    /// The index of a relation's set pairs.
+    /// Makes the index of a relation.
     pub(crate) fn of(alloc: Global, relation: &[SetPair]) -> Result<Index, OutOfMemory>
         ensures { IfOk result (λ index. HoldTheSame index relation.now) }
     {
@@ -51,7 +51,7 @@ impl Index {
         Ok(index)
     }
 
-    /// The index of no set pairs.
+    /// Makes an empty index.
     fn new(alloc: Global) -> Index
         ensures { result ≡ [] }
     {
@@ -61,7 +61,7 @@ impl Index {
         }
     }
 
-    /// Appends a set pair, unless it is there.
+    /// Appends a set pair, unless the index has it.
     fn add(&mut self, pair: &SetPair) -> Result<(), OutOfMemory>
         ensures { OnOk result (self.new ≡ with_one self.old pair.now) }
     {
@@ -71,7 +71,7 @@ impl Index {
         Ok(())
     }
 
-    /// Whether the pair of two sets is there.
+    /// Whether the index has the pair of two sets.
     pub(crate) fn has(&self, first: Members, second: Members) -> bool
         ensures { IsTrue result ↔ Contains self.now (record { first = first; second = second }) }
     {

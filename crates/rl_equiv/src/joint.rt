@@ -4,7 +4,7 @@ ghost use Rattle.std.specs.Prelude.{◌≡◌, ◌<◌, ◌≤◌, ◌++◌, map
 ghost use Rattle.rl_ranges.specs.Codes.{has, IsInside};
 ghost use Rattle.rl_syntax.specs.Tree.{tree_of, size, IsOver};
 ghost use Rattle.rl_equiv.specs.SetPairs.{joint_sets, joint_letters};
-ghost use Rattle.rl_equiv.specs.Limits.{AreSmall, AreWithin, IsPassed};
+ghost use Rattle.rl_equiv.specs.Limits.{AreSmall, AreWithin, IsExceeded};
 ghost use Rattle.rl_equiv.specs.Joined.{StandTogether};
 
 use crate::error::SameError;
@@ -14,12 +14,12 @@ use rl_ranges::{CodeSet, Universe};
 use rl_syntax::{Ending, MOST_NODES, Re};
 use std::alloc::Global;
 
-/// The automata of two trees as fullmatch, over the letters of both.
+/// The automata of two trees, each matched whole, over the letters of both.
 #[derive(Drop)]
 pub(crate) struct Joint {
-    /// That of the first tree.
+    /// The automaton of the first tree.
     pub first: Prio,
-    /// That of the second tree.
+    /// The automaton of the second tree.
     pub second: Prio,
 }
 
@@ -38,10 +38,10 @@ impl From<PrioError> for SameError {
     }
 }
 
-/// The sets that tell the codes of two trees apart.
+/// Collects the sets that tell the codes of two trees apart.
 ///
 /// # Errors
-/// [`OutOfMemory`] where there was no memory for them.
+/// [`OutOfMemory`] if there was no memory for them.
 fn letter_sets(alloc: Global, a: &Re, b: &Re) -> Result<Vec<CodeSet>, OutOfMemory>
     ensures sets { IfOk result
         (λ sets. map has sets.items ≡ joint_sets (tree_of a.now) (tree_of b.now)) }
@@ -55,17 +55,17 @@ fn letter_sets(alloc: Global, a: &Re, b: &Re) -> Result<Vec<CodeSet>, OutOfMemor
 }
 
 impl Joint {
-    /// The automata of two trees, if no limit is passed.
+    /// Builds the automata of two trees, if no limit is exceeded.
     ///
     /// # Errors
-    /// [`SameError::Size`], [`SameError::Letters`] or [`SameError::Moves`] for the first limit that is passed, and
-    /// [`SameError::OutOfMemory`] where there was no memory for the automata.
+    /// [`SameError::Size`], [`SameError::Letters`] or [`SameError::Moves`] for the first limit that is exceeded, and
+    /// [`SameError::OutOfMemory`] if there was no memory for the automata.
     pub(crate) fn new(alloc: Global, a: &Re, b: &Re, u: Universe) -> Result<Joint, SameError>
         requires first_inside { IsOver u (tree_of a.now) }
         requires second_inside { IsOver u (tree_of b.now) }
         ensures stand { IfOk result (λ j. StandTogether u (tree_of a.now) (tree_of b.now) j.first j.second) }
         ensures within { OnOk result (AreWithin u (tree_of a.now) (tree_of b.now)) }
-        ensures passed { IfErr result (IsPassed u (tree_of a.now) (tree_of b.now)) }
+        ensures exceeded { IfErr result (IsExceeded u (tree_of a.now) (tree_of b.now)) }
     {
         if a.nodes() > MOST_NODES || b.nodes() > MOST_NODES {
             return Err(SameError::Size);

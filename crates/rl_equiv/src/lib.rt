@@ -1,18 +1,20 @@
 //! Whether two regular expressions match the same texts.
 //!
-//! [`same`] reads the automata of two trees side by side over common letters. It searches breadth first through the product
-//! of their powerset constructions, whose states are the set pairs ([`SetPair`]): the two sets of states that one word leads
-//! to. It returns a [`Sameness`]: the trees are equal, with the [`Relation`] of all set pairs, which is a bisimulation; or
-//! they are apart, with a text of one alone; or the limit of set pairs is passed. [`check`] checks a relation without a
-//! search. [`regions`] gives a text of the first tree alone, one of the second alone and one of both. A [`Baseline`] compares
-//! one tree with many others.
+//! [`same`] reads the automata of two trees side by side, over the same letters. It searches the product of their
+//! powerset constructions breadth first. The states of that product are the set pairs ([`SetPair`]): the two sets of
+//! states that one word leads to. It returns a [`Sameness`]. Either the trees are equal, with the [`Relation`] of all
+//! set pairs, which is a bisimulation; or they are apart, with a text that only one of them spans; or the limit on set
+//! pairs is exceeded. [`check`] checks a relation without a search. [`regions`] gives a text that only the first tree
+//! spans, one that only the second spans, and one that both span. A [`Baseline`] compares one tree with many others.
 //!
 //! # What is proved
 //!
-//! Trees that are called equal span the same texts of the universe, and a text that is returned is in one of the two
-//! languages alone. The limit is passed exactly where more set pairs are reached and none of the first ones shows a
-//! difference. [`check`] returns true exactly where the limits hold and the relation is closed, and then the trees span the
-//! same texts.
+//! Trees that are called equal span the same texts of the universe, and a text that is returned is in exactly one of
+//! the two languages. [`Sameness::Passed`] comes exactly if more set pairs are reached than the limit, and none of the
+//! first ones shows a difference: the word means that the limit is exceeded, not that the comparison succeeded.
+//! [`check`] returns true exactly if the limits hold and the relation is closed, and then the trees span the same
+//! texts. A set of states is the list of its members, rising; by the law [`laws::sets_are_rising_lists`] you may read a
+//! relation as pairs of sets or as pairs of lists.
 //!
 //! # Example
 //!

@@ -2,12 +2,12 @@
 
 use rl_lists::{Items, Members};
 
-/// The states of two automata that a text leads to.
+/// Two sets of states: those that one text leads to in each of two automata.
 #[derive(Drop)]
 pub struct SetPair {
-    /// Those of the first automaton, rising.
+    /// The states of the first automaton, rising.
     pub first: Members,
-    /// Those of the second automaton, rising.
+    /// The states of the second automaton, rising.
     pub second: Members,
 }
 

@@ -1,4 +1,4 @@
-//! The texts of the regions of two trees.
+//! Finds a text of each region of two trees.
 
 ghost use Rattle.std.specs.Prelude.{◌≡◌, ◌≤◌, ◌∷◌, [], ◌&&◌, IfOk, IfErr, OnOk};
 ghost use Rattle.std.proofs.Math.Bool.{beq};
@@ -6,7 +6,7 @@ ghost use Rattle.rl_syntax.specs.declared.re.Ending.TheVariants.{AtEnd};
 ghost use Rattle.rl_syntax.specs.Cost.{matched};
 ghost use Rattle.rl_syntax.specs.Tree.{tree_of, IsOver, Tree};
 ghost use Rattle.rl_syntax.specs.declared.limits.TheConstants.{MOST_SET_PAIRS};
-ghost use Rattle.rl_equiv.specs.Limits.{AreWithin, IsPassed};
+ghost use Rattle.rl_equiv.specs.Limits.{AreWithin, IsExceeded};
 ghost use Rattle.rl_equiv.specs.Joined.{StandTogether};
 ghost use Rattle.rl_equiv.specs.Regions.{AreRegions};
 ghost use Rattle.rl_equiv.specs.Told.{AreTold};
@@ -16,26 +16,26 @@ ghost use Rattle.rl_equiv.specs.internal.Searching.{AreReaders, state_of, pairs_
 use crate::compared::Compared;
 use crate::error::SameError;
 use crate::joint::Joint;
-use crate::searching::{Ends, Search};
+use crate::searching::{Ends, PairSearch};
 use rl_lists::{Codes, OutOfMemory};
 use rl_prio::Prio;
 use rl_ranges::Universe;
 use rl_syntax::Re;
 use std::alloc::Global;
 
-/// Whether the ends are the given ones.
+/// Whether the ends are these.
 fn are(ends: Ends, first: bool, second: bool) -> bool
     ensures { result ≡ (beq ends.first first && beq ends.second second) }
 {
     ends.first == first && ends.second == second
 }
 
-/// The text of the first set pair that was seen with the given ends, if there is one.
+/// The text of the first set pair with these ends, if one was seen.
 fn text_of(
     alloc: Global,
     a: &Prio,
     b: &Prio,
-    search: &Search,
+    search: &PairSearch,
     seen: &Vec<Ends>,
     first: bool,
     second: bool,
@@ -53,12 +53,12 @@ fn text_of(
     Ok(None)
 }
 
-/// The texts of the regions of two automata, by their set pairs that were seen.
+/// The texts of the regions of two automata, by the set pairs that a search has seen.
 fn texts_of(
     alloc: Global,
     a: &Prio,
     b: &Prio,
-    search: &Search,
+    search: &PairSearch,
     seen: &Vec<Ends>,
     limit: u32,
 ) -> Result<Compared, OutOfMemory>
@@ -79,12 +79,12 @@ fn texts_of(
     })
 }
 
-/// The texts of the regions of two automata, by the set pairs that a search which begins finds.
+/// The texts of the regions of two automata. The search has just begun, and is run here.
 fn texts_by(
     alloc: Global,
     a: &Prio,
     b: &Prio,
-    search: &mut Search,
+    search: &mut PairSearch,
     limit: u32,
 ) -> Result<Compared, OutOfMemory>
     requires readers { AreReaders a.now b.now }
@@ -104,15 +104,15 @@ fn regions_of(alloc: Global, a: &Prio, b: &Prio, limit: u32) -> Result<Compared,
     requires low { limit ≤ MOST_SET_PAIRS }
     ensures { IfOk result (λ r. (u : Universe) (s t : Tree) → StandTogether u s t a.now b.now → AreRegions u s t limit r) }
 {
-    let mut search = Search::new(alloc, a, b, limit)?;
+    let mut search = PairSearch::new(alloc, a, b, limit)?;
     let texts = texts_by(alloc, a, b, &mut search, limit);
     drop(search.into_first());
     texts
 }
 
-/// The texts of the regions of two trees, each as fullmatch, by their first set pairs in breadth-first order, `limit` at
-/// most: one that the first tree alone matches, one that the second alone does and one that both do, and whether more set
-/// pairs are reached.
+/// The texts of the regions of two trees, each matched whole: one that only the first tree spans, one that only the
+/// second spans and one that both span, and whether more set pairs are reached. It looks at the first `limit` set
+/// pairs, breadth first.
 ///
 /// # Errors
 /// Those of [`same`](crate::same).
@@ -128,7 +128,7 @@ pub fn regions(
     requires some { 1 ≤ limit }
     requires low { limit ≤ MOST_SET_PAIRS }
     ensures within { OnOk result (AreWithin u (tree_of a.now) (tree_of b.now)) }
-    ensures passed { IfErr result (IsPassed u (tree_of a.now) (tree_of b.now)) }
+    ensures exceeded { IfErr result (IsExceeded u (tree_of a.now) (tree_of b.now)) }
     ensures regions { IfOk result (AreRegions u (tree_of a.now) (tree_of b.now) limit) }
     ensures told { IfOk result (AreTold u (matched (tree_of a.now) AtEnd) (matched (tree_of b.now) AtEnd)) }
 {

@@ -1,4 +1,4 @@
-//! The search for a set pair that shows a difference, breadth first.
+//! Searches breadth first for a set pair that shows a difference.
 
 ghost use Rattle.std.specs.Prelude.{◌≡◌, ℕ, ◌<◌, ◌≤◌, ◌∷◌, [], true, false, not, ◌&&◌, List, length, map, slice_index_or, IfOk, OnOk};
 ghost use Rattle.rl_syntax.specs.declared.limits.TheConstants.{MOST_SET_PAIRS};
@@ -19,62 +19,62 @@ use rl_prio::Prio;
 use rl_sets::SetWalk;
 use std::alloc::Global;
 
-/// A set pair by the numbers of its sets.
+/// A set pair, by the numbers of its sets.
 #[derive(Clone, Copy, Debug, PartialEq, Eq, Hash)]
-pub(crate) struct Key {
+pub(crate) struct PairKey {
     /// The number of the set of the first automaton.
     pub first: u32,
     /// The number of the set of the second automaton.
     pub second: u32,
 }
 
-/// How a set pair was found: the place of the one whose next it is, and the letter.
+/// How a set pair was found: from which earlier one, and on which letter.
 #[derive(Clone, Copy)]
 pub(crate) struct Way {
-    /// The place.
+    /// The place of the earlier set pair.
     pub parent: usize,
     /// The letter.
     pub letter: u32,
 }
 
-/// Which sets of a set pair the end letter leads to the accepting state.
+/// Which of the two sets of a set pair the end letter leads to the accepting state.
 #[derive(Clone, Copy, Debug, PartialEq, Eq)]
 pub(crate) struct Ends {
-    /// Whether the first one is.
+    /// Whether it leads the first set there.
     pub first: bool,
-    /// Whether the second one is.
+    /// Whether it leads the second set there.
     pub second: bool,
 }
 
-/// The set pairs that are found, in the order in which they were found. Once there are more than the limit, no further ones are
+/// A search: the set pairs in the order in which they were found. Once there are more than the limit, no more are
 /// appended.
 #[derive(Drop)]
-pub(crate) struct Search {
-    /// How many set pairs are looked at.
+pub(crate) struct PairSearch {
+    /// How many set pairs it looks at, at most.
     pub limit: u32,
     /// The sets of the first automaton.
     pub first: SetWalk,
     /// The sets of the second automaton.
     pub second: SetWalk,
     /// The set pairs.
-    pub keys: IndexSet<Key>,
+    pub keys: IndexSet<PairKey>,
     /// How each was found.
     pub ways: Vec<Way>,
 }
 
-/// Whether a search that doesn't ask for all ends at a set pair.
+/// Whether a search ends at a set pair: it isn't asked to look at all, and this one shows a difference.
 fn stops(all: bool, ends: Ends) -> bool
     ensures { result ≡ (not all && is_apart ends) }
 {
     !all && ends.first != ends.second
 }
 
-/// The set pair of two starts, as the only one that is found.
+/// The set pairs found at the beginning: only that of the two starts.
 fn first_found(
     alloc: Global,
     start: u32,
     other_start: u32,
-) -> Result<(IndexSet<Key>, Vec<Way>), OutOfMemory>
+) -> Result<(IndexSet<PairKey>, Vec<Way>), OutOfMemory>
     ensures keys { IfOk result (λ r. r.0.keys ≡ record { first = start; second = other_start } ∷ []) }
     ensures ways { IfOk result (λ r. r.1.items ≡ no_way ∷ []) }
 {
@@ -85,16 +85,21 @@ fn first_found(
         },
     ]?;
     let mut keys = IndexSet::new(alloc);
-    keys.insert(Key {
+    keys.insert(PairKey {
         first: start,
         second: other_start,
     })?;
     Ok((keys, ways))
 }
 
-impl Search {
-    /// A search that has found the first set pair.
-    pub(crate) fn new(alloc: Global, a: &Prio, b: &Prio, limit: u32) -> Result<Search, OutOfMemory>
+impl PairSearch {
+    /// Begins a search, with the set pair of the starts.
+    pub(crate) fn new(
+        alloc: Global,
+        a: &Prio,
+        b: &Prio,
+        limit: u32,
+    ) -> Result<PairSearch, OutOfMemory>
         requires readers { AreReaders a.now b.now }
         requires some { 1 ≤ limit }
         requires low { limit ≤ MOST_SET_PAIRS }
@@ -103,17 +108,17 @@ impl Search {
         ensures one { IfOk result (λ s. pairs_in (state_of s) ≡ first_pair ∷ []) }
     {
         let walk = begin_side(alloc, a)?;
-        Search::go_on(alloc, a, b, walk, limit)
+        PairSearch::go_on(alloc, a, b, walk, limit)
     }
 
-    /// The same, where the walk over the sets of the first automaton goes on with what it has made.
+    /// Begins a search that goes on with a walk over the sets of the first automaton, and with the images that it has.
     pub(crate) fn go_on(
         alloc: Global,
         a: &Prio,
         b: &Prio,
         walk: SetWalk,
         limit: u32,
-    ) -> Result<Search, OutOfMemory>
+    ) -> Result<PairSearch, OutOfMemory>
         requires readers { AreReaders a.now b.now }
         requires side { IsSide a.now MOST_SET_PAIRS 0 walk }
         requires some { 1 ≤ limit }
@@ -127,10 +132,10 @@ impl Search {
             drop(first);
             return Err(OutOfMemory);
         };
-        Search::begun(alloc, first, start, second, other_start, limit)
+        PairSearch::begun(alloc, first, start, second, other_start, limit)
     }
 
-    /// A search over these walks that has found the set pair of the starts, which have these numbers.
+    /// Begins a search over these walks. The numbers are those of the sets of the starts.
     fn begun(
         alloc: Global,
         first: SetWalk,
@@ -138,7 +143,7 @@ impl Search {
         second: SetWalk,
         other_start: u32,
         limit: u32,
-    ) -> Result<Search, OutOfMemory>
+    ) -> Result<PairSearch, OutOfMemory>
         ensures { IfOk result (λ s. state_of s ≡ record {
           limit = limit;
           first = first;
@@ -152,7 +157,7 @@ impl Search {
             drop(second);
             return Err(OutOfMemory);
         };
-        Ok(Search {
+        Ok(PairSearch {
             limit,
             first,
             second,
@@ -161,16 +166,16 @@ impl Search {
         })
     }
 
-    /// The walk over the sets of the first automaton, with what the search has made.
+    /// Gives back the walk over the sets of the first automaton, with the images that the search has computed.
     pub(crate) fn into_first(self) -> SetWalk
         ensures { result ≡ self.first }
     {
-        let Search { first, second, .. } = self;
+        let PairSearch { first, second, .. } = self;
         drop(second);
         first
     }
 
-    /// Which sets of the set pair at a place the end letter leads to the accepting state.
+    /// The ends of the set pair at a place.
     fn ends(&mut self, a: &Prio, b: &Prio, place: usize) -> Result<Ends, OutOfMemory>
         requires readers { AreReaders a.now b.now }
         requires search { IsSearch a.now b.now (state_of self.old) }
@@ -187,7 +192,7 @@ impl Search {
         Ok(Ends { first, second })
     }
 
-    /// Appends the next set pair of the one at a place, on a letter, unless it is there.
+    /// Appends the set pair that a letter leads to from the one at a place, unless it was found already.
     fn visit(&mut self, a: &Prio, b: &Prio, place: usize, letter: u32) -> Result<(), OutOfMemory>
         requires readers { AreReaders a.now b.now }
         requires search { IsSearch a.now b.now (state_of self.old) }
@@ -203,7 +208,7 @@ impl Search {
         let key = self.keys[place];
         let first = step_to(&mut self.first, a, key.first, letter)?;
         let second = step_to(&mut self.second, b, key.second, letter)?;
-        if self.keys.insert(Key { first, second })? {
+        if self.keys.insert(PairKey { first, second })? {
             self.ways.push(Way {
                 parent: place,
                 letter,
@@ -212,7 +217,7 @@ impl Search {
         Ok(())
     }
 
-    /// Appends the next set pairs of the one at a place, the letters in order.
+    /// Appends the next set pairs of the one at a place, letter by letter.
     fn expand(&mut self, a: &Prio, b: &Prio, place: usize) -> Result<(), OutOfMemory>
         requires readers { AreReaders a.now b.now }
         requires search { IsSearch a.now b.now (state_of self.old) }
@@ -227,8 +232,8 @@ impl Search {
         Ok(())
     }
 
-    /// Looks at the first set pairs, `limit` at most, one after another; unless `all` is asked for, no further than to the first
-    /// one that shows a difference.
+    /// Looks at the first `limit` set pairs, one after another. Unless `all` is true, it stops at the first one that
+    /// shows a difference.
     pub(crate) fn look(
         &mut self,
         alloc: Global,
@@ -260,7 +265,7 @@ impl Search {
         Ok(seen)
     }
 
-    /// The text of a word that leads to the set pair at a place.
+    /// A text that leads to the set pair at a place.
     pub(crate) fn text_to(
         &self,
         alloc: Global,
@@ -283,7 +288,7 @@ impl Search {
         Ok(Items::from_vec(back))
     }
 
-    /// The set pairs that are found.
+    /// The set pairs that were found.
     fn relation(&self, alloc: Global) -> Result<Relation, OutOfMemory>
         requires first_in { (k : ℕ) → k < length (state_of self.now).keys → (key_at (state_of self.now) k).first < length (state_of self.now).first.sets }
         requires second_in { (k : ℕ) → k < length (state_of self.now).keys → (key_at (state_of self.now) k).second < length (state_of self.now).second.sets }
@@ -299,7 +304,7 @@ impl Search {
         Ok(relation)
     }
 
-    /// What the first set pairs show.
+    /// Runs the search, and says what the first set pairs show.
     pub(crate) fn run(&mut self, alloc: Global, a: &Prio, b: &Prio) -> Result<Sameness, OutOfMemory>
         requires readers { AreReaders a.now b.now }
         requires search { IsSearch a.now b.now (state_of self.old) }

@@ -1,4 +1,4 @@
-//! The walk over the sets of one of two automata that are read side by side.
+//! Walks over the sets of one of two automata that are read side by side.
 
 ghost use Rattle.std.specs.Prelude.{◌≡◌, ◌≢◌, ◌<◌, ◌≤◌, [], ◌∷◌, length, All, Contains, IfOk, OnOk};
 ghost use Rattle.rl_syntax.specs.declared.limits.TheConstants.{MOST_SET_PAIRS};
@@ -20,7 +20,7 @@ const MOST_SETS: u32 = 60_000;
 /// The most sets of a walk that goes on with another search.
 const MOST_KEPT: u32 = 30_000;
 
-/// The number of the set of the listed states.
+/// Puts the set of these states into the walk, and returns its number.
 fn put(walk: &mut SetWalk, a: &Prio, members: &Vec<u32>) -> Result<u32, OutOfMemory>
     requires made { IsMadeFor walk.old a.now }
     requires states { All (λ q. (q < a.now.states) × (q ≢ dead_state a.now)) members.now.items }
@@ -34,7 +34,7 @@ fn put(walk: &mut SetWalk, a: &Prio, members: &Vec<u32>) -> Result<u32, OutOfMem
     }
 }
 
-/// The number of the set of one state.
+/// Puts the set of one state into the walk, and returns its number.
 fn put_one(alloc: Global, walk: &mut SetWalk, a: &Prio, state: u32) -> Result<u32, OutOfMemory>
     requires made { IsMadeFor walk.old a.now }
     requires state_in { state < a.now.states }
@@ -46,7 +46,7 @@ fn put_one(alloc: Global, walk: &mut SetWalk, a: &Prio, state: u32) -> Result<u3
     put(walk, a, &members)
 }
 
-/// Appends the sets that the end letter gives to a walk that has none.
+/// Puts the two sets that the end letter may lead to into an empty walk.
 fn put_ends(alloc: Global, walk: &mut SetWalk, a: &Prio) -> Result<(), OutOfMemory>
     requires made { IsMadeFor walk.old a.now }
     requires reads { IsReader a.now }
@@ -60,7 +60,7 @@ fn put_ends(alloc: Global, walk: &mut SetWalk, a: &Prio) -> Result<(), OutOfMemo
     Ok(())
 }
 
-/// A new walk with the sets that the end letter gives.
+/// Begins a walk, with the two sets that the end letter may lead to.
 pub(crate) fn begin_side(alloc: Global, a: &Prio) -> Result<SetWalk, OutOfMemory>
     requires { IsReader a.now }
     ensures { IfOk result (IsSide a.now MOST_SET_PAIRS 0) }
@@ -73,7 +73,7 @@ pub(crate) fn begin_side(alloc: Global, a: &Prio) -> Result<SetWalk, OutOfMemory
     Ok(walk)
 }
 
-/// The walk that was kept, with the images that it has made, or a new one where none was or it has grown too large.
+/// The walk that was kept, with the images that it has. If none was kept, or it has grown too large, a new one.
 pub(crate) fn kept_side(
     alloc: Global,
     a: &Prio,
@@ -93,7 +93,7 @@ pub(crate) fn kept_side(
     }
 }
 
-/// The walk of a search that begins, and the number of the set of the start.
+/// Puts the set of the start into the walk of a search that begins, and returns its number as well.
 pub(crate) fn start_side(
     alloc: Global,
     a: &Prio,
@@ -112,7 +112,7 @@ pub(crate) fn start_side(
     Ok((walk, start))
 }
 
-/// The walk of a search that begins with no sets that were made before, and the number of the set of the start.
+/// Begins a new walk for a search, with the set of the start, and returns the number of that set as well.
 pub(crate) fn fresh_side(alloc: Global, a: &Prio) -> Result<(SetWalk, u32), OutOfMemory>
     requires { IsReader a.now }
     ensures side { IfOk result (λ r. IsSide a.now MOST_SET_PAIRS 1 r.0) }
@@ -143,7 +143,8 @@ pub(crate) fn step_to(
     }
 }
 
-/// Whether the end letter leads a set to the accepting state. Its image is one of the two sets that are there from the start.
+/// Whether the end letter leads a set to the accepting state. The image is one of the two sets that the walk began
+/// with.
 pub(crate) fn ends_at(walk: &mut SetWalk, a: &Prio, set: u32) -> Result<bool, OutOfMemory>
     requires made { IsMadeFor walk.old a.now }
     requires reads { IsReader a.now }

@@ -1,9 +1,10 @@
-//! Walks from one set of states.
+//! Walks that begin with one set of states.
 
 ghost use Rattle.std.specs.Prelude.{◌≡◌, ◌+◌, ◌<◌, ◌≤◌, true, length, IfOk, OnOk};
 ghost use Rattle.rl_prio.specs.Automaton.{letters_count, accepting_state};
 ghost use Rattle.rl_sets.specs.Live.{image};
 ghost use Rattle.rl_sets.specs.Walk.{set_at, set_of};
+ghost use Rattle.rl_equiv.specs.SetPairs.{rises};
 ghost use Rattle.rl_equiv.specs.internal.Machines.{all_proper, ends};
 ghost use Rattle.rl_equiv.specs.internal.Walks.{IsBegun, GoesOn};
 
@@ -15,15 +16,28 @@ use std::alloc::Global;
 /// The most sets that a walk may have.
 const MOST_SETS: u32 = 20_003;
 
-/// Whether the members are the start and states of places.
+/// Whether the states rise, all of them below a bound.
+fn rise_below(states: &[u32], end: u32) -> bool
+    ensures { result ≡ rises 0 end states.now }
+{
+    let mut least = 0;
+    for state in states {
+        if *state < least || *state >= end {
+            return false;
+        }
+        least = *state + 1;
+    }
+    true
+}
+
+/// Whether the members rise and are the start and states of places.
 pub(crate) fn are_proper(a: &Prio, set: &Members) -> bool
     ensures { result ≡ all_proper a.now set.now }
 {
-    let accepting = a.states() - 2;
-    set.as_slice().iter().all(|state| *state < accepting)
+    rise_below(set.as_slice(), a.states() - 2)
 }
 
-/// A walk that has the one set alone.
+/// Begins a walk with this one set.
 pub(crate) fn walk_from(alloc: Global, a: &Prio, set: &Members) -> Result<SetWalk, OutOfMemory>
     requires { all_proper a.now set.now ≡ true }
     ensures begun { IfOk result (IsBegun a.now) }
@@ -43,7 +57,7 @@ pub(crate) fn walk_from(alloc: Global, a: &Prio, set: &Members) -> Result<SetWal
     }
 }
 
-/// The number of the image of a walk's first set on a letter.
+/// The number of the image of the walk's first set on a letter.
 fn step_in(walk: &mut SetWalk, a: &Prio, letter: u32) -> Result<u32, OutOfMemory>
     requires begun { IsBegun a.now walk.old }
     requires room { length walk.old.sets < 20003 }

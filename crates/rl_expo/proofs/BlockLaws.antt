@@ -31,7 +31,7 @@ module _ (g h : Graph) (p parts : PartTable) (s : Seats) (c : ℕ) (whole : IsWh
   places : IsParts (pair_moves (edges_of h) (length s.states)) (length s.states * length s.states) parts
   places = subst (λ z. IsParts (pair_moves (edges_of h) z) (z * z) parts) inner.same_states product
 
-  -- a fork of the component meets
+  -- A fork of the component meets.
   met : ((q : ℕ) → q < g.states → number_of p q ≡ c → is_member s.states s.places q ≡ true) → (i r l x y : ℕ) (w : List ℕ) → i < length s.states → state_at s i ≡ r → number_of p r ≡ c
       → x < g.states → y < g.states → number_of p x ≡ c → number_of p y ≡ c → Has x (edges_of g r l) → Has y (edges_of g r l) → 1 ≤ paths (edges_of g) x r w → 1 ≤ paths (edges_of g) y r w
       → Meets s parts (own_part s parts i) x y
@@ -57,7 +57,7 @@ module _ (g h : Graph) (p parts : PartTable) (s : Seats) (c : ℕ) (whole : IsWh
         part = (places.same (px * n + py) (i * n + i) (mul-add-lt px n py n tx.0 ty.0) (mul-add-lt i n i n hi hi)).1 ((w, from), (l ∷ [], to));
       }
 
-  -- so where none meets there is no fork
+  -- So if no two moves meet, there is no fork.
   pub none_meets-no_fork : ((q : ℕ) → q < g.states → number_of p q ≡ c → is_member s.states s.places q ≡ true) → ((i l : ℕ) → i < length s.states → l < g.letters → NoneMeets g s parts i l) → HasNoForkIn (edges_of g) p c
   none_meets-no_fork all none = fork-ordered (edges_of g) c p less
     where
@@ -76,7 +76,7 @@ module _ (g h : Graph) (p parts : PartTable) (s : Seats) (c : ℕ) (whole : IsWh
           none k l t.0 hx.1 i j lt (rw t.1 (at-short (next r l) j y f.other_move))
           (rw (t.1, at-get_or (next r l) i x 0 f.one_move, at-get_or (next r l) j y 0 f.other_move) meets)
 
-  -- the targets of two moves that meet lead back
+  -- The targets of two moves that meet lead back.
   pub met-back : (f : Fork) → AreMoves g f → IsMet g s parts f → LeadsBack g f
   met-back f moves is =
       let n = length s.states in

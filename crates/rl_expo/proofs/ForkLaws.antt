@@ -9,12 +9,12 @@ use Rattle.rl_graph.proofs.PathLaws.{paths-nil, through_one, positive, move-path
 use Rattle.rl_graph.proofs.TwinPaths.{onto-some, path-counts, two-there, twin-count}
 use Rattle.rl_expo.specs.internal.Forks.{IsFork, AnyFork}
 
--- a fork is a twin
+-- A fork is a twin.
 pub fork_twin : (next : ℕ → ℕ → List ℕ) (r l i j x y : ℕ) (w : List ℕ) → IsFork next r l i j x y w → 2 ≤ paths next r r (l ∷ w)
 fork_twin next r l i j x y w f =
     omega (arith, f.one_back, f.other_back, total-two (λ m. paths next m r w) (next r l) i j x y f.apart f.one_move f.other_move)
 
--- a fork's two moves, each with a path back, are a twin as lists of moves
+-- A fork's two moves, each with a path back, are a twin as lists of moves.
 pub fork_paths : (next : ℕ → ℕ → List ℕ) (r l i j x y : ℕ) (w p q : List ℕ) → IsFork next r l i j x y w → IsPath next x r p w → IsPath next y r q w → IsTwin next r (l ∷ w) (i ∷ p) (j ∷ q)
 fork_paths next r l i j x y w p q f h k =
     record {
@@ -26,11 +26,11 @@ fork_paths next r l i j x y w p q f h k =
     step_path : (m n : ℕ) (u : List ℕ) → slice_get (next r l) n ≡ Some m → IsPath next m r u w → IsPath next r r (n ∷ u) (l ∷ w)
     step_path m n u e d = rw e d
 
--- a way and then a way
+-- A way and then a way.
 pub joined-path : (next : ℕ → ℕ → List ℕ) (s m t : ℕ) (u v : List ℕ) → 1 ≤ paths next s m u → 1 ≤ paths next m t v → 1 ≤ paths next s t (u ++ v)
 joined-path next s m t u v a b = omega (arith, positive (paths next s m u) (paths next m t v) a b, through_one next s m t u v)
 
--- two different paths from `s` to `t`, and a way back
+-- Two different paths from `s` to `t`, and a way back.
 pub paths_fork : (next : ℕ → ℕ → List ℕ) (s t : ℕ) (p q w z : List ℕ) → p ≢ q → IsPath next s t p w → IsPath next s t q w → 1 ≤ paths next t s z → AnyFork next
 paths_fork next s t [] [] [] z ne h k back = absurd (ne refl)
 paths_fork next s t [] q (l ∷ w) z ne h k back = cc
@@ -66,11 +66,11 @@ paths_fork next s t (i ∷ p) (j ∷ q) (l ∷ w) z ne h k back =
         let step : 1 ≤ paths next s a.0 (l ∷ []) = move-path next s a.0 a.0 l [] (Has-at (next s l) i a.0 a.1) (omega (arith, paths-nil next a.0)) in
         rest a.0 (λ c. ne (ap₂ ◌∷◌ e c)) a.2 k2 (joined-path next t s a.0 z (l ∷ []) back step)
 
--- the same for a count of paths
+-- The same for a count of paths.
 pub twin_fork : (next : ℕ → ℕ → List ℕ) (s t : ℕ) (w z : List ℕ) → 2 ≤ paths next s t w → 1 ≤ paths next t s z → AnyFork next
 twin_fork next s t w z h back = let r = two-there next s t w h in paths_fork next s t r.0 r.1 w z r.2 r.3 r.4 back
 
--- a graph without a fork has no twin
+-- A graph without a fork has no twin.
 pub no_fork-no_twin : (next : ℕ → ℕ → List ℕ) → (AnyFork next → ⊥) → HasNoTwin next
 no_fork-no_twin next none q w = by (cases_lt 1 (paths next q q w))
   where
@@ -78,16 +78,16 @@ no_fork-no_twin next none q w = by (cases_lt 1 (paths next q q w))
     by (inr h) = h
     by (inl h) = absurd (none (twin_fork next q q w [] (omega arith) (omega (arith, paths-nil next q))))
 
--- the same in the words of lists of moves
+-- The same in the words of lists of moves.
 pub no_twin-no_paths : (next : ℕ → ℕ → List ℕ) → HasNoTwin next → (q : ℕ) (w p r : List ℕ) → IsTwin next q w p r → ⊥
 no_twin-no_paths next none q w p r t = absurd (omega (arith, none q w, twin-count next q w p r t))
 
--- a fork with its two moves in the other order
+-- A fork with its two moves in the other order.
 pub fork-turned : (next : ℕ → ℕ → List ℕ) (r l i j x y : ℕ) (w : List ℕ) → IsFork next r l i j x y w → IsFork next r l j i y x w
 fork-turned next r l i j x y w f =
     record { apart = λ e. f.apart (sym e); one_move = f.other_move; other_move = f.one_move; one_back = f.other_back; other_back = f.one_back }
 
--- a move stays in the graph, and its letter is one of the graph's
+-- A move stays in the graph, and its letter is one of the graph's.
 pub move-in : (next : ℕ → ℕ → List ℕ) (n k s l i m : ℕ) → IsBounded next n k → slice_get (next s l) i ≡ Some m → (m < n) × (l < k)
 move-in next n k s l i m b e = (b.targets s l m (Has-at (next s l) i m e), by (cases_lt l k))
   where
@@ -95,20 +95,20 @@ move-in next n k s l i m b e = (b.targets s l m (Has-at (next s l) i m e), by (c
     by (inl h) = h
     by (inr h) = absurd (subst (λ (r : List ℕ). Has m r) (b.letters s l h) (Has-at (next s l) i m e))
 
--- a path that is not empty from a state of the graph ends in one
+-- A path that is not empty from a state of the graph ends in one.
 pub path-end : (next : ℕ → ℕ → List ℕ) (n k s t : ℕ) (w : List ℕ) → IsBounded next n k → s < n → 1 ≤ paths next s t w → t < n
 path-end next n k s t w b h p = along_moves (λ m. m < n) next (λ q l m i j. b.targets q l m j) s t w h p
 
--- a fork that starts in the graph
+-- A fork that starts in the graph.
 pub fork-start : (next : ℕ → ℕ → List ℕ) (n k r l i j x y : ℕ) (w : List ℕ) → IsBounded next n k → IsFork next r l i j x y w → r < n
 fork-start next n k r l i j x y w b f = path-end next n k x r w b (move-in next n k r l i x b f.one_move).0 f.one_back
 
--- the targets of a fork lie in the part of its state
+-- The targets of a fork lie in the part of its state.
 pub fork-part : (next : ℕ → ℕ → List ℕ) (n k : ℕ) (p : PartTable) → IsBounded next n k → IsParts next n p → (r l i x : ℕ) (w : List ℕ) → r < n → slice_get (next r l) i ≡ Some x → 1 ≤ paths next x r w → number_of p x ≡ number_of p r
 fork-part next n k p b parts r l i x w hr e back =
     (parts.same x r (move-in next n k r l i x b e).0 hr).1 ((w, back), Reaches-move next r x l (Has-at (next r l) i x e))
 
--- it is enough to refute the forks whose first move has the smaller number
+-- It is enough to refute the forks whose first move has the smaller number.
 pub fork-ordered : (next : ℕ → ℕ → List ℕ) (c : ℕ) (p : PartTable) → ((r l i j x y : ℕ) (w : List ℕ) → number_of p r ≡ c → i < j → IsFork next r l i j x y w → ⊥) → (f : AnyFork next) → number_of p f.state ≡ c → ⊥
 fork-ordered next c p less f at = any f.state f.letter f.first f.second f.one f.other f.word at f.forks (cases_order f.first f.second)
   where
@@ -117,7 +117,7 @@ fork-ordered next c p less f at = any f.state f.letter f.first f.second f.one f.
     any r l i j x y w at f (inr (inl h)) = less r l i j x y w at h f
     any r l i j x y w at f (inr (inr h)) = less r l j i y x w at h (fork-turned next r l i j x y w f)
 
--- where no two moves of a state of a part on one letter both stay in the part, no fork begins there
+-- If no two moves of a state of a part on one letter both stay in the part, no fork begins there.
 pub no_fork_by_components : (next : ℕ → ℕ → List ℕ) (n k c : ℕ) (p : PartTable) → IsBounded next n k → IsParts next n p
     → ((r l i j x y : ℕ) → r < n → l < k → number_of p r ≡ c → i < j → slice_get (next r l) i ≡ Some x → slice_get (next r l) j ≡ Some y → number_of p x ≡ number_of p r → number_of p y ≡ number_of p r → ⊥)
     → (f : AnyFork next) → number_of p f.state ≡ c → ⊥

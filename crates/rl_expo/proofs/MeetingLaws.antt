@@ -7,14 +7,14 @@ use Rattle.rl_graph.specs.Parts.{PartTable}
 use Rattle.rl_kernel.specs.Seats.{Seats, state_at}
 use Rattle.rl_expo.specs.internal.Meeting.{Meets, own_part, NoneMeets, AreSearched}
 
--- a place with the row and the part of one whose moves don't meet
+-- A place with the row and the part of one whose moves don't meet.
 pub none-again : (g : Graph) (s : Seats) (p : PartTable) (b i l : ℕ) → edges_of g (state_at s i) l ≡ edges_of g (state_at s b) l → own_part s p i ≡ own_part s p b → NoneMeets g s p b l → NoneMeets g s p i l
 none-again g s p b i l row own none j k lt hk m =
     none j k lt (subst (λ (r : List ℕ). k < length r) row hk)
     (subst (λ (r : List ℕ). Meets s p (own_part s p b) (get_or r j 0) (get_or r k 0)) row
     (subst (λ (o : ℕ). Meets s p o (get_or (edges_of g (state_at s i) l) j 0) (get_or (edges_of g (state_at s i) l) k 0)) own m))
 
--- one more place is searched
+-- One more place is searched.
 pub searched-more : (g : Graph) (s : Seats) (p : PartTable) (searched : List (Option ℕ)) (l i : ℕ) → AreSearched g s p searched → l < g.letters → i < length s.states → NoneMeets g s p i l
     → AreSearched g s p (set searched l (Some i))
 searched-more g s p searched l i are hl hi none = record { size = length-set searched l (Some i) ∙ are.size; none = λ c j e. by c j e (cases_eq c l) }
@@ -32,7 +32,7 @@ none_there zero l i e = cc
 none_there (suc n) zero i e = cc
 none_there (suc n) (suc l) i e = none_there n l i e
 
--- none is searched at first
+-- None is searched at first.
 pub searched-none : (g : Graph) (s : Seats) (p : PartTable) (searched : List (Option ℕ)) (n : ℕ) → searched ≡ replicate n None → n ≡ g.letters → AreSearched g s p searched
 searched-none g s p searched n e is = record {
   size = ap length e ∙ (length-replicate n None ∙ is);
@@ -43,6 +43,6 @@ as_some : (P : ℕ → Type 0) (o : Option ℕ) → ((b : ℕ) → o ≡ Some b 
 as_some P (Some b) h = h b refl
 as_some P None h = tt
 
--- what is known of the place of a letter
+-- What is known of the place of a letter.
 pub searched-at : (g : Graph) (s : Seats) (p : PartTable) (searched : List (Option ℕ)) (l : ℕ) → AreSearched g s p searched → IfSome (get_or searched l None) (λ b. (b < length s.states) × NoneMeets g s p b l)
 searched-at g s p searched l are = as_some (λ b. (b < length s.states) × NoneMeets g s p b l) (get_or searched l None) (are.none l)

@@ -29,7 +29,7 @@ none_stay-no_fork g p c w parts none =
     (ap (number_of p) (at-get_or (edges_of g r l) i x 0 ex) ∙ a)
     (ap (number_of p) (at-get_or (edges_of g r l) j y 0 ey) ∙ b))
 
--- a state that lies on no cycle has no move that stays in its component
+-- A state that lies on no cycle has no move that stays in its component.
 pub off_cycle-none_stay : (g : Graph) (p : PartTable) (r : ℕ) → IsWhole g → IsParts (edges_of g) g.states p → r < g.states → cycle_of p r ≡ false → (l : ℕ) → NoneStay g p r l
 off_cycle-none_stay g p r w parts hr off l i j ij jk a b =
     let row = edges_of g r l in
@@ -38,7 +38,7 @@ off_cycle-none_stay g p r w parts hr off l i j ij jk a b =
     let back = ((parts.same m r (w.targets r l m has) hr).0 a).0 in
     true≢false (sym ((parts.on_cycle r hr).1 (OnCycle-move (edges_of g) r l m has back)) ∙ off)
 
--- one more move looked at, which stays or does not
+-- One more move was looked at, which stays or doesn't
 
 pub two_stay-more : (p : PartTable) (own k : ℕ) (row : List ℕ) → NoTwoStay p own row k → ((i : ℕ) → i < k → Stays p own row i → Stays p own row k → ⊥) → NoTwoStay p own row (k + 1)
 two_stay-more p own k row old here i j ij jk a b = by (cases_lt j k)

@@ -15,7 +15,7 @@ use Rattle.rl_expo.specs.declared.forks.Fork.{Fork}
 use Rattle.rl_graph.specs.Graph.{Graph, edges_of, IsWhole}
 use Rattle.rl_expo.proofs.ForkLaws.{move-in, path-end}
 
--- one more move behind a path
+-- One more move behind a path.
 pub path-push : (next : ℕ → ℕ → List ℕ) (s m t l i : ℕ) (p w : List ℕ) → IsPath next s m p w → slice_get (next m l) i ≡ Some t → IsPath next s t (p ++ i ∷ []) (w ++ l ∷ [])
 path-push next s m t l i [] [] h e = let same : s ≡ m = cc in rw same (rw e refl)
 path-push next s m t l i [] (c ∷ w) h e = cc
@@ -31,7 +31,7 @@ path-long next s t (i ∷ p) [] h = cc
 path-long next s t (i ∷ p) (l ∷ w) h =
     let r = onto-some (λ m. led next m p w) (slice_get (next s l) i) t h in omega (arith, path-long next r.0 t p w r.2)
 
--- the letters of a path are letters of the graph
+-- The letters of a path are letters of the graph.
 pub path-letters : (next : ℕ → ℕ → List ℕ) (n k s t : ℕ) (p w : List ℕ) → IsBounded next n k → IsPath next s t p w → All (λ l. l < k) w
 path-letters next n k s t p w b h c d lt = at next n k s t p w b h c d lt
   where
@@ -43,7 +43,7 @@ path-letters next n k s t p w b h c d lt = at next n k s t p w b h c d lt
     at next n k s t (i ∷ p) (l ∷ w) b h (suc c) d lt =
         let r = onto-some (λ m. led next m p w) (slice_get (next s l) i) t h in at next n k r.0 t p w b r.2 c d (omega arith)
 
--- the start of a twin is a state of the graph: its word isn't empty
+-- The start of a twin is a state of the graph: its word isn't empty.
 pub twin-state : (next : ℕ → ℕ → List ℕ) (n k q : ℕ) (w p r : List ℕ) → IsBounded next n k → IsTwin next q w p r → q < n
 twin-state next n k q [] [] [] b t = absurd (t.apart refl)
 twin-state next n k q [] (i ∷ p) r b t = let h = t.one_way in cc
@@ -53,7 +53,7 @@ twin-state next n k q (l ∷ w) (i ∷ p) r b t =
     let h = onto-some (λ m. led next m p w) (slice_get (next q l) i) q t.one_way in
     path-end next n k h.0 q w b (move-in next n k q l i h.0 b h.1).0 (path-counts next h.0 q p w h.2)
 
--- moves of the product
+-- Moves of the product
 
 not-below-zero : (k m : ℕ) → m < k * 0 → ⊥
 not-below-zero k m h = omega arith
@@ -82,9 +82,9 @@ pair-length : (next : ℕ → ℕ → List ℕ) (n p q l : ℕ) → q < n → le
 pair-length next n p q l h =
     ap₂ (λ u v. length (pairs_of n (next v l) (next u l))) (div-mul-add p n q h) (mod-mul-add p n q h) ∙ length-pairs n (next p l) (next q l)
 
--- a path of the product on its way
+-- A path of the product on its way
 
--- what comes next on the way, at the place `c`
+-- What comes next on the way, at the place `c`.
 pub record IsAhead (next : ℕ → ℕ → List ℕ) (n k : ℕ) (moves word : List ℕ) (c one other r : ℕ) : Type 0 where
   pub number_there : c < length moves
   pub letter_in : get_or word c 0 < k
@@ -126,7 +126,7 @@ way-more next n k i j c one other a d x y moves word t u b w lt s g =
       rest = rw (g.state, add-one) (subst (λ (z : ℕ). IsPath (pair_moves next n) z (t.state * n + t.state) (drop (suc c) moves) (drop (suc c) word)) same h.rest);
     }
 
--- a path along no letter stays
+-- A path along no letter stays.
 path-done : (next : ℕ → ℕ → List ℕ) (s t : ℕ) (p w : List ℕ) → length w ≡ 0 → IsPath next s t p w → s ≡ t
 path-done next s t [] [] e h = cc
 path-done next s t (i ∷ p) [] e h = cc
@@ -147,7 +147,7 @@ way-end next n i j c one other moves word t ij w le =
     heads : (i j : ℕ) (u v : List ℕ) → i < j → i ∷ u ≡ j ∷ v → ⊥
     heads i j u v lt e = let same : i ≡ j = cc in absurd (omega arith)
 
--- the way begins with the two moves of a fork
+-- The way begins with the two moves of a fork.
 pub way-first : (g : Graph) (f : Fork) (t u : TwinPaths) (moves word : List ℕ) → IsWhole g → AreMoves g f → t.state ≡ f.state → t.word ≡ [] → t.first ≡ [] → t.second ≡ [] → IsLonger f.letter f.first f.second t u → IsPath (pair_moves (edges_of g) g.states) (targets_of g f) (f.state * g.states + f.state) moves word
     → IsOnWay (edges_of g) g.states f.first f.second moves word 0 (get_or (edges_of g f.state f.letter) f.first 0) (get_or (edges_of g f.state f.letter) f.second 0) u
 way-first g f t u moves word w m es ew ef eq l back =

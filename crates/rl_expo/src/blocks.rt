@@ -1,4 +1,4 @@
-//! The search for such moves component by component: a fork, and the word that leads back, lie in one component.
+//! The search for a fork, one component at a time: a fork, and the word that leads back, lie in one component.
 
 ghost use Rattle.std.specs.Prelude.{◌≡◌, ◌==◌, length, IfOk, IfSome, IfNone};
 ghost use Rattle.rl_graph.specs.Graph.{edges_of};
@@ -15,7 +15,7 @@ use rl_kernel::{Kernel, inner_graph};
 use rl_lists::OutOfMemory;
 use std::alloc::Global;
 
-/// The states of a component.
+/// Returns the states of the component with the given number.
 fn states_of(
     alloc: Global,
     components: &Components,
@@ -34,7 +34,8 @@ fn states_of(
     Ok(kernel)
 }
 
-/// Two moves of a state of a component from whose targets one word leads back. A short search comes before the product.
+/// Returns a fork of a state of the component: two of its moves on one letter such that one word leads back from both
+/// targets. A short search is tried before the product is built.
 fn fork_of(
     alloc: Global,
     g: &Multigraph,
@@ -55,10 +56,10 @@ fn fork_of(
     fork_among(alloc, g, &states, &parts)
 }
 
-/// Two such moves of a state of any component that is marked.
+/// Returns a fork of a state of any marked component, or `None` if the graph has no fork.
 ///
 /// # Errors
-/// [`OutOfMemory`] where there was no memory for the search.
+/// [`OutOfMemory`] if there is not enough memory for the search.
 pub fn fork_in(
     alloc: Global,
     g: &Multigraph,

@@ -1,5 +1,5 @@
-//! A first search for a fork in components with many moves on one letter, whose product would have the square of these moves: two
-//! moves of a state whose targets have moves on one letter to a common state.
+//! A first search for a fork in components with many moves on one letter, since a product has the square of these moves. It
+//! looks for two moves of a state whose targets have moves on one letter to the same state.
 
 ghost use Rattle.std.specs.Prelude.{◌≡◌, ◌<◌, length, slice_index, IfOk, IfSome};
 ghost use Rattle.rl_graph.specs.Graph.{edges_of};
@@ -12,13 +12,14 @@ use rl_graph::{Components, Multigraph};
 use rl_lists::OutOfMemory;
 use std::alloc::Global;
 
-/// The most moves of a state on a letter that are left to the product: so few make few moves of it.
+/// A state with at most this many moves on a letter is left to the search of the product, to which its moves contribute
+/// little.
 const MANY_MOVES: usize = 16;
 
-/// What is known of the state that bears it: a move of `state` on `letter` and then a move on `via` lead to it.
+/// A mark on a state: a move of `state` on `letter`, followed by a move on `via`, leads to the marked state.
 #[derive(Clone, Copy)]
 pub struct Mark {
-    /// The state from which the first move leads.
+    /// The state at which the first move starts.
     pub state: u32,
     /// The letter of the first move.
     pub letter: u32,
@@ -28,7 +29,7 @@ pub struct Mark {
     pub number: u32,
 }
 
-/// The number of an earlier move of the state and letter of `mark` that marked the target on the same second letter.
+/// Returns the number of an earlier move of the mark's state and letter that has marked `target` with the same second letter.
 fn earlier(marks: &[Option<Mark>], target: u32, mark: Mark) -> Option<u32>
     requires { target < length marks.now }
     ensures { IfSome result (IsEarlier marks.now target mark) }
@@ -46,8 +47,8 @@ fn earlier(marks: &[Option<Mark>], target: u32, mark: Mark) -> Option<u32>
     }
 }
 
-/// Marks the targets of the moves of `middle` on the second letter, up to one that an earlier move marked; this move and `mark`
-/// make the fork.
+/// Marks the targets of the moves of `middle` on the second letter. If an earlier move has already marked a target, that move
+/// and the move of `mark` are the fork.
 fn meet_after(
     g: &Multigraph,
     components: &Components,
@@ -87,7 +88,7 @@ fn meet_after(
     None
 }
 
-/// Two moves of a state on a letter whose targets have moves on `via` to a common state.
+/// Returns two moves of a state on `letter` whose targets have moves on `via` to the same state.
 fn meet_on(
     g: &Multigraph,
     components: &Components,
@@ -124,13 +125,13 @@ fn meet_on(
     None
 }
 
-/// Whether a row has many moves, also beside the number of letters: a search of the row looks at each of its moves once for each
-/// letter, and the product has the square of these moves.
+/// Whether a row has many moves, also in comparison with the number of letters. Searching a row looks at each of its moves
+/// once for each letter, whereas the product has the square of these moves.
 fn has_many(row: &[u32], letters: u32) -> bool {
     row.len() > MANY_MOVES && row.len() >= letters as usize / MANY_MOVES
 }
 
-/// Whether the row of a state on a letter is that of the state whose row on it was searched before.
+/// Whether the state has the same row on the letter as the state `before`, whose row on it was the last one searched.
 fn is_again(g: &Multigraph, before: Option<u32>, state: u32, letter: u32) -> bool
     requires state_in { state < g.now.states }
     requires letter_in { letter < g.now.letters }
@@ -142,8 +143,8 @@ fn is_again(g: &Multigraph, before: Option<u32>, state: u32, letter: u32) -> boo
     }
 }
 
-/// Two such moves of a state on a letter with many moves. A row that was searched in vain last on this letter, from another state
-/// of the component, isn't searched again.
+/// Returns a fork of a state on a letter with many moves. If the same row of another state was the last one searched on this
+/// letter, without success, the row isn't searched again.
 fn meet_in_row(
     g: &Multigraph,
     components: &Components,
@@ -176,7 +177,7 @@ fn meet_in_row(
     None
 }
 
-/// Two such moves of a state on any letter.
+/// Returns a fork of a state on any letter with many moves.
 fn meet_from(
     g: &Multigraph,
     components: &Components,
@@ -201,7 +202,7 @@ fn meet_from(
     None
 }
 
-/// For each state that it bears no mark.
+/// Returns, for each state, that it has no mark.
 fn no_marks(
     alloc: Global,
     g: &Multigraph,
@@ -213,7 +214,7 @@ fn no_marks(
     Ok(marks)
 }
 
-/// For each letter that no row was searched on it.
+/// Returns, for each letter, that no row has been searched on it.
 fn none_searched(alloc: Global, g: &Multigraph) -> Result<Vec<Option<u32>>, OutOfMemory>
     ensures { IfOk result (λ v. length v.items ≡ g.now.letters) }
 {
@@ -221,10 +222,11 @@ fn none_searched(alloc: Global, g: &Multigraph) -> Result<Vec<Option<u32>>, OutO
     Ok(searched)
 }
 
-/// Two such moves of any state of a component. A mark says of which moves it is, so none is ever cleared.
+/// Returns a fork, found by the short search, of any state of a component. A mark records the moves that it belongs to, so
+/// marks never have to be cleared.
 ///
 /// # Errors
-/// [`OutOfMemory`] where there was no memory for the marks.
+/// [`OutOfMemory`] if there is not enough memory for the marks.
 pub fn short_fork(
     alloc: Global,
     g: &Multigraph,

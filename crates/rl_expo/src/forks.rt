@@ -1,4 +1,5 @@
-//! The search for two moves of a state on one letter from whose targets one word leads back, among some states of a graph.
+//! The search for a fork among some states of a graph: two moves of a state on one letter such that one word leads back from
+//! both targets.
 
 ghost use Rattle.std.specs.Prelude.{◌≡◌, ℕ, ◌+◌, ◌<◌, ◌*◌, ◌^◌, length, slice_index, All, IfOk, IfSome, IfNone, IsTrue, ◌↔◌};
 ghost use Rattle.rl_kernel.specs.Seats.{seats_of, state_at};
@@ -10,20 +11,20 @@ use rl_kernel::Kernel;
 use rl_lists::OutOfMemory;
 use std::alloc::Global;
 
-/// Two moves of a state on a letter, by their numbers, the smaller one first.
+/// Two moves of a state on a letter, given by their numbers, the smaller one first.
 #[derive(Clone, Copy)]
 pub struct Fork {
     /// The state.
     pub state: u32,
     /// The letter.
     pub letter: u32,
-    /// The smaller number.
+    /// The smaller move number.
     pub first: u32,
-    /// The greater number.
+    /// The greater move number.
     pub second: u32,
 }
 
-/// The pair of two places.
+/// Returns the number of the pair of two places.
 fn pair_of(count: u64, one: u32, other: u32) -> u64
     requires { count < 2 ^ 32 }
     ensures { result ≡ one * count + other }
@@ -31,7 +32,7 @@ fn pair_of(count: u64, one: u32, other: u32) -> u64
     u64::from(one) * count + u64::from(other)
 }
 
-/// Whether two states are of the kernel and their pair lies in a part of the product.
+/// Whether both states are in the kernel and their pair is in the part `own` of the product.
 fn meets(kernel: &Kernel, parts: &Parts, own: u64, one: u32, other: u32) -> bool
     requires one_in { one < length kernel.now.places.items }
     requires other_in { other < length kernel.now.places.items }
@@ -49,7 +50,8 @@ fn meets(kernel: &Kernel, parts: &Parts, own: u64, one: u32, other: u32) -> bool
     }
 }
 
-/// A move before the move `second` of a row whose target meets that of `second` in a part of the product.
+/// Returns a move of the row that comes before the move `second` and whose target meets the target of `second` in the part
+/// `own` of the product.
 fn partner(row: &[u32], kernel: &Kernel, parts: &Parts, own: u64, second: usize) -> Option<usize>
     requires second_in { second < length row.now }
     requires targets { All (λ m. m < length kernel.now.places.items) row.now }
@@ -66,7 +68,8 @@ fn partner(row: &[u32], kernel: &Kernel, parts: &Parts, own: u64, second: usize)
     None
 }
 
-/// Two moves on a letter of the state at a place whose targets meet in the part of the state's pair with itself.
+/// Returns two moves on `letter` of the state at `place` whose targets meet in the part of the pair of that place with
+/// itself.
 fn fork_on(g: &Multigraph, kernel: &Kernel, parts: &Parts, place: u32, letter: u32) -> Option<Fork>
     requires place_in { place < length kernel.now.states.items }
     requires letter_in { letter < g.now.letters }
@@ -96,8 +99,8 @@ fn fork_on(g: &Multigraph, kernel: &Kernel, parts: &Parts, place: u32, letter: u
     None
 }
 
-/// Whether an earlier place tells that no two such moves are there: it has the same row on the letter, none of whose moves meet, and
-/// the two places' pairs with themselves lie in one part.
+/// Whether an earlier search shows that the state at `place` has no fork on `letter`: the state at `earlier` has the same row
+/// but no fork on the letter, and the pairs of the two places with themselves are in the same part.
 fn is_again(
     g: &Multigraph,
     kernel: &Kernel,
@@ -124,7 +127,8 @@ fn is_again(
     own == other && row == g.edges(kernel.states[earlier as usize], letter)
 }
 
-/// Two such moves of the state at a place on any letter. A row that was searched in vain at another place isn't searched again.
+/// Returns a fork of the state at `place` on any letter. A row in which no fork was found for another place isn't searched
+/// again.
 fn fork_from(
     g: &Multigraph,
     kernel: &Kernel,
@@ -157,7 +161,7 @@ fn fork_from(
     None
 }
 
-/// For each letter that no place was searched.
+/// Returns, for each letter, that no place has been searched.
 fn none_searched(
     alloc: Global,
     g: &Multigraph,
@@ -170,10 +174,10 @@ fn none_searched(
     Ok(searched)
 }
 
-/// Two such moves of any state of the kernel.
+/// Returns a fork of any state of the kernel.
 ///
 /// # Errors
-/// [`OutOfMemory`] where there was no memory for the search.
+/// [`OutOfMemory`] if there is not enough memory for the search.
 pub fn fork_among(
     alloc: Global,
     g: &Multigraph,

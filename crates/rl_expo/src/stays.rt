@@ -1,5 +1,5 @@
-//! A quick test on the components of a graph, before the product of two copies of one is searched: a twin begins with two moves
-//! of a state on one letter that both stay in the state's component.
+//! A quick test of the components of a graph, before the product of two copies of a component is searched: a twin begins with
+//! two moves of a state on one letter that both stay in the state's component.
 
 ghost use Rattle.std.specs.Prelude.{◌≡◌, ℕ, ◌<◌, length, false, IfOk};
 ghost use Rattle.rl_graph.specs.Graph.{edges_of};
@@ -11,7 +11,7 @@ use rl_graph::{Components, Multigraph};
 use rl_lists::OutOfMemory;
 use std::alloc::Global;
 
-/// Whether two moves of a state on a letter, parallel ones among them, stay in the state's component.
+/// Whether at least two moves of a state on `letter` stay in the state's component. Parallel moves count as different moves.
 fn stays_twice(g: &Multigraph, components: &Components, state: u32, letter: u32) -> bool
     requires state_in { state < g.now.states }
     requires letter_in { letter < g.now.letters }
@@ -32,7 +32,7 @@ fn stays_twice(g: &Multigraph, components: &Components, state: u32, letter: u32)
     false
 }
 
-/// Whether a state has such moves on any letter. A state that lies on no cycle has none, and its moves aren't looked at.
+/// Whether a state has two such moves on any letter. A state that isn't on a cycle has none, so its moves aren't looked at.
 fn stays_twice_from(g: &Multigraph, components: &Components, state: u32) -> bool
     requires parts { IsParts (edges_of g.now) g.now.states components.now }
     requires state_in { state < g.now.states }
@@ -50,10 +50,10 @@ fn stays_twice_from(g: &Multigraph, components: &Components, state: u32) -> bool
     false
 }
 
-/// For each component whether one of its states has such moves.
+/// Returns, for each component, whether one of its states has two moves on one letter that stay in the component.
 ///
 /// # Errors
-/// [`OutOfMemory`] where there was no memory for the marks.
+/// [`OutOfMemory`] if there is not enough memory for the marks.
 pub fn forking(
     alloc: Global,
     g: &Multigraph,

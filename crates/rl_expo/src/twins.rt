@@ -1,4 +1,4 @@
-//! Twins, by the parts of the products of two copies of the components of a graph.
+//! Twins, found from the parts of the products of the components of a graph with themselves.
 
 ghost use Rattle.std.specs.Prelude.{◌≡◌, ℕ, ◌+◌, ◌*◌, ◌<◌, List, [], length, All, IfOk, OnOk, IfSome, IfNone};
 ghost use Rattle.rl_graph.specs.Graph.{edges_of};
@@ -16,22 +16,22 @@ use rl_graph::{Components, FoundPath, Multigraph, Twice, path_between};
 use rl_lists::{Items, OutOfMemory, Path, Word};
 use std::alloc::Global;
 
-/// A twin: a state, a word, and two different paths from the state back to it along the word, each as the numbers of
-/// its moves. Parallel moves are different moves.
+/// A twin: a state, a word, and two different paths from the state back to itself along the word, each given by the numbers
+/// of its moves. Parallel moves are different moves.
 #[derive(Drop)]
 pub struct TwinPaths {
     /// The state.
     pub state: u32,
     /// The letters of the word.
     pub word: Word,
-    /// One path.
+    /// The first path.
     pub first: Path,
-    /// Another path.
+    /// The second path.
     pub second: Path,
 }
 
 impl TwinPaths {
-    /// Two paths of no move yet.
+    /// Creates two paths without moves.
     fn new(alloc: Global, state: u32) -> TwinPaths
         ensures state { result.state ≡ state }
         ensures word { result.word ≡ [] }
@@ -46,7 +46,7 @@ impl TwinPaths {
         }
     }
 
-    /// Appends a letter and a move of each path.
+    /// Appends a letter, and a move of each path.
     fn push(&mut self, letter: u32, first: u32, second: u32) -> Result<(), OutOfMemory>
         ensures { OnOk result (IsLonger letter first second self.old self.new) }
     {
@@ -56,7 +56,7 @@ impl TwinPaths {
     }
 }
 
-/// A move of the product as a move of each copy: the two numbers and the two targets.
+/// A move of the product, split into a move of each copy: the two move numbers and the two targets.
 #[derive(Clone, Copy)]
 struct Sides {
     first: u32,
@@ -65,7 +65,7 @@ struct Sides {
     other: u32,
 }
 
-/// The two moves that a move of the product from the pair of `one` and `other` is made of.
+/// Splits the move `number` of the pair of `one` and `other` into the moves of the two copies.
 fn split_move(g: &Multigraph, one: u32, other: u32, letter: u32, number: u64) -> Sides
     requires one_in { one < g.now.states }
     requires other_in { other < g.now.states }
@@ -87,8 +87,8 @@ fn split_move(g: &Multigraph, one: u32, other: u32, letter: u32, number: u64) ->
     }
 }
 
-/// The twin that a path of the product makes which leads from the pair of the targets of two moves back: each of the
-/// two moves, and then one side of the path.
+/// Builds a twin from two moves and a path of the product that leads from the pair of their targets back to the pair of the
+/// state with itself: each side of the twin is one of the moves, followed by one side of the path.
 fn twin_along(
     alloc: Global,
     g: &Multigraph,
@@ -119,7 +119,7 @@ fn twin_along(
     Ok(twin)
 }
 
-/// The twin of two moves from whose targets one word leads back.
+/// Builds a twin from two moves such that one word leads back from both targets.
 fn twin_of(alloc: Global, g: &Multigraph, fork: Fork) -> Result<Option<TwinPaths>, OutOfMemory>
     requires moves { AreMoves g.now fork }
     requires back { LeadsBack g.now fork }
@@ -141,13 +141,13 @@ fn twin_of(alloc: Global, g: &Multigraph, fork: Fork) -> Result<Option<TwinPaths
     }
 }
 
-/// A twin of a graph, found over its strongly connected components; `None` exactly where the graph has none.
+/// Returns a twin of a graph, found from its strongly connected components, or `None` if and only if the graph has none.
 ///
-/// The components must be those of the graph, as [`Multigraph::components`] makes them: so a caller that needs them for more than
-/// one search makes them once. The search is that of [`twin`].
+/// The components must be the ones that [`Multigraph::components`] returns for this graph. A caller that needs them for
+/// several searches can thus compute them once. The search is the same as in [`twin`].
 ///
 /// # Errors
-/// [`OutOfMemory`] where there was no memory for the search or the twin.
+/// [`OutOfMemory`] if there is not enough memory for the search or the twin.
 pub fn twin_over(
     alloc: Global,
     g: &Multigraph,
@@ -167,16 +167,17 @@ pub fn twin_over(
     }
 }
 
-/// A twin of a graph; `None` exactly where the graph has none.
+/// Returns a twin of a graph, or `None` if and only if the graph has none.
 ///
-/// A twin lies in one component. For each component with a state that has two moves on one letter that stay there, it takes the
-/// parts of the product of two copies of the component, and two moves of a state on one letter whose targets lie, as a pair, in
-/// the part of the state's pair with itself (the test for EDA of Weber and Seidl 1991). Components with many moves on one letter
-/// are first searched for a twin whose two sides meet after two moves. The time and the memory are linear in the graph and in
-/// these products; a twin that was found takes a search over pairs of states of the whole graph.
+/// A twin lies within one component. For each component in which some state has two moves on one letter that stay in the
+/// component, the search finds the parts of the product of two copies of the component. It then looks for two moves of a
+/// state on one letter whose targets, as a pair, are in the same part as the pair of the state with itself (the test for EDA
+/// of Weber and Seidl 1991). States with many moves on one letter are first searched for a twin whose sides meet after two
+/// moves. The time and the memory are linear in the size of the graph and of these products. Spelling out the twin takes
+/// another search, over pairs of states of the whole graph.
 ///
 /// # Errors
-/// [`OutOfMemory`] where there was no memory for the search or the twin.
+/// [`OutOfMemory`] if there is not enough memory for the search or the twin.
 pub fn twin(alloc: Global, g: &Multigraph) -> Result<Option<TwinPaths>, OutOfMemory>
     ensures twin { IfOk result (λ o. IfSome o (λ t. IsTwin (edges_of g.now) t.state t.word t.first t.second)) }
     ensures state { IfOk result (λ o. IfSome o (λ t. t.state < g.now.states)) }

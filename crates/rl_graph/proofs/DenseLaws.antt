@@ -8,7 +8,7 @@ use Rattle.rl_graph.specs.internal.Dense.{AreUsed, rank_in, AreRanks, AreRanked,
 use Rattle.rl_graph.proofs.PathLaws.{one-le}
 use Rattle.rl_graph.proofs.SearchLaws.{total-set}
 
--- ranks
+-- Ranks
 
 rank-suc : (marks : List Bool) (c : ℕ) → c < length marks → rank_in marks (suc c) ≡ rank_in marks c + one (get_or marks c false)
 rank-suc [] c lt = absurd (omega arith)
@@ -34,20 +34,20 @@ rank-length marks zero = omega arith
 rank-length [] (suc c) = omega arith
 rank-length (b ∷ marks) (suc c) = omega (arith, one-le b, rank-length marks c)
 
--- a mark that is set is in range
+-- A mark that is set is in range.
 set-in : (marks : List Bool) (c : ℕ) → get_or marks c false ≡ true → c < length marks
 set-in [] c e = absurd (true≢false (sym e))
 set-in (b ∷ marks) zero e = omega arith
 set-in (b ∷ marks) (suc c) e = omega (arith, set-in marks c e)
 
--- behind a mark that is set the ranks are greater
+-- Behind a mark that is set the ranks are greater.
 rank-apart : (marks : List Bool) (c d : ℕ) → get_or marks c false ≡ true → c < d → rank_in marks c < rank_in marks d
 rank-apart marks c d e lt = omega (arith, rank-more marks c (set-in marks c e), ap one e, rank-grows marks (c + 1) d (omega arith))
 
 rank-below : (marks : List Bool) (c : ℕ) → get_or marks c false ≡ true → rank_in marks c < total one marks
 rank-below marks c e = omega (arith, rank-more marks c (set-in marks c e), ap one e, rank-all marks (c + 1))
 
--- marks
+-- Marks
 
 pub used-none : (p : PartTable) (size : ℕ) → AreUsed p size 0 (replicate size false)
 used-none p size = record { size_is = length-replicate size false; used = λ q lt. absurd (omega arith); few = omega (arith, none size) }
@@ -71,7 +71,7 @@ used-more p size end marks lt u = record {
     by q (inr n) (inl s) small = get_or-set_other marks (number_of p end) (number_of p q) true false n ∙ u.used q s
     by q (inr n) (inr s) small = let e : q ≡ end = omega arith in absurd (n (ap (number_of p) e))
 
--- one more in a list of values by place
+-- One more in a list of values by place
 
 pub pushed : {A : Type 0} (f : ℕ → A) (d : A) (l : List A) (end : ℕ) (x : A) → length l ≡ end → ((i : ℕ) → i < end → get_or l i d ≡ f i) → x ≡ f end
     → (i : ℕ) → i < end + 1 → get_or (l ++ x ∷ []) i d ≡ f i
@@ -81,7 +81,7 @@ pushed {A = A} f d l end x size h e i lt = by (cases_lt i end)
     by (inl s) = get_or_append_left l (x ∷ []) d i (omega (arith, size)) ∙ h i s
     by (inr s) = let k : i ≡ end = omega arith in get_or_push l x d i (size ∙ sym k) ∙ (e ∙ ap f (sym k))
 
--- the parts that are made dense
+-- The parts that are made dense
 
 pub dense-table : (p : PartTable) (size end : ℕ) (marks : List Bool) (ranks : List ℕ) (d : PartTable) → ((q : ℕ) → q < end → number_of p q < size)
     → AreUsed p size end marks → AreRanks marks (length marks) ranks → AreRanked p ranks end d.numbers → AreCut p end d.cycles → IsDense p end d
@@ -96,7 +96,7 @@ dense-table p size end marks ranks d below u r n c = record {
     is : (q : ℕ) → q < end → number_of d q ≡ rank_in marks (number_of p q)
     is q lt = n.rank q lt ∙ r.rank (number_of p q) (omega (arith, below q lt, u.size_is))
 
--- the first states of a graph's parts are the parts of a graph that reaches the same there
+-- The first states of a graph's parts are the parts of a graph that reaches the same there.
 pub dense-parts : (a b : ℕ → ℕ → List ℕ) (size n : ℕ) (p d : PartTable) → n ≤ size
     → ((x y : ℕ) → x < n → y < n → Reaches a x y ↔ Reaches b x y) → ((x : ℕ) → x < n → OnCycle a x ↔ OnCycle b x)
     → IsParts a size p → IsDense p n d → IsParts b n d

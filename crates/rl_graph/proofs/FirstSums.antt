@@ -1,11 +1,11 @@
--- Laws of the sum of the first so many values of a function, and of paths along a word as such a sum over its places.
+-- Laws of the sum of the first `n` values of a function, and of paths along a word as such a sum over its places.
 use Rattle.std.proofs.Common.{◌≡◌, ◌∙◌, ℕ, zero, suc, ◌+◌, ◌*◌, ◌<◌, ◌≤◌, ◌⊎◌, inl, inr, List, [], ◌∷◌, length, take, drop, eqb, eq-eqb, refl, sym, ap, subst, arith, suc-mul}
 use Rattle.std.proofs.lemmas.Bool.{cases_lt}
 use Rattle.std.proofs.Math.Nat.{one-mul}
 use Rattle.rl_graph.specs.Paths.{Has, total, one, paths, along}
 use Rattle.rl_graph.proofs.Sums.{total-mono, total-times}
 
--- the sum of the first so many values of `f`
+-- The sum of the first `n` values of `f`.
 abbrev pub upto : (ℕ → ℕ) → ℕ → ℕ
 upto f zero = 0
 upto f (suc n) = upto f n + f n
@@ -30,7 +30,7 @@ pub upto-bound : (f : ℕ → ℕ) (c n : ℕ) → ((i : ℕ) → i < n → f i 
 upto-bound f c zero h = omega arith
 upto-bound f c (suc n) h = omega (arith, h n (omega arith), upto-bound f c n (λ i lt. h i (omega arith)), suc-mul n c)
 
--- one of the values is within the sum
+-- One of the values is within the sum.
 pub upto-has : (f : ℕ → ℕ) (i n : ℕ) → i < n → f i ≤ upto f n
 upto-has f i zero lt = absurd (omega arith)
 upto-has f i (suc n) lt = by (cases_lt i n) (upto-has f i n)
@@ -39,7 +39,7 @@ upto-has f i (suc n) lt = by (cases_lt i n) (upto-has f i n)
     by (inl h) rest = omega (arith, rest h)
     by (inr h) rest = let e : i ≡ n = omega arith in subst (λ (j : ℕ). f j ≤ upto f (suc n)) (sym e) (omega arith)
 
--- a sum that isn't 0 has a value that isn't 0
+-- A sum that isn't 0 has a value that isn't 0.
 pub upto-there : (f : ℕ → ℕ) (n : ℕ) → 1 ≤ upto f n → (i : ℕ) × (i < n) × (1 ≤ f i)
 upto-there f zero h = absurd (omega arith)
 upto-there f (suc n) h = by (cases_lt 0 (f n)) (upto-there f n)
@@ -48,7 +48,7 @@ upto-there f (suc n) h = by (cases_lt 0 (f n)) (upto-there f n)
     by (inl some) rest = (n, omega arith, some)
     by (inr none) rest = let r = rest (omega arith) in (r.0, omega (arith, r.1), r.2)
 
--- the sum of smaller values, one of them less
+-- The sum of smaller values, one of them less.
 pub upto-less : (f g : ℕ → ℕ) (i n : ℕ) → ((j : ℕ) → j < n → f j ≤ g j) → i < n → f i < g i → upto f n < upto g n
 upto-less f g i zero h lt less = absurd (omega arith)
 upto-less f g i (suc n) h lt less = by (cases_lt i n) (upto-less f g i n (λ j k. h j (omega arith)))
@@ -60,7 +60,7 @@ upto-less f g i (suc n) h lt less = by (cases_lt i n) (upto-less f g i n (λ j k
         let last : f n < g n = subst (λ (j : ℕ). f j < g j) e less in
         omega (arith, last, upto-mono f g n (λ j k. h j (omega arith)))
 
--- two sums change places
+-- Two sums change places.
 pub total-upto : (f : ℕ → ℕ → ℕ) (l : List ℕ) (n : ℕ) → total (λ m. upto (f m) n) l ≡ upto (λ i. total (λ m. f m i) l) n
 total-upto f [] n = sym (upto-zero n)
 total-upto f (m ∷ l) n = omega (arith, total-upto f l n, upto-add (f m) (λ i. total (λ m. f m i) l) n)
@@ -69,7 +69,7 @@ pub total-bound : (f : ℕ → ℕ) (c : ℕ) (l : List ℕ) → ((x : ℕ) → 
 total-bound f c [] h = omega arith
 total-bound f c (x ∷ l) h = omega (arith, h x (inl refl), total-bound f c l (λ y i. h y (inr i)), suc-mul (length l) c)
 
--- the sum over the places of the paths, at one time, state by state
+-- The sum over the places of the paths, at one time, state by state.
 abbrev pub shares : (ℕ → ℕ → List ℕ) → (ℕ → List ℕ → ℕ) → ℕ → ℕ → List ℕ → ℕ → ℕ
 shares next f n s w i = upto (λ a. paths next s a (take i w) * f a (drop i w)) n
 

@@ -19,7 +19,7 @@ edges-letter g q l h = cond-false (ltb q g.states && ltb l g.letters) (get_or g.
 pub bounded-whole : (g : Graph) → IsWhole g → IsBounded (edges_of g) g.states g.letters
 bounded-whole g w = record { targets = w.targets; letters = edges-letter g }
 
--- each state and letter in range, or not
+-- Each state and letter in range, or not.
 abbrev InOrOut : Graph → ℕ → ℕ → Type 0
 InOrOut g q l = ((q < g.states) × (l < g.letters)) ⊎ (edges_of g q l ≡ [])
 
@@ -31,7 +31,7 @@ in_or_out g q l = by (cases_lt q g.states) (cases_lt l g.letters)
     by (inl h) (inr k) = inr (edges-letter g q l k)
     by (inl h) (inl k) = inl (h, k)
 
--- a graph without moves
+-- A graph without moves
 
 pub bare : (s k : ℕ) → IsBare (record { states = s; letters = k; rows = replicate (s * k) [] }) s k
 bare s k = record { all_states = refl; all_letters = refl; no_move = λ q l. none q l (in_or_out (record { states = s; letters = k; rows = replicate (s * k) [] }) q l) }
@@ -50,7 +50,7 @@ whole-bare g s k b hs hk e =
       short = λ q l. rw b.no_move (omega arith);
     }
 
--- a graph of given rows
+-- A graph of given rows
 
 all-has : {A : Type 0} (P : A → Type 0) (x : A) (l : List A) → All P l → Has x l → P x
 all-has P x l all h = let r = at-has x l h in subst P (at-get_or l r.0 x x r.1) (all r.0 x (at-short l r.0 x r.1))
@@ -76,7 +76,7 @@ whole-rows g hs hk e targets short =
     is_short q l (inr none) = rw none (omega arith)
     is_short q l (inl h) = subst (λ (r : List ℕ). length r < 2 ^ 32) (sym (edges-in g q l h.0 h.1)) (short (q * g.letters + l) [] (place q l h.0 h.1))
 
--- a row changed
+-- A row changed
 
 abbrev pub with_row : Graph → ℕ → ℕ → List ℕ → Graph
 with_row g from letter row = record { states = g.states; letters = g.letters; rows = set g.rows (from * g.letters + letter) row }
@@ -126,7 +126,7 @@ whole-row g from letter row w h k targets short =
     is_short q l (inl e) (inr n) = rw (row-elsewhere g from letter row k q l (inr n)) (w.short q l)
     is_short q l (inl e) (inl f) = rw (ap₂ (edges_of (with_row g from letter row)) e f ∙ row-here g from letter row w.size h k) short
 
--- one more move
+-- One more move
 
 pub added : (g : Graph) (from letter to : ℕ) → IsWhole g → from < g.states → letter < g.letters → IsAdded g (with_row g from letter (edges_of g from letter ++ to ∷ [])) from letter to
 added g from letter to w h k =
@@ -145,12 +145,12 @@ whole-added g from letter to w h k t room =
     by m (inl i) = w.targets from letter m i
     by m (inr e) = rw e t
 
--- what rows that were pushed to make of the graph
+-- What rows that were pushed to make of the graph
 
 abbrev pub with_rows : Graph → List (List ℕ) → Graph
 with_rows g rows = record { states = g.states; letters = g.letters; rows = rows }
 
--- the rows with one more number at a place
+-- The rows with one more number at a place.
 abbrev pub pushed_at : List (List ℕ) → ℕ → ℕ → List (List ℕ)
 pushed_at rows place to = set rows place (get_or rows place [] ++ to ∷ [])
 

@@ -20,7 +20,7 @@ Has-flat_map f x y [] h i = absurd h
 Has-flat_map f x y (a ∷ l) (inl e) i = Has-left y (f a) (flat_map f l) (subst (λ z. Has y (f z)) e i)
 Has-flat_map f x y (a ∷ l) (inr h) i = Has-right y (f a) (flat_map f l) (Has-flat_map f x y l h i)
 
--- a list of two, by a test
+-- A list of two, by a test
 
 of-two : (b : Bool) (m : ℕ) (l k : List ℕ) → Has m (cond b l k) → ((b ≡ true) × Has m l) ⊎ ((b ≡ false) × Has m k)
 of-two true m l k h = inl (refl, h)
@@ -33,24 +33,24 @@ some-length x (a ∷ l) h = ap not (ne_eqb (length (a ∷ l)) 0 (λ e. absurd (o
 less-self : (n r : ℕ) → n + r - n ≡ r
 less-self n r = omega arith
 
--- a move of a pair by half steps goes to the half node of a row of the first state with a new state of the second one
+-- A move of a pair by half steps goes to the half node of a row of the first state with a new state of the second one.
 record IsHalf (next : ℕ → ℕ → List ℕ) (n : ℕ) (marks : List Bool) (number : ℕ → ℕ → ℕ) (x l h : ℕ) : Type 0 where
   second : ℕ
   has : Has second (next (x % n) l)
   mark : get_or marks x false ≡ true
   is : h ≡ (n + number (x / n) l) * n + second
 
--- a half node moves to the pair of a target of its row with its state
+-- A half node moves to the pair of a target of its row with its state.
 record IsBack (n : ℕ) (row : ℕ → List ℕ) (z m : ℕ) : Type 0 where
   first : ℕ
   has : Has first (row (z / n - n))
   is : m ≡ first * n + z % n
 
--- where a half node leads: each target of the row, with the state
+-- What a half node leads to: each target of the row, with the state.
 abbrev OnWay : (n : ℕ) (row : ℕ → List ℕ) → (ℕ → Type 0) → ℕ → Type 0
 OnWay n row Reached z = (z / n < n → Reached z) × (n ≤ z / n → (t : ℕ) → Has t (row (z / n - n)) → Reached (t * n + z % n))
 
--- a path of at least one move
+-- A path of at least one move.
 abbrev OneOrMore : (ℕ → ℕ → List ℕ) → ℕ → ℕ → Type 0
 OneOrMore next x y = (l : ℕ) × (m : ℕ) × Has m (next x l) × Reaches next m y
 
@@ -76,14 +76,14 @@ module _ (next : ℕ → ℕ → List ℕ) (n k : ℕ) (marks : List Bool) (numb
           let c = has-map (λ u. (n + number (x / n) l) * n + u) h (next (x % n) l) b.1 in
           record { second = c.0; has = c.1; mark = (and_parts (get_or marks x false) (not (eqb (length (next (x / n) l)) 0)) b.0).0; is = c.2 }
 
-  -- the place of a half node: its row and its state
+  -- The place of a half node: its row and its state.
   half-first : (r u : ℕ) → u < n → ((n + r) * n + u) / n ≡ n + r
   half-first r u lt = div-mul-add (n + r) n u lt
 
   half-second : (r u : ℕ) → u < n → ((n + r) * n + u) % n ≡ u
   half-second r u lt = mod-mul-add (n + r) n u lt
 
-  -- a half node that a pair moves to leads to the targets of the pair's moves
+  -- A half node that a pair moves to leads to the targets of the pair's moves.
   from-pair : (Reached : ℕ → Type 0) (z l h : ℕ) → z / n < n → ((m : ℕ) → Has m (marked_moves next n marks z l) → Reached m)
       → Has h (half_moves next n marks number row z l) → OnWay n row Reached h
   from-pair Reached z l h lt reached i =
@@ -113,7 +113,7 @@ module _ (next : ℕ → ℕ → List ℕ) (n k : ℕ) (marks : List Bool) (numb
           let c = has-map (λ t. t * n + z % n) m (row (z / n - n)) b.1 in
           record { first = c.0; has = c.1; is = c.2 }
 
-  -- a half node moves to pairs on the way
+  -- A half node moves to pairs on the way.
   from-half : (Reached : ℕ → Type 0) (z l m : ℕ) → n ≤ z / n → OnWay n row Reached z → Has m (half_moves next n marks number row z l) → OnWay n row Reached m
   from-half Reached z l m le way i =
       let b = to-pair z l m le i in
@@ -131,7 +131,7 @@ module _ (next : ℕ → ℕ → List ℕ) (n k : ℕ) (marks : List Bool) (numb
       by (inl lt) = from-pair Reached z l m lt (λ y has. closed z l y (way.0 lt) has) i
       by (inr le) = from-half Reached z l m le way i
 
-  -- by half steps no more is reached
+  -- By half steps no more is reached
 
   pub half-reaches : (x y : ℕ) (w : List ℕ) → y / n < n → 1 ≤ paths (half_moves next n marks number row) x y w → x / n < n → Reaches (marked_moves next n marks) x y
   half-reaches x y w hy h hx =
@@ -150,7 +150,7 @@ module _ (next : ℕ → ℕ → List ℕ) (n k : ℕ) (marks : List Bool) (numb
       f.1 x f.3.0 (from-pair (OneOrMore (marked_moves next n marks) x) x f.0 f.1 lt (λ m has. (f.0, m, has, Reaches-self (marked_moves next n marks) m)) f.2) f.3.1).0 lt in
       OnCycle-move (marked_moves next n marks) x more.0 more.1 more.2 more.3
 
-  -- and no less
+  -- And no less
 
   two-steps : (x l m : ℕ) → Has m (marked_moves next n marks x l) → (h : ℕ) × Has h (half_moves next n marks number row x l) × Has m (half_moves next n marks number row h 0)
   two-steps x l m i =
@@ -191,7 +191,7 @@ module _ (next : ℕ → ℕ → List ℕ) (n k : ℕ) (marks : List Bool) (numb
       OnCycle-move (half_moves next n marks number row) x f.0 t.0 t.1
       (Reaches-trans (half_moves next n marks number row) t.0 f.1 x (Reaches-move (half_moves next n marks number row) t.0 f.1 0 t.2) (marked-reaches f.1 x f.3.0 f.3.1))
 
-  -- no node has a move to itself
+  -- No node has a move to itself.
   pub no-loop : (x l : ℕ) → Has x (half_moves next n marks number row x l) → ⊥
   no-loop x l i = by (cases_lt (x / n) n)
     where
@@ -204,7 +204,7 @@ module _ (next : ℕ → ℕ → List ℕ) (n k : ℕ) (marks : List Bool) (numb
           let lt = rows_in (x / n - n) b.first b.has in
           omega (arith, ap (λ z. z / n) b.is, div-mul-add b.first n (x % n) (mod_below x n (omega (arith, lt))), le, lt)
 
-  -- the moves stay among the half nodes of the rows
+  -- The moves stay among the half nodes of the rows.
   pub half-bounded : (size : ℕ) → 0 < k → ((q l : ℕ) → k ≤ l → next q l ≡ []) → ((p l : ℕ) → p < n → l < k → number p l < size) → IsBounded (half_moves next n marks number row) ((n + size) * n) k
   half-bounded size some letters within = record { targets = λ x l m i. at x l m i (cases_lt (x / n) n); letters = none }
     where
@@ -227,7 +227,7 @@ module _ (next : ℕ → ℕ → List ℕ) (n k : ℕ) (marks : List Bool) (numb
           (λ _. ap (map (λ u. (n + number (x / n) l) * n + u)) (letters (x % n) l le)) (λ _. refl))
           (λ _. cond-false (eqb l 0) (map (λ t. t * n + x % n) (row (x / n - n))) [] (ne_eqb l 0 (λ e. absurd (omega (arith, e)))))
 
--- the rows of a graph
+-- The rows of a graph
 
 pub rows-in : (g : Graph) → IsWhole g → (i t : ℕ) → Has t (row_at g i) → t < g.states
 rows-in g whole i t h = by (cases_lt i (length g.rows))
@@ -298,7 +298,7 @@ module _ (g : Graph) (numbers owners : List ℕ) (whole : IsWhole g) (some : 0 <
             whole.targets (move-in g) number-row (λ r. rows-in g whole (get_or owners r 0)) x,
       )
 
--- the moves of a node by its kind
+-- The moves of a node by its kind
 
 pub half-of-row : (next : ℕ → ℕ → List ℕ) (n : ℕ) (marks : List Bool) (number : ℕ → ℕ → ℕ) (row : ℕ → List ℕ) (x l : ℕ) → n ≤ x / n
     → half_moves next n marks number row x l ≡ cond (eqb l 0) (map (λ t. t * n + x % n) (row (x / n - n))) []
@@ -312,7 +312,7 @@ half-of-pair next n marks number row x l lt =
     cond-true (is_pair n x) (cond (get_or marks x false && not (eqb (length (next (x / n) l)) 0)) (map (λ u. (n + number (x / n) l) * n + u) (next (x % n) l)) [])
     (cond (eqb l 0) (map (λ t. t * n + x % n) (row (x / n - n))) []) (lt-ltb (x / n) n lt)
 
--- what the program reads at a half node: the row of its number
+-- What the program reads at a half node: the row of its number
 
 pub row-in : (n k x : ℕ) → x < (n + k) * n → n ≤ x / n → x / n - n < k
 row-in zero k x lt le = absurd (omega arith)
@@ -331,7 +331,7 @@ row-target f row all true i e lt =
     let small : i < length row = omega (arith, ap length e, length-map row f) in (small, ap (λ (z : List ℕ). get_or z i 0) e ∙ get_or-map f row i 0 0 small)
 row-target f row all false i e lt = absurd (omega (arith, ap length e))
 
--- the move of a half node with a number, where `n` is the number of states as the program has it
+-- The move of a half node with a number; `n` is the number of states as the program has it.
 pub row-read : (g : Graph) (marks : List Bool) (numbers owners : List ℕ) (x l i n place : ℕ) (row : List ℕ) → n ≡ g.states → n ≤ x / n → x < (g.states + length owners) * g.states
     → place ≡ get_or owners (x / n - n) place → row ≡ row_at g place → i < length (halves g marks numbers owners x l)
     → (i < length row) × (get_or row i 0 * n + x % n ≡ get_or (halves g marks numbers owners x l) i 0)
@@ -345,7 +345,7 @@ row-read g marks numbers owners x l i n place row e le lt read r h =
 pub back-in : (n k t x : ℕ) → t < n → t * n + x % n < (n + k) * n
 back-in n k t x lt = omega (arith, mul-add-lt t n (x % n) n lt (mod_below x n (omega (arith, lt))))
 
--- and at a pair: the number of the row of its first state
+-- And at a pair: the number of the row of its first state
 
 pair-moved : (g : Graph) (marks : List Bool) (numbers owners : List ℕ) (x l i : ℕ) → x / g.states < g.states → i < length (halves g marks numbers owners x l)
     → (i < length (edges_of g (x % g.states) l)) × (get_or (halves g marks numbers owners x l) i 0 ≡ (g.states + get_or numbers (x / g.states * g.letters + l) 0) * g.states + get_or (edges_of g (x % g.states) l) i 0)
@@ -361,7 +361,7 @@ number-read g numbers owners named p l place r hp hl e f =
     let same : r ≡ get_or numbers (p * g.letters + l) 0 = get_or_read numbers place r (omega (arith, e, lt, named.size)) f 0 ∙ ap (λ z. get_or numbers z 0) e in
     (same, subst (λ (z : ℕ). z < length owners) (sym same) (named.owned (p * g.letters + l) lt).within)
 
--- the move of a pair with a number, where `n` and `k` are the numbers of states and letters as the program has them
+-- The move of a pair with a number; `n` and `k` are the numbers of states and letters as the program has them.
 pub record IsPairMove (g : Graph) (owners all targets : List ℕ) (n r i : ℕ) : Type 0 where
   pub row : r < length owners
   pub number : i < length targets
@@ -392,7 +392,7 @@ pair-read g marks numbers owners x l i n k r targets whole named e f lt hl h rea
       inside = subst (λ (z : ℕ). (z + r) * z + get_or targets i 0 < (g.states + length owners) * g.states) (sym e) inside;
     }
 
--- one more place of a row
+-- One more place of a row
 
 pub numbered-more : (g : Graph) (end : ℕ) (numbers owners more : List ℕ) (number : ℕ) → AreMore owners more → AreNumbered g end numbers owners → IsOwned g more end number
     → AreNumbered g (end + 1) (numbers ++ number ∷ []) more

@@ -13,7 +13,7 @@ use Rattle.rl_graph.proofs.PathLaws.{nil-same, Reaches-self, Reaches-move, Reach
 use Rattle.rl_graph.proofs.GraphLaws.{edges-state, edges-letter, bounded-whole}
 use Rattle.rl_graph.proofs.ProductLaws.{bounded-pairs, pairs_of, some-width}
 
--- a list on a test
+-- A list on a test
 
 pub there-if : (b : Bool) (m : ℕ) (l : List ℕ) → Has m (cond b l []) → (b ≡ true) × Has m l
 there-if true m l h = (refl, h)
@@ -22,9 +22,9 @@ there-if false m l h = absurd h
 pub has-if : (b : Bool) (m : ℕ) (l : List ℕ) → b ≡ true → Has m l → Has m (cond b l [])
 has-if b m l e h = subst (λ (r : List ℕ). Has m r) (sym (cond-true b l [] e)) h
 
--- graphs with the same moves on other letters
+-- Graphs with the same moves on other letters
 
--- each move of the first graph is one of the second, on some letter
+-- Each move of the first graph is one of the second, on some letter.
 abbrev pub Covers : (ℕ → ℕ → List ℕ) → (ℕ → ℕ → List ℕ) → Type 0
 Covers a b = (q l m : ℕ) → Has m (a q l) → (k : ℕ) × Has m (b q k)
 
@@ -41,7 +41,7 @@ covers-cycle a b c q h =
     let k = c q t.0 t.1 t.2 in
     OnCycle-move b q k.0 t.1 k.1 (covers-reaches a b c t.1 q t.3.0 t.3.1)
 
--- they have the same parts
+-- They have the same parts.
 pub parts-covered : (a b : ℕ → ℕ → List ℕ) (n : ℕ) (p : PartTable) → Covers a b → Covers b a → IsParts a n p → IsParts b n p
 parts-covered a b n p to from h = record {
   size = h.size;
@@ -54,9 +54,9 @@ parts-covered a b n p to from h = record {
   on_cycle = λ q hq. (λ e. covers-cycle a b to q ((h.on_cycle q hq).0 e), λ c. (h.on_cycle q hq).1 (covers-cycle b a from q c));
 }
 
--- letters
+-- Letters
 
--- a move is one of a state of the graph, on one of its letters
+-- A move is one of a state of the graph, on one of its letters.
 pub move-in : (g : Graph) (q l m : ℕ) → Has m (edges_of g q l) → (q < g.states) × (l < g.letters)
 move-in g q l m h = (by (cases_lt q g.states), on (cases_lt l g.letters))
   where
@@ -101,9 +101,9 @@ letters-passed g end letters none o = record {
     all l lt has (inl a) = o.all l a has
     all l lt has (inr a) = let e : l ≡ end = omega arith in absurd (none (subst (HasMoves g) e has))
 
--- letters that repeat
+-- Letters that repeat
 
--- one more flag
+-- One more flag.
 pub repeats-more : (next : ℕ → ℕ → List ℕ) (letters : List ℕ) (repeats : List Bool) (q k : ℕ) (flag : Bool) → k < length letters → (flag ≡ true) ↔ IsRepeat next letters q k
     → AreRepeatsUpTo next (q * length letters + k) letters repeats → AreRepeatsUpTo next (q * length letters + k + 1) letters (repeats ++ flag ∷ [])
 repeats-more next letters repeats q k flag lt is so_far = record {
@@ -126,7 +126,7 @@ repeats-more next letters repeats q k flag lt is so_far = record {
         subst (λ (b : Bool). (b ≡ true) ↔ IsRepeat next letters p j) (sym e)
         (subst (λ (z : ℕ). (flag ≡ true) ↔ IsRepeat next letters z j) r (subst (λ (z : ℕ). (flag ≡ true) ↔ IsRepeat next letters q z) i is))
 
--- where both states of a pair repeat, its moves are those on the letter before
+-- If both states of a pair repeat, its moves are the moves on the letter before.
 both-before : (next : ℕ → ℕ → List ℕ) (n : ℕ) (letters : List ℕ) (repeats : List Bool) → AreRepeats next n letters repeats
     → (x k : ℕ) → x < n * n → k < length letters → both_repeat n (length letters) repeats x k ≡ true
     → (0 < k) × (pair_moves next n x (get_or letters k 0) ≡ pair_moves next n x (get_or letters (k - 1) 0))
@@ -140,9 +140,9 @@ both-before next n letters repeats rs x k inside lt both =
     let second = (rs.same (x % n) k lt (omega (arith, mul-add-lt (x % n) w k n q lt, mul_comm w n))).0 b.1 in
     (first.0, ap₂ (λ u v. pairs_of n v u) first.1 second.1)
 
--- moves of marked pairs on the letters of a list
+-- Moves of marked pairs on the letters of a list
 
--- the pair has a mark, the letter is in the list, and the pair isn't passed over there
+-- The pair has a mark, the letter is in the list, and the pair isn't skipped there.
 abbrev pub is_listed : ℕ → List Bool → List ℕ → List Bool → ℕ → ℕ → Bool
 is_listed n marks letters repeats x k = get_or marks x false && (ltb k (length letters) && not (both_repeat n (length letters) repeats x k))
 
@@ -170,7 +170,7 @@ listed-behind next n marks letters repeats x k le =
     cond-false (is_listed n marks letters repeats x k) (pair_moves next n x (get_or letters k 0)) []
     (and_right (get_or marks x false) (ltb k (length letters) && not (both_repeat n (length letters) repeats x k)) inner)
 
--- a pair with a move to itself has a mark, and so has each of its states a move to itself
+-- A pair with a move to itself has a mark, and so has each of its states a move to itself.
 pub listed-loop : (g : Graph) (marks : List Bool) (letters : List ℕ) (repeats : List Bool) (x k : ℕ) → IsWhole g → Has x (listed_moves (edges_of g) g.states marks letters repeats x k)
     → (get_or marks x false ≡ true) × Has (x / g.states) (edges_of g (x / g.states) (get_or letters k 0)) × Has (x % g.states) (edges_of g (x % g.states) (get_or letters k 0))
 listed-loop g marks letters repeats x k whole h =
@@ -192,7 +192,7 @@ listed-bounded g marks letters repeats whole = record {
   letters = λ x k le. listed-behind (edges_of g) g.states marks letters repeats x k le;
 }
 
--- a pair with a move is one of the first `n * n`
+-- A pair with a move is one of the first `n * n`.
 pub pair-in : (g : Graph) (x l m : ℕ) → Has m (pair_moves (edges_of g) g.states x l) → x < g.states * g.states
 pair-in g x l m h =
     let n = g.states in
@@ -206,7 +206,7 @@ pair-moving g x l m h =
     let a = has-flat_map (λ u. map (λ v. u * n + v) (edges_of g (x % n) l)) m (edges_of g (x / n) l) h in
     (x / n, a.0, a.1)
 
--- a move of a marked pair on a letter of the list is one that isn't passed over, on this letter or one before it
+-- A move of a marked pair on a letter of the list isn't skipped on this letter or on one before it.
 first-listed : (next : ℕ → ℕ → List ℕ) (n : ℕ) (marks : List Bool) (letters : List ℕ) (repeats : List Bool) → AreRepeats next n letters repeats
     → (x m : ℕ) → x < n * n → get_or marks x false ≡ true → (k : ℕ) → k < length letters → Has m (pair_moves next n x (get_or letters k 0))
     → (j : ℕ) × Has m (listed_moves next n marks letters repeats x j)
@@ -246,14 +246,14 @@ listed-marked g marks letters repeats x k m h =
     let mark = (and_parts (get_or marks x false) (ltb k (length letters) && not (both_repeat n (length letters) repeats x k)) a.0).0 in
     (l, has-if (get_or marks x false) m (pair_moves (edges_of g) n x l) mark a.1)
 
--- the parts by places of letters are those of the moves of the marked pairs
+-- The parts by places of letters are the parts of the moves of the marked pairs.
 pub listed-parts : (g : Graph) (marks : List Bool) (letters : List ℕ) (repeats : List Bool) (p : PartTable) → AreLetters g letters → AreRepeats (edges_of g) g.states letters repeats
     → IsParts (listed_moves (edges_of g) g.states marks letters repeats) (g.states * g.states) p → IsParts (marked_moves (edges_of g) g.states marks) (g.states * g.states) p
 listed-parts g marks letters repeats p ls rs h =
     parts-covered (listed_moves (edges_of g) g.states marks letters repeats) (marked_moves (edges_of g) g.states marks) (g.states * g.states) p
     (listed-marked g marks letters repeats) (marked-listed g marks letters repeats ls rs) h
 
--- marks that agree with a test on the pairs: the parts are those of the moves of the pairs that pass it
+-- If the marks agree with a test on the pairs, the parts are the parts of the moves of the pairs for which the test is true.
 pub marked-parts : (g : Graph) (marks : List Bool) (test : ℕ → Bool) (p : PartTable) → ((x : ℕ) → x < g.states * g.states → get_or marks x false ≡ test x)
     → IsParts (marked_moves (edges_of g) g.states marks) (g.states * g.states) p → IsParts (λ x l. cond (test x) (pair_moves (edges_of g) g.states x l) []) (g.states * g.states) p
 marked-parts g marks test p same h =

@@ -13,7 +13,7 @@ use Rattle.rl_graph.proofs.Sums.{total-there, at-has, at-short, at-get_or, Has-g
 use Rattle.rl_graph.proofs.PathLaws.{nil-same, Reaches-move, Reaches-trans, OnCycle-move, OnCycle-first}
 use Rattle.rl_graph.proofs.SearchEnds.{none-open, done-order, done-same_part}
 
--- moves to a state with the same number
+-- Moves to a state with the same number
 
 pub inner-there : (next : ℕ → ℕ → List ℕ) (numbers : List ℕ) (q l i x : ℕ) → i < length (next q l) → x ≡ get_or (next q l) i 0 → get_or numbers x 0 ≡ get_or numbers q 0 → HasInnerOn next numbers q l
 inner-there next numbers q l i x h e same = (x, subst (λ (z : ℕ). Has z (next q l)) (sym e) (Has-get_or (next q l) i 0 h), same)
@@ -23,7 +23,7 @@ inner-none next numbers q l none m =
     let i = at-has m.0 (next q l) m.1 in
     none i.0 (at-short (next q l) i.0 m.0 i.1) (ap (λ z. get_or numbers z 0) (at-get_or (next q l) i.0 m.0 0 i.1) ∙ m.2)
 
--- a state that has no move on the letters from `end` up to the last one has none from `end` on
+-- A state that has no move on the letters from `end` up to the last one has none from `end` on.
 pub no-more : (next : ℕ → ℕ → List ℕ) (n w end q : ℕ) → IsBounded next n w → ((l : ℕ) → end ≤ l → l < w → next q l ≡ []) → (l : ℕ) → end ≤ l → next q l ≡ []
 no-more next n w end q b none l le = by (cases_lt l w)
   where
@@ -38,7 +38,7 @@ inner-letters next end numbers q idle none m = by (cases_lt m.0 end)
     by (inl h) = none m.0 h m.1
     by (inr h) = subst (Has m.1.0) (idle m.0 h) m.1.1
 
--- one more mark
+-- One more mark.
 pub marks-more : (P : ℕ → Type 0) (marks : List Bool) (n : ℕ) (b : Bool) → length marks ≡ n → ((q : ℕ) → q < n → IsTrue (get_or marks q false) ↔ P q) → (IsTrue b ↔ P n) → (q : ℕ) → q < n + 1 → IsTrue (get_or (marks ++ b ∷ []) q false) ↔ P q
 marks-more P marks n b e old here q h = by (cases_lt q n)
   where
@@ -48,13 +48,13 @@ marks-more P marks n b e old here q h = by (cases_lt q n)
         let a : q ≡ n = omega arith in
         subst (λ (z : Bool). IsTrue z ↔ P q) (sym (get_or_push marks b false q (omega arith))) (subst (λ (z : ℕ). IsTrue b ↔ P z) (sym a) here)
 
--- there is a mark for each number, and those that one of the first `n` states has are marked
+-- There is a mark for each number, and exactly the numbers of the first `n` states are marked.
 pub record AreMet (numbers : List ℕ) (n : ℕ) (marks : List Bool) : Type 0 where
   pub size : length marks ≡ length numbers
   pub met : (part : ℕ) → IsTrue (get_or marks part false) → (q : ℕ) × (q < n) × (get_or numbers q 0 ≡ part)
   pub all : (q : ℕ) → q < n → IsTrue (get_or marks (get_or numbers q 0) false)
 
--- one more state
+-- One more state
 
 set-stays : (marks : List Bool) (at k : ℕ) → at < length marks → IsTrue (get_or marks k false) → IsTrue (get_or (set marks at true) k false)
 set-stays marks at k lt h = by (cases_eq k at)
@@ -83,7 +83,7 @@ met-more numbers n marks below m = record {
         let e : q ≡ n = omega arith in
         ap (λ z. get_or (set marks (get_or numbers n 0) true) (get_or numbers z 0) false) e ∙ get_or-set_same marks (get_or numbers n 0) true false fits
 
--- the number of the next state was met before: it is marked as shared
+-- The number of the next state was met before: it is marked as shared.
 pub shared-more : (numbers : List ℕ) (n : ℕ) (met marks : List Bool) → n < length numbers → get_or numbers n 0 < length numbers → AreMet numbers n met → IsTrue (get_or met (get_or numbers n 0) false)
     → AreSharedUpTo numbers n marks → AreSharedUpTo numbers (n + 1) (set marks (get_or numbers n 0) true)
 shared-more numbers n met marks within below m was s = record {
@@ -107,7 +107,7 @@ shared-more numbers n met marks within below m was s = record {
         let e : r ≡ n = omega arith in
         ap (λ z. get_or (set marks (get_or numbers n 0) true) (get_or numbers z 0) false) e ∙ get_or-set_same marks (get_or numbers n 0) true false fits
 
--- it was not: no earlier state has it
+-- It was not: no earlier state has it.
 pub shared-kept : (numbers : List ℕ) (n : ℕ) (met marks : List Bool) → AreMet numbers n met → get_or met (get_or numbers n 0) false ≡ false → AreSharedUpTo numbers n marks → AreSharedUpTo numbers (n + 1) marks
 shared-kept numbers n met marks m new s = record {
   size = s.size;
@@ -122,7 +122,7 @@ shared-kept numbers n met marks m new s = record {
         let was = m.all q (omega (arith, e, before)) in
         absurd (true≢false (sym was ∙ (ap (λ z. get_or met z false) (same ∙ ap (λ z. get_or numbers z 0) e) ∙ new)))
 
--- the search over all roots
+-- The search over all roots
 
 pub all-done : (next : ℕ → ℕ → List ℕ) (n : ℕ) (s : Stand) → IsSearch next n s → s.frames ≡ [] → ((q : ℕ) → q < n → place_of s q ≡ Unseen → ⊥) → IsAllDone n s
 all-done next n s h e seen q lt = by (place_of s q) refl
@@ -145,7 +145,7 @@ numbered next n s numbers h all e =
     number : (q : ℕ) → (lt : q < n) → get_or numbers q 0 ≡ (all q lt).0
     number q lt = ap (λ (z : List ℕ). get_or z q 0) e ∙ (get_or-map part_in s.places q Unseen 0 (omega (arith, h.size)) ∙ ap part_in (all q lt).1)
 
--- the parts
+-- The parts
 
 inner-cycle : (next : ℕ → ℕ → List ℕ) (n w : ℕ) (numbers : List ℕ) → IsBounded next n w → IsNumbered next n numbers → (q : ℕ) → q < n → HasInner next numbers q ↔ OnCycle next q
 inner-cycle next n w numbers b h q lt = (forth, back)
@@ -158,12 +158,12 @@ inner-cycle next n w numbers b h q lt = (forth, back)
         let f = OnCycle-first next q c in
         (f.0, (f.1, f.2, (h.same f.1 q (b.targets q f.0 f.1 f.2) lt).1 (f.3, Reaches-move next q f.1 f.0 f.2)))
 
--- the first move of a path to another state
+-- The first move of a path to another state.
 first-move : (next : ℕ → ℕ → List ℕ) (q r : ℕ) → Reaches next q r → q ≢ r → (l : ℕ) × (m : ℕ) × Has m (next q l) × Reaches next m r
 first-move next q r ([], h) ne = absurd (ne (nil-same next q r h))
 first-move next q r (l ∷ w, h) ne = let t = total-there (λ m. paths next m r w) (next q l) h in (l, t.0, t.1, (w, t.2))
 
--- a state whose number another one has too lies on a cycle with that one
+-- A state whose number another one has too lies on a cycle with that one.
 pub shared-inner : (next : ℕ → ℕ → List ℕ) (n w : ℕ) (numbers : List ℕ) (q : ℕ) → IsBounded next n w → IsNumbered next n numbers → q < n → IsShared numbers (get_or numbers q 0) → HasInner next numbers q
 shared-inner next n w numbers q b h lt s = by (cases_eq q s.first)
   where
@@ -177,7 +177,7 @@ shared-inner next n w numbers q b h lt s = by (cases_eq q s.first)
     by (inl e) = from s.second (omega (arith, s.within, h.size)) (λ i. omega (arith, s.before, e, i)) s.second_is
     by (inr ne) = from s.first (omega (arith, s.before, s.within, h.size)) ne s.first_is
 
--- a state alone in its part, without a move to itself, has no move in its part
+-- A state that is the only one of its part, without a move to itself, has no moves within its part.
 pub lone-none : (next : ℕ → ℕ → List ℕ) (n w : ℕ) (numbers : List ℕ) (marks : List Bool) (q : ℕ) → IsBounded next n w → IsNumbered next n numbers → q < n → AreShared numbers marks
     → get_or marks (get_or numbers q 0) false ≡ false → ((l : ℕ) → Has q (next q l) → ⊥) → HasInner next numbers q → ⊥
 lone-none next n w numbers marks q b h lt s lone none x = by (cases_eq q x.1.0) (cases_lt q x.1.0)

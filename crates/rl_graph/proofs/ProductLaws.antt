@@ -7,7 +7,7 @@ use Rattle.rl_graph.specs.Paths.{total, one, Has, paths, IsBounded}
 use Rattle.rl_graph.specs.Product.{pair_moves}
 use Rattle.rl_graph.proofs.Sums.{at-short, at-get_or, get_or-at, total-map, total-flat_map, total-same, total-times, has-map, has-flat_map}
 
--- the product of two rows
+-- The product of two rows.
 abbrev pub pairs_of : ℕ → List ℕ → List ℕ → List ℕ
 pairs_of n b a = flat_map (λ x. map (λ y. x * n + y) b) a
 
@@ -33,13 +33,13 @@ pub some-width : (a b m : ℕ) → m < a * b → 0 < b
 some-width a zero m h = absurd (not-below-zero a m h)
 some-width a (suc b) m h = omega arith
 
--- the pair at a place: the place in the first row, and the place in the second
+-- The pair at a place: the place in the first row, and the place in the second.
 pub at-place : (n : ℕ) (a b : List ℕ) (m : ℕ) → m < length a * length b → get_or (pairs_of n b a) m 0 ≡ get_or a (m / length b) 0 * n + get_or b (m % length b) 0
 at-place n a b m h =
     let w = some-width (length a) (length b) m h in
     ap (λ i. get_or (pairs_of n b a) i 0) (sym (div-add-mod' m (length b))) ∙ at-pairs n a b (m / length b) (m % length b) (div_below m (length b) (length a) w h) (mod_below m (length b) w)
 
--- the same where the second row has one member
+-- The same if the second row has one member.
 pub at-place-one : (n : ℕ) (a b : List ℕ) (m : ℕ) → length b ≡ 1 → m < length a * length b → get_or (pairs_of n b a) m 0 ≡ get_or a m 0 * n + get_or b 0 0
 at-place-one n a b m one h =
     let e : m * length b + 0 ≡ m = ap (λ z. m * z + 0) one ∙ omega arith in
@@ -63,7 +63,7 @@ pair-nil n p q a b hq hb = by (cases_eq p a) (cases_eq q b)
     by (inl e) (inr f) = rw (eq-eqb p a e, ne_eqb q b f, ne_eqb (p * n + q) (a * n + b) (λ z. f (sym (mod-mul-add p n q hq) ∙ (ap (λ x. x % n) z ∙ mod-mul-add a n b hb)))) refl
     by (inr e) f = rw (ne_eqb p a e, ne_eqb (p * n + q) (a * n + b) (λ z. e (sym (div-mul-add p n q hq) ∙ (ap (λ x. x / n) z ∙ div-mul-add a n b hb)))) (sym (zero-mul (one (eqb q b))))
 
--- a path of the product is a path of each copy
+-- A path of the product is a path of each copy.
 pub pair_paths : (next : ℕ → ℕ → List ℕ) (n k : ℕ) → IsBounded next n k → (p q a b : ℕ) (w : List ℕ) → p < n → q < n → a < n → b < n → paths (pair_moves next n) (p * n + q) (a * n + b) w ≡ paths next p a w * paths next q b w
 pair_paths next n k h p q a b [] hp hq ha hb = pair-nil n p q a b hq hb
 pair_paths next n k h p q a b (l ∷ w) hp hq ha hb =
@@ -78,7 +78,7 @@ pair_paths next n k h p q a b (l ∷ w) hp hq ha hb =
     ∙ (total-times (λ y. paths next y b w) (paths next x a w) (next q l) ∙ mul_comm (total (λ y. paths next y b w) (next q l)) (paths next x a w)))) in
     here ∙ (each ∙ (inner ∙ total-times (λ x. paths next x a w) (total (λ y. paths next y b w) (next q l)) (next p l)))
 
--- a move of the product by its number is a move of each copy
+-- A move of the product by its number is a move of each copy.
 pub pair-step : (next : ℕ → ℕ → List ℕ) (n p q l m t : ℕ) → q < n → slice_get (pair_moves next n (p * n + q) l) m ≡ Some t → (x : ℕ) × (y : ℕ) × (slice_get (next p l) (m / length (next q l)) ≡ Some x) × (slice_get (next q l) (m % length (next q l)) ≡ Some y) × (t ≡ x * n + y)
 pair-step next n p q l m t h e =
     let row = pairs_of n (next q l) (next p l) in
@@ -95,7 +95,7 @@ pair-step next n p q l m t h e =
       sym (at-get_or (pairs_of n (next q l) (next p l)) m t 0 got) ∙ at-place n (next p l) (next q l) m lt,
     )
 
--- a move of each copy is a move of the product
+-- A move of each copy is a move of the product.
 pub step-pair : (next : ℕ → ℕ → List ℕ) (n p q l i j x y : ℕ) → q < n → slice_get (next p l) i ≡ Some x → slice_get (next q l) j ≡ Some y → slice_get (pair_moves next n (p * n + q) l) (i * length (next q l) + j) ≡ Some (x * n + y)
 step-pair next n p q l i j x y h e f =
     let a = at-short (next p l) i x e in

@@ -39,7 +39,7 @@ met next n t u f m s lt e h = by h
       record { places = ap (λ (z : Stand). z.places) o.3; frames = ap (λ (z : Stand). z.frames) o.3 },
     )
 
--- a state opened or finished, as the main loop of the search does it
+-- A state opened or finished, as the main loop of the search does it
 
 pub none-end : {A : Type 0} (o : Option A) (P : Type 0) → is_some o ≡ false → IfNone o P → P
 none-end None P e h = h

@@ -1,4 +1,4 @@
--- The search for parts: where it starts, what finishing a state does, and what the done states say at the end.
+-- The search for parts: its start, the effect of finishing a state, and what holds for the done states at the end.
 use Rattle.std.proofs.Common.{◌≡◌, ◌≢◌, ℕ, zero, suc, ◌<◌, ◌≤◌, ◌⊎◌, ◌↔◌, inl, inr, false, le-leb, List, [], ◌∷◌, ◌++◌, length, get_or, replicate, refl, sym, ◌∙◌, ap, subst, arith, get_or-take, get_or-set_same, get_or-set_other, length-set, le_antisymm, set, ◌+◌}
 use Rattle.std.proofs.lemmas.Bool.{cases_eq, cases_lt, lt-leb}
 use Rattle.std.proofs.lemmas.List.{get_or-replicate, length-replicate, get_or_past, length-take-le}
@@ -11,7 +11,7 @@ use Rattle.rl_graph.proofs.Sums.{Has-left, Has-last, Has-push, at-has, Pairs-pop
 use Rattle.rl_graph.proofs.PathLaws.{Reaches-self, Reaches-trans, along_moves}
 use Rattle.rl_graph.proofs.SearchLaws.{open-done, open-same, done-same, unseen-open, unseen-done, top-marks, to_top, depth-in, open_one, with_marks, from_end, total-set, total-pointwise}
 
--- the start
+-- The start
 
 place-start : (n q : ℕ) → place_of (start_of n) q ≡ Unseen
 place-start n q = by (cases_lt q n)
@@ -45,7 +45,7 @@ started next n =
       one_part = λ q r c a b. absurd (unseen-done c (sym (place-start n q) ∙ a));
     }
 
--- with no frame no state is open, and an unseen state can be opened
+-- With no frame no state is open, and an unseen state can be opened
 
 pub none-open : (next : ℕ → ℕ → List ℕ) (n : ℕ) (s : Stand) → IsSearch next n s → s.frames ≡ [] → (q k : ℕ) → place_of s q ≡ Open k → ⊥
 none-open next n s h e q k o =
@@ -55,7 +55,7 @@ none-open next n s h e q k o =
 pub open_root : (next : ℕ → ℕ → List ℕ) (n : ℕ) (s : Stand) (w : ℕ) → IsSearch next n s → s.frames ≡ [] → w < n → place_of s w ≡ Unseen → IsSearch next n (opened s w)
 open_root next n s w h e i u = open_one next n s w h i u (λ q k o. absurd (none-open next n s h e q k o))
 
--- a state without a move done at once
+-- A state without a move done at once
 
 unseen-closed_at : (places : List SearchPlace) (w c : ℕ) → w < length places → get_or places w Unseen ≡ Unseen → unseen (set places w (Done c)) + 1 ≡ unseen places
 unseen-closed_at places w c h e =
@@ -116,7 +116,7 @@ alone next n s w h e i u idle =
     to_one q r c (inr a) (inl b) = absurd (omega (arith, h.numbered q c a, done-same s.parts c b.1))
     to_one q r c (inr a) (inr b) = h.one_part q r c a b
 
--- a state finished in the middle of a group
+-- A state finished in the middle of a group
 
 all-looked : (next : ℕ → ℕ → List ℕ) (n : ℕ) (t : Stand) (f : Frame) → IsSearch next n (with_top t f) → IsPast next f → (l m : ℕ) → Has m (next f.state l) → Settled t f.depth m
 all-looked next n t f s end l m h =
@@ -127,7 +127,7 @@ all-looked next n t f s end l m h =
     by (inl j) = inl j
     by (inr j) = absurd (subst (Has m) (end l j) h)
 
--- the one open state at the depth of the top frame is that frame's
+-- The one open state at the depth of the top frame is that frame's.
 at-top : (next : ℕ → ℕ → List ℕ) (n : ℕ) (t : Stand) (f : Frame) (q k : ℕ) → IsSearch next n (with_top t f) → place_of t q ≡ Open k → k ≡ f.depth → q ≡ f.state
 at-top next n t f q k s o e =
     sym (s.opened q k o).1 ∙ (ap (λ z. get_or t.open_states z 0) e ∙ (s.opened f.state f.depth (s.framed f (Has-last f t.frames))).1)
@@ -180,7 +180,7 @@ popped next n t f s end unmarked =
         by g (inl i) j = none g i j
         by g (inr i) j = e (sym j ∙ ap (λ (z : Frame). z.depth) i)
 
--- a group closed
+-- A group closed
 
 closed-open : (k c j : ℕ) → j < k → closed_place k c (Open j) ≡ Open j
 closed-open k c j h = rw (lt-leb k j h) refl
@@ -188,7 +188,7 @@ closed-open k c j h = rw (lt-leb k j h) refl
 closed-done : (k c j : ℕ) → k ≤ j → closed_place k c (Open j) ≡ Done c
 closed-done k c j h = rw (le-leb k j h) refl
 
--- what a place was before the close
+-- What a place was before the close.
 WasOpen : ℕ → SearchPlace → ℕ → Type 0
 WasOpen k p j = (p ≡ Open j) × (j < k)
 
@@ -320,7 +320,7 @@ closed next n t u f ms s end em c =
     to_numbered q d (inl e) = omega (arith, s.numbered q d e, c.parts)
     to_numbered q d (inr e) = omega (arith, e.3, c.parts)
 
-    -- a target of a state of the group is done now, with the group's number or a smaller one
+    -- A target of a state of the group is done now, with the group's number or a smaller one.
     settled_done : (j m : ℕ) → f.depth ≤ j → Settled t j m → (d : ℕ) × (place_of u m ≡ Done d) × (d ≤ t.parts)
     settled_done j m h (inl d) = (d.0, done_after m d.0 d.1, omega (arith, s.numbered m d.0 d.1))
     settled_done j m h (inr o) = (t.parts, close_after m o.0 o.1 (o.2 f.depth (subst (Has f.depth) (sym em) (Has-last f.depth ms)) h), omega arith)
@@ -347,7 +347,7 @@ closed next n t u f ms s end em c =
     to_one q r d (inr x) (inr y) =
         Reaches-trans next q f.state r (to_top next n t f s q x.0 x.1) (s.forth f.state r f.depth y.0 (s.framed f (Has-last f t.frames)) y.1 y.2)
 
--- a state finished, in either case
+-- A state finished, in either case.
 pub finished : (next : ℕ → ℕ → List ℕ) (n : ℕ) (t u : Stand) (f : Frame) → IsSearch next n (with_top t f) → IsPast next f → IsFinished f.depth t u → IsSearch next n u
 finished next n t u f s end (inl r) = closed next n t u f r.0 s end r.1 r.2
 finished next n t u f s end (inr r) = subst (IsSearch next n) (sym r.1) (popped next n t f s end r.0)
@@ -373,9 +373,9 @@ pub finished-frames : (k : ℕ) (t u : Stand) → IsFinished k t u → u.frames 
 finished-frames k t u (inl r) = r.2.frames
 finished-frames k t u (inr r) = ap (λ (z : Stand). z.frames) r.1
 
--- the end: every state is done
+-- The end: every state is done
 
--- what is reached from a done state is done, with a number that isn't greater
+-- What is reached from a done state is done, with a number that isn't greater.
 pub done-falls : (next : ℕ → ℕ → List ℕ) (n : ℕ) (s : Stand) → IsSearch next n s → (q r c : ℕ) → place_of s q ≡ Done c → Reaches next q r → (d : ℕ) × (place_of s r ≡ Done d) × (d ≤ c)
 done-falls next n s h q r c e w =
     along_moves (λ x. (d : ℕ) × (place_of s x ≡ Done d) × (d ≤ c)) next step q r w.0 (c, e, omega arith) w.1

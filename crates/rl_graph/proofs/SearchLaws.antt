@@ -10,7 +10,7 @@ use Rattle.rl_graph.specs.internal.Search.{Stand, place_of, is_unseen, unseen, N
 use Rattle.rl_graph.proofs.Sums.{Has-left, Has-append, Has-last, Has-push, at-short, Each-has, each-has, Pairs-push, Pairs-pop}
 use Rattle.rl_graph.proofs.PathLaws.{Reaches-self, Reaches-move, Reaches-trans}
 
--- places
+-- Places
 
 pub open-done : (k c : ℕ) → Open k ≡ Done c → ⊥
 open-done k c e = cc
@@ -27,7 +27,7 @@ open-same j k e = cc
 pub done-same : (c d : ℕ) → Done c ≡ Done d → c ≡ d
 done-same c d e = cc
 
--- sums over places
+-- Sums over places
 
 pub total-set : {A : Type 0} (f : A → ℕ) (l : List A) (i : ℕ) (x d : A) → i < length l → total f (set l i x) + f (get_or l i d) ≡ total f l + f x
 total-set f [] i x d h = absurd (omega arith)
@@ -47,7 +47,7 @@ pub unseen-set : (places : List SearchPlace) (w k : ℕ) → w < length places �
 unseen-set places w k h e =
     omega (arith, total-set (λ p. one (is_unseen p)) places w (Open k) Unseen h, ap (λ p. one (is_unseen p)) e)
 
--- the frame on top
+-- The frame on top
 
 top-frame : (t : Stand) (f : Frame) → Has f (with_top t f).frames
 top-frame t f = Has-last f t.frames
@@ -58,7 +58,7 @@ below_top next n t f g s h = (Pairs-pop (λ x y. x.depth < y.depth) t.frames f s
 pub depth-in : (next : ℕ → ℕ → List ℕ) (n : ℕ) (s : Stand) (f : Frame) → IsSearch next n s → Has f s.frames → f.depth < length s.open_states
 depth-in next n s f h i = (h.opened f.state f.depth (h.framed f i)).0
 
--- each mark is at the depth of the top frame or below
+-- Each mark is at the depth of the top frame or below.
 pub top-marks : (next : ℕ → ℕ → List ℕ) (n : ℕ) (t : Stand) (f : Frame) → IsSearch next n (with_top t f) → (x : ℕ) → Has x t.marks → x ≤ f.depth
 top-marks next n t f s x h = let g = s.marked x h in by g.0 g.2 (Has-push g.0 f t.frames g.1)
   where
@@ -66,7 +66,7 @@ top-marks next n t f s x h = let g = s.marked x h in by g.0 g.2 (Has-push g.0 f 
     by g e (inl i) = omega (arith, below_top next n t f g s i)
     by g e (inr i) = omega (arith, ap (λ (z : Frame). z.depth) i)
 
--- each open state reaches the state of the top frame
+-- Each open state reaches the state of the top frame.
 pub to_top : (next : ℕ → ℕ → List ℕ) (n : ℕ) (t : Stand) (f : Frame) → IsSearch next n (with_top t f) → (r k : ℕ) → place_of t r ≡ Open k → Reaches next r f.state
 to_top next n t f s r k o = by (cases_lt f.depth k)
   where
@@ -74,7 +74,7 @@ to_top next n t f s r k o = by (cases_lt f.depth k)
     by (inr h) = s.forth r f.state k f.depth o (s.framed f (top-frame t f)) h
     by (inl h) = s.back f.state r f.depth k (s.framed f (top-frame t f)) o (omega arith) (λ x i j. top-marks next n t f s x i)
 
--- another frame of the same state on top
+-- Another frame of the same state on top.
 pub retop : (next : ℕ → ℕ → List ℕ) (n : ℕ) (t : Stand) (f g : Frame) → IsSearch next n (with_top t f) → g.state ≡ f.state → g.depth ≡ f.depth → ((l i m : ℕ) → slice_get (next f.state l) i ≡ Some m → Before l i g → Settled t f.depth m) → IsSearch next n (with_top t g)
 retop next n t f g s es ed look =
     record {
@@ -116,11 +116,11 @@ retop next n t f g s es ed look =
     not_one k none h (inl i) e = none h (Has-left h t.frames (g ∷ []) i) e
     not_one k none h (inr i) e = none g (Has-last g t.frames) (omega (arith, ap (λ (z : Frame). z.depth) i))
 
--- the frame behind the move at which it stands
+-- The frame after its next move was looked at.
 abbrev pub moved_on : Frame → Frame
 moved_on f = record f { number = f.number + 1 }
 
--- the frame at the first move on the next letter
+-- The frame at the first move on the next letter.
 abbrev pub turned : Frame → Frame
 turned f = record f { letter = f.letter + 1; number = 0 }
 
@@ -155,7 +155,7 @@ turn next n t f s all = retop next n t f (turned f) s refl refl (λ l i x e b. b
     by l i x e (inl h) = on_letter l i x e (cases_lt l f.letter) h
     by l i x e (inr h) = absurd (omega (arith, h.1))
 
--- groups joined
+-- Groups joined
 
 cut-has : (p : ℕ) (old new : List ℕ) → IsCut p old new → (x : ℕ) → Has x old → x ≤ p → Has x new
 cut-has p old new c x h le = by (Has-append x new c.off (subst (Has x) c.split h))
@@ -171,7 +171,7 @@ Pairs-left : {A : Type 0} (R : A → A → Type 0) (l k : List A) → Pairs R (l
 Pairs-left R [] k p = tt
 Pairs-left R (a ∷ l) k p = (each-has (R a) l (λ x i. Each-has (R a) x (l ++ k) p.0 (Has-left x l k i)), Pairs-left R l k p.1)
 
--- a list that isn't empty, from its end
+-- A list that isn't empty, from its end.
 pub from_end : {A : Type 0} (l : List A) → (l ≡ []) ⊎ ((ms : List A) × (x : A) × (l ≡ ms ++ x ∷ []))
 from_end [] = inl refl
 from_end {A = A} (a ∷ l) = by (from_end l)
@@ -201,7 +201,7 @@ settled-fewer s new sub k m (inr o) = inr (o.0, o.1, λ x h i. o.2 x (sub x h) i
 pub cut-low : (next : ℕ → ℕ → List ℕ) (n : ℕ) (t : Stand) (f : Frame) (p : ℕ) (new : List ℕ) → IsSearch next n (with_top t f) → IsCut p t.marks new → (x : ℕ) → Has x new → x ≤ p
 cut-low next n t f p new s c = rising-low p new (Pairs-left (λ x y. x < y) new c.off (subst (Pairs (λ x y. x < y)) c.split s.marks_rise)) c.low
 
--- the top frame's state has a move to `w`, which is open at the depth `p`: the groups above `p` are one group
+-- The top frame's state has a move to `w`, which is open at the depth `p`: the groups above `p` become one group.
 pub joined : (next : ℕ → ℕ → List ℕ) (n : ℕ) (t : Stand) (f : Frame) (l w p : ℕ) (new : List ℕ) → IsSearch next n (with_top t f) → Has w (next f.state l) → place_of t w ≡ Open p → IsCut p t.marks new → IsSearch next n (with_top (with_marks t new) f)
 joined next n t f l w p new s move o c =
     record {
@@ -233,7 +233,7 @@ joined next n t f l w p new s move o c =
     to_back q r j k a b le none (inl h) (inl i) =
         s.back q r j k a b le (λ x m y. none x (cut-has p t.marks new c x m (omega arith)) y)
 
--- a state opened
+-- A state opened
 
 place-here : (s : Stand) (w : ℕ) → w < length s.places → place_of (opened s w) w ≡ Open (length s.open_states)
 place-here s w h = get_or-set_same s.places w (Open (length s.open_states)) Unseen h
@@ -241,7 +241,7 @@ place-here s w h = get_or-set_same s.places w (Open (length s.open_states)) Unse
 place-other : (s : Stand) (w q : ℕ) → q ≢ w → place_of (opened s w) q ≡ place_of s q
 place-other s w q ne = get_or-set_other s.places w q (Open (length s.open_states)) Unseen ne
 
--- the place of a state in the search after `w` was opened: that of `w`, or the one before
+-- The search place of a state after `w` was opened: the place of `w`, or the old place.
 place-split : (s : Stand) (w : ℕ) → w < length s.places → (q : ℕ) (p : SearchPlace) → place_of (opened s w) q ≡ p → ((q ≡ w) × (Open (length s.open_states) ≡ p)) ⊎ (place_of s q ≡ p)
 place-split s w h q p e = by (cases_eq q w)
   where
@@ -351,7 +351,7 @@ open_one next n s w h in_range u reach =
     to_one q r c (inr a) (inl b) = absurd (open-done (length s.open_states) c b.1)
     to_one q r c (inr a) (inr b) = h.one_part q r c a b
 
--- the top frame's state has a move to an unseen state, which is opened
+-- The top frame's state has a move to an unseen state, which is then opened.
 pub open_next : (next : ℕ → ℕ → List ℕ) (n : ℕ) (t : Stand) (f : Frame) (l w : ℕ) → IsSearch next n (with_top t f) → w < n → place_of t w ≡ Unseen → Has w (next f.state l) → IsSearch next n (opened (with_top t f) w)
 open_next next n t f l w s h u m =
     open_one next n (with_top t f) w s h u (λ q k o. Reaches-trans next q f.state w (to_top next n t f s q k o) (Reaches-move next f.state w l m))

@@ -1,4 +1,4 @@
--- Laws of spans: rows where more numbers stand behind, where a span comes last and where one row is replaced.
+-- Laws of spans: rows after more numbers were appended, rows whose span comes last, and rows of which one is replaced.
 use Rattle.std.proofs.Common.{◌≡◌, ℕ, zero, suc, ◌+◌, ◌-◌, ◌^◌, ◌<◌, ◌≤◌, ◌⊎◌, inl, inr, List, [], ◌∷◌, ◌++◌, All, length, get_or, set, take, drop, replicate, ltb, le-ltb, lt-ltb, refl, sym, ap, ap₂, ◌∙◌, subst, arith, length-append, length-drop, length-set, get_or-set_same, get_or-set_other, Result, Ok, Err, OnErr}
 use Rattle.std.proofs.Math.Seq.{take-nil}
 use Rattle.std.proofs.lemmas.Bool.{cases_eq, cases_lt, cases_order, cond-true, cond-false}
@@ -10,7 +10,7 @@ use Rattle.rl_graph.specs.declared.row_list.Span.{Span}
 use Rattle.rl_graph.specs.Spans.{row_of, no_span, rows_in, AreWithin}
 use Rattle.rl_graph.specs.internal.GrownRows.{IsGrown, StandsIn, Holds, IsPlaced}
 
--- one row
+-- One row
 
 pub row-shared : (numbers apart : List ℕ) (span : Span) → span.start < span.end → row_of numbers apart span ≡ slice_range numbers span.start span.end
 row-shared numbers apart span h = cond-true (ltb span.start span.end) (slice_range numbers span.start span.end) apart (lt-ltb span.start span.end h)
@@ -29,7 +29,7 @@ row-grown numbers more apart span h = by (cases_lt span.start span.end)
     by (inl k) = row-shared (numbers ++ more) apart span k ∙ slice-grown numbers more span.start span.end k h ∙ sym (row-shared numbers apart span k)
     by (inr k) = row-apart (numbers ++ more) apart span k ∙ sym (row-apart numbers apart span k)
 
--- all rows
+-- All rows
 
 pub rows-length : (numbers : List ℕ) (apart : List (List ℕ)) (spans : List Span) → length (rows_in numbers apart spans) ≡ length spans
 unfolding rows_in
@@ -39,7 +39,7 @@ pub rows-at : (numbers : List ℕ) (apart : List (List ℕ)) (spans : List Span)
 unfolding rows_in
 rows-at numbers apart spans k h = get_or-map-range_with_len (λ k. row_of numbers (get_or apart k []) (get_or spans k no_span)) 0 (length spans) k k [] h (omega arith)
 
--- rows are told by what stands at each place
+-- Rows are determined by the row at each place.
 rows-by : (numbers : List ℕ) (apart : List (List ℕ)) (spans : List Span) (rows : List (List ℕ)) → length rows ≡ length spans → ((k : ℕ) → k < length spans → row_of numbers (get_or apart k []) (get_or spans k no_span) ≡ get_or rows k []) → rows_in numbers apart spans ≡ rows
 rows-by numbers apart spans rows e h =
     ext_get_or [] (rows_in numbers apart spans) rows (rows-length numbers apart spans ∙ sym e)
@@ -64,7 +64,7 @@ within-grown old new apart spans w g = record {
   short = subst (λ (rows : List (List ℕ)). All (λ row. length row < 2 ^ 32) rows) (sym (rows-grown old new apart spans w g)) w.short;
 }
 
--- a span comes last
+-- A span comes last
 
 one : {A : Type 0} (P : A → Type 0) (x : A) → P x → All P (x ∷ [])
 one P x p zero d h = p
@@ -95,9 +95,9 @@ within-pushed old new row apart spans span w g s short = record {
       (All-append (λ row. length row < 2 ^ 32) (rows_in old apart spans) (row ∷ []) w.short (one (λ (row : List ℕ). length row < 2 ^ 32) row short));
 }
 
--- one row is replaced
+-- One row is replaced
 
--- what changed: numbers came behind, and the row of one place stands in its new span or apart
+-- What changed: numbers were appended, and the row of one place is in its new span or stored apart.
 pub record IsSet (old new : List ℕ) (apart moved : List (List ℕ)) (spans : List Span) (place : ℕ) (span : Span) (row : List ℕ) : Type 0 where
   pub grown : IsGrown old new
   pub elsewhere : (k : ℕ) → (k ≡ place → ⊥) → get_or moved k [] ≡ get_or apart k []
@@ -128,7 +128,7 @@ within-set old new apart moved spans place span row there w s short = record {
       (All-set (λ row. length row < 2 ^ 32) (rows_in old apart spans) place row short w.short);
 }
 
--- a row that already stands apart is replaced there, and its span stays
+-- A row that is already stored apart is replaced there, and its span stays.
 pub rows-moved : (numbers : List ℕ) (apart moved : List (List ℕ)) (spans : List Span) (place : ℕ) (row : List ℕ) → place < length spans → AreWithin numbers apart spans → IsSet numbers numbers apart moved spans place (get_or spans place no_span) row → rows_in numbers moved spans ≡ set (rows_in numbers apart spans) place row
 rows-moved numbers apart moved spans place row there w s =
     subst (λ (xs : List Span). rows_in numbers moved xs ≡ set (rows_in numbers apart spans) place row) (set-get_or spans place no_span)
@@ -139,7 +139,7 @@ within-moved numbers apart moved spans place row there w s short =
     subst (λ (xs : List Span). AreWithin numbers moved xs) (set-get_or spans place no_span)
     (within-set numbers numbers apart moved spans place (get_or spans place no_span) row there w s short)
 
--- the row at a place of rows that are kept
+-- The row at a place of rows that are kept
 
 pub row-now : (numbers : List ℕ) (apart : List (List ℕ)) (spans : List Span) (rows : List (List ℕ)) (place : ℕ) (span : Span) → rows_in numbers apart spans ≡ rows → place < length spans → span ≡ get_or spans place span → row_of numbers (get_or apart place []) span ≡ get_or rows place []
 row-now numbers apart spans rows place span e h s =
@@ -151,7 +151,7 @@ row-past numbers apart spans rows place e h = sym (get_or_past rows place [] (om
 slice-last : (numbers : List ℕ) (start end : ℕ) → start < end → end ≤ length numbers → length numbers ≤ end → drop start numbers ≡ slice_range numbers start end
 slice-last numbers start end h k l = sym (take_all (end - start) (drop start numbers) (omega (arith, length-drop start numbers)))
 
--- how one row becomes longer by a number: moved out, as the last one of the numbers, apart, and begun
+-- How one row becomes longer by a number: moved out, as the last one of the numbers, apart, and begun
 
 pub set-out : (numbers : List ℕ) (apart moved : List (List ℕ)) (spans : List Span) (rows : List (List ℕ)) (place : ℕ) (span : Span) (row : List ℕ) (number : ℕ) → rows_in numbers apart spans ≡ rows → AreWithin numbers apart spans → place < length spans → span ≡ get_or spans place span → span.start < span.end → row ≡ slice_range numbers span.start span.end → IsPlaced apart moved place (row ++ number ∷ []) → IsSet numbers numbers apart moved spans place no_span (get_or rows place [] ++ number ∷ [])
 set-out numbers apart moved spans rows place span row number e w there s filled r p = record {
@@ -205,7 +205,7 @@ set-begun old new apart spans rows place span begun number e w there s empty non
         by [] e = refl
         by (y ∷ ys) e = absurd (omega arith)
 
--- where a row couldn't be put apart, nothing changed
+-- If a row couldn't be stored apart, nothing has changed
 
 pub still : (numbers : List ℕ) (apart moved : List (List ℕ)) (spans : List Span) (place : ℕ) → IsPlaced apart moved place (get_or apart place []) → rows_in numbers moved spans ≡ rows_in numbers apart spans
 still numbers apart moved spans place p =
@@ -223,7 +223,7 @@ within-still numbers apart moved spans place there w p = record {
   short = subst (λ (rows : List (List ℕ)). All (λ row. length row < 2 ^ 32) rows) (sym (still numbers apart moved spans place p)) w.short;
 }
 
--- a place for a row is made apart
+-- A place for a row is made apart
 
 pub pushed-none : (apart : List (List ℕ)) (k : ℕ) → get_or (apart ++ [] ∷ []) k [] ≡ get_or apart k []
 pushed-none apart k = by (cases_order k (length apart))
@@ -233,7 +233,7 @@ pushed-none apart k = by (cases_order k (length apart))
     by (inr (inl h)) = get_or_append_left apart ([] ∷ []) [] k h
     by (inr (inr h)) = get_or_past (apart ++ [] ∷ []) k [] (omega (arith, length-append apart ([] ∷ []))) ∙ sym (get_or_past apart k [] (omega arith))
 
--- rows without numbers
+-- Rows without numbers
 
 pub rows-empty : (numbers : List ℕ) (apart : List (List ℕ)) (spans : List Span) (count : ℕ) → apart ≡ [] → spans ≡ replicate count no_span → rows_in numbers apart spans ≡ replicate count []
 rows-empty numbers apart spans count none e =
@@ -255,7 +255,7 @@ resized old new size count e s h =
     let n : count - size ≡ count = omega (arith, s) in
     h ∙ (ap₂ (λ (xs : List Span) m. take count xs ++ replicate m no_span) e n ∙ ap (λ (xs : List Span). xs ++ replicate count no_span) (take-nil count))
 
--- where a call fails, what holds at any rate
+-- What holds in any case if a call fails
 
 pub at_err : {A E P : Type 0} (r : Result A E) → P → OnErr r P
 at_err (Ok x) p = tt

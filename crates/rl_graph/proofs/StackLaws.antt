@@ -8,7 +8,7 @@ use Rattle.rl_graph.specs.Paths.{Has}
 use Rattle.rl_graph.specs.internal.Search.{Stand, place_of, closed_place, closed_below, IsListed, IsCut, IsSearch}
 use Rattle.rl_graph.proofs.SearchLaws.{unseen-open}
 
--- marks taken off
+-- Marks taken off
 
 pub last-get : {A : Type 0} (ms : List A) (x : A) → slice_get (ms ++ x ∷ []) (length (ms ++ x ∷ []) - 1) ≡ Some x
 last-get [] x = refl
@@ -44,7 +44,7 @@ pub low-none : (depth : ℕ) (new : List ℕ) → slice_get new (length new - 1)
 low-none depth new g ms x e =
     let k : Some x ≡ None = sym (last-get ms x) ∙ (ap (λ (z : List ℕ). slice_get z (length z - 1)) (sym e) ∙ g) in cc
 
--- states of the stack closed one after another
+-- States of the stack closed one after another
 
 below-in : (from to c j : ℕ) → from ≤ j → j < to → closed_below from to c (Open j) ≡ Done c
 below-in from to c j h k = rw (and_from (leb from j) (ltb j to) (le-leb from j h) (lt-ltb j to k)) refl

@@ -2,7 +2,7 @@
 use Rattle.std.proofs.Common.{◌≡◌, ◌≢◌, ◌∙◌, ℕ, zero, suc, ◌+◌, ◌*◌, ◌<◌, ◌≤◌, ◌⊎◌, inl, inr, List, [], ◌∷◌, ◌++◌, length, map, flat_map, slice_get, get_or, Some, Bool, true, false, filter, cond, refl, sym, ap, subst, arith}
 use Rattle.rl_graph.specs.Paths.{total, Has, Each, Pairs}
 
--- sums
+-- Sums
 
 pub total-append : {A : Type 0} (f : A → ℕ) (x y : List A) → total f (x ++ y) ≡ total f x + total f y
 total-append f [] y = omega arith
@@ -36,13 +36,13 @@ pub total-zero : {A : Type 0} (f : A → ℕ) (l : List A) → ((x : A) → Has 
 total-zero f [] h = refl
 total-zero f (a ∷ l) h = omega (arith, h a (inl refl), total-zero f l (λ x i. h x (inr i)))
 
--- a member's share is within the sum
+-- A member's share is within the sum.
 pub total-has : {A : Type 0} (f : A → ℕ) (x : A) (l : List A) → Has x l → f x ≤ total f l
 total-has f x [] h = absurd h
 total-has f x (a ∷ l) (inl e) = rw e (omega arith)
 total-has f x (a ∷ l) (inr h) = omega (arith, total-has f x l h)
 
--- a sum that isn't 0 has a share that isn't 0
+-- A sum that isn't 0 has a share that isn't 0.
 pub total-there : {A : Type 0} (f : A → ℕ) (l : List A) → 1 ≤ total f l → (x : A) × Has x l × (1 ≤ f x)
 total-there f [] h = absurd (omega arith)
 total-there {A = A} f (a ∷ l) h = by (f a) refl (total-there f l)
@@ -51,7 +51,7 @@ total-there {A = A} f (a ∷ l) h = by (f a) refl (total-there f l)
     by zero e rest = let r = rest (omega arith) in (r.0, inr r.1, r.2)
     by (suc n) e rest = (a, inl refl, omega arith)
 
--- the shares of two different places are within the sum
+-- The shares of two different places are within the sum.
 pub total-at : {A : Type 0} (f : A → ℕ) (l : List A) (i : ℕ) (x : A) → slice_get l i ≡ Some x → f x ≤ total f l
 total-at f [] i x h = cc
 total-at f (a ∷ l) zero x h = let e : a ≡ x = cc in rw (← e) (omega arith)
@@ -64,7 +64,7 @@ total-two f (a ∷ l) zero (suc j) x y ne h k = let e : a ≡ x = cc in rw (← 
 total-two f (a ∷ l) (suc i) zero x y ne h k = let e : a ≡ y = cc in rw (← e) (omega (arith, total-at f l i x h))
 total-two f (a ∷ l) (suc i) (suc j) x y ne h k = omega (arith, total-two f l i j x y (λ e. ne (ap suc e)) h k)
 
--- members
+-- Members
 
 pub Has-at : {A : Type 0} (l : List A) (i : ℕ) (x : A) → slice_get l i ≡ Some x → Has x l
 Has-at [] i x h = cc
@@ -168,7 +168,7 @@ Pairs-push {A = A} R (a ∷ l) y p h =
     last x (inl i) = Each-has (R a) x l p.0 i
     last x (inr e) = subst (R a) (sym e) (h a (inl refl))
 
--- what is left of a list without its last member, and how the others stand to that one
+-- A list without its last member, and how the other members are related to that member.
 pub Pairs-pop : {A : Type 0} (R : A → A → Type 0) (l : List A) (y : A) → Pairs R (l ++ y ∷ []) → Pairs R l × ((x : A) → Has x l → R x y)
 Pairs-pop R [] y p = (tt, λ x h. absurd h)
 Pairs-pop {A = A} R (a ∷ l) y p = let r = Pairs-pop R l y p.1 in ((each-has (R a) l (λ x i. Each-has (R a) x (l ++ y ∷ []) p.0 (Has-left x l (y ∷ []) i)), r.0), before r.1)
@@ -177,7 +177,7 @@ Pairs-pop {A = A} R (a ∷ l) y p = let r = Pairs-pop R l y p.1 in ((each-has (R
     before f x (inl e) = subst (λ (z : A). R z y) (sym e) (Each-has (R a) y (l ++ y ∷ []) p.0 (Has-last y l))
     before f x (inr i) = f x i
 
--- a list without one of its members
+-- A list without one of its members.
 without : {A : Type 0} (x : A) (l : List A) → Has x l → (r : List A) × (length l ≡ suc (length r)) × ((y : A) → y ≢ x → Has y l → Has y r)
 without x [] h = absurd h
 without {A = A} x (z ∷ l) (inl e) = (l, refl, others)
@@ -191,7 +191,7 @@ without {A = A} x (z ∷ l) (inr h) = let r = without x l h in (z ∷ r.0, ap su
     others r f y ne (inl d) = inl d
     others r f y ne (inr i) = inr (f y ne i)
 
--- different things of a list are at most its length
+-- Different things of a list are at most its length.
 pub distinct-short : {A : Type 0} (l m : List A) → Pairs (λ x y. x ≢ y) l → ((x : A) → Has x l → Has x m) → length l ≤ length m
 distinct-short [] m p h = omega arith
 distinct-short (x ∷ l) m p h =

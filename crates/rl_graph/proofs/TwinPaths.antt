@@ -6,7 +6,7 @@ use Rattle.rl_graph.specs.Twins.{IsTwin, HasNoTwin}
 use Rattle.rl_graph.proofs.Sums.{total-at, total-two, total-there, at-has}
 use Rattle.rl_graph.proofs.PathLaws.{paths-nil, nil-same, one-le}
 
--- the value in what `onto` gave
+-- The value in what `onto` gave.
 pub onto-some : {A B : Type 0} (f : A → Option B) (o : Option A) (y : B) → onto f o ≡ Some y → (x : A) × (o ≡ Some x) × (f x ≡ Some y)
 onto-some f None y h = cc
 onto-some f (Some x) y h = (x, refl, h)
@@ -46,7 +46,7 @@ path-there next s t (l ∷ w) h =
     let r = path-there next m.0 t w m.2 in
     (i.0 ∷ r.0, subst (λ o. onto (λ m. led next m r.0 w) o ≡ Some t) (sym i.1) r.1)
 
--- where a sum of at least 2 comes from: one share of at least 2, or two shares at different places
+-- A sum of at least 2 has one share of at least 2, or two shares at different places.
 TwoShares : {A : Type 0} → (A → ℕ) → List A → Type 0
 TwoShares {A} f l =
     ((i : ℕ) × (x : A) × (slice_get l i ≡ Some x) × (2 ≤ f x)) ⊎ ((i : ℕ) × (j : ℕ) × (x : A) × (y : A) × (i ≢ j) × (slice_get l i ≡ Some x) × (slice_get l j ≡ Some y) × (1 ≤ f x) × (1 ≤ f y))

@@ -11,7 +11,7 @@ use Rattle.rl_graph.proofs.Sums.{at-has, at-short, Has-at, total-there}
 use Rattle.rl_graph.proofs.PathLaws.{nil-same, one-le}
 use Rattle.rl_graph.proofs.SearchLaws.{total-set}
 
--- nodes after one more
+-- Nodes after one more
 
 node-old : (s : Steps) (x : Node) (k : ℕ) → k < length s.nodes → node_of (reached s x) k ≡ node_of s k
 node-old s x k h = get_or_append_left s.nodes (x ∷ []) (root_node 0) k h
@@ -37,11 +37,11 @@ near-kept : (s : Steps) (x : Node) (m d : ℕ) → Near s m d → Near (reached 
 near-kept s x m d (k, a, h, e, l) =
     (k, a, omega (arith, length_push s.nodes x), ap (λ (z : Node). z.state) (node-old s x k h) ∙ e, omega (arith, ap (λ (z : Node). z.depth) (node-old s x k h)))
 
--- the node of a target
+-- The node of a target.
 abbrev pub child : Steps → ℕ → ℕ → ℕ → ℕ → Node
 child s k c e m = record { state = m; parent = k; letter = c; number = e; depth = (node_of s k).depth + 1 }
 
--- what a walk has come to, one move further on
+-- What a walk has come to, one move further on
 
 passed-more : (k c e j l i : ℕ) → Passed k c (e + 1) j l i → Passed k c e j l i ⊎ ((j ≡ k) × (l ≡ c) × (i ≡ e))
 passed-more k c e j l i (inl h) = inl (inl h)
@@ -63,7 +63,7 @@ same-target next s k c e j l i m x here a b d got =
     let g : Some m ≡ Some x = sym here ∙ (sym g2 ∙ (sym g1 ∙ got)) in
     cc
 
--- the target is seen already
+-- The target is seen already.
 at-seen : (next : ℕ → ℕ → List ℕ) (n : ℕ) (s : Steps) (k c e m : ℕ) → IsWalk next n s → IsAt next k c e s → k < length s.nodes → slice_get (next (node_of s k).state c) e ≡ Some m → seen_of s m ≡ true → IsAt next k c (e + 1) s
 at-seen next n s k c e m w a h here seen =
     record { near = λ j l i x p lt got. by j l i x lt got (passed-more k c e j l i p); top = a.top }
@@ -77,7 +77,7 @@ at-seen next n s k c e m w a h here seen =
         subst (λ (z : ℕ). Near s x ((node_of s z).depth + 1)) (sym p.0)
         (subst (λ (z : ℕ). Near s z ((node_of s k).depth + 1)) (same-target next s k c e j l i m x here p.0 p.1 p.2 got) found)
 
--- the target is new
+-- The target is new.
 at-new : (next : ℕ → ℕ → List ℕ) (n : ℕ) (s : Steps) (k c e m : ℕ) → IsWalk next n s → IsAt next k c e s → k < length s.nodes → slice_get (next (node_of s k).state c) e ≡ Some m → IsAt next k c (e + 1) (reached s (child s k c e m))
 at-new next n s k c e m w a h here =
     record { near = λ j l i y p lt got. by j l i y (passed-old k c (e + 1) j l i (length s.nodes) h p) got (passed-more k c e j l i p); top = λ j lt kt. to_top j (cases_lt j (length s.nodes)) lt }
@@ -136,7 +136,7 @@ walk-new next n s k c e m w a h here in_range unseen =
     new : (j : ℕ) → length s.nodes ≤ j → j < length (s.nodes ++ child s k c e m ∷ []) → node_of (reached s (child s k c e m)) j ≡ child s k c e m
     new j le lt = node-new s (child s k c e m) j (omega (arith, long))
 
-    -- a step keeps its parent
+    -- A step keeps its parent.
     kept : (j : ℕ) (x : Node) → j ≤ length s.nodes → IsStep next s j x → IsStep next (reached s (child s k c e m)) j x
     kept j x le t =
         let p = old x.parent (omega (arith, t.earlier)) in
@@ -184,7 +184,7 @@ walk-new next n s k c e m w a h here in_range unseen =
     to_rises i j le (inr x) (inl b) lt = absurd (omega arith)
     to_rises i j le (inr x) (inr b) lt = omega (arith, ap (λ (z : Node). z.depth) (new i x (omega arith)), ap (λ (z : Node). z.depth) (new j b lt))
 
--- a target reached, in either case
+-- A target reached, in either case.
 pub reach_one : (next : ℕ → ℕ → List ℕ) (n : ℕ) (s u : Steps) (k c e m : ℕ) → IsWalk next n s → IsAt next k c e s → k < length s.nodes → slice_get (next (node_of s k).state c) e ≡ Some m → m < n → IsReached (child s k c e m) s u → IsFurther next n k c (e + 1) s u
 reach_one next n s u k c e m w a h here in_range (inl r) =
     subst (λ (z : Steps). IsFurther next n k c (e + 1) s z) (sym r.1) (record { walk = w; stands = at-seen next n s k c e m w a h here r.0; extends = Extends-self s })
@@ -192,7 +192,7 @@ reach_one next n s u k c e m w a h here in_range (inr r) =
     subst (λ (z : Steps). IsFurther next n k c (e + 1) s z) (sym r.1)
     (record { walk = walk-new next n s k c e m w a h here in_range r.0; stands = at-new next n s k c e m w a h here; extends = Extends-reached s (child s k c e m) })
 
--- the next letter, and the next node
+-- The next letter, and the next node
 
 pub next-letter : (next : ℕ → ℕ → List ℕ) (s : Steps) (k c e : ℕ) → IsAt next k c e s → length (next (node_of s k).state c) ≤ e → IsAt next k (c + 1) 0 s
 next-letter next s k c e a all = record { near = λ j l i m p lt got. a.near j l i m (by j l i m got p) lt got; top = a.top }
@@ -226,7 +226,7 @@ next-node next n w s k c b h a end =
     by j l i m got (inr (x, inl y)) = absurd (omega arith)
     by j l i m got (inr (x, inr y)) = absurd (omega (arith, y.1))
 
--- the start
+-- The start
 
 total-false : (n : ℕ) → total one (replicate n false) ≡ 0
 total-false zero = refl
@@ -292,9 +292,9 @@ started_walk next n from (suc zero) h one_at_most =
     root k lt = let e : k ≡ 0 = omega arith in ap (λ (z : ℕ). get_or (root_node from ∷ []) z (root_node 0)) e
 started_walk next n from (suc (suc least)) h one_at_most = absurd (omega arith)
 
--- what was found
+-- What was found
 
--- a word from a node before `k` leads through nodes that aren't deeper than its length allows
+-- A word from a node before `k` leads through nodes that aren't deeper than its length allows.
 past : (next : ℕ → ℕ → List ℕ) (n : ℕ) (s : Steps) (k to : ℕ) → IsWalk next n s → IsAt next k 0 0 s → Missed k to s → k < length s.nodes → (v : List ℕ) (j : ℕ) → j < k → (1 ≤ length v) ⊎ (s.least ≤ j) → 1 ≤ paths next (node_of s j).state to v → (node_of s k).depth ≤ (node_of s j).depth + length v
 past next n s k to w a missed h [] j lt (inl c) p = absurd (omega arith)
 past next n s k to w a missed h [] j lt (inr c) p = absurd (missed j c lt (nil-same next (node_of s j).state to p))
@@ -316,7 +316,7 @@ found-shortest next n s k to w a missed h v long p = by (cases_lt 0 k) (cases_lt
     by (inl i) (inl c) = omega (arith, past next n s k to w a missed h v 0 i (inl (omega arith)) p, w.flat)
     by (inl i) (inr c) = omega (arith, past next n s k to w a missed h v 0 i (inr c) p, w.flat)
 
--- where every node was expanded and none is `to`, no word leads there
+-- If every node was expanded and none is `to`, no word leads there.
 lost : (next : ℕ → ℕ → List ℕ) (n : ℕ) (s : Steps) (k to : ℕ) → IsWalk next n s → IsAt next k 0 0 s → Missed k to s → length s.nodes ≤ k → (v : List ℕ) (j : ℕ) → j < length s.nodes → (1 ≤ length v) ⊎ (s.least ≤ j) → 1 ≤ paths next (node_of s j).state to v → ⊥
 lost next n s k to w a missed h [] j lt (inl c) p = omega arith
 lost next n s k to w a missed h [] j lt (inr c) p = missed j c (omega arith) (nil-same next (node_of s j).state to p)
@@ -333,7 +333,7 @@ found-none next n s k to w a missed h v long p = by (cases_lt 0 s.least)
     by (inl c) = lost next n s k to w a missed h v 0 w.some (inl (omega arith)) p
     by (inr c) = lost next n s k to w a missed h v 0 w.some (inr c) p
 
--- a node is as deep as its word is long, so one from `least` on has a word of at least `least` letters
+-- A node is as deep as its word is long, so one from `least` on has a word of at least `least` letters.
 pub found-long : (next : ℕ → ℕ → List ℕ) (n : ℕ) (s : Steps) (k : ℕ) → IsWalk next n s → s.least ≤ k → k < length s.nodes → s.least ≤ (node_of s k).depth
 found-long next n s k w le lt = by (cases_lt 0 k)
   where
@@ -341,7 +341,7 @@ found-long next n s k w le lt = by (cases_lt 0 k)
     by (inl i) = omega (arith, w.least_one, (w.steps k i lt).deeper)
     by (inr i) = omega arith
 
--- the way back: one more move in front
+-- The way back: one more move in front.
 pub path-front : (next : ℕ → ℕ → List ℕ) (n : ℕ) (s : Steps) (k to : ℕ) (moves word : List ℕ) → IsWalk next n s → 0 < k → k < length s.nodes → IsPath next (node_of s k).state to (reverse moves) (reverse word) → IsPath next (node_of s (node_of s k).parent).state to (reverse (moves ++ (node_of s k).number ∷ [])) (reverse (word ++ (node_of s k).letter ∷ []))
 path-front next n s k to moves word w a lt p =
     let x = node_of s k in
@@ -354,7 +354,7 @@ path-front next n s k to moves word w a lt p =
 pub rooted : (next : ℕ → ℕ → List ℕ) (n : ℕ) (s : Steps) → IsWalk next n s → IsRooted s
 rooted next n s w = (w.some, λ k a lt. (w.steps k a lt).earlier)
 
--- the moves and the letters from the node `k` to the node `place`, last ones first
+-- The moves and the letters from the node `k` to the node `place`, last ones first.
 abbrev pub IsWayBack : Steps → ℕ → ℕ → List ℕ → List ℕ → Type 0
 IsWayBack s k place numbers letters =
     (k < length s.nodes) × ((next : ℕ → ℕ → List ℕ) (n : ℕ) → IsWalk next n s → IsPath next (node_of s k).state (node_of s place).state (reverse numbers) (reverse letters)) × ((next : ℕ → ℕ → List ℕ) (n : ℕ) → IsWalk next n s → length letters + (node_of s k).depth ≡ (node_of s place).depth)
@@ -385,7 +385,7 @@ way-to s k place numbers letters moves word h b em ew =
     zero-place : k ≡ 0
     zero-place = omega arith
 
--- the answers of the search
+-- The answers of the search
 
 pub answer-found : (next : ℕ → ℕ → List ℕ) (n : ℕ) (s : Steps) (k to : ℕ) (moves word : List ℕ) → IsWalk next n s → IsAt next k 0 0 s → Missed k to s → s.least ≤ k → k < length s.nodes → (node_of s k).state ≡ to → IsWayTo s k moves word → IsShortest next s.least (node_of s 0).state to moves word
 answer-found next n s k to moves word w a missed le lt e t =
@@ -413,6 +413,6 @@ total-length (b ∷ l) = omega (arith, one-le b, total-length l)
 pub few-nodes : (next : ℕ → ℕ → List ℕ) (n : ℕ) (s : Steps) → IsWalk next n s → length s.nodes ≤ n + 1
 few-nodes next n s w = omega (arith, w.few, w.least_one, total-length s.seen, w.size)
 
--- where no word of at least one letter leads back to a state, the state is on no cycle
+-- If no word of at least one letter leads back to a state, the state is on no cycle.
 pub off-cycle : (next : ℕ → ℕ → List ℕ) (q : ℕ) → NoPath next 1 q q → OnCycle next q → ⊥
 off-cycle next q none c = none (c.0 ∷ c.1) (omega arith) c.2

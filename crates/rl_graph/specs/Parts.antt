@@ -1,21 +1,23 @@
--- The parts of a graph: two states are in one part where each reaches the other.
+-- The parts of a graph, that is, its strongly connected components.
 use Rattle.std.specs.Prelude.{◌≡◌, ℕ, ◌<◌, ◌≤◌, ◌↔◌, Bool, false, IsTrue, List, length, slice_index, slice_index_or}
 use Rattle.rl_graph.specs.Paths.{Reaches, OnCycle}
 
--- a number of a part for each state, and whether the state lies on a cycle
+-- A part number for each state, and a flag for each state that lies on a cycle.
 pub record PartTable : Type 0 where
   pub numbers : List ℕ
   pub cycles : List Bool
 
--- the number of a state's part
+-- The number of a state's part.
 abbrev pub number_of : PartTable → ℕ → ℕ
 number_of p q = slice_index p.numbers q
 
--- whether a state is marked as one on a cycle
+-- Whether a state is marked as lying on a cycle.
 abbrev pub cycle_of : PartTable → ℕ → Bool
 cycle_of p q = slice_index_or p.cycles q false
 
--- the table is right for a graph of `n` states; a part that is reached from another one has the smaller number
+-- The table lists the strongly connected components of a graph of `n` states: two states have the same number if and only
+-- if each reaches the other, and a part that is reached from another one has the smaller number. A state is marked as
+-- lying on a cycle if and only if it reaches itself by a non-empty word.
 pub record IsParts (next : ℕ → ℕ → List ℕ) (n : ℕ) (p : PartTable) : Type 0 where
   pub size : length p.numbers ≡ n
   pub below : (q : ℕ) → q < n → number_of p q < n

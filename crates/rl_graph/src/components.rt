@@ -1,4 +1,4 @@
-//! The components of a multigraph.
+//! The strongly connected components of a multigraph.
 
 ghost use Rattle.std.specs.Prelude.{◌≡◌, ◌<◌, length, IfOk};
 ghost use Rattle.rl_graph.specs.Graph.{edges_of};
@@ -9,7 +9,8 @@ use crate::parts::{Parts, parts_of};
 use rl_lists::OutOfMemory;
 use std::marker::Model;
 
-/// The strongly connected components of a multigraph: two states have one component exactly where each reaches the other.
+/// The strongly connected components of a multigraph: two states have the same component if and only if each reaches the
+/// other.
 #[derive(Drop)]
 pub struct Components {
     parts: Parts,
@@ -27,8 +28,8 @@ impl Model for Components {
 }
 
 impl Components {
-    /// The number of a state's component, which is below the number of states. A component that is reached from
-    /// another one has the smaller number.
+    /// Returns the number of a state's component, which is less than the number of states. A component that is reached
+    /// from another one has the smaller number.
     pub fn of(&self, state: u32) -> u32
         requires { state < length self.now.numbers }
         ensures { result ≡ number_of self.now state }
@@ -36,7 +37,7 @@ impl Components {
         self.parts.of(u64::from(state)) as u32
     }
 
-    /// Whether a state reaches itself by at least one move.
+    /// Whether a state reaches itself by one move or more.
     pub fn on_cycle(&self, state: u32) -> bool
         requires { state < length self.now.numbers }
         ensures { result ≡ cycle_of self.now state }
@@ -46,10 +47,10 @@ impl Components {
 }
 
 impl Multigraph {
-    /// The strongly connected components of the graph, in time and memory linear in its states and moves.
+    /// Finds the strongly connected components of the graph, in time and memory linear in its states and moves.
     ///
     /// # Errors
-    /// [`OutOfMemory`] where there was no memory for the search or the components.
+    /// [`OutOfMemory`] if there is not enough memory for the search or the components.
     pub fn components(&self) -> Result<Components, OutOfMemory>
         ensures { IfOk result (λ c. IsParts (edges_of self.now) self.now.states c) }
     {

@@ -1,4 +1,4 @@
-//! The first states of a table of parts, whose numbers are made dense.
+//! Restricting a table of parts to the first states, with part numbers made dense.
 
 ghost use Rattle.std.specs.Prelude.{◌≡◌, ◌<◌, ◌≤◌, ℕ, length, IfOk};
 ghost use Rattle.rl_graph.specs.Parts.{number_of};
@@ -8,7 +8,7 @@ use crate::parts::Parts;
 use rl_lists::OutOfMemory;
 use std::alloc::Global;
 
-/// For each number whether it is that of one of the first states.
+/// Marks each part number that one of the first `count` states has.
 fn used_marks(alloc: Global, parts: &Parts, size: u64, count: u64) -> Result<Vec<bool>, OutOfMemory>
     requires states { count ≤ length parts.now.numbers }
     requires below { (q : ℕ) → q < count → number_of parts.now q < size }
@@ -21,7 +21,7 @@ fn used_marks(alloc: Global, parts: &Parts, size: u64, count: u64) -> Result<Vec
     Ok(marks)
 }
 
-/// For each place how many marks before it are set.
+/// Returns, for each place, the number of marks set before it.
 fn ranks_of(alloc: Global, marks: &[bool]) -> Result<Vec<u64>, OutOfMemory>
     ensures { IfOk result (λ v. AreRanks marks.now (length marks.now) v.items) }
 {
@@ -36,7 +36,7 @@ fn ranks_of(alloc: Global, marks: &[bool]) -> Result<Vec<u64>, OutOfMemory>
     Ok(ranks)
 }
 
-/// The ranks of the numbers of the first states.
+/// Returns the rank of the part number of each of the first `count` states.
 fn ranked(alloc: Global, parts: &Parts, ranks: &[u64], count: u64) -> Result<Vec<u64>, OutOfMemory>
     requires states { count ≤ length parts.now.numbers }
     requires below { (q : ℕ) → q < count → number_of parts.now q < length ranks.now }
@@ -49,7 +49,7 @@ fn ranked(alloc: Global, parts: &Parts, ranks: &[u64], count: u64) -> Result<Vec
     Ok(numbers)
 }
 
-/// Whether the first states lie on cycles.
+/// Returns, for each of the first `count` states, whether it lies on a cycle.
 fn cycles_of(alloc: Global, parts: &Parts, count: u64) -> Result<Vec<bool>, OutOfMemory>
     requires states { count ≤ length parts.now.numbers }
     ensures { IfOk result (λ v. AreCut parts.now count v.items) }
@@ -61,7 +61,8 @@ fn cycles_of(alloc: Global, parts: &Parts, count: u64) -> Result<Vec<bool>, OutO
     Ok(cycles)
 }
 
-/// The table of the first states alone, whose numbers are made dense: each becomes how many smaller ones those states have.
+/// Restricts the table to the first `count` states and makes the part numbers dense: each number becomes the number of
+/// smaller part numbers among those states.
 pub(crate) fn dense(
     alloc: Global,
     parts: &Parts,

@@ -9,8 +9,8 @@ use rl_lists::OutOfMemory;
 use std::alloc::Global;
 use std::marker::Model;
 
-/// A graph of numbered states whose moves carry numbered letters. A state may have several moves on one letter,
-/// also to one target; a move's number is its position, from 0, among the moves of its state and letter.
+/// A graph of numbered states whose moves carry numbered letters. A state may have several moves on one letter, even to
+/// the same target; a move's number is its position, from 0, among the moves of its state and letter.
 #[derive(Drop)]
 pub struct Multigraph {
     states: u32,
@@ -29,10 +29,10 @@ impl Model for Multigraph {
 }
 
 impl Multigraph {
-    /// A graph with so many states and letters and no move.
+    /// Creates a graph with `states` states, `letters` letters and no moves.
     ///
     /// # Errors
-    /// [`OutOfMemory`] where there was no memory for its rows.
+    /// [`OutOfMemory`] if there is not enough memory for its rows.
     pub fn new(alloc: Global, states: u32, letters: u32) -> Result<Multigraph, OutOfMemory>
         ensures { IfOk result (λ g. IsBare g states letters) }
     {
@@ -44,8 +44,8 @@ impl Multigraph {
         })
     }
 
-    /// The graph of rows of targets, one row for each state and letter: those of a state stand together in the order of
-    /// the letters, and a row has the targets of the moves in order.
+    /// Creates a graph from its rows of targets, one row for each state and letter. The rows of a state are adjacent, in
+    /// the order of the letters, and a row lists the targets of its moves in order.
     pub fn from_rows(states: u32, letters: u32, rows: RowList) -> Multigraph
         requires size { length rows ≡ states * letters }
         requires targets { All (All (λ target. target < states)) rows }
@@ -59,11 +59,12 @@ impl Multigraph {
         }
     }
 
-    /// Adds a move, the last one of its state and letter. In whatever order moves are added, they take time and memory in
-    /// proportion to their number. They are best added row by row: a row is moved, once, where it grows after another one.
+    /// Adds a move as the last one of its state and letter. Whatever the order in which moves are added, they take time
+    /// and memory proportional to their number. It is best to add them row by row: a row that grows after a later row was
+    /// begun is moved, once.
     ///
     /// # Errors
-    /// [`OutOfMemory`] where there was no memory for the move; the graph is unchanged then.
+    /// [`OutOfMemory`] if there is not enough memory for the move; the graph is then unchanged.
     pub fn add(&mut self, from: u32, letter: u32, to: u32) -> Result<(), OutOfMemory>
         requires from_in { from < self.old.states }
         requires letter_in { letter < self.old.letters }
@@ -76,7 +77,7 @@ impl Multigraph {
         self.rows.push_at(place, to)
     }
 
-    /// How many states the graph has.
+    /// Returns the number of states.
     pub fn states(&self) -> u32
         ensures number { result ≡ self.now.states }
         ensures whole { IsWhole self.now }
@@ -84,14 +85,14 @@ impl Multigraph {
         self.states
     }
 
-    /// How many letters the graph has.
+    /// Returns the number of letters.
     pub fn letters(&self) -> u32
         ensures { result ≡ self.now.letters }
     {
         self.letters
     }
 
-    /// The targets of the moves of a state on a letter, in the order in which they were added.
+    /// Returns the targets of the moves of a state on a letter, in the order in which they were added.
     pub fn edges(&self, from: u32, letter: u32) -> &[u32]
         requires from_in { from < self.now.states }
         requires letter_in { letter < self.now.letters }
@@ -103,15 +104,15 @@ impl Multigraph {
         self.rows.row(place)
     }
 
-    /// How many rows the graph has: one for each state and letter.
+    /// Returns the number of rows: one for each state and letter.
     pub(crate) fn row_count(&self) -> u64
         ensures { result ≡ self.now.states * self.now.letters }
     {
         u64::from(self.states) * u64::from(self.letters)
     }
 
-    /// The targets of the row at a place, where the rows of a state stand together in the order of the letters; none behind
-    /// the last row.
+    /// Returns the targets of the row at `place`. The rows of a state are adjacent, in the order of the letters. Past the
+    /// last row, the result is empty.
     pub(crate) fn row(&self, place: u64) -> &[u32]
         ensures targets { result.now ≡ row_at self.now place }
         ensures whole { IsWhole self.now }
@@ -119,7 +120,7 @@ impl Multigraph {
         self.rows.row(place as usize)
     }
 
-    /// The allocator that the graph's rows are kept in.
+    /// Returns the allocator of the graph's rows.
     pub(crate) fn allocator(&self) -> Global {
         self.rows.allocator()
     }

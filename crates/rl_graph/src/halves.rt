@@ -1,4 +1,4 @@
-//! The product of two copies of a graph by half steps, where the marked pairs alone move.
+//! The product of two copies of a graph in which only the marked pairs move, by half steps.
 
 ghost use Rattle.std.specs.Prelude.{◌≡◌, ◌+◌, ◌*◌, ◌<◌, ◌≤◌, ◌^◌, ℕ, true, [], length};
 ghost use Rattle.rl_graph.specs.Paths.{Has};
@@ -8,10 +8,10 @@ use crate::graph::Multigraph;
 use crate::moves::NextStates;
 use crate::rows::Rows;
 
-/// The product of two copies of a graph with the moves of the marked pairs alone, by half steps. The pair of the states `p` and
-/// `q` of a graph with `n` states is the node `p * n + q`; the row with the number `r` with the state `u` is the half node
-/// `(n + r) * n + u`. From a pair the second state moves, to the half node of the first state's row on that letter; from there
-/// the first state moves on letter 0, to each target of the row.
+/// The product of two copies of a graph in which only the marked pairs move, by half steps. In a graph with `n` states,
+/// the pair of the states `p` and `q` is the node `p * n + q`, and the half node of the row number `r` and the state `u`
+/// is the node `(n + r) * n + u`. At a pair, the second state moves, to the half node of the first state's row on the
+/// same letter. From there, the first state moves, on letter 0, to a target of that row.
 #[derive(Drop)]
 pub(crate) struct HalfSteps<'a> {
     pub(crate) graph: &'a Multigraph,
@@ -82,7 +82,7 @@ impl<'a> NextStates for HalfSteps<'a> {
     }
 
     fn may_loop(&self, from: u64) -> bool {
-        // A pair moves to half nodes alone, and a half node to pairs alone.
+        // A pair moves only to half nodes, and a half node only to pairs.
         let _states = self.graph.states();
         false
     }

@@ -1,14 +1,14 @@
-//! Laws of paths in multigraphs, for all graphs. The function does nothing: what it ensures is what is proved. A graph is a
-//! function from a state and a letter to the ordered list of the targets of its moves.
+//! Laws of paths in multigraphs, for all graphs. The function does nothing: what it ensures is what is proved. A graph is
+//! a function from a state and a letter to the ordered list of the targets of its moves.
 
 ghost use Rattle.std.specs.Prelude.{◌↔◌, ◌≢◌, ℕ, ◌≤◌, List};
 ghost use Rattle.rl_graph.specs.Paths.{paths, IsPath};
 ghost use Rattle.rl_graph.specs.Twins.{IsTwin, HasNoTwin};
 
-/// Paths are counted, or each is the list of the numbers of its moves: both ways say the same. The count is at least 1 exactly
-/// where there is such a list, by `one`, and at least 2 exactly where there are two different ones, by `two`. So a state has a
-/// count of at least 2 back to itself exactly where it has a twin, by `twin`, and no state has one exactly where no state has
-/// a twin, by `none`.
+/// Counting paths agrees with listing them by the numbers of their moves. The count is at least 1 if and only if there is
+/// such a list (`one`), and at least 2 if and only if there are two different lists (`two`). So the count from a state back
+/// to itself along a word is at least 2 if and only if the state has a twin on that word (`twin`), and all such counts are
+/// at most 1 if and only if there is no twin (`none`).
 pub fn counts_are_paths()
     ensures one { (next : ℕ → ℕ → List ℕ) (s t : ℕ) (w : List ℕ) → (1 ≤ paths next s t w) ↔ ((p : List ℕ) × IsPath next s t p w) }
     ensures two { (next : ℕ → ℕ → List ℕ) (s t : ℕ) (w : List ℕ) → (2 ≤ paths next s t w)

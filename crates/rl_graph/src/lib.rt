@@ -1,18 +1,20 @@
-//! Multigraphs whose moves carry letters, as automata have them: strongly connected components, products and shortest words.
+//! Multigraphs whose moves carry letters, like the moves of an automaton: strongly connected components, products and
+//! shortest words.
 //!
-//! A [`Multigraph`] has numbered states and letters, and one state may have several moves to another on one letter.
-//! [`Multigraph::components`] finds its strongly connected components, and [`Multigraph::walk`] a shortest word from one
-//! state to another. The same searches go over any graph that can be asked for its moves, which is what [`NextStates`] stands
-//! for: [`parts_of`] by Gabow's path-based algorithm, [`path_between`] and [`cycle_through`] by breadth-first search. One
-//! such graph is [`Twice`], the product of a multigraph with itself, which is never stored; [`product_parts`] finds its
-//! components, and [`pair_parts`] those where only marked pairs move. "Part" is this crate's word for a strongly connected
-//! component, "twin" for a witness of EDA and "split" for a witness of IDA.
+//! A [`Multigraph`] has numbered states and letters, and a state may have several moves to the same target on one letter.
+//! [`Multigraph::components`] finds its strongly connected components, and [`Multigraph::walk`] finds a shortest word
+//! from one state to another. The same searches work on any graph that implements [`NextStates`], that is, that can be
+//! asked for its moves one at a time: [`parts_of`] uses Gabow's path-based algorithm, and [`path_between`] and
+//! [`cycle_through`] use breadth-first search. One such graph is [`Twice`], the product of a multigraph with itself,
+//! which is never stored; [`product_parts`] finds its components, and [`pair_parts`] finds the components of the product
+//! in which only marked pairs move. In this crate, a "part" is a strongly connected component, a "twin" is a witness of
+//! EDA, and a "split" is a witness of IDA.
 //!
 //! # What is proved
 //!
-//! Two states have one part exactly where each reaches the other, and a part that is reached from another one has the smaller
-//! number. A word that is found is a shortest one, and none is found exactly where there is none. The law
-//! [`laws::counts_are_paths`] ties the number of paths along a word to the paths themselves.
+//! Two states have the same part if and only if each reaches the other, and a part that is reached from another one has
+//! the smaller number. Every word that is found is a shortest one, and no word is found if and only if there is none. The
+//! law [`laws::counts_are_paths`] relates the number of paths along a word to the paths themselves.
 //!
 //! # Example
 //!
@@ -27,8 +29,9 @@
 //! g.walk(0, 2)?; // Some: the word [0, 0]
 //! ```
 //!
-//! Read `specs/Graph.antt` and `specs/Paths.antt` first, then `specs/Parts.antt` and `specs/Walks.antt`. `specs/Twins.antt`
-//! has the EDA and IDA criteria of Weber and Seidl (1991), and `specs/Bounds.antt` the constants of the bound on costs.
+//! Read `specs/Graph.antt` and `specs/Paths.antt` first, then `specs/Parts.antt` and `specs/Walks.antt`.
+//! `specs/Twins.antt` defines the EDA and IDA criteria of Weber and Seidl (1991), and `specs/Bounds.antt` defines the
+//! constants of the cost bound.
 #![tactic(auto)]
 
 mod components;

@@ -1,4 +1,4 @@
-//! The product of two copies of a graph, where the marked pairs alone move.
+//! The product of two copies of a graph in which only the marked pairs move.
 
 ghost use Rattle.std.specs.Prelude.{◌≡◌, ℕ, ◌*◌, ◌<◌, ◌≤◌, ◌↔◌, IsTrue, true, false, length, slice_index, slice_index_or, IfOk};
 ghost use Rattle.rl_graph.specs.Graph.{edges_of};
@@ -10,10 +10,10 @@ use crate::moves::{NextStates, Twice};
 use rl_lists::OutOfMemory;
 use std::alloc::Global;
 
-/// The product of two copies of a graph with the moves of the marked pairs alone, on the letters of a list alone. A letter
-/// is called by its place in the list. It is passed over where both states of the pair have the same rows on the letter
-/// before it, since those moves were taken there. `repeats` has a flag for each state and letter, as [`repeats_of`] makes
-/// them, and `loops` one for each state, as [`loops_of`] makes them.
+/// The product of two copies of a graph in which only the marked pairs move, and only on the letters of a list. A letter
+/// is given by its place in the list. It is skipped if both states of the pair have the same rows on it as on the letter
+/// before it, since the same moves were taken there. `repeats` has a flag for each state and letter, as [`repeats_of`]
+/// computes them, and `loops` has a flag for each state, as [`loops_of`] computes them.
 #[derive(Drop)]
 pub(crate) struct MarkedPairs<'a> {
     pub(crate) graph: &'a Multigraph,
@@ -30,7 +30,7 @@ pub(crate) struct MarkedPairs<'a> {
 }
 
 impl<'a> MarkedPairs<'a> {
-    /// Whether both states of a pair have the same rows on a letter as on the letter before it.
+    /// Whether both states of a pair have the same row on a letter as on the letter before it.
     fn repeats_both(&self, from: u64, letter: u32) -> bool
         requires pair_in { from < self.now.graph.now.states * self.now.graph.now.states }
         requires letter_in { letter < length self.now.letters.now }
@@ -40,11 +40,11 @@ impl<'a> MarkedPairs<'a> {
         let width = self.letters.len() as u64;
         let first = (from / count) * width + u64::from(letter);
         let second = (from % count) * width + u64::from(letter);
-        // Both flags are read, so that both places are made outside the loop over the letters.
+        // Both flags are always read, so that both places are computed outside the loop over the letters.
         self.repeats[first as usize] & self.repeats[second as usize]
     }
 
-    /// Whether both states of a pair have moves to themselves.
+    /// Whether both states of a pair have a move to themselves.
     fn loop_both(&self, from: u64) -> bool
         requires { from < self.now.graph.now.states * self.now.graph.now.states }
         ensures { result ≡ both_loop self.now.graph.now.states self.now.loops.now from }
@@ -107,7 +107,7 @@ impl<'a> NextStates for MarkedPairs<'a> {
     }
 }
 
-/// Whether some state has a move on a letter.
+/// Whether any state has a move on `letter`.
 fn has_moves(g: &Multigraph, letter: u32) -> bool
     requires { letter < g.now.letters }
     ensures { IsTrue result ↔ HasMoves g.now letter }
@@ -120,7 +120,7 @@ fn has_moves(g: &Multigraph, letter: u32) -> bool
     false
 }
 
-/// The letters on which some state has a move.
+/// Returns the letters on which some state has a move.
 pub(crate) fn letters_of(alloc: Global, g: &Multigraph) -> Result<Vec<u32>, OutOfMemory>
     ensures { IfOk result (λ v. AreLetters g.now v.items) }
 {
@@ -133,7 +133,7 @@ pub(crate) fn letters_of(alloc: Global, g: &Multigraph) -> Result<Vec<u32>, OutO
     Ok(letters)
 }
 
-/// Whether a state's row on a letter of a list is equal to its row on the letter before it in the list.
+/// Whether a state's row on a letter of the list equals its row on the letter before it in the list.
 fn is_repeat(g: &Multigraph, letters: &[u32], state: u32, place: usize) -> bool
     requires state_in { state < g.now.states }
     requires place_in { place < length letters.now }
@@ -146,8 +146,8 @@ fn is_repeat(g: &Multigraph, letters: &[u32], state: u32, place: usize) -> bool
     g.edges(state, letters[place]) == g.edges(state, letters[place - 1])
 }
 
-/// For each state and each letter of a list whether the state's row on it is equal to its row on the letter before it. The
-/// flags of a state stand together in the order of the letters.
+/// Returns, for each state and each letter of the list, whether the state's row on the letter equals its row on the
+/// letter before it. The flags of a state are adjacent, in the order of the letters.
 pub(crate) fn repeats_of(
     alloc: Global,
     g: &Multigraph,
@@ -165,7 +165,7 @@ pub(crate) fn repeats_of(
     Ok(repeats)
 }
 
-/// Whether a state has a move to itself on a letter.
+/// Whether a state has a move to itself on `letter`.
 fn has_loop_on(g: &Multigraph, state: u32, letter: u32) -> bool
     requires state_in { state < g.now.states }
     requires letter_in { letter < g.now.letters }
@@ -192,7 +192,7 @@ fn has_loop(g: &Multigraph, state: u32) -> bool
     false
 }
 
-/// For each state whether it has a move to itself.
+/// Returns, for each state, whether it has a move to itself.
 pub(crate) fn loops_of(alloc: Global, g: &Multigraph) -> Result<Vec<bool>, OutOfMemory>
     ensures { IfOk result (λ v. AreLoops (edges_of g.now) g.now.states v.items) }
 {

@@ -1,4 +1,4 @@
-//! Graphs whose moves are asked for one at a time, and the product of two copies of a multigraph.
+//! Graphs that can be asked for their moves one at a time, and the product of two copies of a multigraph.
 
 ghost use Rattle.std.specs.Prelude.{◌≡◌, ℕ, ◌+◌, ◌*◌, ◌/◌, ◌%◌, ◌^◌, ◌<◌, ◌≤◌, true, List, [], length, slice_index, map, flat_map};
 ghost use Rattle.rl_graph.specs.Paths.{Has, IsBounded};
@@ -7,33 +7,33 @@ ghost use Rattle.rl_graph.specs.Product.{pair_moves};
 
 use crate::graph::Multigraph;
 
-/// A graph of numbered states and letters whose moves are asked for one at a time.
+/// A graph of numbered states and letters that can be asked for its moves one at a time.
 pub trait NextStates {
-    // How many states the graph has.
+    // The number of states.
     ghost size: { Self → ℕ };
 
-    // How many letters the graph has.
+    // The number of letters.
     ghost width: { Self → ℕ };
 
-    // The ordered targets of the moves of a state on a letter.
+    // The targets of the moves of a state on a letter, in order.
     ghost next: { Self → ℕ → ℕ → List ℕ };
 
-    /// How many states the graph has.
+    /// Returns the number of states.
     fn states(&self) -> u64
         ensures number { result ≡ size self.now }
         ensures bounded { IsBounded (next self.now) (size self.now) (width self.now) };
 
-    /// How many letters the graph has.
+    /// Returns the number of letters.
     fn letters(&self) -> u32
         ensures { result ≡ width self.now };
 
-    /// How many moves a state has on a letter.
+    /// Returns the number of moves of a state on a letter.
     fn count(&self, from: u64, letter: u32) -> u64
         requires state_in { from < size self.now }
         requires letter_in { letter < width self.now }
         ensures { result ≡ length (next self.now from letter) };
 
-    /// The state that the move with this number, counted from 0, leads to.
+    /// Returns the target of the move with the given number, counted from 0.
     fn target(&self, from: u64, letter: u32, number: u64) -> u64
         requires state_in { from < size self.now }
         requires letter_in { letter < width self.now }
@@ -41,7 +41,8 @@ pub trait NextStates {
         ensures target { result ≡ slice_index (next self.now from letter) number }
         ensures inside { result < size self.now };
 
-    /// A letter from which on a state has no move: the number of letters, where an impl doesn't know a smaller one.
+    /// Returns a letter such that the state has no moves on it or on any later letter. By default, this is the number of
+    /// letters.
     fn end_letter(&self, from: u64) -> u32
         requires { from < size self.now }
         ensures within { result ≤ width self.now }
@@ -50,7 +51,7 @@ pub trait NextStates {
         self.letters()
     }
 
-    /// Whether a state may have a move to itself: true where it has one, and where an impl doesn't know that it has none.
+    /// Whether a state may have a move to itself. It must be true if the state has one; by default, it is always true.
     fn may_loop(&self, from: u64) -> bool
         requires { from < size self.now }
         ensures { (l : ℕ) → Has from (next self.now from l) → result ≡ true }
@@ -85,16 +86,16 @@ impl NextStates for Multigraph {
     }
 }
 
-/// Two copies of a multigraph that go side by side on the same letters: its product with itself. The pair of the states `p`
-/// and `q` of a graph with `n` states is the state `p * n + q`; where `q` has `k` moves on a letter, the move `i` of `p` with
-/// the move `j` of `q` is the move `i * k + j`.
+/// Two copies of a multigraph that move side by side on the same letters, that is, the product of the graph with itself.
+/// In a graph with `n` states, the pair of the states `p` and `q` is the state `p * n + q`. If `q` has `k` moves on a
+/// letter, the move `i` of `p` together with the move `j` of `q` is the move `i * k + j` of the pair.
 #[derive(Clone, Copy)]
 pub struct Twice<'a> {
     /// The graph.
     pub graph: &'a Multigraph,
 }
 
-/// The pair of states at a place in the product of two rows.
+/// Returns the pair of targets with the given number in the product of two rows.
 fn chosen(first: &[u32], second: &[u32], count: u64, number: u64) -> u64
     requires number_in { number < length first.now * length second.now }
     requires small { count < 2 ^ 32 }

@@ -1,4 +1,4 @@
-//! The parts of the product of two copies of a graph, by whole steps or by half steps.
+//! The parts of the product of two copies of a graph, found by whole steps or by half steps.
 
 ghost use Rattle.std.specs.Prelude.{◌≡◌, ◌+◌, ◌*◌, ◌<◌, ◌^◌, IsTrue, length, IfOk, IfSome};
 ghost use Rattle.rl_graph.specs.Graph.{edges_of};
@@ -16,17 +16,17 @@ use crate::rows::{Rows, rows_of};
 use rl_lists::OutOfMemory;
 use std::alloc::Global;
 
-/// How many times as many whole steps as half steps there have to be at least before half steps are taken.
+/// Half steps are used only if there are more than this many times as many whole steps as half steps.
 const GAIN: u64 = 4;
 
-/// How many moves a graph has, and how many pairs of moves on one letter. Where a number doesn't fit it is the greatest one.
+/// The number of moves of a graph, and the number of pairs of moves on the same letter. Both saturate.
 #[derive(Clone, Copy)]
 struct Counts {
     moves: u64,
     pairs: u64,
 }
 
-/// How many marks are set.
+/// Returns the number of marks that are set.
 fn count_of(marks: &[bool]) -> u64 {
     let mut count: u64 = 0;
     for mark in marks {
@@ -37,7 +37,7 @@ fn count_of(marks: &[bool]) -> u64 {
     count
 }
 
-/// How many moves a graph has on a letter.
+/// Returns the number of moves of a graph on a letter.
 fn moves_on(g: &Multigraph, letter: u32) -> u64
     requires { letter < g.now.letters }
 {
@@ -48,7 +48,7 @@ fn moves_on(g: &Multigraph, letter: u32) -> u64
     moves
 }
 
-/// The counts of a graph.
+/// Counts the moves of a graph, and their pairs.
 fn counts_of(g: &Multigraph) -> Counts {
     let mut counts = Counts { moves: 0, pairs: 0 };
     for letter in 0..g.letters() {
@@ -59,7 +59,7 @@ fn counts_of(g: &Multigraph) -> Counts {
     counts
 }
 
-/// About how many of the pairs of moves belong to the pairs of states that move, if those are so many.
+/// Estimates how many pairs of moves belong to `moving` pairs of states, from the average over all pairs of states.
 fn moving_pairs(g: &Multigraph, counts: Counts, moving: u64) -> u64 {
     let states = u64::from(g.states());
     if states == 0 {
@@ -68,12 +68,13 @@ fn moving_pairs(g: &Multigraph, counts: Counts, moving: u64) -> u64 {
     (counts.pairs / (states * states)).saturating_mul(moving)
 }
 
-/// Whether so many steps are far more than the pairs of a state and a move.
+/// Whether `steps` exceeds [`GAIN`] times the number of pairs of a state and a move.
 fn is_dense(g: &Multigraph, counts: Counts, steps: u64) -> bool {
     steps / GAIN > counts.moves.saturating_mul(u64::from(g.states()))
 }
 
-/// Whether they are far more than the half nodes for so many rows, at each of which each letter is asked for.
+/// Whether `steps` exceeds [`GAIN`] times the work on the half nodes of `rows` distinct rows, each of which is asked for
+/// every letter. It is false if a node's number might not fit.
 fn is_shared(g: &Multigraph, steps: u64, rows: usize) -> bool
     ensures { IsTrue result → (g.now.states + rows < 2 ^ 32) × (0 < g.now.letters) }
 {
@@ -85,7 +86,8 @@ fn is_shared(g: &Multigraph, steps: u64, rows: usize) -> bool
         && steps / GAIN > nodes.saturating_mul(u64::from(letters))
 }
 
-/// The rows of a graph, if half steps are far fewer than whole ones where so many pairs move.
+/// Returns the numbered rows of a graph if half steps are much cheaper than whole steps when `moving` pairs move, and
+/// `None` otherwise.
 fn rows_for_halves(alloc: Global, g: &Multigraph, moving: u64) -> Result<Option<Rows>, OutOfMemory>
     ensures { IfOk result (λ o. IfSome o (λ r. AreRows g.now r.numbers.items r.owners.items)) }
 {
@@ -102,7 +104,7 @@ fn rows_for_halves(alloc: Global, g: &Multigraph, moving: u64) -> Result<Option<
     }
 }
 
-/// The parts by whole steps: a move of the one copy with each move of the other.
+/// Finds the parts by whole steps: each step takes a move of the first copy together with a move of the second.
 fn whole_parts(alloc: Global, g: &Multigraph, moving: &[bool]) -> Result<Parts, OutOfMemory>
     requires { length moving.now ≡ g.now.states * g.now.states }
     ensures { IfOk result (IsParts (marked_moves (edges_of g.now) g.now.states moving.now) (g.now.states * g.now.states)) }
@@ -122,7 +124,7 @@ fn whole_parts(alloc: Global, g: &Multigraph, moving: &[bool]) -> Result<Parts, 
     Ok(parts)
 }
 
-/// The parts by half steps: a move of the second copy, and then one of the first.
+/// Finds the parts by half steps: a move of the second copy, followed by a move of the first.
 fn half_parts(
     alloc: Global,
     g: &Multigraph,
@@ -144,12 +146,13 @@ fn half_parts(
     Ok(cut)
 }
 
-/// The parts of the product of two copies of a graph, where the marked pairs alone move. The time is linear in the pairs of states
-/// and in the pairs of moves on one letter. Where those moves are far more, it is linear in the pairs of a state and a move and in
-/// the half nodes, one for each state and each of the different rows.
+/// Finds the parts of the product of two copies of a graph in which only the marked pairs move. The time is linear in the
+/// number of pairs of states plus the number of pairs of moves on the same letter. If there are far more pairs of moves
+/// than pairs of a state and a move, the time is linear in the number of pairs of a state and a move plus the number of
+/// half nodes, one for each pair of a state and a distinct row.
 ///
 /// # Errors
-/// [`OutOfMemory`] where there was no memory for the search or the parts.
+/// [`OutOfMemory`] if there is not enough memory for the search or the parts.
 pub fn pair_parts(alloc: Global, g: &Multigraph, moving: &[bool]) -> Result<Parts, OutOfMemory>
     requires { length moving.now ≡ g.now.states * g.now.states }
     ensures { IfOk result (IsParts (marked_moves (edges_of g.now) g.now.states moving.now) (g.now.states * g.now.states)) }
@@ -160,10 +163,10 @@ pub fn pair_parts(alloc: Global, g: &Multigraph, moving: &[bool]) -> Result<Part
     }
 }
 
-/// The parts of the product of two copies of a graph, at the same cost.
+/// Finds the parts of the product of two copies of a graph, at the cost of [`pair_parts`] with all pairs marked.
 ///
 /// # Errors
-/// [`OutOfMemory`] where there was no memory for the search or the parts.
+/// [`OutOfMemory`] if there is not enough memory for the search or the parts.
 pub fn product_parts(alloc: Global, g: &Multigraph) -> Result<Parts, OutOfMemory>
     ensures { IfOk result (IsParts (pair_moves (edges_of g.now) g.now.states) (g.now.states * g.now.states)) }
 {

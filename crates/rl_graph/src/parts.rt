@@ -1,4 +1,4 @@
-//! The parts of a graph, by the path-based search of Gabow (2000).
+//! The parts of a graph, found by Gabow's path-based search (2000).
 
 ghost use Rattle.std.specs.Prelude.{◌≡◌, ◌<◌, ◌≤◌, ◌+◌, ◌^◌, ◌↔◌, ℕ, [], length, IfOk, OnOk, IfSome, IfNone, IsTrue, All, map, false, slice_index_or};
 ghost use Rattle.rl_graph.specs.Paths.{Has, Reaches, OnCycle};
@@ -12,7 +12,7 @@ use rl_lists::OutOfMemory;
 use std::alloc::Global;
 use std::marker::Model;
 
-/// Where a state stands in the search.
+/// What the search knows of a state.
 #[derive(Clone, Copy)]
 enum SearchPlace {
     Unseen,
@@ -22,7 +22,7 @@ enum SearchPlace {
     Done(u64),
 }
 
-/// An open state with the move that is looked at next.
+/// An open state, and the letter and number of its next move.
 #[derive(Clone, Copy)]
 struct Frame {
     state: u64,
@@ -31,8 +31,8 @@ struct Frame {
     number: u64,
 }
 
-/// The search: the place of each state, the open states, the depths at which their groups begin, the open states
-/// whose moves aren't all looked at, and how many parts are done.
+/// The state of the search: what is known of each state, the stack of open states, the depths at which their groups
+/// begin, the open states that still have moves to look at, and the number of finished parts.
 #[derive(Drop)]
 struct PartSearch {
     places: Vec<SearchPlace>,
@@ -43,7 +43,7 @@ struct PartSearch {
 }
 
 impl PartSearch {
-    /// A search over so many states, none of which is seen.
+    /// Starts a search over `count` states, none of which is seen.
     fn new(alloc: Global, count: u64) -> Result<PartSearch, OutOfMemory>
         ensures { IfOk result (λ s. stand_of s ≡ start_of count) }
     {
@@ -57,7 +57,7 @@ impl PartSearch {
         })
     }
 
-    /// Puts a state on the stack, in a group of its own and with a frame.
+    /// Pushes a state onto the stack, as a group of its own, with a frame.
     fn open(&mut self, state: u64) -> Result<(), OutOfMemory>
         requires { state < length (stand_of self.old).places }
         ensures { OnOk result (stand_of self.new ≡ opened (stand_of self.old) state) }
@@ -75,7 +75,7 @@ impl PartSearch {
         Ok(())
     }
 
-    /// Takes the open states from a depth on off the stack, as the next part.
+    /// Pops the open states from the depth `from` on, and makes them the next part.
     fn close(&mut self, from: u64)
         requires listed { IsListed (stand_of self.old) }
         requires within { from ≤ length (stand_of self.old).open_states }
@@ -91,7 +91,8 @@ impl PartSearch {
         self.parts += 1;
     }
 
-    /// Finishes an open state whose moves are all looked at: where the last group begins with it, the group is closed.
+    /// Finishes an open state that has no moves left to look at. If the last group begins with this state, the group is
+    /// closed.
     fn finish(&mut self, depth: u64)
         requires listed { IsListed (stand_of self.old) }
         requires within { depth ≤ length (stand_of self.old).open_states }
@@ -104,7 +105,7 @@ impl PartSearch {
         }
     }
 
-    /// Whether a state is unseen; where it is open, the groups from its own on are joined.
+    /// Whether a state is unseen. If it is open, its group is joined with all later groups.
     fn meet(&mut self, target: u64) -> bool
         requires { target < length (stand_of self.old).places }
         ensures { IsMet target (stand_of self.old) (stand_of self.new) result }
@@ -119,8 +120,8 @@ impl PartSearch {
         }
     }
 
-    /// Looks at the moves of the frame's state on the frame's letter, up to the first one to an unseen state, which it
-    /// answers. A move to an open state joins the groups from that state's on.
+    /// Looks at the moves of the frame's state on the frame's letter, up to the first one to an unseen state, and returns
+    /// that state. A move to an open state joins that state's group with all later groups.
     fn scan<M: NextStates>(&mut self, m: &M, frame: &mut Frame) -> Option<u64>
         requires letter_in { frame.old.letter < M.width m.now }
         requires search { IsSearch (M.next m.now) (M.size m.now) (with_top (stand_of self.old) frame.old) }
@@ -143,8 +144,8 @@ impl PartSearch {
         None
     }
 
-    /// Looks at the moves of the frame's state from the one at which the frame stands, up to the first one to an
-    /// unseen state, which it answers.
+    /// Looks at the moves of the frame's state, beginning with the frame's next move, up to the first one to an unseen
+    /// state, and returns that state.
     fn advance<M: NextStates>(&mut self, m: &M, frame: &mut Frame) -> Option<u64>
         requires search { IsSearch (M.next m.now) (M.size m.now) (with_top (stand_of self.old) frame.old) }
         ensures search { IsSearch (M.next m.now) (M.size m.now) (with_top (stand_of self.new) frame.new) }
@@ -165,7 +166,7 @@ impl PartSearch {
         None
     }
 
-    /// Looks at the moves of the frame's state: opens the first unseen state that one leads to, or finishes the state.
+    /// Looks at the moves of the frame's state: opens the first unseen target, or finishes the state if there is none.
     fn step<M: NextStates>(&mut self, m: &M, mut frame: Frame) -> Result<(), OutOfMemory>
         requires search { IsSearch (M.next m.now) (M.size m.now) (with_top (stand_of self.old) frame) }
         ensures search { OnOk result (IsSearch (M.next m.now) (M.size m.now) (stand_of self.new)) }
@@ -183,7 +184,7 @@ impl PartSearch {
         Ok(())
     }
 
-    /// Looks at the moves of the open states until none has a move left: then every open state is done.
+    /// Looks at the moves of the open states until no state is open.
     fn run<M: NextStates>(&mut self, m: &M) -> Result<(), OutOfMemory>
         requires search { IsSearch (M.next m.now) (M.size m.now) (stand_of self.old) }
         ensures search { OnOk result (IsSearch (M.next m.now) (M.size m.now) (stand_of self.new)) }
@@ -196,7 +197,7 @@ impl PartSearch {
         Ok(())
     }
 
-    /// Makes an unseen state that has no move the next part, alone.
+    /// Makes an unseen state without moves the next part, as its only state.
     fn close_alone(&mut self, state: u64)
         requires state_in { state < length (stand_of self.old).places }
         requires room { (stand_of self.old).parts < 2 ^ 63 }
@@ -206,7 +207,7 @@ impl PartSearch {
         self.parts += 1;
     }
 
-    /// Searches from an unseen state, while no state is open. A state without a move is done at once.
+    /// Searches from an unseen state while no state is open. A state without moves is finished at once.
     fn visit<M: NextStates>(&mut self, m: &M, root: u64) -> Result<(), OutOfMemory>
         requires search { IsSearch (M.next m.now) (M.size m.now) (stand_of self.old) }
         requires frames { (stand_of self.old).frames ≡ [] }
@@ -226,7 +227,7 @@ impl PartSearch {
     }
 }
 
-/// The number of the part in a place; 0 for a state that isn't done.
+/// Returns the number of the part in a search place, or 0 if the state isn't done.
 fn part_in(place: SearchPlace) -> u64
     ensures { result ≡ part_in place }
 {
@@ -236,7 +237,7 @@ fn part_in(place: SearchPlace) -> u64
     }
 }
 
-/// Searches a whole graph: then every state is done.
+/// Searches a whole graph, so that every state is done.
 fn searched<M: NextStates>(alloc: Global, m: &M) -> Result<PartSearch, OutOfMemory>
     ensures search { IfOk result (λ s. IsSearch (M.next m.now) (M.size m.now) (stand_of s)) }
     ensures done { IfOk result (λ s. IsAllDone (M.size m.now) (stand_of s)) }
@@ -251,7 +252,7 @@ fn searched<M: NextStates>(alloc: Global, m: &M) -> Result<PartSearch, OutOfMemo
     Ok(search)
 }
 
-/// The numbers of the parts in a list of places.
+/// Returns the part numbers in a list of search places.
 fn numbers_in(alloc: Global, places: &[SearchPlace]) -> Result<Vec<u64>, OutOfMemory>
     ensures { IfOk result (λ v. v.items ≡ map part_in places.now) }
 {
@@ -259,7 +260,7 @@ fn numbers_in(alloc: Global, places: &[SearchPlace]) -> Result<Vec<u64>, OutOfMe
     Ok(numbers)
 }
 
-/// The number of each state's part.
+/// Returns the part number of each state.
 fn part_numbers<M: NextStates>(alloc: Global, m: &M) -> Result<Vec<u64>, OutOfMemory>
     ensures { IfOk result (λ v. IsNumbered (M.next m.now) (M.size m.now) v.items) }
 {
@@ -267,7 +268,7 @@ fn part_numbers<M: NextStates>(alloc: Global, m: &M) -> Result<Vec<u64>, OutOfMe
     numbers_in(alloc, &search.places)
 }
 
-/// Whether a state has a move on a letter to a state with the same number.
+/// Whether a state has a move on `letter` to a state with the same number.
 fn has_inner_on<M: NextStates>(m: &M, numbers: &[u64], state: u64, letter: u32) -> bool
     requires state_in { state < M.size m.now }
     requires letter_in { letter < M.width m.now }
@@ -299,7 +300,8 @@ fn has_inner<M: NextStates>(m: &M, numbers: &[u64], state: u64) -> bool
     false
 }
 
-/// A mark for each number of a part: the numbers that two states have are marked.
+/// Marks the part numbers that at least two states share. Part numbers are less than the number of states, so there are
+/// as many marks as states.
 fn shared_marks(alloc: Global, numbers: &[u64]) -> Result<Vec<bool>, OutOfMemory>
     requires { All (λ part. part < length numbers.now) numbers.now }
     ensures { IfOk result (λ v. AreShared numbers.now v.items) }
@@ -316,8 +318,8 @@ fn shared_marks(alloc: Global, numbers: &[u64]) -> Result<Vec<bool>, OutOfMemory
     Ok(shared)
 }
 
-/// Whether a state has a move to a state with the same number. A state whose number is marked as shared has one. Another
-/// one has one where it has a move to itself, so its moves are looked at only where it may.
+/// Whether a state has a move to a state with the same number. If other states share its number, it has one. Otherwise
+/// only a move to itself can be one, so its moves are looked at only if it may have a move to itself.
 fn is_inner<M: NextStates>(m: &M, numbers: &[u64], shared: &[bool], state: u64) -> bool
     requires state_in { state < M.size m.now }
     requires numbered { IsNumbered (M.next m.now) (M.size m.now) numbers.now }
@@ -331,7 +333,7 @@ fn is_inner<M: NextStates>(m: &M, numbers: &[u64], shared: &[bool], state: u64) 
     m.may_loop(state) && has_inner(m, numbers, state)
 }
 
-/// For each state whether it has a move to a state with the same number.
+/// Returns, for each state, whether it has a move to a state with the same number.
 fn inner_marks<M: NextStates>(
     alloc: Global,
     m: &M,
@@ -348,7 +350,8 @@ fn inner_marks<M: NextStates>(
     Ok(marks)
 }
 
-/// The parts of a graph, its strongly connected components: two states have one part exactly where each reaches the other.
+/// The parts of a graph, that is, its strongly connected components: two states have the same part if and only if each
+/// reaches the other.
 #[derive(Drop)]
 pub struct Parts {
     numbers: Vec<u64>,
@@ -367,7 +370,7 @@ impl Model for Parts {
 }
 
 impl Parts {
-    /// The parts with these numbers and marks.
+    /// Creates a table from the part number and the cycle mark of each state.
     pub(crate) fn new(numbers: Vec<u64>, cycles: Vec<bool>) -> Parts
         requires { length cycles.items ≡ length numbers.items }
         ensures { result ≡ record { numbers = numbers.items; cycles = cycles.items } }
@@ -375,8 +378,8 @@ impl Parts {
         Parts { numbers, cycles }
     }
 
-    /// The number of a state's part, which is below the number of states. A part that is reached from another one has
-    /// the smaller number.
+    /// Returns the number of a state's part, which is less than the number of states. A part that is reached from another
+    /// one has the smaller number.
     pub fn of(&self, state: u64) -> u64
         requires { state < length self.now.numbers }
         ensures { result ≡ number_of self.now state }
@@ -384,7 +387,7 @@ impl Parts {
         self.numbers[state as usize]
     }
 
-    /// Whether a state reaches itself by at least one move.
+    /// Whether a state reaches itself by one move or more.
     pub fn on_cycle(&self, state: u64) -> bool
         requires { state < length self.now.numbers }
         ensures { result ≡ cycle_of self.now state }
@@ -393,10 +396,10 @@ impl Parts {
     }
 }
 
-/// The parts of a graph, by the path-based search of Gabow (2000), in time and memory linear in its states and moves.
+/// Finds the parts of a graph by Gabow's path-based search (2000), in time and memory linear in its states and moves.
 ///
 /// # Errors
-/// [`OutOfMemory`] where there was no memory for the search or the parts.
+/// [`OutOfMemory`] if there is not enough memory for the search or the parts.
 pub fn parts_of<M: NextStates>(alloc: Global, m: &M) -> Result<Parts, OutOfMemory>
     ensures { IfOk result (λ p. IsParts (M.next m.now) (M.size m.now) p) }
 {
@@ -406,7 +409,7 @@ pub fn parts_of<M: NextStates>(alloc: Global, m: &M) -> Result<Parts, OutOfMemor
     Ok(Parts { numbers, cycles })
 }
 
-/// Takes the marks above a depth off, which joins their groups to the one that holds the depth.
+/// Removes the marks above `depth`, which joins their groups to the group that contains `depth`.
 fn cut(marks: &mut Vec<u64>, depth: u64)
     ensures { IsCut depth marks.old.items marks.new.items }
 {

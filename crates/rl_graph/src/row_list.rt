@@ -1,4 +1,4 @@
-//! Rows of numbers, in one piece of memory as far as they are written in order.
+//! Lists of rows of numbers, which share one block of memory as long as they are written in order.
 
 ghost use Rattle.std.specs.Prelude.{◌≡◌, ◌<◌, ◌≤◌, ◌^◌, [], ◌∷◌, ◌++◌, true, false, All, drop, length, replicate, set, slice_index_or, IfOk, OnOk, OnErr};
 ghost use Rattle.rl_graph.specs.internal.GrownRows.{Holds, IsGrown, IsPlaced, StandsIn};
@@ -7,19 +7,19 @@ use rl_lists::{Items, OutOfMemory};
 use std::alloc::Global;
 use std::marker::Model;
 
-/// The most numbers that a row holds.
+/// The largest number of entries in a row.
 const MOST: usize = 4_294_967_295;
 
-/// Where a row stands among the numbers: from a place up to before another one.
+/// The part of the numbers that a row occupies: from `start` up to, but not including, `end`.
 #[derive(Clone, Copy)]
 struct Span {
     start: usize,
     end: usize,
 }
 
-/// A list of rows of numbers, kept one behind the other in one piece of memory. A row that grows where others stand behind it
-/// is moved out, once, to memory of its own that grows by doubling: so rows take memory in proportion to their numbers, in
-/// whatever order these come.
+/// A list of rows of numbers, stored one after another in one block of memory. A row that grows after a later row was
+/// begun is moved, once, to a block of its own that grows by doubling. So the memory is proportional to the amount of
+/// numbers, whatever the order in which they are added.
 #[derive(Drop)]
 pub struct RowList {
     spans: Vec<Span>,
@@ -40,7 +40,7 @@ impl Model for RowList {
 }
 
 impl RowList {
-    /// The list with no row. It takes memory only once it grows.
+    /// Creates an empty list. It allocates memory only when it grows.
     pub fn new(alloc: Global) -> RowList
         ensures { result ≡ [] }
     {
@@ -51,10 +51,10 @@ impl RowList {
         }
     }
 
-    /// So many rows with no number.
+    /// Creates a list of `count` empty rows.
     ///
     /// # Errors
-    /// [`OutOfMemory`] where there was no memory for the rows.
+    /// [`OutOfMemory`] if there is not enough memory for the rows.
     pub(crate) fn of_empty_rows(alloc: Global, count: usize) -> Result<RowList, OutOfMemory>
         ensures { IfOk result (λ l. l ≡ replicate count []) }
     {
@@ -69,10 +69,11 @@ impl RowList {
         })
     }
 
-    /// Puts a row behind the last one.
+    /// Appends a row.
     ///
     /// # Errors
-    /// [`OutOfMemory`] where there was no memory for the row, or it has 2^32 numbers; the list is unchanged then.
+    /// [`OutOfMemory`] if there is not enough memory for the row, or if the row has 2^32 numbers or more; the list is
+    /// then unchanged.
     pub fn push_row(&mut self, row: &[u32]) -> Result<(), OutOfMemory>
         ensures pushed { OnOk result (self.new ≡ self.old ++ row.now ∷ []) }
         ensures unchanged { OnErr result (self.new ≡ self.old) }
@@ -85,10 +86,10 @@ impl RowList {
         Ok(())
     }
 
-    /// Puts a number behind the last one of the row at a place.
+    /// Appends a number to the row at `place`.
     ///
     /// # Errors
-    /// [`OutOfMemory`] where there was no memory for the number; the list is unchanged then.
+    /// [`OutOfMemory`] if there is not enough memory for the number; the list is then unchanged.
     pub(crate) fn push_at(&mut self, place: usize, number: u32) -> Result<(), OutOfMemory>
         requires place_in { place < length self.old }
         requires room { length (slice_index_or self.old place []) < 4294967295 }
@@ -117,7 +118,7 @@ impl RowList {
         Ok(())
     }
 
-    /// How many rows the list has.
+    /// Returns the number of rows.
     pub fn len(&self) -> usize
         ensures number { result ≡ length self.now }
         ensures short { All (λ row. length row < 2 ^ 32) self.now }
@@ -125,7 +126,7 @@ impl RowList {
         self.spans.len()
     }
 
-    /// The row at a place; none behind the last row.
+    /// Returns the row at `place`. Past the last row, the result is empty.
     pub(crate) fn row(&self, place: usize) -> &[u32]
         ensures { result.now ≡ slice_index_or self.now place [] }
     {
@@ -142,13 +143,13 @@ impl RowList {
         self.apart[place].as_slice()
     }
 
-    /// The allocator that the rows are kept in.
+    /// Returns the allocator of the rows.
     pub(crate) fn allocator(&self) -> Global {
         *self.numbers.allocator()
     }
 }
 
-/// Puts a row behind the numbers.
+/// Appends a row to the numbers, and returns its span.
 fn append(numbers: &mut Vec<u32>, row: &[u32]) -> Result<Span, OutOfMemory>
     ensures grown { IsGrown numbers.old.items numbers.new.items }
     ensures row { IfOk result (StandsIn numbers.new.items row.now) }
@@ -161,7 +162,7 @@ fn append(numbers: &mut Vec<u32>, row: &[u32]) -> Result<Span, OutOfMemory>
     })
 }
 
-/// Puts a number behind the row that begins at a place and ends with the last number.
+/// Appends a number to the row that begins at `start` and ends with the last number, and returns its new span.
 fn lengthened(numbers: &mut Vec<u32>, start: usize, number: u32) -> Result<Span, OutOfMemory>
     requires { start ≤ length numbers.old.items }
     ensures grown { IsGrown numbers.old.items numbers.new.items }
@@ -174,7 +175,7 @@ fn lengthened(numbers: &mut Vec<u32>, start: usize, number: u32) -> Result<Span,
     })
 }
 
-/// Whether a row with numbers is kept apart at a place.
+/// Whether a non-empty row is stored apart at `place`.
 fn stands_apart(apart: &[Items<u32>], place: usize) -> bool
     ensures some { result ≡ true → place < length apart.now }
     ensures none { result ≡ false → slice_index_or apart.now place [] ≡ [] }
@@ -185,7 +186,7 @@ fn stands_apart(apart: &[Items<u32>], place: usize) -> bool
     }
 }
 
-/// Puts a number behind the row that is kept apart at a place.
+/// Appends a number to the row that is stored apart at `place`.
 fn push_apart(apart: &mut Vec<Items<u32>>, place: usize, number: u32) -> Result<(), OutOfMemory>
     requires { place < length apart.old.items }
     ensures pushed { OnOk result (IsPlaced apart.old.items apart.new.items place (slice_index_or apart.old.items place [] ++ number ∷ [])) }
@@ -194,7 +195,7 @@ fn push_apart(apart: &mut Vec<Items<u32>>, place: usize, number: u32) -> Result<
     apart[place].push(number)
 }
 
-/// Keeps a row with one more number apart at a place.
+/// Stores a row, with one more number, apart at `place`.
 fn put_apart(
     apart: &mut Vec<Items<u32>>,
     place: usize,
@@ -212,7 +213,7 @@ fn put_apart(
     Ok(())
 }
 
-/// Makes a place for a row that is kept apart.
+/// Makes sure that there is a place for a row to be stored apart at `place`.
 fn make_places(apart: &mut Vec<Items<u32>>, place: usize) -> Result<(), OutOfMemory>
     ensures there { OnOk result (place < length apart.new.items) }
     ensures same { IsPlaced apart.old.items apart.new.items place (slice_index_or apart.old.items place []) }

@@ -1,4 +1,4 @@
-//! The different rows of a multigraph by number.
+//! The distinct rows of a multigraph, each with a number.
 
 ghost use Rattle.std.specs.Prelude.{◌*◌, IfOk, OnOk, IfSome};
 ghost use Rattle.rl_graph.specs.internal.Halves.{AreMore, AreNumbered, IsOwned};
@@ -8,17 +8,17 @@ use indexmap::IndexMap;
 use rl_lists::OutOfMemory;
 use std::alloc::Global;
 
-/// The factor that mixes a target into the hash of a row.
+/// The multiplier that mixes a target into the hash of a row.
 const MIXER: u64 = 0x9e37_79b9_7f4a_7c15;
 
-/// For each place of a row in a graph the number of the row there, and for each number a place with that row.
+/// The row numbers of a graph: for each place, the number of its row; for each number, a place that has that row.
 #[derive(Drop)]
 pub(crate) struct Rows {
     pub(crate) numbers: Vec<u64>,
     pub(crate) owners: Vec<u64>,
 }
 
-/// A hash of a row's targets.
+/// Returns a hash of the targets of a row.
 fn hash_of(row: &[u32]) -> u64 {
     let mut hash: u64 = 1;
     for target in row {
@@ -27,7 +27,7 @@ fn hash_of(row: &[u32]) -> u64 {
     hash
 }
 
-/// The number, if there is one and it is that of the row at a place.
+/// Returns `number` if the row with that number equals the row at `place`, and `None` otherwise.
 fn checked(g: &Multigraph, owners: &[u64], number: Option<u64>, place: u64) -> Option<u64>
     ensures { IfSome result (IsOwned g.now owners.now place) }
 {
@@ -40,8 +40,8 @@ fn checked(g: &Multigraph, owners: &[u64], number: Option<u64>, place: u64) -> O
     }
 }
 
-/// The number of the row at a place: that of an equal row, or a new one. Of the rows with one hash only the last one is
-/// remembered.
+/// Returns the number of the row at `place`: the number of an equal row, or a new one. Only the last row with a given
+/// hash is remembered, so equal rows may get different numbers.
 fn number_of(
     g: &Multigraph,
     owners: &mut Vec<u64>,
@@ -61,7 +61,7 @@ fn number_of(
     Ok(number)
 }
 
-/// The different rows of a graph.
+/// Numbers the rows of a graph.
 pub(crate) fn rows_of(alloc: Global, g: &Multigraph) -> Result<Rows, OutOfMemory>
     ensures { IfOk result (λ r. AreNumbered g.now (g.now.states * g.now.letters) r.numbers.items r.owners.items) }
 {

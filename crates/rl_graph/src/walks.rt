@@ -1,4 +1,4 @@
-//! Shortest words, by a breadth-first search.
+//! Breadth-first search for shortest words.
 
 ghost use Rattle.std.specs.Prelude.{◌≡◌, ◌<◌, ◌≤◌, ◌+◌, length, IfOk, OnOk, IfSome, IfNone};
 ghost use Rattle.rl_graph.specs.Graph.{edges_of};
@@ -10,7 +10,7 @@ use crate::moves::NextStates;
 use rl_lists::{Items, OutOfMemory, Word};
 use std::alloc::Global;
 
-/// A word and the numbers of the moves of a path along it.
+/// A word, and the numbers of the moves of a path along it.
 #[derive(Drop)]
 pub struct FoundPath {
     /// The letters.
@@ -19,8 +19,8 @@ pub struct FoundPath {
     pub moves: Items<u64>,
 }
 
-/// A state that was found, with the place of the node that it was found from, the letter and the number of the move
-/// from there, and how many moves behind the first node it is.
+/// A state that the search has found: the place of the node from which it was found, the letter and the number of the
+/// move from there, and its distance from the first node in moves.
 #[derive(Clone, Copy)]
 struct Node {
     state: u64,
@@ -30,8 +30,8 @@ struct Node {
     depth: u64,
 }
 
-/// The nodes in the order in which they were found, for each state whether it is seen, and how many letters the word
-/// has at least: 0, or 1 where the first node's state is to be found again.
+/// The nodes in the order in which they were found, a flag for each state that is seen, and the least length of the word:
+/// 0, or 1 if the search looks for a way back to the first node's state.
 #[derive(Drop)]
 struct Walk {
     nodes: Vec<Node>,
@@ -40,7 +40,7 @@ struct Walk {
 }
 
 impl Walk {
-    /// Appends a node unless its state is seen.
+    /// Appends a node unless its state is already seen.
     fn reach(&mut self, node: Node) -> Result<(), OutOfMemory>
         requires { node.state < length (steps_of self.old).seen }
         ensures { OnOk result (IsReached node (steps_of self.old) (steps_of self.new)) }
@@ -52,7 +52,7 @@ impl Walk {
         Ok(())
     }
 
-    /// A walk from a state of a graph with so many states.
+    /// Starts a walk at `from` in a graph with `count` states.
     fn new(alloc: Global, count: u64, from: u64, least: u64) -> Result<Walk, OutOfMemory>
         requires { from < count }
         ensures { IfOk result (λ w. steps_of w ≡ start_steps count from least) }
@@ -72,7 +72,7 @@ impl Walk {
         Ok(Walk { nodes, seen, least })
     }
 
-    /// Finds the targets of the moves of a node on a letter.
+    /// Finds the targets of a node's moves on a letter.
     fn expand_on<M: NextStates>(
         &mut self,
         m: &M,
@@ -100,7 +100,7 @@ impl Walk {
         Ok(())
     }
 
-    /// Finds the targets of the moves of a node.
+    /// Finds the targets of a node's moves.
     fn expand<M: NextStates>(&mut self, m: &M, place: u64) -> Result<(), OutOfMemory>
         requires place_in { place < length (steps_of self.old).nodes }
         requires walk { IsWalk (M.next m.now) (M.size m.now) (steps_of self.old) }
@@ -114,7 +114,7 @@ impl Walk {
         Ok(())
     }
 
-    /// The path from the first node to a node.
+    /// Returns the path from the first node to the node at `place`.
     fn path_to(&self, alloc: Global, place: u64) -> Result<FoundPath, OutOfMemory>
         requires place_in { place < length (steps_of self.now).nodes }
         requires rooted { IsRooted (steps_of self.now) }
@@ -138,7 +138,7 @@ impl Walk {
     }
 }
 
-/// A shortest word of at least `least` letters from a state to a state.
+/// Returns a shortest word of at least `least` letters from one state to another, with a path along it.
 fn shortest<M: NextStates>(
     alloc: Global,
     m: &M,
@@ -164,10 +164,11 @@ fn shortest<M: NextStates>(
     Ok(None)
 }
 
-/// A shortest word from a state to a state, the empty one where they are one, and a path along it, by breadth-first search.
+/// Returns a shortest word from one state to another, and a path along it, by breadth-first search. The word is empty if
+/// the two states are the same.
 ///
 /// # Errors
-/// [`OutOfMemory`] where there was no memory for the search or the word.
+/// [`OutOfMemory`] if there is not enough memory for the search or the word.
 pub fn path_between<M: NextStates>(
     alloc: Global,
     m: &M,
@@ -182,10 +183,10 @@ pub fn path_between<M: NextStates>(
     shortest(alloc, m, from, to, 0)
 }
 
-/// A shortest word of at least one letter from a state back to it, and a path along it, by breadth-first search.
+/// Returns a shortest non-empty word from a state back to itself, and a path along it, by breadth-first search.
 ///
 /// # Errors
-/// [`OutOfMemory`] where there was no memory for the search or the word.
+/// [`OutOfMemory`] if there is not enough memory for the search or the word.
 pub fn cycle_through<M: NextStates>(
     alloc: Global,
     m: &M,
@@ -199,11 +200,11 @@ pub fn cycle_through<M: NextStates>(
 }
 
 impl Multigraph {
-    /// A shortest word from a state to a state, the empty one where they are one, by breadth-first search; `None` exactly
-    /// where no word leads there.
+    /// Returns a shortest word from one state to another, by breadth-first search, or `None` if and only if no word leads
+    /// there. The word is empty if the two states are the same.
     ///
     /// # Errors
-    /// [`OutOfMemory`] where there was no memory for the search or the word.
+    /// [`OutOfMemory`] if there is not enough memory for the search or the word.
     pub fn walk(&self, from: u32, to: u32) -> Result<Option<Word>, OutOfMemory>
         requires from_in { from < self.now.states }
         requires to_in { to < self.now.states }

@@ -1,4 +1,4 @@
--- The bound from above: by numbers that never rise along a move, by ranks, and where there is no cycle.
+-- The upper bound: by numbers that never increase along a move, by ranks, and for graphs without a cycle.
 use Rattle.std.proofs.Common.{◌≡◌, ℕ, suc, ◌+◌, ◌*◌, ◌^◌, ◌<◌, ◌≤◌, ◌⊎◌, inl, inr, List, [], ◌∷◌, length, subst, arith}
 use Rattle.std.proofs.Math.Nat.{pow-zero}
 use Rattle.std.proofs.lemmas.Bool.{cases_lt}

@@ -18,7 +18,7 @@ on-cycle : (next : ℕ → ℕ → List ℕ) (q : ℕ) (w : List ℕ) → 1 ≤ 
 on-cycle next q [] some h = absurd (omega arith)
 on-cycle next q (l ∷ w) some h = (l, w, h)
 
--- the words of a chain show the rank of the first pair, where no chain is longer
+-- The words of a chain show the rank of the first pair if no chain is longer.
 pub chain_degree : (a : Automaton) (next : ℕ → ℕ → List ℕ) (at : ℕ → Pair) (n : ℕ) (splits : List Split) (alone r : ℕ) (heads pumps : List (List ℕ)) → 0 < n → IsChainWords a next at splits alone heads pumps → HasNoTwin next
     → ((s : ℕ) (ms : List Link) → s < n → ChainFrom next s ms → length ms ≤ length splits) → r ≡ length splits + 1 → IsDegreeOf next r
 chain_degree a next at n splits alone r heads pumps some w none longest e =
@@ -37,7 +37,7 @@ chain_degree a next at n splits alone r heads pumps some w none longest e =
 pub twin_class : (next : ℕ → ℕ → List ℕ) (q : ℕ) (w p r : List ℕ) → IsTwin next q w p r → HasTwin next
 twin_class next q w p r twin = (q, w, two-count next q q p r w twin.apart twin.one_way twin.other_way)
 
--- the class of the graph is that of the question
+-- The class of the graph is the class of the question.
 pub classed : {E : Type 0} (q : Question) (a : Automaton) (next : ℕ → ℕ → List ℕ) (at : ℕ → Pair) (n : ℕ) (r : Result Verdict E) → IsMachine q a → IsAutomaton a → IsPairGraph a next at n → IsNumbered a next at n
     → IfOk r (IsClassOf next) → IfOk r (HasClass q)
 classed q a next at n (Err e) machine whole graph numbered h = tt

@@ -21,7 +21,7 @@ use Rattle.rl_growth.specs.Routes.{split_at, state_after, bare, IsRoute, IsWay}
 use Rattle.rl_growth.specs.FamilyWords.{AreLetters, IsTwinWords, IsChainWords}
 use Rattle.rl_growth.proofs.RouteLaws.{before-more, read-at, after-none, after-last, ends-all}
 
--- a rest without its last letter
+-- A rest without its last letter.
 front : (a : Automaton) (m : ℕ) (r : List ℕ) → IsRest a r → m + 1 ≡ length r → to_end a (take m r) ≡ r
 front a m [] rest e = absurd rest
 front a zero (l ∷ []) (inl (same, last)) e = ap (λ (c : ℕ). c ∷ []) (sym same)
@@ -50,7 +50,7 @@ pumps-of [] y = refl
 pumps-of (m ∷ links) y = ap (λ (l : List (List ℕ)). m.word ∷ l) (pumps-of links y)
 
 module _ (a : Automaton) (next : ℕ → ℕ → List ℕ) (at : ℕ → Pair) (n : ℕ) (lead rest : ℕ → List ℕ) (led : IsLedGraph a next at n lead rest) where
-  -- what the set of a state refuses, without the end letter
+  -- What the set of a state refuses, without the end letter.
   last-rest : (q : ℕ) → q < n → IsRest a (to_end a (take (length (rest q) - 1) (rest q)))
   last-rest q lt = subst (IsRest a) (sym (rest-front a (rest q) (led.rests q lt))) (led.rests q lt)
 
@@ -93,7 +93,7 @@ module _ (a : Automaton) (next : ℕ → ℕ → List ℕ) (at : ℕ → Pair) (
         refuses = last-refused z lt;
       }
 
-  -- a cycle without a split
+  -- A cycle without a split.
   pub cycle_words : (splits : List Split) (z : ℕ) (y : List ℕ) (heads pumps : List (List ℕ)) → length splits ≡ 0 → IsWay next splits (length splits) heads pumps → z < n → 1 ≤ paths next z z y → 1 ≤ length y
       → IsChainWords a next at splits z (heads ++ (lead z ∷ (take (length (rest z) - 1) (rest z) ∷ []))) (pumps ++ y ∷ [])
   cycle_words splits z y heads pumps none way lt cycle some =
@@ -103,7 +103,7 @@ module _ (a : Automaton) (next : ℕ → ℕ → List ℕ) (at : ℕ → Pair) (
       alone [] e = led.leads z lt
       alone (m ∷ links) e = absurd (omega arith)
 
-  -- a chain that ends on the loop of its last split
+  -- A chain that ends on the loop of its last split.
   pub split_words : (splits : List Split) (k other : ℕ) (heads pumps : List (List ℕ)) → IsRoute next n splits → length splits ≡ k + 1 → IsWay next splits (length splits) heads pumps → 1 ≤ length (split_at splits k).word
       → IsChainWords a next at splits other (heads ++ ([] ∷ (take (length (rest (split_at splits k).to) - 1) (rest (split_at splits k).to) ∷ []))) (pumps ++ (split_at splits k).word ∷ [])
   split_words splits k other heads pumps route e way some =
@@ -126,7 +126,7 @@ chain_letters a next at n splits alone heads pumps stands g words =
     let inside = chain-inside a still next at n g words.links words.lead words.state words.round words.last words.chained words.cycle words.some words.rest in
     (subst (AreLetters a) (sym words.same_heads) (letters-all a (chain_heads words.links words.lead words.last) inside.0), subst (AreLetters a) (sym words.same_pumps) (letters-all a (chain_pumps words.links words.round) inside.1))
 
--- lists that were put together item by item
+-- Lists that were put together item by item
 
 pub twin-pushed : (a : Automaton) (next : ℕ → ℕ → List ℕ) (at : ℕ → Pair) (n : ℕ) (lead rest : ℕ → List ℕ) (q : ℕ) (y p r : List ℕ) (heads pumps : List (List ℕ)) → q < n → IsTwin next q y p r
     → heads ≡ lead q ∷ (take (length (rest q) - 1) (rest q) ∷ []) → pumps ≡ y ∷ [] → IsLedGraph a next at n lead rest → IsTwinWords a next at q heads pumps

@@ -27,7 +27,7 @@ module _ (next : ℕ → ℕ → List ℕ) where
   next-there (s ∷ splits) q chain zero lt = first-there splits s.to chain.2 (omega arith)
   next-there (s ∷ splits) q chain (suc j) lt = next-there splits s.to chain.2 j (omega arith)
 
-  -- where a chain starts
+  -- The start of a chain.
   start : List Split → ℕ
   start [] = 0
   start (s ∷ splits) = s.from
@@ -37,7 +37,7 @@ module _ (next : ℕ → ℕ → List ℕ) where
   started [] c = tt
   started (s ∷ splits) c = c
 
--- a longest chain, by places
+-- A longest chain, by places.
 route_of : (next : ℕ → ℕ → List ℕ) (n : ℕ) (splits : List Split) (lead : ℕ → List ℕ) → 0 < n → ((i : ℕ) → i < n → 1 ≤ paths next 0 i (lead i)) → IsChain next splits → All (IsSplitIn n) splits → IsRoute next n splits
 route_of next n splits lead some leads chain within =
     record {
@@ -57,7 +57,7 @@ route_of next n splits lead some leads chain within =
         subst (λ (x : ℕ). Reaches next x (split_at splits (suc j)).from) (sym (before-more splits (suc j) j (omega arith)))
         (next-there next splits (start next splits) (started next splits chain) j lt)
 
--- and as the call answers it
+-- And as the call answers it.
 pub longest_of : (a : Automaton) (g : PairTable) (h : Graph) (c : Chain) → h ≡ g.graph → IsLed a g → IsChain (edges_of h) c.links → All (IsSplitIn h.states) c.links
     → ((s : ℕ) (ms : List Link) → s < h.states → ChainFrom (edges_of h) s ms → length ms ≤ length c.links) → AreRanks (edges_of h) h.states c.ranks → IfNone c.cycle (HasNoCycle (edges_of h)) → IsLongest (moves_in g) g.graph.states c
 longest_of a g h c same led chain within longest ranks no_cycle =

@@ -18,18 +18,18 @@ before-first splits k e = rw e refl
 pub before-more : (splits : List Split) (k j : ℕ) → k ≡ j + 1 → state_before splits k ≡ (split_at splits j).to
 before-more splits k j e = rw (e, ne_eqb (j + 1) 0 (omega arith)) (ap (λ i. (split_at splits i).to) (omega arith))
 
--- a chain goes on by one more split
+-- A chain goes on by one more split.
 chained-push : (next : ℕ → ℕ → List ℕ) (s : ℕ) (links : List Link) (q : ℕ) (m : Link) → Chained next s links [] q → 1 ≤ paths next q m.from m.lead → IsSplit next m.from m.to m.word → Chained next s (links ++ m ∷ []) [] m.to
 chained-push next s [] q m here lead split =
     (subst (λ x. 1 ≤ paths next x m.from m.lead) (sym (nil-same next s q here)) lead, split, omega (arith, paths-nil next m.to))
 chained-push next s (l ∷ links) q m c lead split = (c.0, c.1, chained-push next l.to links q m c.2 lead split)
 
--- the words that lead to its splits show that they are reached
+-- The words that lead to its splits show that they are reached.
 pub chained-from : (next : ℕ → ℕ → List ℕ) (s : ℕ) (links : List Link) (x : List ℕ) (z : ℕ) → Chained next s links x z → ChainFrom next s links
 chained-from next s [] x z c = tt
 chained-from next s (m ∷ links) x z c = ((m.lead, c.0), c.1, chained-from next m.to links x z c.2)
 
--- the state at the end
+-- The state at the end.
 pub after-none : (splits : List Split) (q : ℕ) → length splits ≡ 0 → q ≡ state_after splits q
 after-none [] q e = refl
 after-none (s ∷ splits) q e = absurd (omega arith)
@@ -41,7 +41,7 @@ after-last (s ∷ []) (suc k) q e = absurd (omega arith)
 after-last (s ∷ (t ∷ splits)) zero q e = absurd (omega arith)
 after-last (s ∷ (t ∷ splits)) (suc k) q e = after-last (t ∷ splits) k s.to (omega arith)
 
--- the links up to a place, and one more
+-- The links up to a place, and one more.
 ends-more : (splits : List Split) (k : ℕ) (links : List Link) (m : Link) → k < length splits → bare m ≡ link_of (split_at splits k) → map bare links ≡ links_of (take k splits) → map bare (links ++ m ∷ []) ≡ links_of (take (k + 1) splits)
 ends-more splits k links m lt same ends =
     map-append bare links (m ∷ []) ∙ (ap₂ (λ (l : List Link) (b : Link). l ++ b ∷ []) ends same
@@ -67,7 +67,7 @@ way-more next n splits k heads pumps lead route lt way leads =
       ends = ends-more splits k way.links m lt refl way.ends;
     }
 
--- splits that were read at their places
+-- Splits that were read at their places
 
 pub read-at : (splits : List Split) (k : ℕ) (x : Split) → k < length splits → get_or splits k x ≡ split_at splits k
 read-at splits k x lt = get_or_default splits k x (record { from = 0; to = 0; word = [] }) lt
@@ -78,14 +78,14 @@ reached-read next n splits k j x y route lt e =
     (subst (λ (s : Split). Reaches next (split_at splits j).to s.from) (sym (read-at splits k x lt))
     (subst (λ (q : ℕ). Reaches next q (split_at splits k).from) (before-more splits k j e) (route.reached k lt)))
 
--- a state that is reached is found
+-- A state that is reached is found.
 pub no_path-reached : (g h : Graph) (from to : ℕ) (o : Option (List ℕ)) → h ≡ g → o ≡ None → IfNone o (NoPath (edges_of h) 0 from to) → Reaches (edges_of g) from to → ⊥
 no_path-reached g h from to o same e none reach =
     let here : NoPath (edges_of h) 0 from to = subst (λ (x : Option (List ℕ)). IfNone x (NoPath (edges_of h) 0 from to)) e none in
     let there : NoPath (edges_of g) 0 from to = subst (λ (x : Graph). NoPath (edges_of x) 0 from to) same here in
     there reach.0 (omega arith) reach.1
 
--- one more split's words were appended
+-- One more split's words were appended.
 pub way-pushed : (next : ℕ → ℕ → List ℕ) (n : ℕ) (splits : List Split) (k : ℕ) (heads pumps heads2 pumps2 : List (List ℕ)) (lead round : List ℕ) (x : Split) → IsRoute next n splits → k < length splits → IsWay next splits k heads pumps
     → 1 ≤ paths next (state_before splits k) (split_at splits k).from lead → heads2 ≡ heads ++ lead ∷ [] → pumps2 ≡ pumps ++ round ∷ [] → round ≡ (get_or splits k x).word → IsWay next splits (k + 1) heads2 pumps2
 way-pushed next n splits k heads pumps heads2 pumps2 lead round x route lt way leads same_heads same_pumps same_round =

@@ -35,7 +35,7 @@ use Rattle.rl_growth.specs.Questions.{StandsForSome, DecidesFor}
 use Rattle.rl_growth.specs.FamilyWords.{IsTwinWords, IsChainWords}
 use Rattle.rl_growth.proofs.RouteLaws.{chained-from}
 
--- the limits
+-- The limits
 
 pub small : (q : Question) → size q.tree ≤ MOST_NODES → length (letters q.tree (code_count q.universe)) ≤ MOST_LETTERS → longest q.tree ≤ MOST_MOVES → IsSmall q
 small q s l m = record { size = λ h. omega arith; letters = λ h. omega arith; moves = λ h. omega arith }
@@ -47,7 +47,7 @@ none_passed q a next at n machine small g few sets Moves h = small.moves h
 none_passed q a next at n machine small g few sets Sets h = sets (sets-passed q a machine h)
 none_passed q a next at n machine small g few sets Pairs h = pairs-within q a next at n machine g few h
 
--- a longest chain from the first pair is a longest one of all
+-- A longest chain from the first pair is a longest one of all.
 pub top_rank : (next : ℕ → ℕ → List ℕ) (n d r : ℕ) (links : List Link) → 0 < n → ((s : ℕ) (ms : List Link) → s < n → ChainFrom next s ms → length ms ≤ d) → ChainFrom next 0 links → length links ≡ d → IsRank next 0 r → r ≡ d
 top_rank next n d r links some longest chain count rank =
     let most = longest 0 rank.chain some rank.goes in
@@ -68,7 +68,7 @@ module _ (q : Question) (a : Automaton) (next : ℕ → ℕ → List ℕ) (at : 
       by (inl lt) = each s lt
       by (inr out) = subst (IsRank next s) (sym (get_or_past ranks s 0 (omega arith))) (rank_still next s (λ l. g.empty s l (inl out)))
 
-  -- the bound of the degree that is one more than the rank of the first pair
+  -- The bound of the degree that is one more than the rank of the first pair.
   pub rank_bound : (ranks : List ℕ) (d : ℕ) → HasNoTwin next → length ranks ≡ n → ((s : ℕ) → s < n → IsRank next s (get_or ranks s 0)) → get_or ranks 0 0 ≡ d → IsBounded q (suc d)
   rank_bound ranks d none long each e =
       bounded_degree q a next at n machine whole g numbered d
@@ -114,7 +114,7 @@ module _ (q : Question) (a : Automaton) (next : ℕ → ℕ → List ℕ) (at : 
               no_empty_pump = subst (All (λ (pump : List ℕ). pump ≢ [])) (sym pumps) (λ k d lt. absurd (omega arith));
             }
 
--- a chain of splits is shorter than the graph
+-- A chain of splits is shorter than the graph.
 pub chain_fits : (a : Automaton) (next : ℕ → ℕ → List ℕ) (at : ℕ → Pair) (n : ℕ) (splits : List Split) (alone : ℕ) (heads pumps : List (List ℕ)) → StandsForSome a → IsPairGraph a next at n → HasNoTwin next → IsChainWords a next at splits alone heads pumps → length splits < n
 chain_fits a next at n splits alone heads pumps stands g none w =
     let short = chain_short next n (bound_k (size stands.0)) (graph-within a stands.0 stands.1 (all_sets stands.0) next at n stands.3 g) none 0 w.links g.some (chained-from next 0 w.links w.lead w.state w.chained) in
@@ -127,7 +127,7 @@ decided q a next at n (Ok v) stands codes s l m g few sets h =
     h q machine (none_passed q a next at n machine (small q s l m) g few sets)
 decided q a next at n (Err e) stands codes s l m g few sets h = tt
 
--- the texts of a right verdict
+-- The texts of a right verdict.
 pub texts_right : (q : Question) (v : Verdict) → RightVerdict q v → HasTexts q.universe v
 texts_right q (Degree d f) h = (h.0.family.head_texts, h.0.family.pump_texts)
 texts_right q (Expo f) h = (h.family.head_texts, h.family.pump_texts)

@@ -1,4 +1,4 @@
--- The class of growth, read from the graph of live pairs.
+-- The class of growth, as the graph of live pairs shows it.
 use Rattle.std.specs.Prelude.{ℕ, zero, suc, ◌≤◌, List}
 use Rattle.rl_syntax.specs.declared.verdict.Verdict.{Verdict}
 use Rattle.rl_syntax.specs.declared.verdict.Verdict.TheVariants.{Degree, Expo, Undecided}
@@ -10,25 +10,25 @@ use Rattle.rl_pairs.specs.declared.pair.Pair.{Pair}
 use Rattle.rl_pairs.specs.PairGraph.{IsPairGraph, IsNumbered}
 use Rattle.rl_pairs.specs.RightVerdict.{Question, IsMachine}
 
--- the degree of the moves of live pairs: 0 where no pair lies on a cycle; else, where no pair has a twin, one more than the links
--- of a longest chain of splits from the first pair
+-- The degree of the moves of live pairs. It is 0 if no pair is on a cycle. Otherwise, no pair has a twin, and the degree is
+-- one more than the length of a longest chain of splits from the first pair.
 abbrev pub IsDegreeOf : (ℕ → ℕ → List ℕ) → ℕ → Type 0
 IsDegreeOf next zero = HasNoCycle next
 IsDegreeOf next (suc d) = HasNoTwin next × ((i : ℕ) × OnCycle next i) × IsRank next 0 d
 
--- some pair has two paths to itself along one word, which are counted here as in `HasNoTwin`; by the law `counts_are_paths` of
--- `rl_graph` this is so exactly where a pair has a twin, `IsTwin`
+-- Some pair has two paths to itself along one word, where paths are counted as in `HasNoTwin`. By the law `counts_are_paths`
+-- of `rl_graph`, this is true if and only if some pair has a twin in the sense of `IsTwin`.
 abbrev pub HasTwin : (ℕ → ℕ → List ℕ) → Type 0
 HasTwin next = (i : ℕ) × (w : List ℕ) × (2 ≤ paths next i i w)
 
--- the class of the verdict is that of the moves of live pairs
+-- The class of the verdict is the class that the moves of the live pairs show.
 abbrev pub IsClassOf : (ℕ → ℕ → List ℕ) → Verdict → Type 0
 IsClassOf next (Degree d f) = IsDegreeOf next d
 IsClassOf next (Expo f) = HasTwin next
 IsClassOf next (Undecided limit) = Unit {0}
 
--- the class of the verdict is that of the moves in the numbered graph of the live pairs of an automaton that stands for the
--- question's tree
+-- The class of the verdict is the class that the moves show in the numbered graph of live pairs of some automaton that stands
+-- for the tree of the question.
 pub record IsClassOfPairs (q : Question) (verdict : Verdict) : Type 0 where
   pub automaton : Automaton
   pub moves : ℕ → ℕ → List ℕ
@@ -40,7 +40,7 @@ pub record IsClassOfPairs (q : Question) (verdict : Verdict) : Type 0 where
   pub numbered : IsNumbered automaton moves pairs count
   pub class : IsClassOf moves verdict
 
--- a verdict that decides has the class of the question's graph of live pairs
+-- A verdict that isn't undecided has the class that the question's graph of live pairs shows.
 abbrev pub HasClass : Question → Verdict → Type 0
 HasClass q (Degree d f) = IsClassOfPairs q (Degree d f)
 HasClass q (Expo f) = IsClassOfPairs q (Expo f)

@@ -1,4 +1,4 @@
--- The words of a family in the graph of live pairs, as letters.
+-- The words of a family in the graph of live pairs, as letters of the automaton.
 use Rattle.std.specs.Prelude.{◌≡◌, ℕ, ◌<◌, ◌≤◌, true, List, [], ◌∷◌, length, map, All}
 use Rattle.rl_prio.specs.Automaton.{Automaton, letters_count}
 use Rattle.rl_graph.specs.Paths.{paths}
@@ -11,11 +11,12 @@ use Rattle.rl_pairs.specs.LivePairs.{refused}
 use Rattle.rl_pairs.specs.Families.{Chained, chain_heads, chain_pumps, to_end}
 use Rattle.rl_growth.specs.Routes.{state_after, bare}
 
--- words of letters without the end letter
+-- The words consist of letters other than the end letter.
 abbrev pub AreLetters : Automaton → List (List ℕ) → Type 0
 AreLetters a words = All (All (λ letter. letter < letters_count a)) words
 
--- the words of a twin of a state: what leads to it, the twin's word and what the state's set refuses behind it
+-- The heads and pumps are the words of a twin at the state: a word that leads to it, the word of the twin as the pump, and a
+-- word that the set of the state refuses.
 pub record IsTwinWords (a : Automaton) (next : ℕ → ℕ → List ℕ) (at : ℕ → Pair) (state : ℕ) (heads pumps : List (List ℕ)) : Type 0 where
   pub lead : List ℕ
   pub round : List ℕ
@@ -27,8 +28,8 @@ pub record IsTwinWords (a : Automaton) (next : ℕ → ℕ → List ℕ) (at : �
   pub rest : IsRest a (to_end a last)
   pub refuses : refused a at state (to_end a last) ≡ true
 
--- the words of a chain of splits that ends on a cycle, at the last split or, where there is none, at the given state, and what the
--- set of the cycle's state refuses behind it
+-- The heads and pumps are the words of a chain of splits that ends on a cycle at the end of the last split, or at the state
+-- `alone` if there are no splits. The last head is a word that the set of the cycle's state refuses.
 pub record IsChainWords (a : Automaton) (next : ℕ → ℕ → List ℕ) (at : ℕ → Pair) (splits : List Split) (alone : ℕ) (heads pumps : List (List ℕ)) : Type 0 where
   pub links : List Link
   pub lead : List ℕ

@@ -1,4 +1,4 @@
--- What a call asks, and the automata and graphs that answer it.
+-- The question that a call asks, and the automata and graphs that answer it.
 use Rattle.std.specs.Prelude.{◌≡◌, ℕ, ◌<◌, ◌≤◌, true, List}
 use Rattle.rl_ranges.specs.declared.universe.Universe.{Universe}
 use Rattle.rl_syntax.specs.declared.re.Ending.{Ending}
@@ -17,15 +17,16 @@ use Rattle.rl_pairs.specs.PairGraph.{IsPairGraph, IsNumbered}
 use Rattle.rl_pairs.specs.PairTable.{PairTable, moves_in, pair_in, lead_in, rest_in}
 use Rattle.rl_pairs.specs.RightVerdict.{Question, IsMachine, IsPassed, RightVerdict}
 
--- the lowered tree with its ending, for the texts of the universe
+-- The question about a lowered tree with its ending, for the texts of a universe.
 abbrev pub question_of : Lowered → Universe → ℕ → Question
 question_of l universe max_pairs = record { tree = tree_of l.tree; ending = l.ending; universe = universe; max_pairs = max_pairs }
 
--- the automaton stands for some tree and ending
+-- The automaton stands for some tree and ending.
 abbrev pub StandsForSome : Automaton → Type 0
 StandsForSome a = (t : Tree) × (ending : Ending) × IsAutomaton a × StandsFor a t ending
 
--- a numbered graph of the live pairs, of which there are no more than a caller may allow, with a word that leads to each of them and a rest that its set refuses
+-- A numbered graph of the live pairs of an automaton, with at most `MOST_PAIRS` pairs, and with a word that leads to each
+-- pair and a rest that the set of the pair refuses.
 pub record IsLedGraph (a : Automaton) (next : ℕ → ℕ → List ℕ) (at : ℕ → Pair) (n : ℕ) (lead rest : ℕ → List ℕ) : Type 0 where
   pub graph : IsPairGraph a next at n
   pub numbered : IsNumbered a next at n
@@ -34,10 +35,10 @@ pub record IsLedGraph (a : Automaton) (next : ℕ → ℕ → List ℕ) (at : �
   pub rests : (i : ℕ) → i < n → IsRest a (rest i)
   pub refuses : (i : ℕ) → i < n → refused a at i (rest i) ≡ true
 
--- the same of the program's graph
+-- The program's graph is a numbered graph of the live pairs, with right leads and rests (`IsLedGraph`).
 abbrev pub IsLed : Automaton → PairTable → Type 0
 IsLed a g = IsLedGraph a (moves_in g) (pair_in g) g.graph.states (lead_in g) (rest_in g)
 
--- the verdict is right for each question that the automaton stands for and that passes no limit
+-- The verdict is right for each question for which the automaton stands and no limit is exceeded.
 abbrev pub DecidesFor : Automaton → Verdict → Type 0
 DecidesFor a verdict = (q : Question) → IsMachine q a → ((limit : Limit) → IsPassed q limit → ⊥) → RightVerdict q verdict

@@ -5,7 +5,7 @@ use Rattle.rl_ranges.specs.Text.{IsText}
 use Rattle.rl_syntax.specs.declared.verdict.Verdict.{Verdict}
 use Rattle.rl_syntax.specs.declared.verdict.Verdict.TheVariants.{Degree, Expo, Undecided}
 
--- the heads and pumps of the verdict's family are texts of the universe
+-- The heads and pumps of the verdict's family, if it has one, are texts of the universe.
 abbrev pub HasTexts : Universe → Verdict → Type 0
 HasTexts universe (Degree d f) = All (IsText universe) f.heads × All (IsText universe) f.pumps
 HasTexts universe (Expo f) = All (IsText universe) f.heads × All (IsText universe) f.pumps

@@ -1,4 +1,4 @@
-//! Verdicts, by the graph of live pairs.
+//! Verdicts, found from the graph of live pairs.
 
 ghost use Rattle.std.specs.Prelude.{◌≡◌, ℕ, ◌<◌, ◌≤◌, [], ◌∷◌, IfOk};
 ghost use Rattle.rl_graph.specs.Graph.{edges_of};
@@ -23,7 +23,7 @@ use rl_prio::{Prio, PrioError};
 use rl_syntax::{Family, Limit, Lowered, MOST_NODES, Universe, Verdict};
 use std::alloc::Global;
 
-/// The verdict on a graph of live pairs that has a twin.
+/// Returns the verdict on a graph of live pairs that has a twin.
 fn exponential(
     alloc: Global,
     a: &Prio,
@@ -43,7 +43,7 @@ fn exponential(
     Ok(Verdict::Expo(family?))
 }
 
-/// The family of no pump and one empty head.
+/// Returns the family with one empty head and no pump.
 fn flat(alloc: Global) -> Result<Family, OutOfMemory>
     ensures heads { IfOk result (λ f. f.heads ≡ [] ∷ []) }
     ensures pumps { IfOk result (λ f. f.pumps ≡ []) }
@@ -56,8 +56,8 @@ fn flat(alloc: Global) -> Result<Family, OutOfMemory>
     })
 }
 
-/// The verdict on a graph of live pairs that has no twin, over its components: one more than the splits of its longest chain, or 0
-/// where it has no cycle.
+/// Returns the verdict on a graph of live pairs that has no twin, given its components. The degree is one more than the
+/// number of splits of its longest chain, or 0 if the graph has no cycle.
 fn polynomial(
     alloc: Global,
     a: &Prio,
@@ -91,7 +91,7 @@ fn polynomial(
     }
 }
 
-/// The verdict on a graph of live pairs. Its components are made once, for both searches.
+/// Returns the verdict on a graph of live pairs. The components are computed once and used by both searches.
 fn judged(alloc: Global, a: &Prio, g: &PairGraph) -> Result<Verdict, OutOfMemory>
     requires stands { StandsForSome a.now }
     requires led { IsLed a.now g.now }
@@ -115,7 +115,7 @@ fn judged(alloc: Global, a: &Prio, g: &PairGraph) -> Result<Verdict, OutOfMemory
     }
 }
 
-/// The verdict on a tree within the limit of its size.
+/// Returns the verdict on a tree that is within the limit on its size.
 fn judged_small(
     alloc: Global,
     l: &Lowered,
@@ -158,18 +158,19 @@ fn judged_small(
     }
 }
 
-/// How the cost of a lowered pattern grows with the length of a text of the universe, where at most `max_pairs` live pairs are
-/// looked at: by the EDA and IDA criteria of Weber and Seidl (1991) on the graph of live pairs.
+/// Determines how the cost of a lowered pattern grows with the length of a text of the universe, using at most `max_pairs`
+/// live pairs, by the EDA and IDA criteria of Weber and Seidl (1991) on the graph of live pairs.
 ///
-/// The degree is exact: the family's texts cost at least this power of the family's number, and no text costs more than this
-/// power of its length and one, up to a factor that the tree's size gives. It is 0 where no live pair lies on a cycle, else one
-/// more than the splits of the longest chain. [`Verdict::Undecided`] names the limit that is passed: the tree has more than
-/// [`MOST_NODES`], more than [`MOST_LETTERS`](rl_syntax::MOST_LETTERS), a list of more than
-/// [`MOST_MOVES`](rl_syntax::MOST_MOVES), more than `max_pairs` live pairs, or more than
-/// [`MOST_COUNTED_SETS`](rl_syntax::MOST_COUNTED_SETS).
+/// The degree is exact: the text of the family for `k` costs at least this power of `k`, and every text costs at most a
+/// constant, which depends only on the degree and the size of the tree, times this power of its length plus one. The degree
+/// is 0 if no live pair is on a cycle, and otherwise one more than the number of splits of the longest chain.
+/// [`Verdict::Undecided`] names a limit that is exceeded: the tree has more than [`MOST_NODES`] nodes, more than
+/// [`MOST_LETTERS`](rl_syntax::MOST_LETTERS) letters or an item list of more than [`MOST_MOVES`](rl_syntax::MOST_MOVES)
+/// items, or there are more than `max_pairs` live pairs or more than [`MOST_COUNTED_SETS`](rl_syntax::MOST_COUNTED_SETS)
+/// counted sets.
 ///
 /// # Errors
-/// [`OutOfMemory`] where there was no memory for the automaton, the graph or the family.
+/// [`OutOfMemory`] if there is not enough memory for the automaton, the graph or the family.
 pub fn classify(
     alloc: Global,
     l: &Lowered,

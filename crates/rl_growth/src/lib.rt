@@ -1,20 +1,22 @@
 //! The verdict on a pattern: how the cost of a match grows with the length of the text.
 //!
-//! [`classify`] builds the ordered automaton of a lowered pattern and the graph of its live pairs. It looks there for a twin,
-//! a witness of EDA. If there is one, the growth is exponential. Otherwise it finds a longest chain of splits, which are
-//! witnesses of IDA, and the degree is one more than its length, or 0 where the graph has no cycle. The modules [`words`] and
-//! [`spelling`] turn what was found into a family of texts that shows the growth: an attack string with its pumps.
+//! [`classify`] builds the ordered automaton of a lowered pattern and the graph of its live pairs. There it searches for a
+//! twin, which is a witness of EDA. If there is one, the growth is exponential. Otherwise it finds a longest chain of splits,
+//! which are witnesses of IDA. The degree is one more than the length of this chain, or 0 if the graph has no cycle. The
+//! modules [`words`] and [`spelling`] turn the twin or the chain into a family of texts that shows the growth: an attack
+//! string with its pumps.
 //!
 //! # What is proved
 //!
-//! The verdict is right. For a degree d, every text of n characters costs at most `C (n + 1)^d`, where C depends on d and the
-//! size of the tree alone, and the family's text for k costs at least `k^d`. For exponential growth, that text costs at least
-//! `2^k`. An undecided verdict names a limit that is passed. The class is also the one that the graph shows.
+//! The verdict is right. For a degree `d`, every text of `n` characters costs at most `C (n + 1)^d`, where `C` depends only
+//! on `d` and the size of the tree, and the text of the family for `k` costs at least `k^d`. For exponential growth, the text
+//! for `k` costs at least `2^k`. An undecided verdict names a limit that is exceeded. The class of growth is also the class
+//! that the graph shows.
 //!
 //! # Example
 //!
 //! ```
-//! // trees over bytes, matched whole
+//! // trees over bytes, matched to the end of the text
 //! classify(alloc, &lowered, Universe::Bytes, 600)?; // for `a*a*`: Verdict::Degree(2, ..)
 //! classify(alloc, &lowered, Universe::Bytes, 8)?; // for `(a|a)*`, which has eight live pairs: Verdict::Expo(..)
 //! classify(alloc, &lowered, Universe::Bytes, 7)?; // for `(a|a)*`: Verdict::Undecided(Limit::Pairs)

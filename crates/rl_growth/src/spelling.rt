@@ -1,4 +1,4 @@
-//! Words of letters as texts of their samples.
+//! Spelling words of letters as texts of sample codes.
 
 ghost use Rattle.std.specs.Prelude.{◌≡◌, ◌<◌, map, All, IfOk};
 ghost use Rattle.rl_prio.specs.Automaton.{letters_count};
@@ -11,7 +11,7 @@ use rl_prio::Prio;
 use rl_syntax::{Family, Texts};
 use std::alloc::Global;
 
-/// The text of the samples of a word's letters.
+/// Returns the text of the sample codes of a word's letters.
 fn spell(alloc: Global, a: &Prio, word: &[u32]) -> Result<Codes, OutOfMemory>
     requires { All (λ letter. letter < letters_count a.now) word.now }
     ensures { IfOk result (λ text. text ≡ spelled a.now word.now) }
@@ -24,7 +24,7 @@ fn spell(alloc: Global, a: &Prio, word: &[u32]) -> Result<Codes, OutOfMemory>
     Ok(codes)
 }
 
-/// The texts of the samples of the words' letters.
+/// Returns the texts of the sample codes of the words' letters.
 fn spell_all(alloc: Global, a: &Prio, words: &[Word]) -> Result<Texts, OutOfMemory>
     requires { AreLetters a.now words.now }
     ensures { IfOk result (λ texts. texts ≡ map (spelled a.now) words.now) }
@@ -36,10 +36,10 @@ fn spell_all(alloc: Global, a: &Prio, words: &[Word]) -> Result<Texts, OutOfMemo
     Ok(texts)
 }
 
-/// The family of the texts of the samples of the words' letters.
+/// Returns the family whose heads and pumps are the sample codes of the letters of the given words.
 ///
 /// # Errors
-/// [`OutOfMemory`] where there was no memory for the texts.
+/// [`OutOfMemory`] if there is not enough memory for the texts.
 pub fn family_of(alloc: Global, a: &Prio, words: &FamilyWords) -> Result<Family, OutOfMemory>
     requires heads { AreLetters a.now words.now.heads }
     requires pumps { AreLetters a.now words.now.pumps }

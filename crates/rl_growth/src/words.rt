@@ -18,14 +18,14 @@ use std::alloc::Global;
 /// The words of a family.
 #[derive(Drop)]
 pub struct FamilyWords {
-    /// What stands before, between and after the pumps.
+    /// The words before, between and after the pumps.
     pub heads: Items<Word>,
-    /// What is repeated.
+    /// The words that are repeated.
     pub pumps: Items<Word>,
 }
 
 impl FamilyWords {
-    /// No word yet.
+    /// Creates a family without words.
     fn new(alloc: Global) -> FamilyWords
         ensures heads { result.heads ≡ [] }
         ensures pumps { result.pumps ≡ [] }
@@ -36,7 +36,7 @@ impl FamilyWords {
         }
     }
 
-    /// Appends a head and the pump after it.
+    /// Appends a head and the pump that follows it.
     fn push(&mut self, head: Word, pump: Word) -> Result<(), OutOfMemory>
         ensures heads { OnOk result (self.new.heads ≡ self.old.heads ++ head ∷ []) }
         ensures pumps { OnOk result (self.new.pumps ≡ self.old.pumps ++ pump ∷ []) }
@@ -46,14 +46,14 @@ impl FamilyWords {
     }
 }
 
-/// A word like the given one.
+/// Returns a copy of a word.
 fn copy(alloc: Global, word: &Word) -> Result<Word, OutOfMemory>
     ensures { IfOk result (λ w. w ≡ word.now) }
 {
     Items::from_slice(alloc, word.as_slice())
 }
 
-/// What the set of a live pair refuses, without the end letter.
+/// Returns the rest that the set of a live pair refuses, without the end letter.
 fn last_head(alloc: Global, g: &PairGraph, state: u32) -> Result<Word, OutOfMemory>
     requires state_in { state < g.now.graph.states }
     requires some { 0 < length (rest_in g.now state) }
@@ -63,10 +63,10 @@ fn last_head(alloc: Global, g: &PairGraph, state: u32) -> Result<Word, OutOfMemo
     Items::from_slice(alloc, &rest[..rest.len() - 1])
 }
 
-/// The words of a twin: what leads to its state, its word, and what the state's set refuses behind it.
+/// Returns the words of a twin: a word that leads to its state, its own word, and the word that the set of its state refuses.
 ///
 /// # Errors
-/// [`OutOfMemory`] where there was no memory for them.
+/// [`OutOfMemory`] if there is not enough memory for them.
 pub fn twin_words(
     alloc: Global,
     g: &PairGraph,
@@ -86,7 +86,8 @@ pub fn twin_words(
     Ok(words)
 }
 
-/// A word that leads to the split at a place of a chain, from the first live pair or from the split before it.
+/// Returns a word that leads to the split at `place` of a chain, from the first live pair or from the end of the split before
+/// it.
 fn lead_to(
     alloc: Global,
     g: &PairGraph,
@@ -109,7 +110,7 @@ fn lead_to(
     }
 }
 
-/// What leads to each split of a chain, and the words of the splits.
+/// Returns, for each split of a chain, a word that leads to it and the word of the split.
 fn split_words(alloc: Global, g: &PairGraph, splits: &[Split]) -> Result<FamilyWords, OutOfMemory>
     requires route { IsRoute (moves_in g.now) g.now.graph.states splits.now }
     requires leads { (i : ℕ) → i < g.now.graph.states → 1 ≤ paths (moves_in g.now) 0 i (lead_in g.now i) }
@@ -124,7 +125,7 @@ fn split_words(alloc: Global, g: &PairGraph, splits: &[Split]) -> Result<FamilyW
     Ok(words)
 }
 
-/// Appends the words of a cycle: what leads to it, its word, and what the set of its state refuses.
+/// Appends the words of a cycle: the word that leads to it, its own word, and the word that the set of its state refuses.
 fn put_cycle(
     alloc: Global,
     g: &PairGraph,
@@ -144,11 +145,11 @@ fn put_cycle(
     words.heads.push(last)
 }
 
-/// The words of a chain of splits that ends on a cycle: on the loop of its last split, or, where it has no split, on the given
-/// cycle.
+/// Returns the words of a chain of splits that ends on a cycle. This cycle is the loop at the end of the last split, or the
+/// given cycle if there are no splits.
 ///
 /// # Errors
-/// [`OutOfMemory`] where there was no memory for them.
+/// [`OutOfMemory`] if there is not enough memory for them.
 pub fn chain_words(
     alloc: Global,
     g: &PairGraph,

@@ -1,4 +1,4 @@
--- Items without a float: those of a list where no member gives one.
+-- Lists without a floating-point number: no item contains one.
 use Rattle.std.proofs.Common.{◌≡◌, false, List, [], ◌∷◌, map, refl}
 use Rattle.std.proofs.lemmas.Bool.{or_from}
 use Rattle.serde_json.specs.Data.{Data}

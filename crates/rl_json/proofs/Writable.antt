@@ -1,4 +1,5 @@
--- Values that are read back from their text: whole numbers of 64 bits, texts in UTF-8, and members in the order of their keys.
+-- Values that can be read back from their text: whole numbers of 64 bits, texts in UTF-8, and members in the order of their
+-- keys.
 use Rattle.std.proofs.Common.{◌≡◌, ℕ, zero, suc, ◌<◌, ◌≤◌, ◌^◌, Bool, true, false, List, [], ◌∷◌, ◌++◌, Some, option_map, option_and_then, Ordering, Less, Equal, Greater, nat_cmp, decimal, IsUtf8, refl, ap, sym, ◌∙◌, arith, append-nil}
 use Rattle.std.specs.Prelude.{⊤}
 use Rattle.std.specs.Cmp.Lexicographic.{slice_cmp}
@@ -25,12 +26,12 @@ IsWhole (unsigned n) = n < 2 ^ 64
 IsWhole (negative z) = ⊥
 IsWhole (float x) = ⊥
 
--- the key stands before the first of the members
+-- The key comes before the first of the members.
 abbrev IsBefore : List ℕ → Members → Type 0
 IsBefore k no_members = ⊤
 IsBefore k (member l e ms) = slice_cmp nat_cmp k l ≡ Less
 
--- it nests at most n deep
+-- The value is nested at most `n` levels deep.
 abbrev mutual
   pub IsWritable : ℕ → Data → Type 0
   IsWritable n null = ⊥
@@ -50,7 +51,7 @@ abbrev mutual
   AreWritable n no_members = ⊤
   AreWritable n (member k d ms) = IsUtf8 k × IsWritable n d × IsBefore k ms × AreWritable n ms
 
--- ---- members that are put are in order
+-- ---- adding members keeps them in order
 
 put-before : (o : Ordering) (l k m : List ℕ) (d e : Data) (ms : Members) → slice_cmp nat_cmp l k ≡ Less → slice_cmp nat_cmp l m ≡ Less
     → IsBefore l (match_ordering o (member k d (member m e ms)) (member m d ms) (member m e (put k d ms)))
@@ -76,7 +77,7 @@ put-writable n k d (member l e ms) u w all = put-at n (slice_cmp nat_cmp k l) k 
 
 -- ---- the value of the text
 
--- the members, with one more behind the last
+-- The members, with one more at the end.
 abbrev behind : Members → List ℕ → Data → Members
 behind no_members k d = member k d no_members
 behind (member l e ms) k d = member l e (behind ms k d)
@@ -93,7 +94,7 @@ joined-none : (ms : Members) → joined ms no_members ≡ ms
 joined-none no_members = refl
 joined-none (member l e ms) = ap (member l e) (joined-none ms)
 
--- each of the members stands before the key
+-- Each of the members comes before the key.
 abbrev AreBefore : Members → List ℕ → Type 0
 AreBefore no_members k = ⊤
 AreBefore (member l e ms) k = (slice_cmp nat_cmp l k ≡ Less) × AreBefore ms k
@@ -108,7 +109,7 @@ before-next : (ms : Members) (k m : List ℕ) (d : Data) → AreBefore ms k → 
 before-next no_members k m d h i = (i, tt)
 before-next (member l e ms) k m d h i = (nat_list_cmp_total.trans l k m h.0 i, before-next ms k m d h.1 i)
 
--- the members found so far stand before the first of those that are left
+-- The members found so far come before the first of those that are left.
 abbrev Precede : Members → Members → Type 0
 Precede found no_members = ⊤
 Precede found (member k d ms) = AreBefore found k

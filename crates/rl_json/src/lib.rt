@@ -1,12 +1,12 @@
 //! JSON values as lines of text.
 //!
-//! [`line_of`] writes a value of `serde_json` as its compact text and a line end. Reports, SARIF documents and certificates
-//! are written by it. The lemmas of this crate say how such a line is read back, and the crates that read their own documents
-//! build on them.
+//! [`line_of`] writes a value of `serde_json` as its compact text, followed by a line feed. It is used for reports, SARIF
+//! documents and certificates. The lemmas of this crate say how such a line is read back, and the crates that read their
+//! own documents build on them.
 //!
 //! # What is proved
 //!
-//! The bytes are the compact text of the value and one line feed. The value must hold no number with a fraction.
+//! The bytes are the compact text of the value and one line feed. The value must not contain a floating-point number.
 //!
 //! # Example
 //!
@@ -26,10 +26,10 @@ use rl_lists::{Bytes, OutOfMemory};
 use serde_json::Value;
 use std::alloc::Global;
 
-/// A value that holds no number with a fraction, as one line: its compact text and a line end.
+/// Writes a value as one line: its compact text and a line feed. The value must not contain a floating-point number.
 ///
 /// # Errors
-/// [`OutOfMemory`] when out of memory.
+/// [`OutOfMemory`] if there is not enough memory.
 pub fn line_of(alloc: Global, value: &Value) -> Result<Bytes, OutOfMemory>
     requires { has_float (view value.now) ≡ false }
     ensures { IfOk result (λ line. line ≡ compact_text (view value.now) ++ codes "\n") }

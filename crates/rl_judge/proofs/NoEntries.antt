@@ -1,4 +1,4 @@
--- A source with tokens and no sites has no entries.
+-- A source that can be cut into tokens and has no sites has no entries.
 use Rattle.std.proofs.Common.{◌≡◌, ℕ, List, [], sym, subst}
 use Rattle.std.specs.List.{AllZip}
 use Rattle.rl_sites.specs.declared.site.Site.{Site}

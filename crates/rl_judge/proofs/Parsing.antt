@@ -1,4 +1,4 @@
--- The universe of a pattern is that of its codes.
+-- The universe of a pattern is the universe of its code points.
 use Rattle.std.proofs.Common.{◌≡◌, ℕ, List, Ok}
 use Rattle.rl_ranges.specs.declared.universe.Universe.{Universe}
 use Rattle.rl_syntax.specs.declared.pattern.Pattern.{Pattern}

@@ -1,4 +1,4 @@
--- A byte place behind the end of a source has the line and the column of the end.
+-- A byte place past the end of a source has the line and column of the end.
 use Rattle.std.proofs.Common.{◌≡◌, ℕ, ◌-◌, ◌<◌, ◌≤◌, min, List, length, take, drop, ap, sym, ◌∙◌, arith, ⊎_elim}
 use Rattle.std.proofs.lemmas.List.{take_all, length-drop}
 use Rattle.std.proofs.lemmas.Bool.{cases_lt}
@@ -6,7 +6,7 @@ use Rattle.rl_pylex.specs.Bytes.{text_start}
 use Rattle.rl_report.specs.Places.{roles, place_behind, place_of}
 use Rattle.rl_report.proofs.PlaceLemmas.{length-roles}
 
--- so many bytes of a text or more are all of it
+-- Taking at least as many bytes as a text has gives the whole text.
 all_roles : (text : List ℕ) (a b : ℕ) → length text ≤ a → length text ≤ b → take a (roles text) ≡ take b (roles text)
 all_roles text a b la lb =
     take_all a (roles text) (omega (arith, length-roles text)) ∙ sym (take_all b (roles text) (omega (arith, length-roles text)))

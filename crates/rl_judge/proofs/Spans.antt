@@ -1,4 +1,4 @@
--- The codes of a span are of the universe of all codes, and placed spans lie in the codes.
+-- The code points of a span are of the universe of all code points, and placed spans lie within the code points.
 use Rattle.std.proofs.Common.{ℕ, ◌<◌, ◌-◌, List, drop}
 use Rattle.std.specs.Prelude.{All}
 use Rattle.std.proofs.lemmas.List.Elements.{All-take, All-drop}

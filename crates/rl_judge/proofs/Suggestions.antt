@@ -1,4 +1,4 @@
--- What stands beside a verdict.
+-- The suggestion that comes with a verdict.
 use Rattle.std.proofs.Common.{◌≡◌, inl, inr, ℕ, true, false, List, Option, Some, None, refl, sym, subst, arith}
 use Rattle.std.specs.Prelude.{Result, Ok, Err, IfOk, IfSome}
 use Rattle.std.proofs.lemmas.Bool.{false≢true}
@@ -22,7 +22,7 @@ use Rattle.rl_judge.specs.internal.Conditions.{has_suggestion, IsReadable, HasRe
 use Rattle.rl_judge.specs.declared.options.AnalysisOptions.{AnalysisOptions}
 use Rattle.rl_judge.specs.Analysis.{question_of, IsSuggested, IsTextVerdict}
 
--- a suggestion stands beside no verdict that the size, the letters or the moves are too many
+-- No suggestion comes with a verdict that the size, the letters or the moves exceed their limits.
 pub small_beside : (q : Question) (v : Verdict) → RightVerdict q v → has_suggestion v ≡ true → IsSmall q
 small_beside q (Degree d f) h b = record { size = h.0.within Size; letters = h.0.within Letters; moves = h.0.within Moves }
 small_beside q (Expo f) h b = record { size = h.within Size; letters = h.within Letters; moves = h.within Moves }
@@ -51,7 +51,7 @@ none_beside flags p codes (Undecided Moves) b = refl
 none_beside flags p codes (Undecided Sets) b = absurd (false≢true (sym b))
 none_beside flags p codes (Undecided Pairs) b = absurd (false≢true (sym b))
 
--- what holds of a text, where there is one
+-- Whatever holds for each text holds for an optional one.
 if_some : {A : Type 0} (P : A → Type 0) (o : Option A) → ((x : A) → o ≡ Some x → P x) → IfSome o P
 if_some P None h = tt
 if_some P (Some x) h = h x refl
@@ -75,7 +75,7 @@ right_reads flags p codes limit s h =
 pub text_within : (u : Universe) (codes : List ℕ) (s : Suggestion) → ((text : List ℕ) → s.text ≡ Some text → IsText u codes → IsText u text) → IsText u codes → IsSuggestionOf u s
 text_within u codes s h c = if_some (IsText u) s.text (λ text e. h text e c)
 
--- of the suggestion that drops nothing there is no part and no text
+-- The suggestion that drops nothing has no parts and no text.
 pub empty_within : (count : ℕ) (s : Suggestion) → s ≡ empty_suggestion → PartsLieIn count s
 empty_within count s e = subst (PartsLieIn count) (sym e) (record { dropped = λ i d l. absurd (omega (arith, l)); passed = λ i d l. absurd (omega (arith, l)) })
 
@@ -87,7 +87,7 @@ empty_reads flags u s e = subst (HasReadable flags u) (sym e) tt
 
 pub ruleset empty_parts = (empty_within, empty_text, empty_reads)
 
--- a right verdict on the pattern that a text gives is one on the text
+-- A right verdict on the pattern that a text spells is a right verdict on the text.
 pub text_verdict : {E : Type 0} (flags : Flags) (options : AnalysisOptions) (u : Universe) (text : List ℕ) (p : Pattern) (r : Result Verdict E) → IsParsed flags u text (Ok p)
     → IfOk r (RightVerdict (question_of p options)) → IfOk r (IsTextVerdict flags options u text)
 text_verdict flags options u text p (Ok v) parsed h = (p, parsed, h)

@@ -1,4 +1,4 @@
--- The codes of a value are of its universe.
+-- The code points of a value are of its universe.
 use Rattle.std.proofs.Common.{◌≡◌, ℕ, zero, suc, ◌+◌, ◌-◌, ◌<◌, ◌≤◌, min, Bool, true, false, cond, not, ◌&&◌, ◌||◌, ◌⊎◌, inl, inr, List, [], ◌∷◌, ◌++◌, length, get_or, take, drop, refl, sym, ◌∙◌, arith, subst, Some, None, Option}
 use Rattle.std.specs.Prelude.{Result, Ok, Err, All, IsUtf8, nat_lt, ◌==◌}
 use Rattle.std.specs.Char.{digit_value, len_utf8}
@@ -26,12 +26,12 @@ use Rattle.rl_pystr.specs.Values.{empty, before, given, value_from}
 use Rattle.rl_pystr.specs.Runs.{is_literal, is_lettered, is_unlettered, has_letter, body_start, body_of, literal_value, token_value, values, has_bytes, value_of_run, universe_by, IsValue}
 use Rattle.rl_pystr.proofs.Bounds.{body_utf8, literal_token}
 
--- every code is below the bound
+-- Every code point is below the bound.
 abbrev Below : ℕ → List ℕ → Type 0
 Below n [] = Unit {0}
 Below n (c ∷ cs) = (c < n) × Below n cs
 
--- the same of what stands in front of a text, and of a value
+-- The same for what a unit of a body gives, and for a value.
 abbrev GivesBelow : ℕ → Gives → Type 0
 GivesBelow n (Nothing size) = Unit {0}
 GivesBelow n (One code size) = code < n
@@ -42,7 +42,7 @@ abbrev ValueBelow : ℕ → Result Placed StrError → Type 0
 ValueBelow n (Ok placed) = Below n placed.codes
 ValueBelow n (Err e) = Unit {0}
 
--- how many codes there are, of bytes or of text
+-- The number of code points in the universe, bytes or text.
 abbrev bound : Bool → ℕ
 bound bytes = cond bytes 256 1114112
 
@@ -61,7 +61,7 @@ below_given n (One code size) place h = (h, tt)
 below_given n (Both code) place h = (h.0, (h.1, tt))
 below_given n (Refuses why offset) place h = tt
 
--- a test decides
+-- A choice by a test is below the bound if both alternatives are.
 either_gives : (n : ℕ) (b : Bool) (x y : Gives) → (b ≡ true → GivesBelow n x) → (b ≡ false → GivesBelow n y) → GivesBelow n (cond b x y)
 either_gives n true x y hx hy = hx refl
 either_gives n false x y hx hy = hy refl
@@ -92,7 +92,7 @@ left_and false c h = absurd (false≢true h)
 hex_digit : (c : ℕ) → is_hex c ≡ true → digit_value c < 16
 hex_digit c h = grind (arith, nat_tests)
 
--- two hexadecimal digits are a byte
+-- Two hexadecimal digits spell a byte.
 two_digits : (ds : List ℕ) → ((length ds == 2) && list_all is_hex ds) ≡ true → number_of 16 ds < 256
 two_digits [] h = absurd (false≢true h)
 two_digits (a ∷ []) h = absurd (false≢true h)

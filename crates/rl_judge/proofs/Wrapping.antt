@@ -1,5 +1,5 @@
--- A pattern that passes none of the limits of nodes, letters and moves in its mode passes none as fullmatch: what a mode puts
--- around a body leaves no limit less passed.
+-- A pattern that exceeds none of the limits of nodes, letters and moves in its mode doesn't exceed them in `fullmatch` either:
+-- what a mode puts around a body can only make a limit be exceeded, never the reverse.
 use Rattle.std.proofs.Common.{◌≡◌, ℕ, ◌+◌, ◌≤◌, Bool, true, false, ◌&&◌, List, [], ◌∷◌, ◌++◌, length, refl, ap, sym, ◌∙◌, arith}
 use Rattle.std.proofs.lemmas.Bool.{false≢true}
 use Rattle.rl_ranges.specs.declared.universe.Universe.{Universe}
@@ -31,9 +31,9 @@ use Rattle.rl_judge.specs.declared.options.AnalysisOptions.{AnalysisOptions}
 use Rattle.rl_judge.specs.Analysis.{question_of}
 use Rattle.rl_judge.specs.internal.Conditions.{IsSmallWhole}
 
--- ---- the numbers of places leave the lengths of the lists
+-- ---- the numbers of places don't change the lengths of the lists
 
--- the lists differ in guards and numbers of places alone
+-- The lists differ only in guards and in the numbers of places.
 data Alike : List Item → List Item → Type 0 where
   no_items : Alike [] []
   both_test : {gs hs : List Guard} {p q : ℕ} {l m : List Item} → Alike l m → Alike (test_at gs p ∷ l) (test_at hs q ∷ m)
@@ -101,7 +101,7 @@ same_width t b c = omega (arith, same_length (first_alike t b c), same_widest (l
 
 -- ---- a part of a tree
 
--- the first tree passes a limit only where the second does
+-- The first tree exceeds a limit only if the second does.
 record IsWithin (s t : Tree) : Type 0 where
   nodes : size s ≤ size t
   width : width_of s 0 ≤ width_of t 0
@@ -125,7 +125,8 @@ and_second false b h = absurd (false≢true h)
 both_true : (a b : Bool) → a ≡ true → b ≡ true → (a && b) ≡ true
 both_true a b p q = ap (λ z. z && b) p ∙ q
 
--- four lists of sets, of which the first and the third, or the second and the fourth, tell no more codes apart
+-- Two of four lists of sets, the first and the third, or the second and the fourth, don't distinguish more code points than all
+-- four.
 four_alike : (a b c d : List (ℕ → Bool)) (x y : ℕ) → alike ((a ++ b) ++ (c ++ d)) x y ≡ true → (alike (a ++ c) x y ≡ true) × (alike (b ++ d) x y ≡ true)
 four_alike a b c d x y h =
     let whole = sym (alike-append (a ++ b) (c ++ d) x y) ∙ h in

@@ -1,5 +1,6 @@
--- The analysis of a site. What holds first decides it: the first argument is more than literals, the literals have no value, the
--- flags aren't known, the codes spell no pattern that is judged, or the pattern has a verdict. Out of memory is no outcome.
+-- The analysis of a site, which is a call with a literal pattern. Its outcome is the first of these that holds: the first
+-- argument isn't only literals, the literals have no value, the flags aren't known, the value isn't a pattern that can be
+-- judged, or the pattern has a verdict. Running out of memory isn't an outcome.
 use Rattle.std.specs.Prelude.{◌≡◌, ◌≢◌, ◌⊎◌, ◌==◌, ℕ, Bool, true, false, List, [], map, take, drop, ◌-◌, Option, Some, None, Ok, Err, if◌then◌else◌}
 use Rattle.rl_ranges.specs.declared.universe.Universe.{Universe}
 use Rattle.rl_ranges.specs.declared.universe.Universe.TheVariants as universe
@@ -35,9 +36,9 @@ use Rattle.rl_judge.specs.declared.parts.Parts.{Parts}
 use Rattle.rl_judge.specs.Faults.{code_place, literal_fault, pattern_fault}
 use Rattle.rl_syntax.specs.declared.limits.TheConstants.{MOST_SET_PAIRS}
 
--- ---- the verdict on a pattern, and what stands beside it
+-- ---- the verdict on a pattern, and the suggestion that comes with it
 
--- how the texts of a pattern cost in the mode, where so many live pairs are looked at
+-- The question of how the cost of the pattern's texts grows in the given mode, with the given limit of live pairs.
 abbrev pub question_of : Pattern → AnalysisOptions → Question
 question_of p options = record {
   tree = pattern_tree p options.mode;
@@ -46,45 +47,48 @@ question_of p options = record {
   max_pairs = options.max_pairs;
 }
 
--- a suggestion stands beside every verdict but that size, letters or moves are passed, and it is right with the limit 20,000
+-- Every verdict except `undecided` by size, letters or moves comes with a suggestion. It is right for the limit of 20,000 set
+-- pairs.
 abbrev pub IsSuggested : Flags → Pattern → List ℕ → Verdict → Option Suggestion → Type 0
 IsSuggested flags p codes (Undecided Size) suggestion = suggestion ≡ None
 IsSuggested flags p codes (Undecided Letters) suggestion = suggestion ≡ None
 IsSuggested flags p codes (Undecided Moves) suggestion = suggestion ≡ None
 IsSuggested flags p codes v suggestion = (s : Suggestion) × (suggestion ≡ Some s) × IsRightSuggestion flags p codes MOST_SET_PAIRS s
 
--- the text whose pattern is judged too: that of the suggestion, under report version 2
+-- The text whose pattern is judged too: the suggested text, under report version 2.
 abbrev pub text_to_judge : AnalysisOptions → Option Suggestion → Option (List ℕ)
 text_to_judge options None = None
 text_to_judge options (Some s) = if options.report == 2 then s.text else None
 
--- the verdict, by the same options, is right on the pattern that the text gives under the same flags
+-- The verdict is right for the pattern that the text spells under the same flags and options.
 abbrev pub IsTextVerdict : Flags → AnalysisOptions → Universe → List ℕ → Verdict → Type 0
 IsTextVerdict flags options u text v = (p : Pattern) × IsParsed flags u text (Ok p) × RightVerdict (question_of p options) v
 
--- the verdict on the suggested pattern, where there is a text that is judged
+-- The verdict on the suggested pattern: a right one if there is a text to judge, and none otherwise.
 abbrev pub IsSuggestedVerdict : Flags → AnalysisOptions → Universe → Option (List ℕ) → Option Verdict → Type 0
 IsSuggestedVerdict flags options u None becomes = becomes ≡ None
 IsSuggestedVerdict flags options u (Some text) becomes = (v : Verdict) × (becomes ≡ Some v) × IsTextVerdict flags options u text v
 
--- ---- the parts that a suggestion speaks of
+-- ---- the parts that a suggestion mentions
 
--- the codes of a span
+-- The code points of a span.
 abbrev pub codes_of : Span → List ℕ → List ℕ
 codes_of span codes = take (span.upto - span.from) (drop span.from codes)
 
--- where a part of a pattern begins in the source: where its first code stands
+-- The byte place in the source where a part of a pattern begins.
 abbrev pub bare_part : Literal → Span → Part
 bare_part literal span = record { byte = code_place literal span.from; text = None }
 
--- the same with the part's codes as a literal
+-- The byte place where a part of a pattern begins, and its code points as a quoted literal.
 abbrev pub quoted_part : Literal → Span → Part
 quoted_part literal span = record { byte = code_place literal span.from; text = Some (quoted_text literal.universe (codes_of span literal.codes)) }
 
+-- Lists without parts.
 abbrev pub no_parts : Parts
 no_parts = record { dropped = []; merged = []; passed = [] }
 
--- dropped and passed branches with their texts, and quantifiers that were taken out
+-- The parts that a suggestion mentions: branches that it drops and branches whose test exceeded its limit, both with their
+-- texts, and quantifiers that it removes.
 abbrev pub parts_of : Literal → Option Suggestion → Parts
 parts_of literal None = no_parts
 parts_of literal (Some s) = record {
@@ -93,7 +97,8 @@ parts_of literal (Some s) = record {
   passed = map (quoted_part literal) s.passed;
 }
 
--- what is right of a pattern under these flags that the codes of the literals give
+-- The analysis is right for a pattern: the verdict is right, and so are the suggestion and the verdict on the suggested
+-- pattern.
 pub record IsJudged (flags : Flags) (options : AnalysisOptions) (literal : Literal) (p : Pattern) (a : Analysis) : Type 0 where
   pub verdict : Verdict
   pub suggestion : Option Suggestion
@@ -105,19 +110,19 @@ pub record IsJudged (flags : Flags) (options : AnalysisOptions) (literal : Liter
 
 -- ---- sites
 
--- the analysis of a site without a verdict
+-- The analysis of a site without a verdict.
 abbrev pub refusal : Universe → Option ℕ → Outcome → Analysis
 refusal u fault o = record { universe = u; fault = fault; outcome = o; parts = no_parts }
 
--- the universe of a run of literals is that of its value, and text where it has none
+-- Whether a run of literals is text or bytes, which is decided by its value; text if it has no value.
 abbrev pub IsUniverseOfRun : List ℕ → List Token → Universe → Type 0
 IsUniverseOfRun source run u =
     ((literal : Literal) × IsValue source run literal × (u ≡ literal.universe))
     ⊎ ((e : StrError) × (value_of_run source run ≡ Err e) × (e ≢ valuing.OutOfMemory) × (u ≡ universe.Str))
 
--- the analysis of a site of the source with these tokens
+-- The analysis is right for a site of the source with these tokens.
 pub data IsAnalysisOf (source : List ℕ) (tokens : List Token) (options : AnalysisOptions) (site : Site) (a : Analysis) : Type 0 where
-  -- the first argument is more than its first run of literals
+  -- the first argument isn't only its first run of literals
   is_not_whole : {u : Universe} → site.whole ≡ false → IsUniverseOfRun source (run_of tokens site) u
       → a ≡ refusal u None outcome.NotWhole → IsAnalysisOf source tokens options site a
   -- the literals have no value
@@ -126,11 +131,11 @@ pub data IsAnalysisOf (source : List ℕ) (tokens : List Token) (options : Analy
   -- the flags aren't known
   has_unknown_flags : {literal : Literal} → site.whole ≡ true → IsValue source (run_of tokens site) literal → site.flags ≡ Unknown
       → a ≡ refusal literal.universe None outcome.FlagsUnknown → IsAnalysisOf source tokens options site a
-  -- the codes give no pattern under the flags
+  -- the code points don't spell a pattern that can be judged under the flags
   has_no_pattern : {literal : Literal} {flags : Flags} {e : PatError} → site.whole ≡ true → IsValue source (run_of tokens site) literal
       → site.flags ≡ Known flags → IsParsed flags literal.universe literal.codes (Err e) → e ≢ parsing.OutOfMemory
       → a ≡ refusal literal.universe (pattern_fault literal e) (outcome.Pattern e) → IsAnalysisOf source tokens options site a
-  -- the codes give a pattern under the flags; the verdict on it is right, and so is what stands beside it
+  -- the code points spell a pattern under the flags, and the analysis is right for this pattern
   is_judged : {literal : Literal} {flags : Flags} {p : Pattern} → site.whole ≡ true → IsValue source (run_of tokens site) literal
       → site.flags ≡ Known flags → IsParsed flags literal.universe literal.codes (Ok p) → IsJudged flags options literal p a
       → IsAnalysisOf source tokens options site a

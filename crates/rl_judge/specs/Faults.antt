@@ -1,4 +1,4 @@
--- Where the faults of sources, literals and patterns are, as byte places in the source.
+-- The byte places of faults in sources, literals and patterns.
 use Rattle.std.specs.Prelude.{ℕ, Option, Some, None, slice_get, unwrap_or}
 use Rattle.rl_pylex.specs.declared.fault.LexError.{LexError}
 use Rattle.rl_pylex.specs.declared.fault.LexError.TheVariants as lexing
@@ -8,7 +8,7 @@ use Rattle.rl_pystr.specs.declared.literal.Literal.{Literal}
 use Rattle.rl_pattern.specs.declared.parsing.PatError.{PatError}
 use Rattle.rl_pattern.specs.declared.parsing.PatError.TheVariants as parsing
 
--- of a source without tokens
+-- The byte place of a fault that keeps a source from being cut into tokens, if the fault has a place.
 abbrev pub source_fault : LexError → Option ℕ
 source_fault (lexing.NotUtf8 byte) = Some byte
 source_fault (lexing.Coding byte) = Some byte
@@ -16,18 +16,19 @@ source_fault (lexing.Unterminated byte) = Some byte
 source_fault (lexing.StrayCode byte) = Some byte
 source_fault _ = None
 
--- of literals without a value
+-- The byte place of a fault that leaves literals without a value, if the fault has a place.
 abbrev pub literal_fault : StrError → Option ℕ
 literal_fault (valuing.BadEscape byte) = Some byte
 literal_fault (valuing.NamedEscape byte) = Some byte
 literal_fault (valuing.NotAscii byte) = Some byte
 literal_fault _ = None
 
--- the byte place of the code with this number; where the closing quotes of the last literal begin, for the number of codes
+-- The byte place of a code point of the literals' value, counted from 0. The place after the last code point is the place
+-- where the closing quotes of the last literal begin.
 abbrev pub code_place : Literal → ℕ → ℕ
 code_place literal code = unwrap_or (slice_get literal.places code) literal.end
 
--- of codes that give no pattern
+-- The byte place of the fault in code points that don't spell a pattern that can be judged, if the fault has a place.
 abbrev pub pattern_fault : Literal → PatError → Option ℕ
 pattern_fault literal (parsing.Syntax code) = Some (code_place literal code)
 pattern_fault literal (parsing.TooDeep code) = Some (code_place literal code)

@@ -1,4 +1,4 @@
--- Which entries are right for a source, given its path, its bytes and the settings.
+-- The entries that are right for a source, given its path, its bytes and the settings.
 use Rattle.std.specs.Prelude.{◌≡◌, ◌≢◌, ◌⊎◌, ◌≤◌, ℕ, List, [], ◌∷◌, map, slice_get, Option, Some, None, option_map, if◌then◌else◌}
 use Rattle.std.specs.List.{AllZip, list_any}
 use Rattle.rl_ranges.specs.declared.universe.Universe.TheVariants as universe
@@ -28,33 +28,34 @@ use Rattle.rl_judge.specs.declared.settings.Settings.{Settings}
 use Rattle.rl_judge.specs.Faults.{source_fault}
 use Rattle.rl_judge.specs.Analysis.{IsAnalysisOf}
 
--- settings that a report can be made with
+-- The settings are ones that a report can be made with: their limit of live pairs and their report version are in range.
 pub record IsValid (s : Settings) : Type 0 where
   pub some : 1 ≤ s.max_pairs
   pub few : s.max_pairs ≤ 1000
   pub version : (s.report ≡ 1) ⊎ (s.report ≡ 2)
 
--- the mode that a call counts as
+-- The mode that a call counts as.
 abbrev pub mode_of : Settings → Call → Mode
 mode_of s call.Compile = s.compile_as
 mode_of s call.Match = Match
 mode_of s call.Fullmatch = Fullmatch
 mode_of s _ = Search
 
--- how the pattern of a call is judged
+-- How the pattern of a call is judged.
 abbrev pub options_of : Settings → Call → AnalysisOptions
 options_of s c = record { mode = mode_of s c; max_pairs = s.max_pairs; report = s.report }
 
--- the entry of a path without sites, with the place in its source where there is one
+-- The entry of a path without calls to judge. `at` is the place in its source, if there is one.
 abbrev pub path_entry : List ℕ → Option Place → Outcome → Entry
 path_entry path at o =
     let no_marks : Marks = record { dropped = []; merged = []; passed = [] } in
     record { path = path; at = at; call = None; universe = universe.Str; fault = None; outcome = o; marks = no_marks }
 
--- a part with the line and the column where it begins
+-- A part, with the line and column where it begins.
 abbrev pub mark_of : List ℕ → Part → Mark
 mark_of source part = record { at = place_of source part.byte; text = part.text }
 
+-- The parts that a suggestion mentions, each with the line and column where it begins.
 abbrev pub marks_of : List ℕ → Parts → Marks
 marks_of source parts = record {
   dropped = map (mark_of source) parts.dropped;
@@ -62,7 +63,7 @@ marks_of source parts = record {
   passed = map (mark_of source) parts.passed;
 }
 
--- the entry of a site with this analysis
+-- The entry of a site with this analysis.
 abbrev pub site_entry : List ℕ → List ℕ → List Token → Site → Analysis → Entry
 site_entry path source tokens site a = record {
   path = path;
@@ -74,21 +75,21 @@ site_entry path source tokens site a = record {
   marks = marks_of source a.parts;
 }
 
--- the entry is right for the site
+-- The entry is right for the site: it is the entry of a right analysis.
 pub record IsSiteEntry (path source : List ℕ) (tokens : List Token) (s : Settings) (site : Site) (entry : Entry) : Type 0 where
   pub analysis : Analysis
   pub right : IsAnalysisOf source tokens (options_of s site.call) site analysis
   pub is : entry ≡ site_entry path source tokens site analysis
 
--- the entries are right for the source
+-- The entries are right for the source.
 pub data AreRight (path source : List ℕ) (s : Settings) (entries : List Entry) : Type 0 where
-  -- it has no tokens: one entry says why
+  -- the source can't be cut into tokens: one entry says why
   has_fault : {e : LexError} → IsFault source e → e ≢ lexing.OutOfMemory
       → entries ≡ path_entry path (option_map (place_of source) (source_fault e)) (outcome.Source e) ∷ [] → AreRight path source s entries
-  -- it has these tokens: there is one entry for each site, in their order
+  -- the source has these tokens: there is one entry for each site, in their order
   has_tokens : {tokens : List Token} → IsTokenList source tokens → AllZip (IsSiteEntry path source tokens s) (sites_of source tokens) entries
       → AreRight path source s entries
 
--- 1 where one of the entries is a finding, else 0
+-- 1 if one of the entries is a finding, otherwise 0.
 abbrev pub status_of : Settings → List Entry → ℕ
 status_of s entries = if list_any (is_finding s.max_degree) entries then 1 else 0

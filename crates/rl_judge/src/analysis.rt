@@ -1,4 +1,4 @@
-//! The analysis of a site: the outcome of its pattern, and the parts of it that the suggestion speaks of.
+//! The analysis of a call: the outcome for its pattern, and the parts of the pattern that the suggestion mentions.
 ghost use Rattle.std.specs.Prelude.{◌≡◌, ◌≢◌, ◌≤◌, None, Ok, IfOk, OnOk};
 ghost use Rattle.rl_ranges.specs.Text.{IsText};
 ghost use Rattle.rl_ranges.specs.declared.universe.Universe.TheVariants as universe;
@@ -26,20 +26,20 @@ use rl_sites::{Site, SiteFlags};
 use rl_syntax::{Pattern, Universe};
 use std::alloc::Global;
 
-/// What is found of a site.
+/// The result of analyzing a site, which is a call with a literal pattern.
 #[derive(Drop)]
 pub struct Analysis {
-    /// Whether the pattern is text or bytes; text where the literals have no value.
+    /// Whether the pattern is text or bytes; text if the literals have no value.
     pub universe: Universe,
-    /// The byte place of a fault of the literals or of the pattern.
+    /// The byte place of a fault in the literals or in the pattern, if the fault has a place.
     pub fault: Option<u32>,
     /// The outcome.
     pub outcome: Outcome,
-    /// The parts of the pattern that the suggestion speaks of.
+    /// The parts of the pattern that the suggestion mentions.
     pub parts: Parts,
 }
 
-/// The byte place of a fault of the literals.
+/// Returns the byte place of a fault in the literals, if it has one.
 fn literal_fault(error: StrError) -> Option<u32>
     ensures { result ≡ literal_fault error }
 {
@@ -53,7 +53,7 @@ fn literal_fault(error: StrError) -> Option<u32>
     }
 }
 
-/// The byte place of a fault of the codes.
+/// Returns the byte place of a fault in the pattern, if it has one.
 fn pattern_fault(literal: &Literal, error: PatError) -> Option<u32>
     ensures { result ≡ pattern_fault literal.now error }
 {
@@ -66,7 +66,7 @@ fn pattern_fault(literal: &Literal, error: PatError) -> Option<u32>
     }
 }
 
-/// The analysis of a site without a verdict.
+/// Returns the analysis of a site without a verdict.
 fn refusal(alloc: Global, universe: Universe, fault: Option<u32>, outcome: Outcome) -> Analysis
     ensures { result ≡ refusal universe fault outcome }
 {
@@ -78,7 +78,7 @@ fn refusal(alloc: Global, universe: Universe, fault: Option<u32>, outcome: Outco
     }
 }
 
-/// Whether the value of the site's literals is text or bytes; text where they have none.
+/// Returns whether the value of the site's literals is text or bytes; text if they have no value.
 fn literal_universe(
     alloc: Global,
     source: &[u8],
@@ -100,7 +100,7 @@ fn literal_universe(
     }
 }
 
-/// The analysis of a site whose literals have no value.
+/// Returns the analysis of a site whose literals have no value.
 fn without_value(alloc: Global, error: StrError) -> Result<Analysis, OutOfMemory>
     ensures is { IfOk result (λ a. a ≡ refusal universe.Str (literal_fault error) (outcome.Literal error)) }
     ensures some { OnOk result (error ≢ valuing.OutOfMemory) }
@@ -116,7 +116,7 @@ fn without_value(alloc: Global, error: StrError) -> Result<Analysis, OutOfMemory
     }
 }
 
-/// The analysis of a site whose codes spell no pattern that is judged.
+/// Returns the analysis of a site whose value isn't a pattern that can be judged.
 fn without_pattern(
     alloc: Global,
     literal: &Literal,
@@ -136,7 +136,7 @@ fn without_pattern(
     }
 }
 
-/// The analysis of a site whose codes spell this pattern: the verdict on it, and what stands beside that.
+/// Analyzes a site whose value is this pattern: finds the verdict, the suggestion, and the verdict on the suggested pattern.
 #[tactic(auto, using(crate::proofs::Parsing::parsing))]
 fn with_pattern(
     alloc: Global,
@@ -178,7 +178,7 @@ fn with_pattern(
     })
 }
 
-/// The analysis of a site of the source with these tokens: the first of five outcomes that holds.
+/// Analyzes a site of the source with these tokens. The outcome is the first of five that holds.
 #[tactic(auto, using(crate::proofs::Parsing::parsing))]
 pub fn analyze(
     alloc: Global,

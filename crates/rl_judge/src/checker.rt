@@ -1,4 +1,4 @@
-//! The checker: a visitor of a walk, which keeps the entries of its visits.
+//! The checker: a visitor of a walk that keeps the entries of all visits.
 ghost use Rattle.std.specs.Prelude.{◌≡◌, ◌||◌, ◌++◌, [], All, IfOk, OnOk};
 ghost use Rattle.rl_report.specs.Layouts.{IsOfItsUniverse};
 ghost use Rattle.rl_walk.specs.Visits.{is_unreadable};
@@ -14,14 +14,14 @@ use rl_walk::{Visit, Visitor};
 use std::alloc::Global;
 use std::marker::Model;
 
-/// Whether a call of the tree failed before, or for the visit's path.
+/// Whether a call of the tree failed before this visit or for its path.
 fn is_unread(before: bool, visit: &Visit) -> bool
     ensures { result ≡ (before || is_unreadable visit.now) }
 {
     before || matches!(visit, Visit::Unreadable(_))
 }
 
-/// The entries of a visit: those of a source, or one that says why there is none.
+/// Returns the entries of a visit: the entries of its source, or one entry that says why the path has no source to judge.
 fn entries_of(alloc: Global, visit: &Visit, settings: &Settings) -> Result<Entries, OutOfMemory>
     requires { IsValid settings.now }
     ensures right { IfOk result (IsRightFor settings.now visit.now) }
@@ -45,7 +45,7 @@ fn append(entries: &mut Entries, later: Entries) -> Result<(), OutOfMemory>
     Ok(())
 }
 
-/// The entries of the visits so far.
+/// Judges the sources that a walk visits, and collects the entries.
 #[derive(Drop)]
 pub struct Checker {
     alloc: Global,
@@ -66,7 +66,7 @@ impl Model for Checker {
 }
 
 impl Checker {
-    /// A checker that has seen no visit.
+    /// Returns a checker that has seen no visit.
     pub fn new(alloc: Global, settings: Settings) -> Checker
         requires { IsValid settings }
         ensures told { HasChecked result [] }
@@ -80,21 +80,21 @@ impl Checker {
         }
     }
 
-    /// The entries of the visits so far.
+    /// Returns the entries of the visits so far.
     pub fn entries(&self) -> &Entries
         ensures { result.now ≡ self.now.entries }
     {
         &self.entries
     }
 
-    /// The entries of the visits, as a list of their own.
+    /// Returns the entries of the visits and consumes the checker.
     pub fn into_entries(self) -> Entries
         ensures { result ≡ self.entries }
     {
         self.entries
     }
 
-    /// Whether a call of the tree failed so far.
+    /// Whether a call of the tree has failed so far.
     pub fn has_unread(&self) -> bool
         ensures { result ≡ self.now.has_unread }
     {

@@ -25,7 +25,7 @@ use rl_source::Name;
 use rl_syntax::Universe;
 use std::alloc::Global;
 
-/// The byte place of the fault of a source.
+/// Returns the byte place of a fault that keeps a source from being cut into tokens, if the fault has a place.
 fn source_fault(fault: LexError) -> Option<u32>
     ensures { result ≡ source_fault fault }
 {
@@ -39,7 +39,7 @@ fn source_fault(fault: LexError) -> Option<u32>
     }
 }
 
-/// Where a token begins.
+/// Returns the byte place where a token begins.
 fn start_of(tokens: &TokenList, number: u32) -> Option<u32>
     ensures { result ≡ option_map (λ token. token.from) (slice_get tokens.now number) }
 {
@@ -49,7 +49,7 @@ fn start_of(tokens: &TokenList, number: u32) -> Option<u32>
     }
 }
 
-/// The one entry of a path without sites, with the place in its source where there is one.
+/// Returns a list with the only entry of a path without calls to judge. `at` is the place in its source, if there is one.
 pub fn path_entries(
     alloc: Global,
     path: &Name,
@@ -81,7 +81,7 @@ pub fn path_entries(
     Ok(entries)
 }
 
-/// The entries of a source without tokens.
+/// Returns the entries of a source that can't be cut into tokens.
 fn fault_entries(
     alloc: Global,
     path: &Name,
@@ -101,7 +101,7 @@ fn fault_entries(
     }
 }
 
-/// The entry of a site.
+/// Returns the entry of a site.
 fn site_entry(
     alloc: Global,
     path: &Name,
@@ -142,7 +142,7 @@ fn site_entry(
     })
 }
 
-/// The entries of the sites of a source, in their order.
+/// Returns the entries of the sites of a source, in their order.
 fn site_entries(
     alloc: Global,
     path: &Name,
@@ -168,7 +168,7 @@ fn site_entries(
 /// Why a source isn't judged.
 #[derive(Clone, Copy, Debug, PartialEq, Eq)]
 pub enum JudgeError {
-    /// Out of memory.
+    /// Memory ran out.
     OutOfMemory,
 }
 
@@ -191,15 +191,16 @@ impl From<JudgeError> for OutOfMemory {
     }
 }
 
-/// The entries of one source: one that says why it has no tokens, or one for each of its sites, in their order.
+/// Judges one source. If it can't be cut into tokens, its only entry says why; otherwise it has one entry for each of its
+/// sites, in their order.
 ///
-/// A site's outcome is the first that holds: its first argument is more than literals, the literals have no value, the
-/// flags aren't known, the value is no pattern that is judged, or the verdict on the pattern in the mode of its call. A
-/// suggestion stands beside every verdict but that the size, the letters or the moves are too many, and under report version 2
-/// the verdict on the suggested pattern.
+/// The outcome of a site is the first of these that holds: its first argument isn't only literals, the literals have no value,
+/// the flags aren't known, the value isn't a pattern that can be judged, or the pattern has a verdict in the mode of its call.
+/// Every verdict except `undecided` by size, letters or moves comes with a suggestion. Under report version 2 the verdict on
+/// the suggested pattern is added.
 ///
 /// # Errors
-/// [`JudgeError::OutOfMemory`] when out of memory.
+/// [`JudgeError::OutOfMemory`] if memory runs out.
 #[tactic(auto, using(crate::proofs::NoEntries::no_entries))]
 pub fn judge(
     alloc: Global,
@@ -220,7 +221,7 @@ pub fn judge(
     }
 }
 
-/// The status of a report on these entries: 1 where one of them is a finding, else 0. It takes no memory.
+/// Returns the status of a report on these entries: 1 if one of them is a finding, otherwise 0. It needs no memory.
 pub fn status_of(entries: &Entries, settings: &Settings) -> u8
     ensures { result ≡ status_of settings.now entries.now }
 {

@@ -6,18 +6,18 @@ use crate::settings::Settings;
 use rl_sites::Call;
 use rl_syntax::Mode;
 
-/// How a pattern is judged: in this mode, with so many live pairs looked at, for a report of this version.
+/// How a pattern is judged.
 #[derive(Clone, Copy)]
 pub struct AnalysisOptions {
-    /// The mode.
+    /// The mode in which it is matched.
     pub mode: Mode,
-    /// How many live pairs are looked at.
+    /// The number of live pairs that are examined, at most.
     pub max_pairs: u32,
     /// The version of the report, 1 or 2.
     pub report: u32,
 }
 
-/// The mode that a call counts as.
+/// Returns the mode that a call counts as.
 fn mode_of(settings: &Settings, call: Call) -> Mode
     ensures { result ≡ mode_of settings.now call }
 {
@@ -30,7 +30,7 @@ fn mode_of(settings: &Settings, call: Call) -> Mode
     }
 }
 
-/// How the pattern of a call is judged under the settings.
+/// Returns how the pattern of a call is judged under the settings.
 pub fn options_of(settings: &Settings, call: Call) -> AnalysisOptions
     ensures { result ≡ options_of settings.now call }
 {

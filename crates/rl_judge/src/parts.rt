@@ -1,4 +1,4 @@
-//! The parts of a pattern that a suggestion speaks of, by their byte places in the source.
+//! The parts of a pattern that a suggestion mentions, by their byte places in the source.
 ghost use Rattle.std.specs.Prelude.{◌≡◌, All, length, map, option_map, IfOk, IfSome};
 ghost use Rattle.rl_ranges.specs.Text.{IsText};
 ghost use Rattle.rl_report.specs.Verdicts.{quoted_text};
@@ -14,27 +14,27 @@ use std::alloc::Global;
 /// A part of a pattern.
 #[derive(Drop)]
 pub struct Part {
-    /// The byte place where it begins.
+    /// The byte place where the part begins.
     pub byte: u32,
-    /// It as a quoted text, where it is told.
+    /// The part as a quoted text, if the report shows it.
     pub text: Option<Bytes>,
 }
 
 /// A list of parts.
 pub type PartList = Items<Part>;
 
-/// The parts of a pattern that a suggestion speaks of, each by rising place.
+/// The parts of a pattern that a suggestion mentions, each list in the order of the places.
 #[derive(Drop)]
 pub struct Parts {
-    /// The branches that it drops.
+    /// The branches that the suggestion drops.
     pub dropped: PartList,
-    /// The quantifiers that it takes out. They have no text.
+    /// The quantifiers that the suggestion removes. They have no text.
     pub merged: PartList,
-    /// The branches whose test passed its limit.
+    /// The branches that stay because their test exceeded its limit.
     pub passed: PartList,
 }
 
-/// No parts.
+/// Returns lists without parts.
 pub fn no_parts(alloc: Global) -> Parts
     ensures { result ≡ no_parts }
 {
@@ -45,7 +45,8 @@ pub fn no_parts(alloc: Global) -> Parts
     }
 }
 
-/// The byte place of the code with this number, or of the closing quotes behind the last one.
+/// Returns the byte place of a code point of the literals' value. The place after the last code point is the place of the
+/// closing quotes.
 pub fn code_place(literal: &Literal, code: u32) -> u32
     ensures { result ≡ code_place literal.now code }
 {
@@ -55,7 +56,7 @@ pub fn code_place(literal: &Literal, code: u32) -> u32
     }
 }
 
-/// The codes of a span.
+/// Returns the code points of a span.
 fn codes_of(span: Span, codes: &Codes) -> &[u32]
     requires { LiesIn (length codes.now) span }
     ensures { result.now ≡ codes_of span codes.now }
@@ -63,7 +64,7 @@ fn codes_of(span: Span, codes: &Codes) -> &[u32]
     &codes.as_slice()[span.from as usize..span.upto as usize]
 }
 
-/// The codes of a span as a literal.
+/// Returns the code points of a span as a quoted literal.
 #[tactic(auto, using(crate::proofs::Spans::spans))]
 fn quoted(alloc: Global, literal: &Literal, span: Span) -> Result<Bytes, OutOfMemory>
     requires text { IsText literal.now.universe literal.now.codes }
@@ -74,7 +75,7 @@ fn quoted(alloc: Global, literal: &Literal, span: Span) -> Result<Bytes, OutOfMe
     quote(alloc, &codes, literal.universe)
 }
 
-/// Parts with their texts.
+/// Returns the parts at these spans, with their texts.
 fn quoted_parts(alloc: Global, literal: &Literal, spans: &[Span]) -> Result<PartList, OutOfMemory>
     requires text { IsText literal.now.universe literal.now.codes }
     requires within { All (LiesIn (length literal.now.codes)) spans.now }
@@ -91,7 +92,7 @@ fn quoted_parts(alloc: Global, literal: &Literal, spans: &[Span]) -> Result<Part
     Ok(parts)
 }
 
-/// Parts without their texts.
+/// Returns the parts at these spans, without their texts.
 fn bare_parts(alloc: Global, literal: &Literal, spans: &[Span]) -> Result<PartList, OutOfMemory>
     ensures { IfOk result (λ parts. parts ≡ map (bare_part literal.now) spans.now) }
 {
@@ -105,7 +106,7 @@ fn bare_parts(alloc: Global, literal: &Literal, spans: &[Span]) -> Result<PartLi
     Ok(parts)
 }
 
-/// The parts that the suggestion speaks of; none where there is no suggestion.
+/// Returns the parts that the suggestion mentions, or no parts if there is no suggestion.
 pub fn parts_of(
     alloc: Global,
     literal: &Literal,

@@ -1,4 +1,4 @@
-//! Lines and columns of byte places, and of the parts of a pattern.
+//! The lines and columns of byte places, and of the parts of a pattern.
 ghost use Rattle.std.specs.Prelude.{◌≡◌, ◌≢◌, ◌≤◌, [], List, ℕ, length, map, None, option_map, IfOk};
 ghost use Rattle.rl_report.specs.Places.{IsAt, place_of};
 ghost use Rattle.rl_judge.specs.RightEntries.{mark_of, marks_of};
@@ -9,7 +9,7 @@ use rl_lists::OutOfMemory;
 use rl_report::{Cursor, Mark, MarkList, Marks, Place};
 use std::alloc::Global;
 
-/// The cursor, or the front of the source where the byte place stands before the cursor.
+/// Returns the cursor if it isn't past the byte place, otherwise the beginning of the source.
 fn at_or_before(cursor: Cursor, byte: u32) -> Cursor
     ensures at { (source : List ℕ) → IsAt source cursor → IsAt source result }
     ensures before { result.byte ≤ byte }
@@ -21,7 +21,8 @@ fn at_or_before(cursor: Cursor, byte: u32) -> Cursor
     }
 }
 
-/// The line and the column of a byte place; the cursor is there then. Places that rise cost one pass together.
+/// Returns the line and column of a byte place, and moves the cursor there. Places in increasing order take one pass over the
+/// source in all.
 #[tactic(auto, using(crate::proofs::Placing::placing))]
 fn place_at(cursor: &mut Cursor, source: &[u8], byte: u32) -> Place
     requires at { IsAt source.now cursor.old }
@@ -34,7 +35,7 @@ fn place_at(cursor: &mut Cursor, source: &[u8], byte: u32) -> Place
     cursor.place()
 }
 
-/// The line and the column of a byte place, where there is one.
+/// Returns the line and column of a byte place, if there is one.
 pub fn some_place_at(cursor: &mut Cursor, source: &[u8], byte: Option<u32>) -> Option<Place>
     requires at { IsAt source.now cursor.old }
     requires short { length source.now ≤ MOST_BYTES }
@@ -47,7 +48,7 @@ pub fn some_place_at(cursor: &mut Cursor, source: &[u8], byte: Option<u32>) -> O
     }
 }
 
-/// The line and the column of a byte place of a source, where there is one.
+/// Returns the line and column of a byte place of a source, if there is one.
 pub fn fault_place(source: &[u8], byte: Option<u32>) -> Option<Place>
     requires { byte ≢ None → length source.now ≤ MOST_BYTES }
     ensures { result ≡ option_map (place_of source.now) byte }
@@ -58,7 +59,7 @@ pub fn fault_place(source: &[u8], byte: Option<u32>) -> Option<Place>
     }
 }
 
-/// No marks.
+/// Returns lists without marks.
 pub fn no_marks(alloc: Global) -> Marks
     ensures { result ≡ record { dropped = []; merged = []; passed = [] } }
 {
@@ -69,7 +70,7 @@ pub fn no_marks(alloc: Global) -> Marks
     }
 }
 
-/// The lines and the columns of parts, counted from the cursor on.
+/// Returns the lines and columns of parts. Counting starts at the cursor.
 fn mark_list(
     alloc: Global,
     source: &[u8],
@@ -92,7 +93,7 @@ fn mark_list(
     Ok(marks)
 }
 
-/// The lines and the columns of the parts that a suggestion speaks of. Each list is counted from the cursor on.
+/// Returns the lines and columns of the parts that a suggestion mentions. Counting starts at the cursor for each of the lists.
 pub fn marks_of(
     alloc: Global,
     source: &[u8],

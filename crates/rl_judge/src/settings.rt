@@ -5,20 +5,20 @@ use rl_syntax::Mode;
 /// How a report is laid out.
 #[derive(Clone, Copy, PartialEq, Eq)]
 pub enum Layout {
-    /// As a report.
+    /// A report of relint's own, in this format.
     Report(Format),
-    /// As a SARIF document.
+    /// A SARIF document.
     Sarif,
 }
 
-/// What decides on a report beside the sources.
+/// Everything besides the sources that a report depends on.
 #[derive(Clone, Copy, PartialEq, Eq)]
 pub struct Settings {
     /// The mode that a call of `compile` counts as.
     pub compile_as: Mode,
-    /// The greatest degree that is no finding.
+    /// The highest degree that isn't a finding.
     pub max_degree: u32,
-    /// How many live pairs are looked at, from 1 to 1,000.
+    /// The number of live pairs that are examined, at most; from 1 to 1,000.
     pub max_pairs: u32,
     /// The layout.
     pub format: Layout,

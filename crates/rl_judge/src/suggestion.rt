@@ -1,4 +1,4 @@
-//! The suggestion beside the verdict on a pattern, and the verdict on the suggested pattern.
+//! The suggestion for a pattern, and the verdict on the suggested pattern.
 ghost use Rattle.std.specs.Prelude.{◌≡◌, ◌≤◌, Ok, IfOk, IfSome, length, option_map};
 ghost use Rattle.rl_ranges.specs.Text.{IsText};
 ghost use Rattle.rl_syntax.specs.Pattern.{universe_of};
@@ -17,7 +17,7 @@ use rl_rewrite::{SuggestError, plain_suggestion, suggest};
 use rl_syntax::{Limit, MOST_SET_PAIRS, Pattern, Suggestion, Universe, Verdict};
 use std::alloc::Global;
 
-/// Whether a suggestion stands beside the verdict.
+/// Whether this verdict comes with a suggestion.
 fn has_suggestion(verdict: &Verdict) -> bool
     ensures { result ≡ has_suggestion verdict.now }
 {
@@ -27,7 +27,7 @@ fn has_suggestion(verdict: &Verdict) -> bool
     )
 }
 
-/// The suggestion for a pattern that passes no limit of the comparison.
+/// Returns the suggestion for a pattern that exceeds no limit of the comparison.
 #[tactic(auto, using(crate::proofs::Suggestions::empty_parts))]
 fn suggestion_for(
     alloc: Global,
@@ -53,7 +53,8 @@ fn suggestion_for(
     }
 }
 
-/// The suggestion beside the verdict on a pattern.
+/// Returns the suggestion that comes with the verdict on a pattern, or `None` if the verdict is `undecided` by size, letters or
+/// moves.
 pub fn suggestion_beside(
     alloc: Global,
     pattern: &Pattern,
@@ -77,7 +78,7 @@ pub fn suggestion_beside(
     Ok(Some(suggestion))
 }
 
-/// The text whose pattern is judged too.
+/// Returns the suggested text if its pattern is to be judged too: under report version 2.
 fn text_to_judge(options: AnalysisOptions, suggestion: Option<&Suggestion>) -> Option<&Codes>
     ensures { option_map (λ text. text.now) result ≡ text_to_judge options (option_map (λ s. s.now) suggestion.entry) }
 {
@@ -87,7 +88,7 @@ fn text_to_judge(options: AnalysisOptions, suggestion: Option<&Suggestion>) -> O
     }
 }
 
-/// The verdict on the pattern that a text gives.
+/// Returns the verdict on the pattern that a text spells.
 #[tactic(auto, using(crate::proofs::Parsing::parsing))]
 fn verdict_on_text(
     alloc: Global,
@@ -113,7 +114,7 @@ fn verdict_on_text(
     }
 }
 
-/// The verdict on the suggested pattern, where it is judged.
+/// Returns the verdict on the suggested pattern, if it is to be judged.
 pub fn suggested_verdict(
     alloc: Global,
     suggestion: Option<&Suggestion>,

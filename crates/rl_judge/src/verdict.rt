@@ -11,7 +11,7 @@ use rl_lists::OutOfMemory;
 use rl_syntax::{Limit, LowerError, Pattern, Verdict, lower};
 use std::alloc::Global;
 
-/// The verdict on a pattern.
+/// Returns the verdict on a pattern.
 pub fn verdict_on(
     alloc: Global,
     pattern: &Pattern,

@@ -13,7 +13,7 @@ use Rattle.rl_kernel.proofs.MemberLaws.{member-there, there-member}
 use Rattle.rl_kernel.specs.Inner.{IsKept, IsInner}
 use Rattle.rl_kernel.specs.internal.Growing.{Before, IsBareFrom, IsInnerUpTo}
 
--- a state and a letter with a move are in range
+-- A state and a letter with a move are in range.
 pub move-state : (g : Graph) (q l m : ℕ) → Has m (edges_of g q l) → q < g.states
 move-state g q l m h = by (cases_lt q g.states)
   where
@@ -28,7 +28,7 @@ move-letter g q l m h = by (cases_lt l g.letters)
     by (inl a) = a
     by (inr a) = absurd (subst (λ (r : List ℕ). Has m r) (edges-letter g q l a) h)
 
--- the rows of a graph with one more move
+-- The rows of a graph with one more move.
 pub added-row : (h k : Graph) (s c t q l x : ℕ) → IsAdded h k s c t → Has x (edges_of k q l) → Has x (edges_of h q l) ⊎ ((q ≡ s) × (l ≡ c) × (x ≡ t))
 added-row h k s c t q l x a i = by (cases_eq q s) (cases_eq l c)
   where
@@ -49,13 +49,13 @@ row-added h k s c t q l x a i = by (cases_eq q s) (cases_eq l c)
     by (inl e) (inr n) = subst (λ (r : List ℕ). Has x r) (sym (a.elsewhere q l (inr n))) i
     by (inl e) (inl f) = rw (e, f) (subst (λ (r : List ℕ). Has x r) (sym a.here) (Has-left x (edges_of h s c) (t ∷ []) (rw (e, f) at i)))
 
--- those of the first moves of the state at the place on the letter that stay in its component are there
+-- The graph has those of the first moves of the state at the place on the letter that stay in the state's component.
 abbrev pub IsRowUpTo : Graph → PartTable → Seats → ℕ → ℕ → ℕ → Graph → Type 0
 IsRowUpTo g p s i c end h =
     (k : ℕ) → k < end → number_of p (get_or (edges_of g (state_at s i) c) k 0) ≡ number_of p (state_at s i) → is_member s.states s.places (get_or (edges_of g (state_at s i) c) k 0) ≡ true
     → Has (get_or s.places (get_or (edges_of g (state_at s i) c) k 0) 0) (edges_of h i c)
 
--- a member that is met is kept
+-- A member that is met is kept.
 pub kept-here : (g : Graph) (p : PartTable) (s : Seats) (i c x : ℕ) → i < length s.states → Has x (edges_of g (state_at s i) c) → number_of p x ≡ number_of p (state_at s i) → is_member s.states s.places x ≡ true → IsKept g p s i c (get_or s.places x 0)
 kept-here g p s i c x hi has same m =
     let there = member-there s.states s.places x m in
@@ -157,9 +157,9 @@ inner-done g p s i h long is = record {
   kept = λ q l m. (is.kept q l m, λ kept. is.all q l m (inl (omega (arith, kept.from_in))) kept);
 }
 
--- rows that no move was added to yet
+-- Rows that no move was added to yet
 
--- behind the row of the place `i` on the letter `c` no move is there, and in it there are at most so many
+-- There is no move after the row of the place `i` on the letter `c`, and this row has at most `end` moves.
 pub record IsFilling (i c end : ℕ) (h : Graph) : Type 0 where
   pub few : length (edges_of h i c) ≤ end
   pub bare : IsBareFrom i (c + 1) h

@@ -15,7 +15,7 @@ use Rattle.rl_kernel.specs.Members.{is_member}
 use Rattle.rl_kernel.specs.Seats.{Seats, state_at, AreSeats}
 use Rattle.rl_kernel.proofs.MemberLaws.{member-there}
 
--- inner moves
+-- Inner moves
 
 pub inner-path : (g h : Graph) (p : PartTable) (s : Seats) → IsInner g p s h → (i j : ℕ) (w : List ℕ) → 1 ≤ paths (edges_of h) i j w → 1 ≤ paths (edges_of g) (state_at s i) (state_at s j) w
 inner-path g h p s is i j [] k = let e = nil-same (edges_of h) i j k in rw e (omega (arith, paths-nil (edges_of g) (state_at s j)))
@@ -23,7 +23,7 @@ inner-path g h p s is i j (l ∷ w) k =
     let f = total-there (λ m. paths (edges_of h) m j w) (edges_of h i l) k in
     move-path (edges_of g) (state_at s i) (state_at s f.0) (state_at s j) l w ((is.kept i l f.0).0 f.1).move (inner-path g h p s is f.0 j w f.2)
 
--- a path within a component whose states are all there
+-- A path within a component whose states are all there.
 pub path-inner : (g h : Graph) (p : PartTable) (s : Seats) (k : ℕ) → IsWhole g → IsParts (edges_of g) g.states p → AreSeats p g.states g.states s → IsInner g p s h
     → ((f : ℕ) → f < g.states → number_of p f ≡ k → is_member s.states s.places f ≡ true)
     → (i j : ℕ) (w : List ℕ) → i < length s.states → j < length s.states → number_of p (state_at s i) ≡ k → number_of p (state_at s j) ≡ k
@@ -56,7 +56,7 @@ bounded-inner g h p s is = record {
   letters = λ q l k. edges-letter h q l (omega (arith, is.same_letters));
 }
 
--- pairs
+-- Pairs
 
 pub positive-parts : (a b : ℕ) → 1 ≤ a * b → (1 ≤ a) × (1 ≤ b)
 positive-parts zero b h = absurd (none h)
@@ -89,7 +89,7 @@ pair-second n x h = by (cases_lt 0 n)
         none : x < 0 * 0 → ⊥
         none h = omega arith
 
--- a path of the product is a path of each copy
+-- A path of the product is a path of each copy.
 pub pair-both : (h : ℕ → ℕ → List ℕ) (n k : ℕ) → IsBounded h n k → (x y : ℕ) (w : List ℕ) → x < n * n → y < n * n → 1 ≤ paths (pair_moves h n) x y w → (1 ≤ paths h (x / n) (y / n) w) × (1 ≤ paths h (x % n) (y % n) w)
 pair-both h n k b x y w hx hy p =
     let e = pair_paths h n k b (x / n) (x % n) (y / n) (y % n) w (pair-first n x hx) (pair-second n x hx) (pair-first n y hy) (pair-second n y hy) in
@@ -97,12 +97,12 @@ pair-both h n k b x y w hx hy p =
     subst (λ (z : ℕ). 1 ≤ paths (pair_moves h n) z (y / n * n + y % n) w) (sym (div-add-mod' x n)) (subst (λ (z : ℕ). 1 ≤ paths (pair_moves h n) x z w) (sym (div-add-mod' y n)) p) in
     positive-parts (paths h (x / n) (y / n) w) (paths h (x % n) (y % n) w) (subst (λ (z : ℕ). 1 ≤ z) e q)
 
--- paths of both copies are one of the product
+-- Paths of both copies are one of the product.
 pub both-paths : (h : ℕ → ℕ → List ℕ) (n k : ℕ) → IsBounded h n k → (a b c d : ℕ) (w : List ℕ) → a < n → b < n → c < n → d < n → 1 ≤ paths h a c w → 1 ≤ paths h b d w → 1 ≤ paths (pair_moves h n) (a * n + b) (c * n + d) w
 both-paths h n k bounded a b c d w ha hb hc hd p q =
     subst (λ (z : ℕ). 1 ≤ z) (sym (pair_paths h n k bounded a b c d w ha hb hc hd)) (positive (paths h a c w) (paths h b d w) p q)
 
--- a state that reaches a state on a cycle and is reached from it is on one
+-- A state that reaches a state on a cycle and is reached from it is on one.
 pub cycle-same : (next : ℕ → ℕ → List ℕ) (x y : ℕ) → Reaches next x y → Reaches next y x → OnCycle next x → OnCycle next y
 cycle-same next x y r back c = by back.0 back.1
   where

@@ -1,5 +1,5 @@
-//! The moves of a graph between some of its states that stay in the component of their state. A path from such a state back to it
-//! has no others, where all states of its component are there.
+//! The moves between the states of a kernel that stay within a component. If a kernel has all states of a component, every
+//! path from one of them back to itself consists of such moves.
 
 ghost use Rattle.std.specs.Prelude.{◌≡◌, ℕ, ◌<◌, ◌+◌, ◌^◌, false, length, IfOk, OnOk, MatchOption};
 ghost use Rattle.rl_graph.specs.Parts.{number_of};
@@ -13,7 +13,7 @@ use rl_graph::{Components, Multigraph};
 use rl_lists::OutOfMemory;
 use std::alloc::Global;
 
-/// The place of a state, if it is in the component with a number.
+/// Returns the place of a state if the state is in the kernel and in the component with the number `own`.
 fn place_within(components: &Components, kernel: &Kernel, own: u32, state: u32) -> Option<u32>
     requires size { state < length components.now.numbers }
     requires state_in { state < length kernel.now.places.items }
@@ -25,7 +25,7 @@ fn place_within(components: &Components, kernel: &Kernel, own: u32, state: u32) 
     kernel.place_of(state)
 }
 
-/// Adds the inner moves of the state at a place on a letter.
+/// Adds the inner moves on `letter` of the state at `place`.
 fn add_inner_on(
     inner: &mut Multigraph,
     g: &Multigraph,
@@ -54,7 +54,7 @@ fn add_inner_on(
     Ok(())
 }
 
-/// Adds the inner moves of the state at a place.
+/// Adds the inner moves of the state at `place`.
 fn add_inner_from(
     inner: &mut Multigraph,
     g: &Multigraph,
@@ -76,11 +76,11 @@ fn add_inner_from(
     Ok(())
 }
 
-/// The graph of the inner moves, those inside a strongly connected component: its states are the places of the kernel, and its
-/// letters those of the graph.
+/// Makes the graph of the inner moves, that is, of the moves within a strongly connected component. Its states are the places
+/// of the kernel, and its letters are the letters of the graph.
 ///
 /// # Errors
-/// [`OutOfMemory`] where there was no memory for the graph.
+/// [`OutOfMemory`] if there is not enough memory for the graph.
 pub fn inner_graph(
     alloc: Global,
     g: &Multigraph,

@@ -1,4 +1,4 @@
-//! Some states of a graph.
+//! Lists of states of a graph, with fast look-up of a state's place.
 
 ghost use Rattle.std.specs.Prelude.{◌≡◌, ◌<◌, ◌^◌, false, length, MatchOption, IfOk, OnOk};
 ghost use Rattle.rl_kernel.specs.Members.{is_member, IsPlace};
@@ -7,23 +7,23 @@ ghost use Rattle.rl_kernel.specs.Seats.{seats_of, with_seat, IsBareSeats};
 use rl_lists::OutOfMemory;
 use std::alloc::Global;
 
-/// Some states of a graph in order, the number of the component of each of them, and for each state of the graph its place among
-/// them. The place of a state that isn't one of them has no meaning.
+/// A list of states of a graph, with the number of each state's component and, for each state of the graph, its place in the
+/// list. The place of a state that isn't in the list has no meaning.
 #[derive(Drop)]
 pub struct Kernel {
-    /// The states.
+    /// The states of the list.
     pub states: Vec<u32>,
-    /// The numbers of their components.
+    /// The number of the component of each state of the list.
     pub levels: Vec<u32>,
-    /// The place of each state of the graph.
+    /// For each state of the graph, its place in the list.
     pub places: Vec<u32>,
 }
 
 impl Kernel {
-    /// No state of so many.
+    /// Creates an empty list, for a graph with `count` states.
     ///
     /// # Errors
-    /// [`OutOfMemory`] where there was no memory for the places.
+    /// [`OutOfMemory`] if there is not enough memory for the places.
     pub fn new(alloc: Global, count: u32) -> Result<Kernel, OutOfMemory>
         ensures { IfOk result (λ k. IsBareSeats count (seats_of k)) }
     {
@@ -38,7 +38,7 @@ impl Kernel {
     /// Appends a state with the number of its component.
     ///
     /// # Errors
-    /// [`OutOfMemory`] where there was no memory for the state; the list is of no use then.
+    /// [`OutOfMemory`] if there is not enough memory for the state; the list must not be used then.
     pub fn put(&mut self, state: u32, level: u32) -> Result<(), OutOfMemory>
         requires state_in { state < length self.old.places.items }
         requires short { length self.old.states.items < 2 ^ 32 }
@@ -51,7 +51,7 @@ impl Kernel {
         Ok(())
     }
 
-    /// The place of a state, if it is one of them.
+    /// Returns the place of a state in the list, or `None` if the state isn't in the list.
     pub fn place_of(&self, state: u32) -> Option<u32>
         requires state_in { state < length self.now.places.items }
         ensures { MatchOption result (is_member self.now.states.items self.now.places.items state ≡ false) (IsPlace self.now.states.items self.now.places.items state) }

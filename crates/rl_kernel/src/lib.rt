@@ -1,14 +1,15 @@
-//! The moves of a graph that stay in a strongly connected component: what the searches for twins and for splits start from.
+//! The moves of a graph that stay within a strongly connected component. The searches for twins and for splits start from
+//! them.
 //!
 //! A [`Kernel`] is a list of states of a multigraph, each with the number of its component and its place in the list. You
-//! fill it by [`Kernel::put`]. [`inner_graph`] then makes the graph of the moves that lead from a state of the list to one of
-//! the list in the same component. The states of the new graph are the places of the list. A cycle never leaves its
-//! component, so no other move can be part of one, and the products that the crates above build are smaller.
+//! fill it with [`Kernel::put`]. [`inner_graph`] then makes the graph of the moves that lead from a state of the list to a
+//! state of the list in the same component. The states of the new graph are the places in the list. A cycle never leaves its
+//! component, so no other move can be part of one, and the products that later crates build from this graph are smaller.
 //!
 //! # What is proved
 //!
-//! The new graph has a move from one place to another on a letter exactly where the old one has such a move between the
-//! states at these places, and both states lie in one component.
+//! The new graph has a move from one place to another on a letter if and only if the old graph has such a move between the
+//! states at these places and both states are in the same component.
 //!
 //! # Example
 //!

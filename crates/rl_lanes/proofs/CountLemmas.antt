@@ -1,4 +1,4 @@
--- Lemmas on how many bits of words are set, and on the words that a row's values make.
+-- Lemmas about the number of set bits in words, and about the words that hold a row's values.
 use Rattle.std.proofs.Common.{◌≡◌, ◌≢◌, ℕ, zero, suc, ◌+◌, ◌-◌, ◌*◌, ◌/◌, ◌%◌, ◌^◌, ◌<◌, ◌≤◌, Bool, true, false, cond, eqb, List, length, get_or, take, drop, map, refl, sym, ap, ◌∙◌, inl, inr, arith, count_ones, count_by}
 use Rattle.std.specs.Int.{bit_at, div_ceil}
 use Rattle.std.specs.List.{range_with_len}
@@ -20,7 +20,7 @@ use Rattle.rl_lanes.specs.Packed.{bit, truths, words_of}
 use Rattle.rl_lanes.proofs.WordLemmas.{ones-take_one}
 use Rattle.rl_lanes.proofs.PackedLemmas.{AreWords, IsRow, IsRow-from_bits, IsRow-length, IsRow-get_or, bit-at}
 
--- how many of the n places from a on pass p
+-- The number of the `n` places from `a` on that satisfy `p`.
 ones_from : (ℕ → Bool) → ℕ → ℕ → ℕ
 ones_from p a zero = 0
 ones_from p a (suc n) = cond (p a) 1 0 + ones_from p (a + 1) n
@@ -74,7 +74,7 @@ unfolding ones_from
 ones_from-none p a zero none = refl
 ones_from-none p a (suc n) none = (λ i. cond (none a (omega arith) i) 1 0 + ones_from-none p (a + 1) n (λ j ge. none j (omega arith)) i)
 
--- the bits of a word, as truth values
+-- The bits of a word, as truth values.
 word_bit : ℕ → ℕ → Bool
 word_bit w j = eqb (bit_at w j) 1
 
@@ -83,7 +83,7 @@ as_number zero lt = refl
 as_number (suc zero) lt = refl
 as_number (suc (suc b)) lt = absurd (omega arith)
 
--- bits that are those of a word make the word
+-- Truth values that equal the bits of a word give that word as their mask.
 mask_l_is : (ms : List Bool) (w : ℕ) → length ms ≤ 64 → w < 2 ^ 64 → ((j : ℕ) → j < 64 → get_or ms j false ≡ eqb (bit_at w j) 1) → mask_l ms ≡ w
 mask_l_is ms w short fits same =
     same_from_bits_below 64 (mask_l ms) w (omega (arith, mask_l-lt ms, pow_mono {i = length ms} {j = 64} short)) fits (λ j lt.
@@ -97,7 +97,7 @@ ones_of_word w fits =
     ∙ sym (ones-mask_l (word_bit w) (range_with_len 0 64))
     ∙ ap count_ones (mask_l_is ms w (omega (arith, length-map-range_with_len (word_bit w) 0 64)) fits (λ j lt. get_or-map-range_with_len (word_bit w) 0 64 j j false lt (omega arith)))
 
--- the bits that are set in the first m words
+-- The number of bits set in the first `m` words.
 ones_of_words : (words : List ℕ) (m : ℕ) → AreWords words → m ≤ length words → ones_from (bit words) 0 (64 * m) ≡ sum_l (map count_ones (take m words))
 unfolding ones_from word_bit
 ones_of_words words zero fits le = refl
@@ -125,7 +125,7 @@ ones_of_words words (suc m) fits le =
         alone : (j : ℕ) → j ≡ 0 + j
         alone j = omega arith
 
--- how many places of a row hold true
+-- The number of places of a row that are true equals the number of bits set in its words.
 count_by-IsRow : {len : ℕ} {words : List ℕ} {row : List Bool} → IsRow len words row → AreWords words → count_by (λ b. b) row ≡ sum_l (map count_ones words)
 unfolding truths
 count_by-IsRow {len} {words} {row} r fits =
@@ -135,7 +135,7 @@ count_by-IsRow {len} {words} {row} r fits =
     ∙ ones_from_is (bit words) 0 len
     ∙ omega (arith, ones_from-split (bit words) 0 len spare, ones_from-none (bit words) (0 + len) spare (λ j ge. r.packed.clear j (omega arith)), ap (ones_from (bit words) 0) all, ones_of_words words (length words) fits (omega arith), ap (λ ws. sum_l (map count_ones ws)) (take-length words))
 
--- the words of a row are those that hold it
+-- `words_of` gives the words of a row.
 pub words_of-IsRow : {len : ℕ} {words : List ℕ} {row : List Bool} → IsRow len words row → AreWords words → words_of row ≡ words
 unfolding words_of
 words_of-IsRow {len} {words} {row} r fits =
@@ -156,7 +156,7 @@ length-words_of : (row : List Bool) → length (words_of row) ≡ div_ceil (leng
 unfolding words_of
 length-words_of row = length-map-range_with_len (λ k. mask_l (take 64 (drop (64 * k) row))) 0 (div_ceil (length row) 64)
 
--- the words of a row hold its values
+-- `words_of` holds the values of a row.
 bit-words_of : (row : List Bool) (i : ℕ) → bit (words_of row) i ≡ get_or row i false
 unfolding words_of bit
 bit-words_of row i =
@@ -192,21 +192,21 @@ AreWords-words_of row k =
 pub IsRow-words_of : (row : List Bool) → IsRow (length row) (words_of row) row
 IsRow-words_of row = IsRow-from_bits (length row) (words_of row) row (length-words_of row) refl (bit-words_of row)
 
--- how many places of a row hold true, by its words
+-- The number of places of a row that are true, counted by its words.
 pub count_by-words_of : (row : List Bool) → count_by (λ b. b) row ≡ sum_l (map count_ones (words_of row))
 count_by-words_of row = count_by-IsRow (IsRow-words_of row) (AreWords-words_of row)
 
--- rows of one length with the same words are equal
+-- Rows of equal length with the same words are equal.
 pub same_row : (x y : List Bool) → length x ≡ length y → words_of x ≡ words_of y → x ≡ y
 same_row x y long same =
     ext_get_or false x y long (λ i lt. sym (bit-words_of x i) ∙ ap (λ ws. bit ws i) same ∙ bit-words_of y i)
 
--- whether two rows are equal, by the test of their words
+-- Comparing the words of two rows of equal length decides whether the rows are equal.
 pub rows_equal : (x y : List Bool) (r : Bool) → length x ≡ length y → r ≡ pointwise eqb (words_of x) (words_of y) → r ≡ row_eq x y
 rows_equal x y r long tested =
     let words_tell = slice_eq-Decides unsigned_Decides (words_of x) (words_of y) r tested in
     same_from_decides r (row_eq x y) (λ e. same_row x y long (words_tell.0 e), λ e. words_tell.1 (ap words_of e)) (row_eq_decides x y)
 
--- rows of different lengths are not
+-- Rows of different lengths aren't equal.
 pub rows_apart : (x y : List Bool) → length x ≢ length y → row_eq x y ≡ false
 rows_apart x y apart = false_from_ne_true (row_eq x y) (λ e. apart (ap length ((row_eq_decides x y).0 e)))

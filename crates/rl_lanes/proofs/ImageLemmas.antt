@@ -1,4 +1,4 @@
--- Lemmas on the union of chosen rows: what a place of it holds, and how far a loop over the chosen rows has come.
+-- Lemmas about the union of chosen rows: which of its places are true, and how far a loop over the chosen rows has come.
 use Rattle.std.proofs.Common.{◌≡◌, ℕ, zero, suc, ◌<◌, ◌≤◌, ◌⊎◌, ◌↔◌, Bool, true, false, List, [], ◌∷◌, length, get_or, set, replicate, refl, sym, ap, ◌∙◌, inl, inr, arith, All}
 use Rattle.std.specs.List.{fold}
 use Rattle.std.proofs.lemmas.Bool.{both_ways, cases_eq, cases_lt, or_cases, or_left, or_right, false≢true}
@@ -10,7 +10,7 @@ use Rattle.rl_lanes.specs.Tables.{chosen_rows, image}
 use Rattle.rl_lanes.proofs.RowLemmas.{length-list_or, get_or-list_or, get_or-replicate_false}
 
 -- ---- a place of the image
--- some chosen row holds true at a place
+-- Some chosen row is true at the place.
 abbrev pub IsHeld : List (List Bool) → List Bool → ℕ → Type 0
 IsHeld rows chosen k = (i : ℕ) × (get_or chosen i false ≡ true) × (get_or (get_or rows i []) k false ≡ true)
 
@@ -65,12 +65,12 @@ held_to len into (row ∷ rows) (false ∷ chosen) k long each h =
       | inr (suc i, on, held) ↦ next (inr (i, on, held))
     ]
 
--- the image has as many places as each row
+-- The image has as many places as each row.
 pub length-image : (rows : List (List Bool)) (chosen : List Bool) (len : ℕ) → All (λ r. length r ≡ len) rows → length (image rows chosen len) ≡ len
 unfolding image
 length-image rows chosen len each = length-fold len (replicate len false) rows chosen (length-replicate len false) each
 
--- a place of the image holds true where a chosen row does
+-- A place of the image is true if and only if it is true in a chosen row.
 pub get_or-image : (rows : List (List Bool)) (chosen : List Bool) (len k : ℕ) → All (λ r. length r ≡ len) rows → (get_or (image rows chosen len) k false ≡ true) ↔ IsHeld rows chosen k
 unfolding image
 get_or-image rows chosen len k each = (
@@ -86,7 +86,7 @@ same_truth true b to from = sym (to refl)
 same_truth false true to from = from refl
 same_truth false false to from = refl
 
--- a row with as many places that holds true where the chosen rows do is the image
+-- A row with the right number of places that is true exactly where the chosen rows are is the image.
 pub image_is : (rows : List (List Bool)) (chosen : List Bool) (len : ℕ) (into : List Bool) → All (λ r. length r ≡ len) rows → length into ≡ len → ((k : ℕ) → k < len → get_or into k false ≡ true → IsHeld rows chosen k) → ((k : ℕ) → k < len → IsHeld rows chosen k → get_or into k false ≡ true) → into ≡ image rows chosen len
 image_is rows chosen len into each long held from =
     ext_get_or false into (image rows chosen len) (long ∙ sym (length-image rows chosen len each)) (λ k lt.
@@ -95,7 +95,7 @@ image_is rows chosen len into each long held from =
     same_truth (get_or into k false) (get_or (image rows chosen len) k false) (λ e. place.1 (held k below e)) (λ e. from k below (place.0 e)))
 
 -- ---- a loop over the chosen rows
--- `into` is the union of the chosen rows before `at`
+-- `into` is the union of the chosen rows before `at`.
 pub record JoinsRows (rows : List (List Bool)) (chosen : List Bool) (len at : ℕ) (into : List Bool) : Type 0 where
   pub within : at ≤ length chosen
   pub long : length into ≡ len
@@ -110,7 +110,7 @@ JoinsRows-none rows chosen len = record {
   each = λ i k lt on held. absurd (omega arith);
 }
 
--- with a row also the run behind it is joined
+-- Adding a row also accounts for the run after it.
 pub JoinsRows-more : (rows : List (List Bool)) (chosen : List Bool) (len at row end : ℕ) (into : List Bool) → length chosen ≡ length rows → All (λ r. length r ≡ len) rows → JoinsRows rows chosen len at into → IsLeastFrom chosen at row → IsRun rows row end → JoinsRows rows chosen len end (list_or into (get_or rows row []))
 JoinsRows-more rows chosen len at row end into same each joined least run = record {
   within = omega (arith, run.inside);
@@ -147,7 +147,7 @@ JoinsRows-all rows chosen len at into each joined none =
       | inr from ↦ absurd (both_ways (get_or chosen i false) (none i from) on)
     ])
 
--- ---- a table whose rows have one length keeps it
+-- ---- a table whose rows have equal length keeps that length
 pub row_lengths-replicate : (rows len : ℕ) → All (λ row. length row ≡ len) (replicate rows (replicate len false))
 row_lengths-replicate rows len = All-from_get_or (λ row. length row ≡ len) (replicate rows (replicate len false)) [] (λ i lt.
     ap length (get_or-replicate rows i (replicate len false) [] (omega (arith, length-replicate rows (replicate len false)))) ∙ length-replicate len false)

@@ -1,4 +1,4 @@
--- Lemmas on tables whose rows are one word each.
+-- Lemmas about tables whose rows have one word each.
 use Rattle.std.proofs.Common.{◌≡◌, ℕ, ◌+◌, ◌*◌, ◌<◌, ◌≤◌, Bool, true, false, eqb, List, [], length, get_or, sym, ap, ◌∙◌, inl, inr, arith, All}
 use Rattle.std.specs.Int.{bit_at}
 use Rattle.std.proofs.lemmas.Bool.{eq-eqb, eqb-true, cases_eq}
@@ -11,8 +11,8 @@ use Rattle.rl_lanes.proofs.PackedLemmas.{IsRow-length, IsRow-word}
 use Rattle.rl_lanes.proofs.TableLemmas.{IsTable, IsTable-length, IsTable-row, width_of}
 use Rattle.rl_lanes.proofs.ImageLemmas.{image_is}
 
--- the words hold a table whose rows have `n` places, from 1 to 64, and the word `chosen_word` holds the values of the row `chosen`,
--- which has as many places as the table has rows, and at most 64
+-- The words hold a table whose rows have `n` places, from 1 to 64. The word `chosen_word` holds the values of the row
+-- `chosen`, which has one place for each row of the table, and at most 64.
 pub record IsNarrow (rows len : ℕ) (words : List ℕ) (table : List (List Bool)) (n : ℕ) (chosen : List Bool) (chosen_word : ℕ) : Type 0 where
   pub table_is : IsTable rows len words table
   pub each : All (λ r. length r ≡ n) table
@@ -30,13 +30,13 @@ narrow_width {rows} {len} {n} i t lt =
     let same : len ≡ n = sym (IsRow-length (IsTable-row i t.table_is (omega (arith, IsTable-length t.table_is)))) ∙ t.each i [] lt in
     ap width_of same ∙ one_word n t.some t.few
 
--- a chosen row has a word
+-- A chosen row has a word.
 pub narrow_within : {rows len n chosen_word : ℕ} {words : List ℕ} {table : List (List Bool)} {chosen : List Bool} (i : ℕ) → IsNarrow rows len words table n chosen chosen_word → i < 64 → bit_at chosen_word i ≡ 1 → i < length words
 narrow_within {rows} {len} {n} {chosen_word} {words} {table} {chosen} i t small on =
     let within : i < length table = omega (arith, place_within chosen i (t.holds i small ∙ eq-eqb _ 1 on), t.alike) in
     omega (arith, within, IsTable-length t.table_is, t.table_is.packed.enough ∙ ap (λ w. rows * w) (narrow_width i t within))
 
--- which holds its values
+-- That word holds the row's values.
 narrow_place : {rows len n chosen_word : ℕ} {words : List ℕ} {table : List (List Bool)} {chosen : List Bool} (i k : ℕ) → IsNarrow rows len words table n chosen chosen_word → i < length table → k < 64 → get_or (get_or table i []) k false ≡ eqb (bit_at (get_or words i 0) k) 1
 narrow_place {rows} {len} {n} {chosen_word} {words} i k t lt small =
     let width_is = narrow_width i t lt in
@@ -44,7 +44,7 @@ narrow_place {rows} {len} {n} {chosen_word} {words} i k t lt small =
     IsRow-word (IsTable-row i t.table_is (omega (arith, IsTable-length t.table_is)))
     (ap (λ p. get_or words p 0) place ∙ sym (get_or-chunk (i * width_of len) (width_of len) words 0 0 (omega (arith, width_is)))) k small
 
--- a bit of the union is one of a chosen row
+-- A bit of the union is a bit of a chosen row.
 narrow_held : {rows len n chosen_word : ℕ} {words : List ℕ} {table : List (List Bool)} {chosen : List Bool} (union k : ℕ) → IsNarrow rows len words table n chosen chosen_word → IsUnionOf words chosen_word union → k < 64 → bit_at union k ≡ 1
     → (i : ℕ) × (get_or chosen i false ≡ true) × (get_or (get_or table i []) k false ≡ true)
 narrow_held {chosen = chosen} union k t joined small e =
@@ -52,7 +52,7 @@ narrow_held {chosen = chosen} union k t joined small e =
     let on = t.holds held.0 held.1 ∙ eq-eqb _ 1 held.2 in
     (held.0, on, narrow_place held.0 k t (omega (arith, place_within chosen held.0 on, t.alike)) small ∙ eq-eqb _ 1 held.3)
 
--- the union has no bit past the places of a row
+-- The union has no bit after the places of a row.
 pub narrow_clear : {rows len n chosen_word : ℕ} {words : List ℕ} {table : List (List Bool)} {chosen : List Bool} (union k : ℕ) → IsNarrow rows len words table n chosen chosen_word → IsUnionOf words chosen_word union → n ≤ k → k < 64 → bit_at union k ≡ 0
 narrow_clear {table = table} {chosen = chosen} union k t joined ge small =
     elim (cases_eq (bit_at union k) 1) [
@@ -62,7 +62,7 @@ narrow_clear {table = table} {chosen = chosen} union k t joined ge small =
           absurd (omega (arith, place_within (get_or table held.0 []) k held.2, t.each held.0 [] (omega (arith, place_within chosen held.0 held.1, t.alike))))
     ]
 
--- the row that the union stands for is the image
+-- The row that the union represents is the image.
 pub narrow_image : {rows len n chosen_word : ℕ} {words : List ℕ} {table : List (List Bool)} {chosen : List Bool} (union : ℕ) (into : List Bool) → IsNarrow rows len words table n chosen chosen_word → IsUnionOf words chosen_word union → length into ≡ n → ((k : ℕ) → k < 64 → get_or into k false ≡ eqb (bit_at union k) 1) → into ≡ image table chosen n
 narrow_image {n = n} {chosen_word = chosen_word} {table = table} {chosen = chosen} union into t joined long shows =
     image_is table chosen n into t.each long

@@ -1,4 +1,4 @@
--- Lemmas on the search for the least place that holds true.
+-- Lemmas about the search for the next place that is true.
 use Rattle.std.proofs.Common.{◌≡◌, ℕ, ◌+◌, ◌*◌, ◌/◌, ◌%◌, ◌<◌, ◌≤◌, false, eqb, List, length, get_or, sym, ap, ◌∙◌, inl, inr, arith}
 use Rattle.std.specs.Int.{bit_at}
 use Rattle.std.proofs.lemmas.Bool.{eq-eqb, cases_lt}
@@ -7,19 +7,19 @@ use Rattle.rl_lanes.specs.Packed.{bit}
 use Rattle.rl_lanes.specs.internal.PackedWords.{NoBitFrom, IsLeastBitFrom}
 use Rattle.rl_lanes.proofs.PackedLemmas.{bit-at, bit_past}
 
--- each place from `start` up to `end` holds false
+-- No place from `start` up to `end` is true.
 abbrev pub NoBitBetween : List ℕ → ℕ → ℕ → Type 0
 NoBitBetween words start end = (k : ℕ) → start ≤ k → k < end → bit words k ≡ false
 
 off : (b : ℕ) → b ≡ 0 → eqb b 1 ≡ false
 off b e = ap (λ n. eqb n 1) e
 
--- word w holds the bits of the word of `start` from that place on, and none below
+-- The word `w` holds the bits of the word of `start` from that place on, and its bits below are 0.
 pub record IsRest (words : List ℕ) (start w : ℕ) : Type 0 where
   pub below : (k : ℕ) → k < start % 64 → bit_at w k ≡ 0
   pub kept : (k : ℕ) → start % 64 ≤ k → k < 64 → bit_at w k ≡ bit_at (get_or words (start / 64) 0) k
 
--- a place of the word of `start`, by the word w
+-- A place in the word of `start`, read from the word `w`.
 rest_bit : (words : List ℕ) (start w k : ℕ) → IsRest words start w → start ≤ k → k / 64 ≡ start / 64 → bit words k ≡ eqb (bit_at w (k % 64)) 1
 unfolding bit
 rest_bit words start w k rest ge same =

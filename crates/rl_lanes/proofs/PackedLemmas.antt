@@ -1,4 +1,4 @@
--- Lemmas on the truth values that words hold.
+-- Lemmas about the truth values that words hold.
 use Rattle.std.proofs.Common.{◌≡◌, ◌≢◌, ℕ, zero, suc, ◌+◌, ◌-◌, ◌*◌, ◌/◌, ◌%◌, ◌^◌, ◌<◌, ◌≤◌, ◌⊎◌, Bool, true, false, cond, not, ◌&&◌, ◌||◌, eqb, List, length, get_or, set, replicate, min, max, refl, sym, ap, ◌∙◌, subst, inl, inr, arith, bit_and, bit_or, w64}
 use Rattle.std.specs.Int.{bit_at, bit_not, div_ceil, trailing_zeros}
 use Rattle.std.proofs.lemmas.Bool.{eq-eqb, cases_eq, cases_lt}
@@ -19,7 +19,7 @@ pub get_or-truths : (len : ℕ) (words : List ℕ) (i : ℕ) (d : Bool) → i < 
 unfolding truths
 get_or-truths len words i d lt = get_or-map-range_with_len (bit words) 0 len i i d lt (omega arith)
 
--- past the end a row holds false, and so do its words
+-- After its end, a row is false, and so are the bits of its words.
 pub get_or-truths_all : (len : ℕ) (words : List ℕ) (i : ℕ) → IsPacked len words → get_or (truths len words) i false ≡ bit words i
 get_or-truths_all len words i packed =
     elim (cases_lt i len) [
@@ -27,13 +27,13 @@ get_or-truths_all len words i packed =
       | inr ge ↦ get_or_past (truths len words) i false (omega (arith, length-truths len words)) ∙ sym (packed.clear i ge)
     ]
 
--- a row with the same values
+-- The words hold a row if they agree with it at every place.
 pub truths_is : (len : ℕ) (words : List ℕ) (row : List Bool) → length row ≡ len → ((i : ℕ) → i < len → bit words i ≡ get_or row i false) → truths len words ≡ row
 truths_is len words row long same =
     ext_get_or false (truths len words) row (length-truths len words ∙ sym long)
     (λ i lt. let below : i < len = omega (arith, length-truths len words) in get_or-truths len words i false below ∙ same i below)
 
--- the place of bit j of word k
+-- The place of bit `j` of word `k`.
 pub bit-at : (words : List ℕ) (k j : ℕ) → j < 64 → bit words (64 * k + j) ≡ eqb (bit_at (get_or words k 0) j) 1
 unfolding bit
 bit-at words k j lt =
@@ -50,7 +50,7 @@ min_zero q = omega arith
 min_one : (q : ℕ) → q < 2 → min 1 q ≡ q
 min_one q lt = omega arith
 
--- past the words each place holds false
+-- After the last word, every place is false.
 pub bit_past : (words : List ℕ) (i : ℕ) → length words ≤ i / 64 → bit words i ≡ false
 unfolding bit
 bit_past words i past = ap (λ w. eqb (bit_at w (i % 64)) 1) (get_or_past words (i / 64) 0 past) ∙ ap (λ b. eqb b 1) (bit_at-zero (i % 64))
@@ -82,11 +82,11 @@ word-and_not x y j fits lt =
     word-and x (bit_not w64 y) j
     ∙ ap (λ b. eqb (bit_at x j) 1 && b) (ap (λ m. eqb m 1) (bit_at_not w64 y j fits lt) ∙ bits_not _ (bit_at-lt y j))
 
--- each number of the list is a word of 64 bits
+-- Each number of the list is a word of 64 bits.
 abbrev pub AreWords : List ℕ → Type 0
 AreWords words = (k : ℕ) → get_or words k 0 < 2 ^ 64
 
--- ---- the values that words joined by f hold: f joins bits as t does
+-- ---- the values of words combined by f, which does to bits what t does to truth values
 pub record JoinsBits (f : ℕ → ℕ → ℕ) (t : Bool → Bool → Bool) : Type 0 where
   pub each : (x y j : ℕ) → y < 2 ^ 64 → j < 64 → eqb (bit_at (f x y) j) 1 ≡ t (eqb (bit_at x j) 1) (eqb (bit_at y j) 1)
   pub none : t false false ≡ false
@@ -109,7 +109,7 @@ bit-joined f t a b c i law same fits joined =
           bit_past c i (omega (arith, joined.long)) ∙ sym law.none ∙ sym (λ j. t (bit_past a i ge j) (bit_past b i (omega arith) j))
     ]
 
--- some place holds true in the first list, and in the second as t asks
+-- If `f` isn't 0 for some pair of words, `t` is true at some place.
 pub place_from_pair : (f : ℕ → ℕ → ℕ) (t : Bool → Bool → Bool) (a b : List ℕ) → JoinsBits f t → AreWords b → ((x y : ℕ) → f x y ≤ x) → AreWords a → SomePair f a b → (i : ℕ) × (t (bit a i) (bit b i) ≡ true)
 place_from_pair f t a b law fits below fits_a (k, lt, set) =
     let x = get_or a k 0 in
@@ -119,7 +119,7 @@ place_from_pair f t a b law fits below fits_a (k, lt, set) =
     let j = trailing_zeros w64 (f x y) in
     (64 * k + j, (λ i. t (bit-at a k j lowest.0 i) (bit-at b k j lowest.0 i)) ∙ sym (law.each x y j (fits k) lowest.0) ∙ eq-eqb _ 1 lowest.1)
 
--- and no place does
+-- If `f` is 0 for all pairs of words, `t` is false at every place.
 pub no_place_from_pairs : (f : ℕ → ℕ → ℕ) (t : Bool → Bool → Bool) (a b : List ℕ) → JoinsBits f t → length a ≡ length b → AreWords b → NoPair f a b → (i : ℕ) → t (bit a i) (bit b i) ≡ false
 unfolding bit
 no_place_from_pairs f t a b law same fits none i =
@@ -129,7 +129,7 @@ no_place_from_pairs f t a b law same fits none i =
     ]
 
 -- ---- rows
--- the words hold the values of a row
+-- The words hold the values of a row.
 pub record IsRow (len : ℕ) (words : List ℕ) (row : List Bool) : Type 0 where
   pub packed : IsPacked len words
   pub shows : truths len words ≡ row
@@ -140,7 +140,7 @@ IsRow-length {len} {words} r = sym (ap length r.shows) ∙ length-truths len wor
 pub IsRow-get_or : {len : ℕ} {words : List ℕ} {row : List Bool} → IsRow len words row → (i : ℕ) → get_or row i false ≡ bit words i
 IsRow-get_or {len} {words} r i = sym (ap (λ l. get_or l i false) r.shows) ∙ get_or-truths_all len words i r.packed
 
--- rows of one length have as many words
+-- Rows of equal length have the same number of words.
 pub IsRow-words : {m n : ℕ} {a b : List ℕ} {x y : List Bool} → IsRow m a x → IsRow n b y → length x ≡ length y → length a ≡ length b
 IsRow-words {m} {n} r s same =
     let lens : m ≡ n = sym (IsRow-length r) ∙ same ∙ IsRow-length s in
@@ -152,7 +152,7 @@ IsRow-from_bits len words row enough long same = record {
   shows = truths_is len words row long (λ i lt. same i);
 }
 
--- a row of words that are all 0
+-- A row whose words are all 0.
 pub IsRow-zeros : (len : ℕ) → IsRow len (replicate (div_ceil len 64) 0) (replicate len false)
 unfolding bit
 IsRow-zeros len = IsRow-from_bits len _ (replicate len false) (length-replicate (div_ceil len 64) 0) (length-replicate len false) (λ i.
@@ -168,7 +168,7 @@ IsRow-zeros len = IsRow-from_bits len _ (replicate len false) (length-replicate 
     false_value (suc n) zero = refl
     false_value (suc n) (suc k) = false_value n k
 
--- a row whose words are joined by f with another's
+-- A row whose words are combined by `f` with those of another.
 pub IsRow-joined : (f : ℕ → ℕ → ℕ) (t : Bool → Bool → Bool) {m n : ℕ} {a b c : List ℕ} {x y : List Bool} → JoinsBits f t → IsRow m a x → IsRow n b y → length x ≡ length y → AreWords b → JoinsEach f a b c → IsRow m c (zip2 t x y)
 IsRow-joined f t {m} {n} {a} {b} {c} {x} {y} law r s same fits joined =
     IsRow-from_bits m c (zip2 t x y) (joined.long ∙ r.packed.enough) (length-zip2 t x y same ∙ IsRow-length r) (λ i.
@@ -176,7 +176,7 @@ IsRow-joined f t {m} {n} {a} {b} {c} {x} {y} law r s same fits joined =
     ∙ sym (λ j. t (IsRow-get_or r i j) (IsRow-get_or s i j))
     ∙ sym (get_or-zip2_all t x y i law.none same))
 
--- a row with a value put at a place
+-- A row after setting the value at a place.
 pub IsRow-set : {len : ℕ} {words : List ℕ} {row : List Bool} (i word : ℕ) (to : Bool) → IsRow len words row → i < length row → bit_at word (i % 64) ≡ cond to 1 0 → ((k : ℕ) → k < 64 → k ≢ i % 64 → bit_at word k ≡ bit_at (get_or words (i / 64) 0) k) → IsRow len (set words (i / 64) word) (set row i to)
 unfolding bit
 IsRow-set {len} {words} {row} i word to r lt at others =
@@ -208,7 +208,7 @@ IsRow-set {len} {words} {row} i word to r lt at others =
         ∙ sym (IsRow-get_or r k)
         ∙ sym (get_or-set_other row i k to false other)
 
--- a row of at most 64 places by its first word
+-- The values of a row of at most 64 places, read from its first word.
 pub IsRow-word : {len w : ℕ} {words : List ℕ} {row : List Bool} → IsRow len words row → w ≡ get_or words 0 0 → (i : ℕ) → i < 64 → get_or row i false ≡ eqb (bit_at w i) 1
 IsRow-word {len} {w} {words} r word_is i lt =
     IsRow-get_or r i ∙ ap (bit words) place ∙ bit-at words 0 i lt ∙ ap (λ n. eqb (bit_at n i) 1) (sym word_is)
@@ -216,7 +216,7 @@ IsRow-word {len} {w} {words} r word_is i lt =
     place : i ≡ 64 * 0 + i
     place = omega arith
 
--- a row of 1 to 64 places whose word is replaced
+-- A row of 1 to 64 places after replacing its word.
 word_put : (words : List ℕ) (word i : ℕ) → 0 < length words → i < 64 → bit (set words 0 word) i ≡ eqb (bit_at word i) 1
 word_put words word i some lt =
     ap (bit (set words 0 word)) place ∙ bit-at (set words 0 word) 0 i lt ∙ ap (λ n. eqb (bit_at n i) 1) (get_or-set_same words 0 word 0 some)

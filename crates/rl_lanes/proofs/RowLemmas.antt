@@ -1,4 +1,4 @@
--- Lemmas on rows of truth values: what a place holds after each operation, and how the facts on sets are decided.
+-- Lemmas about rows of truth values: what a place holds after each operation, and how facts about sets are decided.
 use Rattle.std.proofs.Common.{◌≡◌, ℕ, zero, suc, ◌<◌, ◌⊎◌, Bool, true, false, not, ◌&&◌, ◌||◌, List, [], ◌∷◌, length, get_or, replicate, refl, sym, inl, inr, arith}
 use Rattle.std.specs.Simd.Lanes.{zip2}
 use Rattle.std.proofs.lemmas.Simd.{length-zip2}
@@ -34,12 +34,12 @@ get_or-replicate_false zero i = refl
 get_or-replicate_false (suc n) zero = refl
 get_or-replicate_false (suc n) (suc i) = get_or-replicate_false n i
 
--- ---- the facts on sets are decided
+-- ---- facts about sets are decided
 shifted_subset : (p q : Bool) (a b : List Bool) → (p ≡ true → q ≡ true) → IsSubset a b → IsSubset (p ∷ a) (q ∷ b)
 shifted_subset p q a b head tail zero e = head e
 shifted_subset p q a b head tail (suc i) e = tail i e
 
--- each place of the first row is one of the second, or some place is of the first row alone
+-- Either the first row is a subset of the second, or some place is true only in the first.
 pub subset_or_other : (a b : List Bool) → IsSubset a b ⊎ HasOther a b
 subset_or_other [] b = inl (λ i e. absurd (false≢true e))
 subset_or_other (true ∷ a) [] = inr (zero, refl, refl)
@@ -56,7 +56,7 @@ shifted_apart : (p q : Bool) (a b : List Bool) → (p ≡ true → q ≡ false) 
 shifted_apart p q a b head tail zero e = head e
 shifted_apart p q a b head tail (suc i) e = tail i e
 
--- some place is of both rows, or none is
+-- Either some place is true in both rows, or none is.
 pub meets_or_apart : (a b : List Bool) → Meets a b ⊎ AreApart a b
 meets_or_apart [] b = inr (λ i e. absurd (false≢true e))
 meets_or_apart (p ∷ a) [] = inr (λ i e. refl)
@@ -64,10 +64,10 @@ meets_or_apart (true ∷ a) (true ∷ b) = inl (zero, refl, refl)
 meets_or_apart (true ∷ a) (false ∷ b) = elim (meets_or_apart a b) [ inl (i, on, also) ↦ inl (suc i, on, also) | inr none ↦ inr (shifted_apart true false a b (λ _. refl) none) ]
 meets_or_apart (false ∷ a) (q ∷ b) = elim (meets_or_apart a b) [ inl (i, on, also) ↦ inl (suc i, on, also) | inr none ↦ inr (shifted_apart false q a b (λ e. absurd (false≢true e)) none) ]
 
--- rows of one length with the same values are equal
+-- Rows of equal length with the same values are equal.
 pub same_places : (a b : List Bool) → length a ≡ length b → ((i : ℕ) → i < length a → get_or a i false ≡ get_or b i false) → a ≡ b
 same_places a b = ext_get_or false a b
 
--- a place that holds true is one of the row's
+-- A place that is true is within the row.
 pub place_within : (row : List Bool) (i : ℕ) → get_or row i false ≡ true → i < length row
 place_within row i e = elim (cases_lt i (length row)) [ inl lt ↦ lt | inr ge ↦ absurd (both_ways (get_or row i false) (get_or_past row i false ge) e) ]

@@ -1,15 +1,15 @@
--- Lemmas on runs of rows.
+-- Lemmas about runs of rows.
 use Rattle.std.proofs.Common.{◌≡◌, ℕ, ◌+◌, ◌<◌, ◌≤◌, Bool, List, [], length, get_or, set, sym, ◌∙◌, subst, inl, inr, arith}
 use Rattle.std.proofs.lemmas.Bool.{cases_lt, cases_eq}
 use Rattle.std.proofs.lemmas.List.{get_or-set_same, get_or-set_other}
 use Rattle.rl_lanes.specs.Rows.{IsSubset}
 use Rattle.rl_lanes.specs.Runs.{IsRun}
 
--- no row is a run
+-- The empty run is a run of every row.
 pub IsRun-alone : (table : List (List Bool)) (row : ℕ) → row < length table → IsRun table row (row + 1)
 IsRun-alone table row lt = record { after = omega arith; inside = omega arith; covered = λ i past before. absurd (omega arith) }
 
--- the run of a row goes on over the run of the row at its end, where that row lies within the first
+-- If the row at the end of a run is a subset of the first row, its own run continues the run of the first row.
 pub IsRun-more : (table : List (List Bool)) (row end next : ℕ) → IsRun table row end → IsSubset (get_or table end []) (get_or table row []) → IsRun table end next → IsRun table row next
 IsRun-more table row end next run lies more = record {
   after = omega (arith, run.after, more.after);
@@ -23,7 +23,7 @@ IsRun-more table row end next run lies more = record {
   ];
 }
 
--- the ends of the runs of the rows from `from` on
+-- The ends of the runs of all rows from `from` on.
 pub record AreRunsFrom (table : List (List Bool)) (from : ℕ) (ends : List ℕ) : Type 0 where
   pub within : from ≤ length table
   pub long : length ends ≡ length table

@@ -1,4 +1,4 @@
--- Lemmas on the rows that the words of a table hold.
+-- Lemmas about the rows that the words of a table hold.
 use Rattle.std.proofs.Common.{◌≡◌, ◌≢◌, ℕ, suc, ◌+◌, ◌-◌, ◌*◌, ◌/◌, ◌%◌, ◌<◌, ◌≤◌, ◌⊎◌, Bool, false, cond, List, [], length, get_or, set, take, replicate, sym, ap, ◌∙◌, subst, inl, inr, arith}
 use Rattle.std.specs.Int.{bit_at, div_ceil}
 use Rattle.std.specs.Global.{Vec}
@@ -10,11 +10,11 @@ use Rattle.std.proofs.Math.Nat.{mul-le-mul_right}
 use Rattle.rl_lanes.specs.Packed.{truths, words_at, table_rows, IsPackedTable}
 use Rattle.rl_lanes.proofs.PackedLemmas.{IsRow, IsRow-length, IsRow-set, IsRow-zeros}
 
--- how many words a row of a table has
+-- The number of words in a row of a table.
 abbrev pub width_of : ℕ → ℕ
 width_of len = div_ceil len 64
 
--- the words hold the rows of a table
+-- The words hold the rows of a table.
 pub record IsTable (rows len : ℕ) (words : List ℕ) (table : List (List Bool)) : Type 0 where
   pub packed : IsPackedTable rows len words
   pub shows : table_rows rows len words ≡ table
@@ -44,11 +44,11 @@ IsTable-from_rows rows len words table enough long each = record {
       get_or-table_rows rows len words row below ∙ (each row below).shows);
 }
 
--- the words of a row stand before those of the next
+-- The words of a row come before those of the next row.
 pub row_end : (rows width row : ℕ) → row < rows → row * width + width ≤ rows * width
 row_end rows width row lt = omega (arith, mul-le-mul_right {m = suc row} {n = rows} width (omega arith))
 
--- a table of words that are all 0
+-- A table whose words are all 0.
 pub IsTable-zeros : (rows len : ℕ) → IsTable rows len (replicate (rows * width_of len) 0) (replicate rows (replicate len false))
 IsTable-zeros rows len =
     let width = width_of len in
@@ -58,7 +58,7 @@ IsTable-zeros rows len =
     subst (λ ws. IsRow len ws (get_or (replicate rows (replicate len false)) row [])) (sym words_are)
     (subst (IsRow len (replicate width 0)) (sym (get_or-replicate rows row (replicate len false) [] lt)) (IsRow-zeros len)))
 
--- the words of a row, after word k of it was written
+-- The words of a row after its word `k` was written.
 words_at-set_same : (words : List ℕ) (rows width row k w : ℕ) → length words ≡ rows * width → row < rows → k < width → words_at width (set words (row * width + k) w) row ≡ set (words_at width words row) k w
 words_at-set_same words rows width row k w enough lt small =
     let room : row * width + width ≤ length words = omega (arith, row_end rows width row lt) in
@@ -78,7 +78,7 @@ words_at-set_same words rows width row k w enough lt small =
           ∙ sym (get_or-set_other (words_at width words row) k j w 0 other)
     ])
 
--- the words of another row are as they were
+-- The words of any other row are unchanged.
 words_at-set_other : (words : List ℕ) (rows width row k w other : ℕ) → length words ≡ rows * width → row < rows → other < rows → other ≢ row → k < width → words_at width (set words (row * width + k) w) other ≡ words_at width words other
 words_at-set_other words rows width row k w other enough lt other_lt apart small =
     let room : other * width + width ≤ length words = omega (arith, row_end rows width other other_lt) in
@@ -98,14 +98,14 @@ words_at-set_other words rows width row k w other enough lt other_lt apart small
       | inr same ↦ apart (omega arith)
     ]
 
--- the word of a place is one of the table's
+-- The word of a place is one of the table's words.
 pub table_place_fits : {rows len : ℕ} {table : List (List Bool)} (row i : ℕ) (v : Vec ℕ) → IsTable rows len v.items table → row < length table → i < length (get_or table row []) → row * width_of len + i / 64 < v.len
 table_place_fits {rows} {len} row i v t row_in place_in =
     let in_rows : row < rows = omega (arith, IsTable-length t) in
     let in_row : i / 64 < width_of len = omega (arith, IsRow-length (IsTable-row row t in_rows)) in
     omega (arith, row_end rows (width_of len) row in_rows, t.packed.enough, v.ok.0)
 
--- a table with a value put at a place of a row, by the word w that was there and the word that takes its place
+-- A table after setting the value at a place of a row, given the old word `w` and the word that replaces it.
 pub IsTable-put : {rows len : ℕ} {table : List (List Bool)} (row i p w word : ℕ) (to : Bool) (v : Vec ℕ) → IsTable rows len v.items table → row < length table → i < length (get_or table row []) → p ≡ row * width_of len + i / 64 → w ≡ get_or v.items p w → bit_at word (i % 64) ≡ cond to 1 0 → ((k : ℕ) → k < 64 → k ≢ i % 64 → bit_at word k ≡ bit_at w k) → IsTable rows len (set v.items p word) (set table row (set (get_or table row []) i to))
 IsTable-put {rows} {len} {table} row i p w word to v t row_in place_in p_is read at others =
     let width = width_of len in

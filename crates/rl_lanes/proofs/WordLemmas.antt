@@ -1,4 +1,4 @@
--- Lemmas on words: what a store of eight lanes leaves, whether some lane is set, and how many bits are.
+-- Lemmas about words: the effect of storing eight lanes, whether some lane is set, and the number of set bits.
 use Rattle.std.proofs.Common.{◌≡◌, ◌≢◌, ℕ, zero, suc, ◌+◌, ◌-◌, ◌<◌, ◌≤◌, ◌⊎◌, Bool, true, false, not, eqb, List, [], ◌∷◌, ◌++◌, length, get_or, take, map, refl, sym, ap, ◌∙◌, subst, inl, inr, arith, bit_or, count_ones, MatchBool}
 use Rattle.std.specs.Simd.Lanes.{fold_l, sum_l, put_chunk, chunk}
 use Rattle.std.proofs.lemmas.Simd.{length-put_chunk, get_or-put_chunk_below, get_or-put_chunk_at, get_or-put_chunk_above}
@@ -8,14 +8,14 @@ use Rattle.std.proofs.Math.Seq.{take-add}
 use Rattle.std.proofs.lemmas.List.{map_more, map-append}
 use Rattle.rl_lanes.specs.internal.Words.{JoinsAt, SomeWord, NoWord, SomePairAt, NoPairAt}
 
--- the words before `at` are joined by f with the other list's, and the others are as they were
+-- The words before `at` are combined by `f` with those of the other list. All other words are unchanged.
 pub record JoinsBelow (f : ℕ → ℕ → ℕ) (at : ℕ) (old other new : List ℕ) : Type 0 where
   pub long : length new ≡ length old
   pub within : at ≤ length old
   pub below : (k : ℕ) → k < at → get_or new k 0 ≡ f (get_or old k 0) (get_or other k 0)
   pub above : (k : ℕ) → at ≤ k → get_or new k 0 ≡ get_or old k 0
 
--- eight words are stored that f makes of the two lists' words
+-- Storing eight words that `f` makes of the words of two lists.
 pub JoinsAt-put_chunk : (f : ℕ → ℕ → ℕ) (at : ℕ) (old other lanes : List ℕ) → length lanes ≡ 8 → at + 8 ≤ length old → ((k : ℕ) → k < 8 → get_or lanes k 0 ≡ f (get_or old (at + k) 0) (get_or other (at + k) 0)) → JoinsAt f at old other (put_chunk at old lanes)
 JoinsAt-put_chunk f at old other lanes long room each = record {
   long = length-put_chunk at old lanes;
@@ -34,7 +34,7 @@ NoWord-cons xs none (suc k) lt = none k (omega arith)
 SomeWord-cons : (x : ℕ) (xs : List ℕ) → SomeWord xs → SomeWord (x ∷ xs)
 SomeWord-cons x xs (k, lt, set) = (suc k, omega arith, set)
 
--- where all words are joined to 0, each is 0
+-- If the union of all words is 0, every word is 0.
 NoWord-from_fold : (a : ℕ) (xs : List ℕ) → fold_l bit_or a xs ≡ 0 → (a ≡ 0) × NoWord xs
 NoWord-from_fold a [] e = (e, λ k lt. refl)
 NoWord-from_fold a (x ∷ xs) e =
@@ -42,7 +42,7 @@ NoWord-from_fold a (x ∷ xs) e =
     let x_is : x ≡ 0 = omega (arith, rest.0, le_or_r a x) in
     (omega (arith, rest.0, le_or_l a x), subst (λ y. NoWord (y ∷ xs)) (sym x_is) (NoWord-cons xs rest.1))
 
--- where they are not, some word is not 0
+-- Otherwise some word isn't 0.
 SomeWord-from_fold : (a : ℕ) (xs : List ℕ) → fold_l bit_or a xs ≢ 0 → (a ≢ 0) ⊎ SomeWord xs
 SomeWord-from_fold a [] e = inl e
 SomeWord-from_fold a (x ∷ xs) e =
@@ -62,28 +62,28 @@ pub sum_l-append : (xs ys : List ℕ) → sum_l (xs ++ ys) ≡ sum_l xs + sum_l 
 sum_l-append [] ys = omega arith
 sum_l-append (x ∷ xs) ys = omega (arith, sum_l-append xs ys)
 
--- how many bits are set in the words before a place, and in the n words from there on
+-- The number of bits set in the words before an index, and in the `n` words from there on.
 pub ones-take_more : (words : List ℕ) (at n : ℕ) → sum_l (map count_ones (take (at + n) words)) ≡ sum_l (map count_ones (take at words)) + sum_l (map count_ones (chunk at n words))
 ones-take_more words at n =
     ap (λ ws. sum_l (map count_ones ws)) (take-add at n words)
     ∙ ap sum_l (map-append count_ones (take at words) (chunk at n words))
     ∙ sum_l-append (map count_ones (take at words)) (map count_ones (chunk at n words))
 
--- the words before a place have no more bits set than all
+-- The words before an index have at most as many set bits as all words.
 pub ones-take_le : (words : List ℕ) (at : ℕ) → sum_l (map count_ones (take at words)) ≤ sum_l (map count_ones words)
 ones-take_le [] zero = omega arith
 ones-take_le [] (suc at) = omega arith
 ones-take_le (w ∷ ws) zero = omega arith
 ones-take_le (w ∷ ws) (suc at) = omega (arith, ones-take_le ws at)
 
--- how many bits are set in the words before a place, and in the word there
+-- The number of bits set in the words before an index, and in the word there.
 pub ones-take_one : (words : List ℕ) (at : ℕ) → at < length words → sum_l (map count_ones (take (at + 1) words)) ≡ sum_l (map count_ones (take at words)) + count_ones (get_or words at 0)
 ones-take_one words at lt =
     ap sum_l (map_more count_ones words at 0 lt)
     ∙ sum_l-append (map count_ones (take at words)) (count_ones (get_or words at 0) ∷ [])
     ∙ omega arith
 
--- what holds of the lanes that f makes of eight words of two lists, holds of those words
+-- What holds for the lanes that `f` makes of eight words of two lists holds for those words.
 pub pairs_from_lanes : (f : ℕ → ℕ → ℕ) (at : ℕ) (a b lanes : List ℕ) (some : Bool) → length lanes ≡ 8 → ((k : ℕ) → k < 8 → get_or lanes k 0 ≡ f (get_or a (at + k) 0) (get_or b (at + k) 0)) → MatchBool some (SomeWord lanes) (NoWord lanes) → MatchBool some (SomePairAt f at a b) (NoPairAt f at a b)
 pairs_from_lanes f at a b lanes true long each (k, lt, set) = (at + k, omega arith, omega arith, λ off. set (each k (omega arith) ∙ off))
 pairs_from_lanes f at a b lanes false long each none = λ k ge lt.

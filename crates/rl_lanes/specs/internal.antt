@@ -1,3 +1,3 @@
--- Definitions for the contracts of private functions. No public contract reaches them.
+-- Definitions for the contracts of private functions. No public contract uses them.
 pub mod Words
 pub mod PackedWords

@@ -1,8 +1,8 @@
-// One word of 64 bits, bit by bit.
+//! One word of 64 bits, bit by bit.
 ghost use Rattle.std.specs.Prelude.{◌≡◌, ◌≢◌, ◌↔◌, ℕ, ◌<◌, ◌≤◌, if◌then◌else◌, IsTrue};
 ghost use Rattle.std.specs.Int.{bit_at};
 
-/// The word with one bit set or cleared.
+/// Returns the word with one bit set or cleared.
 #[inline(always)]
 pub(crate) fn with_bit(word: u64, bit: usize, to: bool) -> u64
     requires { bit < 64 }
@@ -22,7 +22,7 @@ pub(crate) fn has_bit(word: u64, bit: usize) -> bool
     (word >> bit) & 1 != 0
 }
 
-/// The word with the bits below one cleared.
+/// Returns the word with all bits below `bit` cleared.
 #[inline(always)]
 pub(crate) fn from_bit(word: u64, bit: usize) -> u64
     requires { bit < 64 }
@@ -32,7 +32,7 @@ pub(crate) fn from_bit(word: u64, bit: usize) -> u64
     word & (u64::MAX << bit)
 }
 
-/// The lowest bit that is set.
+/// Returns the index of the lowest set bit.
 #[inline(always)]
 pub(crate) fn lowest(word: u64) -> usize
     requires { word ≢ 0 }
@@ -43,7 +43,7 @@ pub(crate) fn lowest(word: u64) -> usize
     word.trailing_zeros() as usize
 }
 
-/// The word with its lowest set bit cleared.
+/// Returns the word with its lowest set bit cleared.
 #[inline(always)]
 pub(crate) fn without_lowest(word: u64) -> u64
     requires { word ≢ 0 }

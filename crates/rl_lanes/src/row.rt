@@ -1,4 +1,4 @@
-// A row of truth values.
+//! A row of truth values.
 ghost use Rattle.std.specs.Prelude.{◌≡◌, ◌==◌, ◌↔◌, ℕ, ◌+◌, ◌*◌, ◌/◌, ◌^◌, ◌<◌, ◌≤◌, Bool, false, length, replicate, count_by, slice_index_or, slice_set, IsTrue, IfOk, IfSome, IfNone};
 ghost use Rattle.std.specs.Bool.{OnFalse};
 ghost use Rattle.std.specs.Int.{bit_at};
@@ -14,15 +14,15 @@ use std::alloc::Global;
 use std::hash::{Hash, Hasher};
 use std::marker::Model;
 
-/// How many truth values a word holds.
+/// The number of truth values in a word.
 pub(crate) const WORD: usize = 64;
 
-/// How many words a row holds in itself. A row of more words takes memory for them.
+/// The number of words that a row stores in itself. A row with more words allocates memory for them.
 const INLINE: usize = 2;
 
-/// A row of truth values, which stands for the set of the places that hold true.
+/// A row of truth values. It represents the set of the places that are true.
 ///
-/// Contracts see it as the list of its values. Its bits past the last value are false.
+/// Contracts see it as the list of its values. Its bits after the last value are 0.
 #[derive(Debug, Drop)]
 pub struct BitRow {
     words: SmallVec<u64, INLINE>,
@@ -41,10 +41,10 @@ impl Model for BitRow {
 }
 
 impl BitRow {
-    /// A row of `len` places that hold false.
+    /// Creates a row of `len` places that are all false.
     ///
     /// # Errors
-    /// [`OutOfMemory`] where there was no memory for the row.
+    /// [`OutOfMemory`] if there is no memory for the row.
     pub fn zeros(alloc: Global, len: usize) -> Result<BitRow, OutOfMemory>
         ensures { IfOk result (λ row. row ≡ replicate len false) }
     {
@@ -52,10 +52,10 @@ impl BitRow {
         Ok(BitRow { words, len })
     }
 
-    /// A row with the same values.
+    /// Returns a copy of the row.
     ///
     /// # Errors
-    /// [`OutOfMemory`] where there was no memory for the row.
+    /// [`OutOfMemory`] if there is no memory for the row.
     pub fn copy(&self) -> Result<BitRow, OutOfMemory>
         ensures { IfOk result (λ row. row ≡ self.now) }
     {
@@ -66,21 +66,21 @@ impl BitRow {
         })
     }
 
-    /// How many places the row has.
+    /// Returns the number of places.
     pub fn len(&self) -> usize
         ensures { result ≡ length self.now }
     {
         self.len
     }
 
-    /// Whether no place holds true, as in a row that has no place.
+    /// Whether no place is true.
     pub fn is_empty(&self) -> bool
         ensures { IsTrue result ↔ NoneFrom self.now 0 }
     {
         self.next_from(0).is_none()
     }
 
-    /// The value at a place.
+    /// Returns the value at a place.
     pub fn get(&self, i: usize) -> bool
         requires { i < length self.now }
         ensures { result ≡ slice_index_or self.now i false }
@@ -88,7 +88,7 @@ impl BitRow {
         has_bit(self.words.as_slice()[i / WORD], i % WORD)
     }
 
-    /// Puts a value at a place.
+    /// Sets the value at a place.
     pub fn set(&mut self, i: usize, to: bool)
         requires { i < length self.old }
         ensures { self.new ≡ slice_set self.old i to }
@@ -98,14 +98,14 @@ impl BitRow {
         words[word] = with_bit(words[word], i % WORD, to);
     }
 
-    /// Makes each place hold false.
+    /// Sets all places to false.
     pub fn clear(&mut self)
         ensures { self.new ≡ replicate (length self.old) false }
     {
         self.words.as_mut_slice().fill(0);
     }
 
-    /// Makes the row its union with another.
+    /// Replaces the row by its union with another.
     pub fn or_into(&mut self, other: &BitRow)
         requires { length self.old ≡ length other.now }
         ensures union { self.new ≡ list_or self.old other.now }
@@ -114,7 +114,7 @@ impl BitRow {
         or_words(self.words.as_mut_slice(), other.words());
     }
 
-    /// Makes the row its union with the row that the words hold.
+    /// Replaces the row by its union with the row that the words hold.
     pub(crate) fn add_words(&mut self, added: &[u64])
         requires { IsPacked (length self.old) added.now }
         ensures { self.new ≡ list_or self.old (truths (length self.old) added.now) }
@@ -122,7 +122,7 @@ impl BitRow {
         or_words(self.words.as_mut_slice(), added);
     }
 
-    /// Takes the other row's places out of the row.
+    /// Removes the other row's places from the row.
     pub fn subtract(&mut self, other: &BitRow)
         requires { length self.old ≡ length other.now }
         ensures difference { self.new ≡ list_and_not self.old other.now }
@@ -131,7 +131,7 @@ impl BitRow {
         subtract_words(self.words.as_mut_slice(), other.words());
     }
 
-    /// Whether some place holds true in both rows.
+    /// Whether some place is true in both rows.
     pub fn meets(&self, other: &BitRow) -> bool
         requires { length self.now ≡ length other.now }
         ensures meets { IsTrue result ↔ Meets self.now other.now }
@@ -140,7 +140,7 @@ impl BitRow {
         any_both(self.words(), other.words())
     }
 
-    /// Whether each place that holds true in the row does in the other.
+    /// Whether every place that is true in this row is true in the other.
     pub fn is_subset(&self, of: &BitRow) -> bool
         requires { length self.now ≡ length of.now }
         ensures subset { IsTrue result ↔ IsSubset self.now of.now }
@@ -149,18 +149,19 @@ impl BitRow {
         !any_outside(self.words(), of.words())
     }
 
-    /// How many places hold true.
+    /// Returns the number of places that are true.
     pub fn count(&self) -> usize
         ensures { result ≡ count_by (λ holds. holds) self.now }
     {
-        // The count is at most the length, which is read so that it is known to fit.
+        // Reading the length tells the prover that it fits in 64 bits. The count is at most the length.
         let _len = self.len;
         count_words(self.words())
     }
 
-    /// The least place at or above one that holds true. It passes over words of zeros.
+    /// Returns the first place from `i` on that is true. Skips words of zeros.
     ///
-    /// The places that hold true, in rising order, are `next_from(0)`, and after a place `i` `next_from(i + 1)`.
+    /// To visit all places that are true in ascending order, begin with `next_from(0)` and continue with `next_from(i + 1)`
+    /// after each place `i`.
     pub fn next_from(&self, i: usize) -> Option<usize>
         ensures found { IfSome result (IsLeastFrom self.now i) }
         ensures none { IfNone result (NoneFrom self.now i) }
@@ -173,7 +174,7 @@ impl BitRow {
         }
     }
 
-    /// The word that holds the values of a row of at most 64 places.
+    /// Returns the word that holds the values of a row of at most 64 places.
     #[inline(always)]
     pub(crate) fn word(&self) -> u64
         requires { length self.now ≤ 64 }
@@ -183,7 +184,7 @@ impl BitRow {
         if words.is_empty() { 0 } else { words[0] }
     }
 
-    /// Makes the values of a row of 1 to 64 places those that a word holds.
+    /// Replaces the values of a row of 1 to 64 places by those in the word.
     #[inline(always)]
     pub(crate) fn put_word(&mut self, word: u64)
         requires some { 0 < length self.old }
@@ -195,11 +196,11 @@ impl BitRow {
         self.words.as_mut_slice()[0] = word;
     }
 
-    /// The words that hold the values.
+    /// Returns the words that hold the values.
     fn words(&self) -> &[u64]
         ensures { result.now ≡ words_of self.now }
     {
-        // Named, so that each is known to be a word of 64 bits.
+        // The variable tells the prover that each word has 64 bits.
         let words = self.words.as_slice();
         words
     }
@@ -241,7 +242,7 @@ impl Hash for BitRow {
     }
 }
 
-/// The least place at or above one that holds true in the words.
+/// Returns the first place from `i` on that is true in the words.
 fn next_bit(words: &[u64], i: usize) -> Option<usize>
     requires within { i / 64 < length words.now }
     requires small { 64 * length words.now ≤ 2 ^ 64 }

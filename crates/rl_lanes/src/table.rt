@@ -1,4 +1,4 @@
-// A table of rows of truth values.
+//! A table of rows of truth values.
 ghost use Rattle.std.specs.Prelude.{◌≡◌, ℕ, ◌<◌, ◌≤◌, [], All, Bool, false, length, replicate, slice_index, slice_index_or, slice_set, IfOk, IsTrue};
 ghost use Rattle.rl_lanes.specs.Packed.{truths, IsPacked};
 ghost use Rattle.rl_lanes.specs.Rows.{IsSubset};
@@ -12,12 +12,12 @@ use rl_lists::OutOfMemory;
 use std::alloc::Global;
 use std::marker::Model;
 
-/// A table of truth values, whose rows all have as many places.
+/// A table of truth values. All its rows have the same number of places.
 ///
-/// Contracts see it as the list of its rows. Each row begins with a word of its own, and its bits past the last value
-/// are false.
+/// Contracts see it as the list of its rows. Each row begins with a new word, and its bits after the last value are 0.
 ///
-/// Rows behind a row that all lie within it are a run. The table has an end of the run of each row, or none at all.
+/// A run of a row consists of rows directly after it that are all subsets of it. The table stores the end of a run for
+/// every row, or for none.
 #[derive(Debug, Drop)]
 pub struct BitTable {
     words: Vec<u64>,
@@ -39,10 +39,10 @@ impl Model for BitTable {
 }
 
 impl BitTable {
-    /// A table of `rows` rows, each with `len` places that hold false.
+    /// Creates a table of `rows` rows, each with `len` places that are all false.
     ///
     /// # Errors
-    /// [`OutOfMemory`] where there was no memory for the table.
+    /// [`OutOfMemory`] if there is no memory for the table.
     pub fn zeros(alloc: Global, rows: usize, len: usize) -> Result<BitTable, OutOfMemory>
         ensures { IfOk result (λ table. table ≡ replicate rows (replicate len false)) }
     {
@@ -58,7 +58,7 @@ impl BitTable {
         })
     }
 
-    /// Puts a value at a place of a row.
+    /// Sets the value at a place of a row.
     pub fn set(&mut self, row: usize, i: usize, to: bool)
         requires row_in { row < length self.old }
         requires place_in { i < length (slice_index_or self.old row []) }
@@ -69,12 +69,12 @@ impl BitTable {
         self.words[word] = with_bit(self.words[word], i % WORD, to);
     }
 
-    /// Finds the runs of the rows, so that images pass over rows that add nothing. It pays where a table is filled and
-    /// many images are taken then: it costs about as much as two images of all rows. Where a word can hold the chosen rows,
-    /// images are fast without it, and nothing is done.
+    /// Finds the runs of the rows, so that images can skip rows that add nothing. This pays off if a table is filled first
+    /// and many images are taken afterwards: it costs about as much as two images of all rows. A table of at most 64 rows
+    /// needs no runs for fast images, and nothing is done.
     ///
     /// # Errors
-    /// [`OutOfMemory`] where there was no memory for the ends of the runs.
+    /// [`OutOfMemory`] if there is no memory for the ends of the runs.
     pub fn find_runs(&mut self) -> Result<(), OutOfMemory>
         ensures { self.new ≡ self.old }
     {
@@ -84,7 +84,7 @@ impl BitTable {
         Ok(())
     }
 
-    /// Makes `into` the union of the rows whose numbers `chosen` holds.
+    /// Sets `into` to the union of the rows whose numbers are in `chosen`.
     pub fn image(&self, chosen: &BitRow, into: &mut BitRow)
         requires rows { length chosen.now ≡ length self.now }
         requires places { All (λ row. length row ≡ length into.old) self.now }
@@ -98,7 +98,7 @@ impl BitTable {
         }
     }
 
-    /// Makes `into` the union of the chosen rows, row by row.
+    /// Sets `into` to the union of the chosen rows, row by row.
     fn join_chosen(&self, chosen: &BitRow, into: &mut BitRow)
         requires rows { length chosen.now ≡ length self.now }
         requires places { All (λ row. length row ≡ length into.old) self.now }
@@ -113,12 +113,12 @@ impl BitTable {
         }
     }
 
-    /// The end of the run of a row that is known.
+    /// Returns the end of the known run of a row. If none is known, the run is empty.
     fn run_end(&self, row: usize) -> usize
         requires { row < length self.now }
         ensures { IsRun self.now row result }
     {
-        // The end is at most the number of rows, which is read so that it is known to fit.
+        // Reading the number of rows tells the prover that it fits in 64 bits. The end is at most that number.
         let _rows = self.rows;
         if row < self.ends.len() {
             self.ends[row]
@@ -127,7 +127,7 @@ impl BitTable {
         }
     }
 
-    /// The end of the run of each row.
+    /// Returns the end of a run for each row.
     fn runs(&self) -> Result<Vec<usize>, OutOfMemory>
         ensures { IfOk result (λ ends. AreRuns self.now ends.items) }
     {
@@ -140,7 +140,7 @@ impl BitTable {
         Ok(ends)
     }
 
-    /// The end of the longest run of a row, from the ends of the runs of the rows behind it.
+    /// Returns the end of the longest run of a row that the ends for the rows after it allow to find.
     fn run_from(&self, row: usize, ends: &[usize]) -> usize
         requires row_in { row < length self.now }
         requires long { length ends.now ≡ length self.now }
@@ -154,19 +154,19 @@ impl BitTable {
         end
     }
 
-    /// Whether each place that holds true in one row does in another.
+    /// Whether one row is a subset of another.
     fn is_within(&self, row: usize, of: usize) -> bool
         requires row_in { row < length self.now }
         requires of_in { of < length self.now }
         ensures { IsTrue result → IsSubset (slice_index_or self.now row []) (slice_index_or self.now of []) }
     {
-        // Named, so that each is known to be a word of 64 bits.
+        // The variables tell the prover that each word has 64 bits.
         let words = self.row_words(row);
         let of_words = self.row_words(of);
         !any_outside(words, of_words)
     }
 
-    /// The words of a row.
+    /// Returns the words of a row.
     fn row_words(&self, row: usize) -> &[u64]
         requires { row < length self.now }
         ensures packed { IsPacked (length (slice_index_or self.now row [])) result.now }

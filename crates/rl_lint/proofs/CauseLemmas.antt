@@ -1,4 +1,4 @@
--- A run refuses nothing but what is refused, and fails only where a call of the tree failed.
+-- A run refuses only what is refused, and it fails only if a call of the tree failed.
 use Rattle.std.proofs.Common.{◌≡◌, ◌<◌, ◌⊎◌, ℕ, inl, inr, codes, Result, Ok, Err, IfOk, Bool, true, false, List, [], ◌∷◌, ◌++◌, Option, Some, None, cond, length, nat_lt, ap, sym, ◌∙◌, subst, refl, arith}
 use Rattle.std.proofs.lemmas.Grind.{common_steps}
 use Rattle.std.specs.Str.{chars}
@@ -34,10 +34,11 @@ use Rattle.rl_lint.specs.Refusals.{HasRefusedPattern, IsRefused, IsRefusedAction
 use Rattle.rl_lint.specs.RunEnding.{IsActionEnding, IsCallEnding, IsRunEnding}
 use Rattle.rl_report.specs.Names.{Text}
 use Rattle.rl_lint.specs.VerifyEnding.{CertificateEnds, IsVerifyEnding, verify_parsed, verify_refused}
-use Rattle.rl_lint.specs.declared.cost.TheConstants.{MOST_TEXT_CODES}
+use Rattle.rl_lint.specs.declared.limits.TheConstants.{MOST_TEXT_CODES}
 use Rattle.rl_lint.specs.declared.plan.Plan.{Plan}
 
--- between the two moments the run came to this ending; where it refuses something or a call of the tree failed, there is a cause
+-- Between the two moments the run came to this ending. If it refuses something or reports that a call of the tree failed, there
+-- is a cause.
 record HasCause (Refused : Type 0) (old new : Moment) (ending : Ending) : Type 0 where
   refused : is_refusal ending ≡ true → Refused
   failed : has_fault ending ≡ true → Rose old.faults new.faults
@@ -62,7 +63,7 @@ module _ (R : Type 0) (old new : Moment) where
 
 -- ---- files
 
--- the map stays while the tree is asked
+-- The map stays the same while the tree is asked.
 abbrev KeepsMap : Moment → Moment → Type 0
 KeepsMap old new = (t : Told) → old.told ≡ Some t → (u : Told) × (new.told ≡ Some u) × (u.nodes ≡ t.nodes)
 
@@ -84,7 +85,7 @@ module _ {A : Type 0} (Gives : Text → A → Type 0) (there : Text → List Nod
       same : (t : Told) → (u : Told) × (new.told ≡ Some u) × (u.nodes ≡ t.nodes) → there r.path t.nodes ≡ Some r.bytes
       same t k = subst (λ nodes. there r.path nodes ≡ Some r.bytes) k.2 (r.right k.0 k.1)
 
--- what is refused was so from the start
+-- What is refused was already refused at the start.
 earlier_refused : (options : Chosen) (asked : Asked) (old new : Moment) → KeepsMap old new → IsRefusedAction new.told options asked → IsRefusedAction old.told options asked
 earlier_refused options (check paths) old new keeps r = earlier IsBaseline first_bytes options.baseline old new keeps r
 earlier_refused options (class pattern) old new keeps r = r
@@ -95,7 +96,7 @@ earlier_refused options (verify pattern file) old new keeps (inl r) = inl r
 earlier_refused options (verify pattern file) old new keeps (inr r) = inr (earlier IsForm first_bytes (Some file) old new keeps r)
 earlier_refused options (compare first second) old new keeps r = r
 
--- a file can't be read or is refused, or it was taken, and what follows has a cause
+-- Either a file can't be read or is refused, or it is accepted and what follows has a cause.
 module _ {A : Type 0} (name : Text) (there : Text → List Node → Option Text) (Gives : Text → A → Type 0) (Next : A → Moment → Moment → Ending → Type 0)
     (path : Text) (R : Type 0) (old new : Moment) where
   of_file : (ending : Ending) → ReadsThen name there Gives Next path old new ending → (HasRefused Gives there (Some path) old.told → R)
@@ -109,7 +110,7 @@ module _ {A : Type 0} (name : Text) (there : Text → List Node → Option Text)
 
 -- ---- patterns
 
--- a pattern is refused, or what follows has a cause
+-- Either a pattern is refused, or what follows has a cause.
 module _ (pattern : List ℕ) (mode : Mode) (Next : Tree → MatchEnd → Ending → Type 0) (R : Type 0) (old new : Moment) where
   of_pattern : (ending : Ending) → ParsesThen pattern mode Next ending → ((message : Text) → IsRefusedPattern pattern message → R)
       → ((t : Tree) (at : MatchEnd) → Next t at ending → HasCause R old new ending) → HasCause R old new ending

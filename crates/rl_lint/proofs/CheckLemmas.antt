@@ -1,4 +1,4 @@
--- How a run of `check` is to end, by the walk over its paths.
+-- How a run of `check` ends, given the walk over its paths.
 use Rattle.std.proofs.Common.{◌≡◌, ◌++◌, ℕ, Bool, true, false, if◌then◌else◌, nat_eq, List, [], Option, Some, None, codes, Result, Ok, Err, IfOk, Bor, All, map, ap, subst, sym, ◌∙◌, refl}
 use Rattle.std.specs.List.{list_any}
 use Rattle.std.specs.Prelude.{option_map}
@@ -27,7 +27,7 @@ use Rattle.rl_lint.specs.RunEnding.{IsActionEnding}
 use Rattle.rl_report.specs.Names.{Text}
 use Rattle.rl_lint.specs.declared.plan.Plan.{Plan}
 
--- a walk with a visitor that was told of no visit before
+-- A walk with a visitor that hasn't received any visit before.
 pub walked-first : (old new : Moment) (paths : List Text) (before now : List Visit → Type 0) → before [] → Walked old new paths before now
     → Walked old new paths (λ visits. visits ≡ []) now
 walked-first old new paths before now none w = record {
@@ -67,7 +67,7 @@ reports-walk s baseline paths old new c visible hidden text finding w same is so
   cause = w.cause;
 }
 
--- a status is 1 exactly where there is a finding
+-- A status is 1 if and only if there is a finding.
 pub is-finding : (found : Bool) (status : ℕ) → status ≡ (if found then 1 else 0) → nat_eq status 1 ≡ found
 is-finding true status is = ap (λ n. nat_eq n 1) is
 is-finding false status is = ap (λ n. nat_eq n 1) is

@@ -1,4 +1,4 @@
--- The characters of a word are codes of a string.
+-- The characters of a word are code points of a string.
 use Rattle.std.proofs.Common.{◌≡◌, ℕ, zero, suc, ◌<◌, ⊎_elim, true, List, [], ◌∷◌, arith}
 use Rattle.std.proofs.Math.Utf8.{scalar, scalar_cases, scalars}
 use Rattle.std.proofs.lemmas.Bool.{and_parts}

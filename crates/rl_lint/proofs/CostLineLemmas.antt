@@ -1,4 +1,4 @@
--- The line of `cost` where no limit is passed.
+-- The line of `cost` if no limit is exceeded.
 use Rattle.std.proofs.Common.{◌≡◌, ℕ, ◌≤◌, Bool, false, List, cond, length, nat_lt, ap, ◌∙◌, sym, arith}
 use Rattle.std.proofs.lemmas.Grind.{common_steps}
 use Rattle.rl_ranges.specs.Text.{code_count}

@@ -22,7 +22,7 @@ first_of : (limit : ℕ) (found : Option Text) (bytes : Text) → IsSomeAnd foun
 first_of limit None bytes is = absurd is
 first_of limit (Some content) bytes is = ap Some (sym is)
 
--- where the map is told, the bytes are the first ones there
+-- If the contract knows the map, the bytes are the first ones that the map has there.
 pub beginning : (told : Option Told) (limit : ℕ) (path bytes : Text)
     → IfSome told (λ t. IsSomeAnd (bytes_at t.nodes path) (λ content. bytes ≡ take limit content))
     → (t : Told) → told ≡ Some t → bytes_up_to limit path t.nodes ≡ Some bytes
@@ -31,7 +31,7 @@ beginning (Some this) limit path bytes is t told =
     let same : this ≡ t = cc in
     subst (λ x. bytes_up_to limit path x.nodes ≡ Some bytes) same (first_of limit (bytes_at this.nodes path) bytes is)
 
--- the beginning of a list that is shorter than it could be is the whole list
+-- The beginning of a list that is shorter than the limit is the whole list.
 all_of : (found : Option Text) (bytes : Text) (limit : ℕ) → length bytes < limit → option_map (take limit) found ≡ Some bytes → found ≡ Some bytes
 all_of None bytes limit short is = cc
 all_of (Some content) bytes limit short is =
@@ -49,7 +49,7 @@ module _ (limit : ℕ) (path : Text) (old new : Moment) where
     cause = λ never. cc;
   }
 
-  -- nothing was read, however much was asked for
+  -- Nothing was read, regardless of the limit.
   none_read : ReadsFile (bytes_up_to limit) path None old new → ReadsFile whole_bytes path None old new
   none_read reads = record {
     trail = reads.trail;
@@ -78,7 +78,7 @@ module _ {A : Type 0} (Gives : Text → A → Type 0) (there : Text → List Nod
     gives = refl;
   }
 
--- the same of a file that is read whole
+-- The same for a file that is read whole.
 module _ {A : Type 0} (Gives : Text → A → Type 0) (limit : ℕ) (path : Text) (old new : Moment) where
   pub whole-given : {E V : Type 0} (result : Result (FileRead A) E) (text : V → Text) (o : Option V) (v : V) → o ≡ Some v → length (text v) < limit
       → ReadsFile (bytes_up_to limit) path (option_map text o) old new → IfOk result (IsGiven Gives (Some (text v)))

@@ -1,4 +1,4 @@
--- The entries at rising positions, moved up to their places.
+-- The entries at increasing positions, moved up to their places.
 use Rattle.std.proofs.Common.{◌≡◌, ◌<◌, ◌≤◌, ◌+◌, ℕ, zero, suc, Bool, true, false, cond, List, [], ◌∷◌, Option, Some, None, All, length, get_or, take, map, ap, sym, ◌∙◌, refl, subst, ⊎_elim, arith}
 use Rattle.std.proofs.lemmas.Bool.{cases_eq}
 use Rattle.std.proofs.lemmas.List.{get_or-take, length-map, length-take-le}
@@ -10,9 +10,9 @@ use Rattle.rl_lint.specs.Filter.{unknown_entries}
 use Rattle.rl_sarif.specs.Keys.{EntryKey, key_of}
 use Rattle.rl_sarif.specs.Known.{is_unknown, unknown_positions}
 
--- ---- rising numbers
+-- ---- increasing numbers
 
--- the numbers rise from low on and stay below high
+-- The numbers increase, from `low` on, and stay below `high`.
 abbrev pub Rises : ℕ → List ℕ → ℕ → Type 0
 Rises low [] high = ⊤
 Rises low (x ∷ xs) high = (low ≤ x) × (x < high) × Rises (x + 1) xs high
@@ -62,7 +62,7 @@ few positions high r = omega (arith, fits 0 positions high (omega arith) r)
 
 -- ---- the loop
 
--- `count` items are moved up to their places, and those after the positions so far are where they were
+-- `count` items have been moved up to their places, and the items after the positions so far are where they were.
 pub record MovedUp {A : Type 0} (positions : List ℕ) (all items : List A) (count : ℕ) : Type 0 where
   pub len : length items ≡ length all
   pub done : (k : ℕ) (d : A) → k < count → get_or items k d ≡ get_or all (get_or positions k 0) d
@@ -128,7 +128,7 @@ moved-all positions all items count rises past moved =
     at-all 0 positions all (take (length positions) items) rises (length-take-le (length positions) items (omega (arith, few positions (length all) rises, moved.len)))
     (λ k d l. get_or-take (length positions) items k d l ∙ moved.done k d (omega (arith, l, past)))
 
--- ---- what holds of all
+-- ---- what holds for all items
 
 holds-at : {A : Type 0} (P : A → Type 0) (all : List A) (p : ℕ) (x : A) → All P all → slice_get all p ≡ Some x → P x
 holds-at P [] p x holds is = cc

@@ -1,4 +1,4 @@
--- The endings that a pattern argument comes first in.
+-- The endings of actions that first parse a pattern argument.
 use Rattle.std.proofs.Common.{◌≡◌, ◌∙◌, ℕ, List, Option, Some, Result, Ok, Err, IfOk, ap, sym}
 use Rattle.rl_syntax.specs.Pattern.{pattern_ending, pattern_tree}
 use Rattle.rl_syntax.specs.Tree.{Tree}
@@ -16,7 +16,7 @@ use Rattle.rl_lint.specs.declared.plan.Message.{Message}
 use Rattle.rl_lint.specs.declared.plan.Plan.{Plan}
 use Rattle.rl_lint.specs.internal.Parsed.{IsArgument}
 
--- the message that was made is the one that is asked for
+-- The message that was built is the one that is asked for.
 pub message-asked : {E : Type 0} (result : Result Message E) (asked : Option Text) (text : Text) → asked ≡ Some text → IfOk result (λ message. message_text message ≡ text)
     → IfOk result (λ message. asked ≡ Some (message_text message))
 message-asked (Ok message) asked text is made = is ∙ ap Some (sym made)
@@ -43,7 +43,7 @@ module _ (max_pairs : ℕ) (mode : Mode) (pattern : List ℕ) (file : Text) (old
   verifies-parsed (Ok plan) p read next = verify_parsed read.0 next
   verifies-parsed (Err error) p read next = tt
 
--- a plan that was made without the tree
+-- A plan that was made without the tree.
 pub asked-nothing : {E : Type 0} (Ends : Ending → Type 0) (old new : Moment) (result : Result Plan E) → new ≡ old → IfOk result (λ plan. Ends (ending_of plan))
     → IfOk result (λ plan. (new ≡ old) × Ends (ending_of plan))
 asked-nothing Ends old new (Ok plan) still ends = (still, ends)

@@ -1,4 +1,4 @@
--- The endings of `cost`, `prove` and `compare`, and that of a call by what its settings file gives.
+-- The endings of `cost`, `prove` and `compare`, and the ending of a call by what its settings file gives.
 use Rattle.std.proofs.Common.{◌≡◌, ◌∙◌, Bool, true, false, option_map, Bor, Option, Result, Ok, Err, IfOk, codes, Some, None, subst, sym, refl}
 use Rattle.std.specs.Prelude.{◌||◌, is_some}
 use Rattle.std.specs.Str.{chars}
@@ -56,7 +56,7 @@ compare-ends (Err error) s options action first second mode m is same ends = tt
 
 -- ---- by what the settings file gives
 
--- what follows the settings
+-- The ending that follows once the settings are known.
 abbrev After : Call → Settings → Moment → Moment → Ending → Type 0
 After call start = IsActionEnding (with_values call.options.values start) call.options call.action
 

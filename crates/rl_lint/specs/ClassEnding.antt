@@ -1,4 +1,4 @@
--- How `class` ends, by the tree of its pattern and the limits in force.
+-- How `class` ends. It depends on the tree of its pattern and on the limits in force.
 use Rattle.std.specs.Prelude.{◌≡◌, ℕ, false, ◌++◌, Some, codes}
 use Rattle.rl_ranges.specs.declared.universe.Universe.TheVariants.{Str}
 use Rattle.rl_syntax.specs.Tree.{Tree}
@@ -12,11 +12,11 @@ use Rattle.rl_lint.specs.Endings.{Ending, writes}
 use Rattle.rl_lint.specs.Patterns.{text_question}
 use Rattle.rl_report.specs.Names.{Text}
 
--- the line of the verdict, and the line of the family where there is one
+-- The line of the verdict, and the line of its family if the verdict has one.
 abbrev pub class_text : ℕ → Verdict → Text
 class_text max_pairs verdict = verdict_text max_pairs verdict ++ (codes "\n" ++ family_lines Str (Some verdict))
 
--- a right verdict is written
+-- A right verdict is written. It is a finding if it is exponential or if its degree is above `max_degree`.
 abbrev pub ClassEnds : ℕ → ℕ → Tree → MatchEnd → Ending → Type 0
 ClassEnds max_degree max_pairs t at ending =
     (verdict : Verdict) × RightVerdict (text_question max_pairs t at) verdict

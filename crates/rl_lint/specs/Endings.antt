@@ -6,20 +6,22 @@ use Rattle.rl_source.specs.Written.{GainsLess}
 use Rattle.rl_lint.specs.Sinks.{GainsMessage, SinkChange}
 use Rattle.rl_report.specs.Names.{Text}
 
--- what a run is to do, by its words and by what the tree answered
+-- What a run is going to do. It depends on the words and on the answers of the tree.
 pub data Ending : Type 0 where
-  -- reports this on `err`, since what was asked for is refused
+  -- The run reports this message on `err`, because what the words ask for is refused.
   refuses : Text → Ending
-  -- reports this on `err`, since a call of the tree failed whose answer is needed
+  -- The run reports this message on `err`, because a call of the tree failed whose answer the run needs.
   unreadable : Text → Ending
-  -- writes this to `out`; the flags say whether it has a finding, and whether a call of the tree failed
+  -- The run writes this text to `out`. The flags say whether it has a finding, and whether a call of the tree failed.
   writes : Text → Bool → Bool → Ending
 
--- of a run that wrote all that it had to write, by whether that has a finding, and whether a call of the tree failed
+-- The status of a run that wrote everything it had to write: 3 if a call of the tree failed, otherwise 1 if there is a finding,
+-- otherwise 0.
 abbrev pub status_of : Bool → Bool → ℕ
 status_of finding failed = if failed then 3 else (if finding then 1 else 0)
 
--- the statuses, with what the sinks gained; a text is built whole and then written
+-- The status of a run with this ending, and what it adds to the two sinks. A text is built whole before it is written, so a
+-- write fault (status 4) leaves a proper prefix of it in `out`.
 abbrev pub EndsBy : Ending → SinkChange → SinkChange → ℕ → Type 0
 EndsBy (refuses message) out err status = (status ≡ 2) × Keeps out.old out.new × GainsMessage message err
 EndsBy (unreadable message) out err status = (status ≡ 3) × Keeps out.old out.new × GainsMessage message err

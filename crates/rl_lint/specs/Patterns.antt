@@ -1,4 +1,4 @@
--- How a run begins that reads a pattern first.
+-- How a run begins that first parses a pattern.
 use Rattle.std.specs.Prelude.{◌≡◌, ℕ, List, Option, Some, None, Ok, Err, codes}
 use Rattle.rl_ranges.specs.declared.universe.Universe.TheVariants.{Str}
 use Rattle.rl_syntax.specs.Tree.{Tree}
@@ -16,7 +16,7 @@ use Rattle.rl_lint.specs.Endings.{Ending, refuses}
 use Rattle.rl_lint.specs.Messages.{refused_at}
 use Rattle.rl_report.specs.Names.{Text}
 
--- the message on a pattern that the reader of patterns refuses. Out of memory is no refusal
+-- The message on a pattern that the pattern reader refuses. Running out of memory isn't a refusal.
 abbrev pub refusal : PatError → Option Text
 refusal (error.Syntax place) = Some (refused_at (codes "syntax") place)
 refusal (error.TooDeep place) = Some (refused_at (codes "too-deep") place)
@@ -24,16 +24,17 @@ refusal (error.Outside place feature) = Some (refused_at (feature_name feature) 
 refusal error.TooLong = Some (codes "relint: refused too-long\n")
 refusal error.OutOfMemory = None
 
--- the reader of patterns refuses these codes of a text pattern without call flags, with this message
+-- The pattern reader refuses these code points, read as a text pattern without call flags, and `message` is the message on it.
 abbrev pub IsRefusedPattern : List ℕ → Text → Type 0
 IsRefusedPattern pattern message = (e : PatError) × IsParsed no_flags Str pattern (Err e) × (refusal e ≡ Some message)
 
--- A pattern that is refused is reported. Of another one the ending follows from its tree and from where a match may end, in the mode
+-- A refused pattern is reported. For any other pattern, the ending follows from its tree and from where a match may end, both
+-- in the given mode.
 pub data ParsesThen (pattern : List ℕ) (mode : Mode) (Next : Tree → MatchEnd → Ending → Type 0) : Ending → Type 0 where
   pattern_refused : {message : Text} → IsRefusedPattern pattern message → ParsesThen pattern mode Next (refuses message)
   pattern_parsed : {p : Pattern} {ending : Ending} → IsParsed no_flags Str pattern (Ok p) → Next (pattern_tree p mode) (pattern_ending p mode) ending
       → ParsesThen pattern mode Next ending
 
--- what is asked of a tree over text
+-- The question that `class`, `prove` and `verify` ask about a tree over text.
 abbrev pub text_question : ℕ → Tree → MatchEnd → Question
 text_question max_pairs t at = record { tree = t; ending = at; universe = Str; max_pairs = max_pairs }

@@ -1,4 +1,4 @@
--- How a run is to end, by its words and by what the tree answered.
+-- How a run ends, before the status is known. It depends on the words and on the answers of the tree.
 use Rattle.std.specs.Prelude.{◌≡◌, ◌||◌, Bool, true, false, Option, Some, None, codes, is_some}
 use Rattle.std.specs.Str.{chars}
 use Rattle.rl_syntax.specs.declared.re.Mode.TheVariants.{Fullmatch}
@@ -19,8 +19,8 @@ use Rattle.rl_lint.specs.SampleEnding.{IsSampleEnding}
 use Rattle.rl_report.specs.Names.{Text}
 use Rattle.rl_lint.specs.VerifyEnding.{IsVerifyEnding}
 
--- An action, under the settings in force and with the options of its call. `check` walks the tree, `verify` reads its file, and no other
--- action asks the tree
+-- How an action ends under the settings in force, with the options of its call. `check` walks the tree and `verify` reads its
+-- file; no other action asks the tree.
 abbrev pub IsActionEnding : Settings → Chosen → Asked → Moment → Moment → Ending → Type 0
 IsActionEnding s options (check paths) old new ending = IsCheckEnding s paths options.baseline old new ending
 IsActionEnding s options (class pattern) old new ending =
@@ -36,26 +36,26 @@ IsActionEnding s options (compare first second) old new ending =
     let mode = mode_given options.values.mode Fullmatch in
     (new ≡ old) × ParsesThen (chars first) mode (λ s e. ParsesThen (chars second) mode (CompareEnds s e)) ending
 
--- a call: its settings file is read first, where one is named, and the values of its options take the place of those there
+-- How a call ends. If a settings file is named, it is read first; values of options replace its values.
 abbrev pub IsCallEnding : Call → Option Text → Moment → Moment → Ending → Type 0
 IsCallEnding call None old new ending = IsActionEnding (with_values call.options.values default_settings) call.options call.action old new ending
 IsCallEnding call (Some file) old new ending =
     ReadsThen (codes "settings") whole_bytes GivesSettings (λ start. IsActionEnding (with_values call.options.values start) call.options call.action) file old new ending
 
--- a run, by what its words ask for, if they are a valid call
+-- How a run ends: with the usage text if its words aren't a valid call, otherwise as the call does.
 abbrev pub IsRunEnding : Option Call → Moment → Moment → Ending → Type 0
 IsRunEnding None old new ending = (new ≡ old) × (ending ≡ refuses usage_text)
 IsRunEnding (Some call) old new ending = IsCallEnding call call.options.settings old new ending
 
 -- ---- which words ask the tree
 
--- the action asks the tree
+-- Whether the action itself asks the tree.
 abbrev pub asks_itself : Asked → Bool
 asks_itself (check paths) = true
 asks_itself (verify pattern file) = true
 asks_itself _ = false
 
--- the words are a valid call of `check` or `verify`, or of any action with a settings file
+-- Whether the run asks the tree: its words are a valid call of `check` or `verify`, or of any action with a settings file.
 abbrev pub asks_tree : Option Call → Bool
 asks_tree None = false
 asks_tree (Some call) = asks_itself call.action || is_some call.options.settings

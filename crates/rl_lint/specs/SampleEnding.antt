@@ -1,4 +1,4 @@
--- How `sample` ends, by its settings, its seed and its count.
+-- How `sample` ends. It depends on the settings, the seed and the count.
 use Rattle.std.specs.Prelude.{◌≡◌, ℕ, false, List, None, codes}
 use Rattle.std.specs.List.{list_any}
 use Rattle.rl_sample.specs.Generator.{source_of}
@@ -9,8 +9,8 @@ use Rattle.rl_judge.specs.RightEntries.{AreRight}
 use Rattle.rl_judge.specs.declared.settings.Settings.{Settings}
 use Rattle.rl_lint.specs.Endings.{Ending, writes}
 
--- Of entries that are right for the sampled source, as a file `sample.py`, the last line in text is written. It has a finding
--- where an entry is one
+-- Entries that are right for the sampled source, as a file named `sample.py`, exist, and the last line of the text report on
+-- them is written. The run has a finding if one of the entries is a finding.
 pub record IsSampleEnding (s : Settings) (seed count : ℕ) (ending : Ending) : Type 0 where
   pub entries : List Entry
   pub right : AreRight (codes "sample.py") (source_of seed count) s entries

@@ -1,4 +1,4 @@
--- How `verify` ends, by its pattern, its mode, how many live pairs are looked at, and its file.
+-- How `verify` ends. It depends on its pattern, its mode, the limit of live pairs, and its file.
 use Rattle.std.specs.Prelude.{◌≡◌, ◌⊎◌, ℕ, true, false, List, ◌++◌, Ok, codes}
 use Rattle.rl_ranges.specs.declared.universe.Universe.TheVariants.{Str}
 use Rattle.rl_syntax.specs.Tree.{Tree}
@@ -19,18 +19,19 @@ use Rattle.rl_lint.specs.Files.{ReadsThen, first_bytes}
 use Rattle.rl_lint.specs.Patterns.{IsRefusedPattern, text_question}
 use Rattle.rl_report.specs.Names.{Text}
 
--- whether the certificate holds is written, and the verdict where it does
+-- The line says whether the certificate holds and, if it does, which verdict it proves. A certificate that doesn't hold is a
+-- finding.
 abbrev pub CertificateEnds : Question → Certificate → Ending → Type 0
 CertificateEnds q c ending =
     (Holds q c × (ending ≡ writes (codes "holds " ++ (verdict_text q.max_pairs c.verdict ++ codes "\n")) false false))
     ⊎ (¬ Holds q c × (ending ≡ writes (codes "fails\n") true false))
 
--- the certificate is read, and nothing more is asked of the tree
+-- The certificate is read, and the tree is asked for nothing else.
 abbrev pub TreeVerifies : ℕ → Text → Tree → MatchEnd → Moment → Moment → Ending → Type 0
 TreeVerifies max_pairs file t at old new ending =
     ReadsThen (codes "certificate") first_bytes IsForm (λ c mid last end. (last ≡ mid) × CertificateEnds (text_question max_pairs t at) c end) file old new ending
 
--- the pattern is parsed first, and where it is refused, the tree isn't asked
+-- The pattern is parsed first. If it is refused, the tree isn't asked.
 pub data IsVerifyEnding (max_pairs : ℕ) (mode : Mode) (pattern : List ℕ) (file : Text) (old new : Moment) : Ending → Type 0 where
   verify_refused : {message : Text} → IsRefusedPattern pattern message → new ≡ old → IsVerifyEnding max_pairs mode pattern file old new (refuses message)
   verify_parsed : {p : Pattern} {ending : Ending} → IsParsed no_flags Str pattern (Ok p)

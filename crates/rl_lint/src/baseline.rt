@@ -1,19 +1,20 @@
-//! The keys that a baseline holds.
+//! Reading the keys of a baseline.
 ghost use Rattle.std.specs.Prelude.{◌≤◌, IfOk, None, Some, option_map};
 ghost use Rattle.rl_walk.specs.Visits.{moment_of};
 ghost use Rattle.rl_lint.specs.Files.{first_bytes};
 ghost use Rattle.rl_lint.specs.internal.Reads.{GivesKeys, IsGiven, IsNamedRead};
 
-use crate::files::{FileRead, MOST_READ, read_file};
+use crate::files::{FileRead, read_file};
+use crate::limits::MOST_READ;
 use rl_lists::{Bytes, OutOfMemory};
 use rl_sarif::{BaselineError, KnownKeys, baseline};
 use rl_source::Tree;
 use std::alloc::Global;
 
-/// What a baseline's file with these bytes gives.
+/// Returns the keys that a baseline file with these bytes holds, or that it is refused.
 ///
 /// # Errors
-/// [`OutOfMemory`].
+/// [`OutOfMemory`] if memory runs out.
 fn keys_in(alloc: Global, bytes: Vec<u8>) -> Result<FileRead<Option<KnownKeys>>, OutOfMemory>
     ensures { IfOk result (IsGiven GivesKeys (Some bytes.items)) }
 {
@@ -25,11 +26,10 @@ fn keys_in(alloc: Global, bytes: Vec<u8>) -> Result<FileRead<Option<KnownKeys>>,
     }
 }
 
-/// What the baseline's file at this path gives, where one is named: its first bytes are read by one call of the tree. Where none
-/// is named, there are no keys.
+/// Reads the baseline at `path`, with one call of the tree. Without a path there are no keys, and the tree isn't asked.
 ///
 /// # Errors
-/// [`OutOfMemory`]; the tree may have been read.
+/// [`OutOfMemory`] if memory runs out; the tree may have been read by then.
 pub fn read_baseline<T: Tree>(
     alloc: Global,
     path: Option<&str>,

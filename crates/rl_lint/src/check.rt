@@ -19,10 +19,10 @@ use rl_source::Tree;
 use rl_walk::walk;
 use std::alloc::Global;
 
-/// The report on the visible entries, in a format.
+/// Builds the report on the visible entries in the given format.
 ///
 /// # Errors
-/// [`OutOfMemory`].
+/// [`OutOfMemory`] if memory runs out.
 fn report(
     alloc: Global,
     visible: &Visible,
@@ -49,10 +49,10 @@ fn report(
     }
 }
 
-/// The report on the visible entries, in the layout of the settings.
+/// Builds the report on the visible entries in the layout that the settings choose.
 ///
 /// # Errors
-/// [`OutOfMemory`].
+/// [`OutOfMemory`] if memory runs out.
 fn report_in(alloc: Global, visible: &Visible, settings: &Settings) -> Result<Bytes, OutOfMemory>
     requires valid { IsValid settings.now }
     requires universe { All IsOfItsUniverse visible.now.entries }
@@ -69,11 +69,11 @@ fn report_in(alloc: Global, visible: &Visible, settings: &Settings) -> Result<By
     }
 }
 
-/// What `check` is to do for these paths under these settings. The baseline is read before the tree is walked, where one is
-/// named.
+/// Plans `check` for these paths under these settings. If a baseline is named, it is read before the walk over the paths
+/// begins.
 ///
 /// # Errors
-/// [`OutOfMemory`]; the tree may have been read.
+/// [`OutOfMemory`] if memory runs out; the tree may have been read by then.
 pub fn check_plan<T: Tree>(
     alloc: Global,
     paths: &[&str],

@@ -17,7 +17,7 @@ use rl_report::{family_line, is_finding, verdict_line};
 use rl_syntax::{Family, Limit, LowerError, Mode, Pattern, Universe, Verdict, lower};
 use std::alloc::Global;
 
-/// A line, followed by the line of a family.
+/// Appends the line of a family to a line.
 fn with_family(alloc: Global, line: Bytes, family: &Family) -> Result<Bytes, OutOfMemory>
     requires { IsFamilyOf Str family.now }
     ensures { IfOk result (λ text. text ≡ line ++ family_text_line Str family.now) }
@@ -33,10 +33,10 @@ fn with_family(alloc: Global, line: Bytes, family: &Family) -> Result<Bytes, Out
     Ok(Bytes::from_vec(text))
 }
 
-/// The lines on a verdict over text.
+/// Returns the lines that `class` writes for a verdict on a text pattern.
 ///
 /// # Errors
-/// [`OutOfMemory`].
+/// [`OutOfMemory`] if memory runs out.
 fn class_text(alloc: Global, verdict: &Verdict, max_pairs: u32) -> Result<Bytes, OutOfMemory>
     requires { IsVerdictOf Str verdict.now }
     ensures { IfOk result (λ text. text ≡ class_text max_pairs verdict.now) }
@@ -48,10 +48,10 @@ fn class_text(alloc: Global, verdict: &Verdict, max_pairs: u32) -> Result<Bytes,
     }
 }
 
-/// The verdict on a text pattern in a mode.
+/// Judges a text pattern in a mode.
 ///
 /// # Errors
-/// [`OutOfMemory`].
+/// [`OutOfMemory`] if memory runs out.
 fn verdict_on(
     alloc: Global,
     pattern: &Pattern,
@@ -74,10 +74,10 @@ fn verdict_on(
     }
 }
 
-/// What `class` is to do for a text pattern in a mode.
+/// Plans `class` for a parsed text pattern in a mode.
 ///
 /// # Errors
-/// [`OutOfMemory`].
+/// [`OutOfMemory`] if memory runs out.
 fn pattern_plan(
     alloc: Global,
     pattern: &Pattern,
@@ -102,11 +102,11 @@ fn pattern_plan(
     })
 }
 
-/// What `class` is to do for a pattern argument in a mode, with the greatest degree that is no finding and how many live pairs are
-/// looked at.
+/// Plans `class` for a pattern argument in a mode. A degree above `max_degree` is a finding, and at most `max_pairs` live pairs
+/// are examined.
 ///
 /// # Errors
-/// [`OutOfMemory`].
+/// [`OutOfMemory`] if memory runs out.
 pub fn class_plan(
     alloc: Global,
     pattern: &str,

@@ -1,4 +1,4 @@
-//! The codes of a word.
+//! The code points of a word of the command line.
 ghost use Rattle.std.specs.Prelude.{◌≡◌, IfOk};
 ghost use Rattle.std.specs.Str.{chars};
 ghost use Rattle.rl_ranges.specs.Text.{IsText};
@@ -7,10 +7,10 @@ ghost use Rattle.rl_ranges.specs.declared.universe.Universe.TheVariants.{Str};
 use rl_lists::{Codes, OutOfMemory};
 use std::alloc::Global;
 
-/// The codes of a word, one for each character.
+/// Returns the code points of a word, one for each character.
 ///
 /// # Errors
-/// [`OutOfMemory`] where there was no memory for the list.
+/// [`OutOfMemory`] if there is no memory for the list.
 pub fn codes_of(alloc: Global, word: &str) -> Result<Codes, OutOfMemory>
     ensures characters { IfOk result (λ codes. codes ≡ chars word.now) }
     ensures in_universe { IfOk result (IsText Str) }

@@ -5,7 +5,7 @@ ghost use Rattle.rl_ranges.specs.declared.universe.Universe.TheVariants.{Str};
 ghost use Rattle.rl_syntax.specs.Pattern.{pattern_ending, pattern_tree, universe_of};
 ghost use Rattle.rl_syntax.specs.Tree.{IsOver, tree_of};
 ghost use Rattle.rl_compare.specs.Matched.{matched_tree};
-ghost use Rattle.rl_compare.specs.Passed.{IsComparePassed};
+ghost use Rattle.rl_compare.specs.Exceeded.{IsCompareExceeded};
 ghost use Rattle.rl_lint.specs.Endings.{writes};
 ghost use Rattle.rl_lint.specs.internal.Plans.{ending_of};
 ghost use Rattle.rl_lint.specs.Messages.{undecided_line};
@@ -22,10 +22,10 @@ use rl_lists::OutOfMemory;
 use rl_syntax::{Limit, LowerError, Lowered, MOST_SET_PAIRS, Mode, Pattern, Universe, lower};
 use std::alloc::Global;
 
-/// A pattern in a mode, lowered.
+/// Lowers a pattern in a mode.
 ///
 /// # Errors
-/// [`CompareError::Size`] where it has more nodes than the limit; [`CompareError::OutOfMemory`].
+/// [`CompareError::Size`] if the pattern has more than 4,000 nodes; [`CompareError::OutOfMemory`] if memory runs out.
 fn lowered(alloc: Global, pattern: &Pattern, mode: Mode) -> Result<Lowered, CompareError>
     requires { universe_of pattern.now ≡ Str }
     ensures tree { IfOk result (λ l. tree_of l.tree ≡ pattern_tree pattern.now mode) }
@@ -40,10 +40,11 @@ fn lowered(alloc: Global, pattern: &Pattern, mode: Mode) -> Result<Lowered, Comp
     }
 }
 
-/// What two text patterns match in a mode.
+/// Compares the texts that two text patterns match in a mode.
 ///
 /// # Errors
-/// [`CompareError`] names the first limit that one of the matched trees passes, the letters taken over both.
+/// [`CompareError`] names the first limit that one of the two matched trees exceeds. The limit of letters applies to both trees
+/// together.
 fn compared(
     alloc: Global,
     first: &Pattern,
@@ -53,7 +54,7 @@ fn compared(
     requires first_of_text { universe_of first.now ≡ Str }
     requires second_of_text { universe_of second.now ≡ Str }
     ensures found { IfOk result (IsFound (pattern_tree first.now mode) (pattern_ending first.now mode) (pattern_tree second.now mode) (pattern_ending second.now mode)) }
-    ensures passed { IfErr result (IsComparePassed Str (matched_tree Str (pattern_tree first.now mode) (pattern_ending first.now mode))
+    ensures passed { IfErr result (IsCompareExceeded Str (matched_tree Str (pattern_tree first.now mode) (pattern_ending first.now mode))
         (matched_tree Str (pattern_tree second.now mode) (pattern_ending second.now mode))) }
 {
     let first = lowered(alloc, first, mode)?;
@@ -66,10 +67,10 @@ fn compared(
     }
 }
 
-/// To write the line on a limit that is passed, which is none on pairs and no finding.
+/// Plans the line for an exceeded limit. It is never the limit of pairs, and it isn't a finding.
 ///
 /// # Errors
-/// [`OutOfMemory`].
+/// [`OutOfMemory`] if memory runs out.
 fn limit_plan(alloc: Global, limit: Limit) -> Result<Plan, OutOfMemory>
     ensures { IfOk result (λ plan. ending_of plan ≡ writes (undecided_line 0 limit) false false) }
 {
@@ -81,10 +82,10 @@ fn limit_plan(alloc: Global, limit: Limit) -> Result<Plan, OutOfMemory>
     })
 }
 
-/// To write what was found of two patterns.
+/// Plans the lines on the result of a comparison.
 ///
 /// # Errors
-/// [`OutOfMemory`].
+/// [`OutOfMemory`] if memory runs out.
 fn compared_plan(alloc: Global, compared: &Compared) -> Result<Plan, OutOfMemory>
     requires { AreTexts compared.now }
     ensures { IfOk result (λ plan. ending_of plan ≡ writes (compared_text compared.now) (is_difference (relation_of compared.now)) false) }
@@ -98,10 +99,10 @@ fn compared_plan(alloc: Global, compared: &Compared) -> Result<Plan, OutOfMemory
     })
 }
 
-/// What `compare` is to do for two text patterns in a mode.
+/// Plans `compare` for two parsed text patterns in a mode.
 ///
 /// # Errors
-/// [`OutOfMemory`].
+/// [`OutOfMemory`] if memory runs out.
 fn patterns_plan(
     alloc: Global,
     first: &Pattern,
@@ -126,10 +127,10 @@ fn patterns_plan(
     }
 }
 
-/// What `compare` is to do for a text pattern and the argument of the second one in a mode.
+/// Plans `compare` for a parsed first pattern and the argument that gives the second one.
 ///
 /// # Errors
-/// [`OutOfMemory`].
+/// [`OutOfMemory`] if memory runs out.
 fn second_plan(
     alloc: Global,
     first: &Pattern,
@@ -150,10 +151,10 @@ fn second_plan(
     }
 }
 
-/// What `compare` is to do for two pattern arguments in a mode. Both are parsed before either is lowered.
+/// Plans `compare` for two pattern arguments in a mode. Both are parsed before either is lowered.
 ///
 /// # Errors
-/// [`OutOfMemory`].
+/// [`OutOfMemory`] if memory runs out.
 pub fn compare_plan(
     alloc: Global,
     first: &str,

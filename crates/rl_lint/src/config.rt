@@ -1,4 +1,4 @@
-//! The settings to start with: the defaults, or those that a settings file gives.
+//! The settings before any option applies: the defaults, or the defaults changed by a settings file.
 ghost use Rattle.std.specs.Prelude.{◌≡◌, ◌≤◌, IfOk, None, Some, option_map};
 ghost use Rattle.rl_walk.specs.Visits.{moment_of};
 ghost use Rattle.rl_lint.specs.Files.{whole_bytes};
@@ -15,7 +15,7 @@ use rl_source::Tree;
 use rl_syntax::Mode;
 use std::alloc::Global;
 
-/// The settings where neither a file nor an option says otherwise.
+/// The settings that apply unless a settings file or an option gives another value.
 pub const DEFAULTS: Settings = Settings {
     compile_as: Mode::Search,
     max_degree: 2,
@@ -24,10 +24,10 @@ pub const DEFAULTS: Settings = Settings {
     report: 2,
 };
 
-/// What a settings file with these bytes gives.
+/// Returns the settings that a settings file with these bytes gives, or that it is refused.
 ///
 /// # Errors
-/// [`OutOfMemory`].
+/// [`OutOfMemory`] if memory runs out.
 fn settings_in(alloc: Global, bytes: &Vec<u8>) -> Result<FileRead<Settings>, OutOfMemory>
     ensures given { IfOk result (IsGiven GivesSettings (Some bytes.now.items)) }
     ensures fit { IfOk result AreFit }
@@ -39,11 +39,11 @@ fn settings_in(alloc: Global, bytes: &Vec<u8>) -> Result<FileRead<Settings>, Out
     }
 }
 
-/// What the settings file at this path gives, where one is named: it is read whole, by one call of the tree. Where none is named,
-/// these are the defaults.
+/// Reads the settings file at `path` whole, with one call of the tree. Without a path the result is the defaults, and the tree
+/// isn't asked.
 ///
 /// # Errors
-/// [`OutOfMemory`]; the tree may have been read.
+/// [`OutOfMemory`] if memory runs out; the tree may have been read by then.
 pub fn read_config<T: Tree>(
     alloc: Global,
     path: Option<&str>,

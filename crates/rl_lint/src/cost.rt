@@ -9,19 +9,17 @@ ghost use Rattle.rl_lint.specs.Patterns.{ParsesThen};
 
 use crate::codes::codes_of;
 use crate::cost_line::cost_line;
+use crate::limits::MOST_TEXT_CODES;
 use crate::pattern_argument::{PatternArgument, parse_argument};
 use crate::plan::{Message, Plan};
 use rl_lists::OutOfMemory;
 use rl_syntax::{Mode, Pattern};
 use std::alloc::Global;
 
-/// The most codes of a text. A longer one is refused.
-pub const MOST_TEXT_CODES: usize = 65_536;
-
-/// What `cost` is to do for a text pattern and a text in a mode.
+/// Plans `cost` for a parsed text pattern and a text in a mode.
 ///
 /// # Errors
-/// [`OutOfMemory`].
+/// [`OutOfMemory`] if memory runs out.
 fn pattern_plan(
     alloc: Global,
     pattern: &Pattern,
@@ -44,10 +42,10 @@ fn pattern_plan(
     })
 }
 
-/// What `cost` is to do for a pattern argument and a text in a mode.
+/// Plans `cost` for a pattern argument and a text in a mode.
 ///
 /// # Errors
-/// [`OutOfMemory`].
+/// [`OutOfMemory`] if memory runs out.
 pub fn cost_plan(alloc: Global, pattern: &str, text: &str, mode: Mode) -> Result<Plan, OutOfMemory>
     ensures { IfOk result (λ plan. ParsesThen (chars pattern.now) mode
         (λ t at end. end ≡ cost_ending (chars text.now) t at) (ending_of plan)) }

@@ -18,10 +18,10 @@ use rl_prio::{Prio, PrioError};
 use rl_syntax::{Limit, LowerError, Lowered, Mode, Pattern, Universe, lower};
 use std::alloc::Global;
 
-/// The line on the steps of a text by an automaton.
+/// Returns the line on the steps that an automaton takes on a text.
 ///
 /// # Errors
-/// [`OutOfMemory`].
+/// [`OutOfMemory`] if memory runs out.
 fn counted_line(alloc: Global, automaton: &Prio, text: &Codes) -> Result<Bytes, OutOfMemory>
     requires { All (λ code. code < automaton.now.table.codes) text.now }
     ensures { (t : Tree) (at : Ending) → StandsFor automaton.now t at
@@ -32,10 +32,10 @@ fn counted_line(alloc: Global, automaton: &Prio, text: &Codes) -> Result<Bytes, 
     Ok(Bytes::from_vec(line.into_bytes()))
 }
 
-/// The line on a text by a lowered pattern.
+/// Returns the line on the steps that a lowered pattern takes on a text, or on the limit that its automaton exceeds.
 ///
 /// # Errors
-/// [`OutOfMemory`].
+/// [`OutOfMemory`] if memory runs out.
 fn lowered_line(alloc: Global, lowered: &Lowered, text: &Codes) -> Result<Bytes, OutOfMemory>
     requires over { IsOver Str (tree_of lowered.now.tree) }
     requires small { size (tree_of lowered.now.tree) ≤ limit_number 0 Limit.Size }
@@ -55,10 +55,11 @@ fn lowered_line(alloc: Global, lowered: &Lowered, text: &Codes) -> Result<Bytes,
     }
 }
 
-/// The line that `cost` writes for a text pattern in a mode and a text: the steps, or the first limit that is passed.
+/// Returns the line that `cost` writes for a text pattern in a mode and a text: the number of steps, or the first limit that is
+/// exceeded.
 ///
 /// # Errors
-/// [`OutOfMemory`].
+/// [`OutOfMemory`] if memory runs out.
 pub fn cost_line(
     alloc: Global,
     pattern: &Pattern,

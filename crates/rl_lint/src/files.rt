@@ -1,4 +1,4 @@
-//! Files that the words name: each is read by one call of the tree, and its bytes are taken or refused.
+//! Files that the words name. Each is read with one call of the tree, and then its bytes are accepted or refused.
 ghost use Rattle.std.specs.Prelude.{◌≤◌, IfOk, option_map};
 ghost use Rattle.rl_walk.specs.Visits.{moment_of};
 ghost use Rattle.rl_lint.specs.Files.{ReadsFile};
@@ -7,25 +7,22 @@ ghost use Rattle.rl_lint.specs.internal.Reads.{bytes_up_to};
 use rl_lists::OutOfMemory;
 use rl_source::{Tree, TreeError};
 
-/// How many bytes of a baseline or a certificate are read at most: one more than either may have, which shows that it is too long.
-pub const MOST_READ: usize = 67_108_865;
-
-/// What reading a file gives.
+/// The result of reading a file.
 #[derive(Drop)]
 pub enum FileRead<T> {
-    /// It couldn't be read.
+    /// The file couldn't be read.
     Unreadable,
-    /// What it holds is refused.
+    /// The file's bytes are refused.
     Refused,
-    /// This was taken from it.
+    /// The file was accepted, with this content.
     Taken(T),
 }
 
-/// The first `at_most` bytes of the file at this path, or all of them where there are fewer; `None` where they couldn't be
+/// Reads the first `at_most` bytes of the file at `path`, or all of them if there are fewer. Returns `None` if they can't be
 /// read. The tree is asked once.
 ///
 /// # Errors
-/// [`OutOfMemory`].
+/// [`OutOfMemory`] if memory runs out.
 pub fn read_file<T: Tree>(
     path: &str,
     at_most: usize,

@@ -1,4 +1,4 @@
-//! Which entries a report is on: those that a baseline doesn't know.
+//! The entries that a report shows: those that the baseline doesn't know.
 ghost use Rattle.std.specs.Prelude.{◌≡◌, All, IfOk};
 ghost use Rattle.rl_report.specs.Layouts.{IsOfItsUniverse};
 ghost use Rattle.rl_lint.specs.Filter.{hidden_count, unknown_entries, visible_entries};
@@ -8,19 +8,20 @@ use rl_report::Entries;
 use rl_sarif::{KnownKeys, unknown};
 use std::alloc::Global;
 
-/// The entries that a report is on.
+/// The entries that a report shows.
 #[derive(Drop)]
 pub struct Visible {
-    /// They, in their order.
+    /// The entries, in their order.
     pub entries: Entries,
-    /// How many others the baseline hides, where there is one.
+    /// The number of entries that the baseline hides, or `None` without a baseline.
     pub hidden: Option<usize>,
 }
 
-/// The entries that a baseline doesn't know. Each is moved up to its place, since their positions rise.
+/// Keeps the entries that a baseline doesn't know, in their order. They are moved to the front in place, which works because
+/// their positions increase.
 ///
 /// # Errors
-/// [`OutOfMemory`].
+/// [`OutOfMemory`] if memory runs out.
 fn unknown_entries(
     alloc: Global,
     entries: Entries,
@@ -40,10 +41,10 @@ fn unknown_entries(
     Ok(Entries::from_vec(moved))
 }
 
-/// The entries that a report is on: those that the baseline doesn't know, where there is one, else all of them.
+/// Returns the entries that a report shows: those that the baseline doesn't know, or all of them if there is no baseline.
 ///
 /// # Errors
-/// [`OutOfMemory`].
+/// [`OutOfMemory`] if memory runs out.
 pub fn visible_entries(
     alloc: Global,
     entries: Entries,

@@ -1,4 +1,4 @@
-//! The message on a pattern that is refused, the line of `cost` on its steps, and the line on a limit that is passed.
+//! The message on a refused pattern, the line of `cost` on its steps, and the line on an exceeded limit.
 ghost use Rattle.std.specs.Prelude.{◌≡◌, ℕ, IfOk, codes, if◌then◌else◌};
 ghost use Rattle.std.specs.String.{string_bytes};
 ghost use Rattle.rl_machine.specs.Counts.{Counts};
@@ -12,10 +12,10 @@ use rl_report::verdict_line;
 use rl_syntax::{Limit, Verdict};
 use std::alloc::Global;
 
-/// The message on a pattern that is refused for this cause at this code.
+/// Returns the message on a pattern that is refused for this cause at this code point, counted from 0.
 ///
 /// # Errors
-/// [`OutOfMemory`].
+/// [`OutOfMemory`] if memory runs out.
 pub fn refused_at(alloc: Global, cause: &str, place: u32) -> Result<Message, OutOfMemory>
     ensures { IfOk result (λ message. message_text message ≡ refused_at cause.now place) }
 {
@@ -23,27 +23,27 @@ pub fn refused_at(alloc: Global, cause: &str, place: u32) -> Result<Message, Out
     Ok(Message::Made(text))
 }
 
-/// The line on a limit that is passed, where so many live pairs are looked at.
+/// Returns the line on an exceeded limit. `max_pairs` is the limit of live pairs that was in force.
 ///
 /// # Errors
-/// [`OutOfMemory`].
+/// [`OutOfMemory`] if memory runs out.
 pub fn undecided_line(alloc: Global, max_pairs: u32, limit: Limit) -> Result<Bytes, OutOfMemory>
     ensures { IfOk result (λ line. line ≡ undecided_line max_pairs limit) }
 {
     verdict_line(alloc, &Verdict::Undecided(limit), max_pairs)
 }
 
-/// How a match ends.
+/// Returns the words on how a match ends, with the line feed.
 fn outcome(matched: bool) -> &'static str
     ensures { result.now ≡ (if matched then codes " matched\n" else codes " refused\n") }
 {
     if matched { " matched\n" } else { " refused\n" }
 }
 
-/// The line on how many steps a match takes, and how it ends.
+/// Returns the line on the number of steps that a match takes and on how it ends.
 ///
 /// # Errors
-/// [`OutOfMemory`].
+/// [`OutOfMemory`] if memory runs out.
 pub fn steps_line(alloc: Global, counted: Counted) -> Result<String, OutOfMemory>
     ensures { (n : ℕ) → Counts counted.steps n
         → IfOk result (λ line. string_bytes line ≡ steps_line n counted.matched) }

@@ -1,4 +1,4 @@
-//! Values of options and of settings files, in the place of others.
+//! Settings with given values in place of others.
 ghost use Rattle.std.specs.Prelude.{◌≡◌, option_map, unwrap_or};
 ghost use Rattle.rl_words.specs.Call.{AreInRange};
 ghost use Rattle.rl_judge.specs.RightEntries.{IsValid};
@@ -9,7 +9,7 @@ use rl_report::Format;
 use rl_syntax::Mode;
 use rl_words::{FormatWord, ModeWord, PartialSettings};
 
-/// The mode that is given, or its default.
+/// Returns the given mode, or the default if none is given.
 pub fn mode_given(word: Option<ModeWord>, default: Mode) -> Mode
     ensures { result ≡ mode_given word default }
 {
@@ -21,7 +21,7 @@ pub fn mode_given(word: Option<ModeWord>, default: Mode) -> Mode
     }
 }
 
-/// The layout that is given, or its default.
+/// Returns the given layout, or the default if none is given.
 fn layout_given(word: Option<FormatWord>, default: Layout) -> Layout
     ensures { result ≡ unwrap_or (option_map layout_of word) default }
 {
@@ -34,7 +34,7 @@ fn layout_given(word: Option<FormatWord>, default: Layout) -> Layout
     }
 }
 
-/// The settings with these values in their place.
+/// Returns the settings `start`, with each value given in `values` in place of the old one.
 pub fn with_values(values: &PartialSettings, start: &Settings) -> Settings
     requires ranges { AreInRange values.now }
     requires valid { IsValid start.now }

@@ -1,4 +1,4 @@
-//! Arguments that are patterns.
+//! Arguments of the command line that are patterns.
 ghost use Rattle.std.specs.Prelude.{◌≡◌, IfOk, Some};
 ghost use Rattle.std.specs.Str.{chars};
 ghost use Rattle.rl_lint.specs.internal.Plans.{message_text};
@@ -14,16 +14,16 @@ use rl_report::feature_name;
 use rl_syntax::{Pattern, Universe};
 use std::alloc::Global;
 
-/// What a pattern argument is.
+/// The result of parsing a pattern argument.
 #[derive(Drop)]
 pub enum PatternArgument {
-    /// It is refused, with this message.
+    /// The pattern is refused, with this message.
     Refused(Message),
-    /// A pattern over text.
+    /// The parsed pattern, over text.
     Parsed(Pattern),
 }
 
-/// No flag: a pattern argument is no argument of a Python call.
+/// No flags. A pattern argument isn't part of a Python call, so no flags come with it.
 const NO_FLAGS: Flags = Flags {
     ignore_case: false,
     multiline: false,
@@ -34,10 +34,10 @@ const NO_FLAGS: Flags = Flags {
     locale: false,
 };
 
-/// The message on a pattern that is refused.
+/// Returns the message on a refused pattern.
 ///
 /// # Errors
-/// [`OutOfMemory`], now or when the pattern was parsed.
+/// [`OutOfMemory`] if memory runs out here, or if it ran out while the pattern was parsed.
 fn refusal(alloc: Global, error: PatError) -> Result<Message, OutOfMemory>
     ensures { IfOk result (λ message. refusal error ≡ Some (message_text message)) }
 {
@@ -50,10 +50,10 @@ fn refusal(alloc: Global, error: PatError) -> Result<Message, OutOfMemory>
     }
 }
 
-/// What a pattern argument is, without call flags.
+/// Parses a pattern argument, without call flags.
 ///
 /// # Errors
-/// [`OutOfMemory`].
+/// [`OutOfMemory`] if memory runs out.
 pub fn parse_argument(alloc: Global, word: &str) -> Result<PatternArgument, OutOfMemory>
     ensures { IfOk result (IsArgument (chars word.now)) }
 {

@@ -1,4 +1,4 @@
-//! What a run is to do, worked out before anything is written.
+//! The plan of a run, worked out before anything is written.
 ghost use Rattle.std.specs.Prelude.{◌≡◌, ◌≤◌, false, map, true, IfOk};
 ghost use Rattle.std.specs.String.{string_bytes};
 ghost use Rattle.rl_judge.specs.RightEntries.{IsValid};
@@ -32,12 +32,12 @@ use std::alloc::Global;
 pub enum Message {
     /// A text that is always the same.
     Fixed(&'static str),
-    /// A text that was made for this run.
+    /// A text that was built for this run.
     Made(String),
 }
 
 impl Message {
-    /// The message's text.
+    /// Returns the text of the message.
     pub fn as_str(&self) -> &str
         ensures { result.now ≡ message_text self.now }
     {
@@ -48,14 +48,14 @@ impl Message {
     }
 }
 
-/// What a run is to do.
+/// What a run is going to do.
 #[derive(Drop)]
 pub enum Plan {
-    /// To refuse what it was asked for, with this message.
+    /// Refuse what the words ask for, with this message.
     Refuses(Message),
-    /// To report this message, since a file that it needs couldn't be read.
+    /// Report with this message that a file that the run needs couldn't be read.
     Unreadable(Message),
-    /// To write this text, and to say by its status whether that has a finding, and whether a call of the tree failed.
+    /// Write this text. The flags decide the status: whether the text has a finding, and whether a call of the tree failed.
     Writes {
         text: Bytes,
         finding: bool,
@@ -63,10 +63,10 @@ pub enum Plan {
     },
 }
 
-/// What a run is to do for this action with these options, under the settings in force.
+/// Plans an action with these options under the settings in force.
 ///
 /// # Errors
-/// [`OutOfMemory`]; in `check` and `verify` the tree may have been read.
+/// [`OutOfMemory`] if memory runs out; in `check` and `verify`, the tree may have been read by then.
 fn action_plan<T: Tree>(
     alloc: Global,
     action: Action,
@@ -102,11 +102,11 @@ fn action_plan<T: Tree>(
     }
 }
 
-/// What a run with these words is to do. A settings file is read where the words name one. `check` reads its baseline
-/// where they name one and then walks over the tree, `verify` reads its certificate, and nothing else is asked of it.
+/// Plans a run with these words. If the words name a settings file, it is read first. `check` then reads its baseline, if one
+/// is named, and walks over the tree; `verify` reads its certificate. The tree is asked for nothing else.
 ///
 /// # Errors
-/// [`OutOfMemory`]; the tree may have been read.
+/// [`OutOfMemory`] if memory runs out; the tree may have been read by then.
 pub fn plan_of<T: Tree>(
     alloc: Global,
     words: &Vec<String>,

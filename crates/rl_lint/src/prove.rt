@@ -17,10 +17,10 @@ use rl_lists::{Bytes, OutOfMemory};
 use rl_syntax::{Limit, LowerError, Mode, Pattern, Universe, lower};
 use std::alloc::Global;
 
-/// A certificate for a text pattern in a mode.
+/// Makes a certificate for a text pattern in a mode.
 ///
 /// # Errors
-/// Those of [`make`]; a pattern of more than 4,000 nodes passes [`Limit::Size`].
+/// The errors of [`make`], and [`CertError::Undecided`] with [`Limit::Size`] if the pattern has more than 4,000 nodes.
 fn certificate_of(
     alloc: Global,
     pattern: &Pattern,
@@ -44,7 +44,7 @@ fn certificate_of(
     }
 }
 
-/// To write a text that has no finding.
+/// Plans to write a text that has no finding.
 fn text_plan(text: Bytes) -> Plan
     ensures { ending_of result ≡ writes text false false }
 {
@@ -55,10 +55,10 @@ fn text_plan(text: Bytes) -> Plan
     }
 }
 
-/// What `prove` is to do for a text pattern in a mode.
+/// Plans `prove` for a parsed text pattern in a mode.
 ///
 /// # Errors
-/// [`OutOfMemory`].
+/// [`OutOfMemory`] if memory runs out.
 fn pattern_plan(
     alloc: Global,
     pattern: &Pattern,
@@ -88,10 +88,10 @@ fn pattern_plan(
     }
 }
 
-/// What `prove` is to do for a pattern argument in a mode, with how many live pairs are looked at.
+/// Plans `prove` for a pattern argument in a mode. At most `max_pairs` live pairs are examined.
 ///
 /// # Errors
-/// [`OutOfMemory`].
+/// [`OutOfMemory`] if memory runs out.
 pub fn prove_plan(
     alloc: Global,
     pattern: &str,

@@ -1,4 +1,4 @@
-//! How two patterns are related, and the lines that `compare` writes on it.
+//! How two patterns are related, and the lines that `compare` writes about it.
 ghost use Rattle.std.specs.Prelude.{◌≡◌, ◌++◌, Some, IfOk, IfSome, OnOk, codes};
 ghost use Rattle.std.specs.String.{string_bytes};
 ghost use Rattle.rl_ranges.specs.Text.{IsText};
@@ -15,22 +15,22 @@ use std::alloc::Global;
 /// How the texts that two patterns match are related.
 #[derive(Clone, Copy)]
 pub enum Relation {
-    /// Each has a text of its own, and they share one.
+    /// Each pattern matches a text that the other doesn't match, and they share a text.
     Overlapping,
-    /// More pairs of sets are reached than were looked at.
+    /// The limit of set pairs was exceeded, so the relation wasn't decided. The line that `compare` writes calls this "passed".
     Passed,
-    /// Neither has a text of its own.
+    /// Both patterns match the same texts.
     Equal,
-    /// The first has no text of its own.
+    /// The second pattern matches every text that the first matches, and others.
     Included,
-    /// The second has no text of its own.
+    /// The first pattern matches every text that the second matches, and others.
     Includes,
-    /// They share no text.
+    /// The patterns share no text.
     Disjoint,
 }
 
 impl Relation {
-    /// The first of the relations that holds.
+    /// Returns the first relation that holds, in the order of the variants.
     pub fn of(compared: &Compared) -> Relation
         ensures { result ≡ relation_of compared.now }
     {
@@ -51,7 +51,7 @@ impl Relation {
         }
     }
 
-    /// The name in the line of the relation.
+    /// Returns the relation's name in the line that `compare` writes.
     fn name(self, alloc: Global) -> Result<String, OutOfMemory>
         ensures { IfOk result (λ name. string_bytes name ≡ relation_name self) }
     {
@@ -80,7 +80,7 @@ impl Relation {
     }
 }
 
-/// Appends the line of a region.
+/// Appends the line that shows a text of a region.
 fn push_text(alloc: Global, out: &mut Vec<u8>, name: &str, text: &Codes) -> Result<(), OutOfMemory>
     requires { IsText Str text.now }
     ensures { OnOk result (out.new.items ≡ out.old.items ++ region_line name.now (Some text.now)) }
@@ -96,7 +96,7 @@ fn push_text(alloc: Global, out: &mut Vec<u8>, name: &str, text: &Codes) -> Resu
     Ok(())
 }
 
-/// Appends the line of a region, where there is a text.
+/// Appends the line of a region, if a text of that region was found.
 fn push_region(
     alloc: Global,
     out: &mut Vec<u8>,
@@ -112,7 +112,7 @@ fn push_region(
     }
 }
 
-/// Appends the end of the first line, and the lines of the regions.
+/// Appends the end of the first line, and the lines of the three regions.
 fn push_regions(alloc: Global, out: &mut Vec<u8>, compared: &Compared) -> Result<(), OutOfMemory>
     requires { AreTexts compared.now }
     ensures { OnOk result (out.new.items ≡ out.old.items ++ (codes "\n" ++ (region_line (codes "first") compared.now.first
@@ -124,10 +124,10 @@ fn push_regions(alloc: Global, out: &mut Vec<u8>, compared: &Compared) -> Result
     push_region(alloc, out, "both", &compared.both)
 }
 
-/// The lines on what was found of two patterns.
+/// Returns the lines on the result of a comparison.
 ///
 /// # Errors
-/// [`OutOfMemory`].
+/// [`OutOfMemory`] if memory runs out.
 pub fn compared_text(
     alloc: Global,
     relation: Relation,

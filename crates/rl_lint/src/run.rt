@@ -1,4 +1,4 @@
-//! The top call.
+//! The program's top function.
 ghost use Rattle.std.specs.Prelude.{◌≡◌, ◌⊎◌, ◌≤◌, true, false, map, None};
 ghost use Rattle.std.specs.String.{string_bytes};
 ghost use Rattle.rl_source.specs.Faults.{Rose};
@@ -15,7 +15,7 @@ use crate::stderr::write_message;
 use rl_source::{Sink, Tree, write_all};
 use std::alloc::Global;
 
-/// The status of a run that wrote all that it had to write.
+/// Returns the status of a run that wrote everything it had to write.
 fn status_of(finding: bool, failed: bool) -> u8
     ensures { result ≡ status_of finding failed }
 {
@@ -28,35 +28,35 @@ fn status_of(finding: bool, failed: bool) -> u8
     }
 }
 
-/// Does what the words after the program's name ask for, and answers the run's status.
+/// Does what the words after the program's name ask for, and returns the exit status.
 ///
-/// | Status | Comes |
+/// | Status | Meaning |
 /// |---|---|
-/// | 0 | where all was written, it has no finding, and no call of the tree failed |
-/// | 1 | where all was written, it has a finding, and no call of the tree failed |
-/// | 2 | where the words aren't a valid call, or the settings, the baseline, the certificate or what they ask for is refused |
-/// | 3 | where all was written and a call of the tree failed, or the settings, the baseline or the certificate couldn't be read |
-/// | 4 | where a write to `out` failed |
-/// | 5 | where it was out of memory; nothing was written to `out` then |
+/// | 0 | everything was written, there is no finding, and no call of the tree failed |
+/// | 1 | everything was written, there is a finding, and no call of the tree failed |
+/// | 2 | the words aren't a valid call, or the settings, the baseline, the certificate or what they ask for is refused |
+/// | 3 | everything was written and a call of the tree failed, or the settings, the baseline or the certificate couldn't be read |
+/// | 4 | a write to `out` failed |
+/// | 5 | memory ran out; nothing was written to `out` |
 ///
-/// A finding is an exponential verdict or a degree above `max-degree`, a certificate that doesn't hold, and two patterns that
-/// don't match the same texts, as far as they were compared.
+/// A finding is an exponential verdict, a degree above `max-degree`, a certificate that doesn't hold, or two patterns that were
+/// found not to match the same texts.
 ///
-/// Where the words name a settings file, it is read whole before anything else. Where it can't be read or is refused, the run
-/// ends there, and nothing is written to `out`. Its values stand in the place of the defaults, and a value of an option
-/// wins; `compile-as` has an effect on `check` alone.
+/// If the words name a settings file, it is read whole before anything else. If it can't be read or is refused, the run ends
+/// there, and nothing is written to `out`. Its values replace the defaults, and values of options replace both; `compile-as`
+/// affects only `check`.
 ///
-/// With a baseline `check` reads that file after the settings and before any path. Where it can't be read or is refused, the
-/// run ends there, and nothing is written to `out`. Else the report is on the entries that the baseline doesn't know. In
-/// every other action `--baseline` has no effect.
+/// If the words name a baseline, `check` reads it after the settings and before any path. If it can't be read or is refused,
+/// the run ends there, and nothing is written to `out`. Otherwise the report shows the entries that the baseline doesn't know.
+/// In every other action `--baseline` has no effect.
 ///
-/// `verify` judges its pattern before it reads its file, and the file isn't read where the pattern is refused. Where the file
-/// can't be read or is refused, nothing is written to `out`.
+/// `verify` parses its pattern before it reads its file; if the pattern is refused, the file isn't read. If the file can't be
+/// read or is refused, nothing is written to `out`.
 ///
-/// What the run writes is built whole and then written to `out`. With the statuses 2, 4 and 5, and where the settings, the
-/// baseline or the certificate can't be read, a message is written to `err`; a write to `err` that fails changes no status, and the
-/// rest of the message is dropped. `check` walks over the tree from its paths on, and goes on after a call that failed. No other
-/// action asks the tree for more than the settings and a certificate.
+/// Everything that a run writes is built first and then written to `out`. With status 2, 4 or 5, and if the settings, the
+/// baseline or the certificate can't be read, a message is written to `err`. If a write to `err` fails, the rest of the message
+/// is dropped, and the status stays the same. `check` walks over the tree from its paths, and goes on after a call that failed.
+/// The other actions ask the tree for nothing but the settings file and, in `verify`, the certificate.
 pub fn relint_main<T: Tree, O: Sink, E: Sink>(
     alloc: Global,
     words: &Vec<String>,
@@ -68,7 +68,7 @@ pub fn relint_main<T: Tree, O: Sink, E: Sink>(
         (moment_of T.told T.fault_count tree.old) (moment_of T.told T.fault_count tree.new)
         (sink_change O.bytes O.fault_count out.old out.new)
         (sink_change E.bytes E.fault_count err.old err.new) result }
-    // The five clauses from here to `complete` follow from `run`; each says one cause of a status by itself.
+    // The five clauses from here to `complete` follow from `run`. Each states one cause separately.
     ensures invalid { given_by (map string_bytes words.now.items) ≡ None → (result ≡ 2) ⊎ (result ≡ 5) }
     ensures write_fault { result ≡ 4 → Rose (O.fault_count out.old) (O.fault_count out.new) }
     ensures read_fault { result ≡ 3 → Rose (T.fault_count tree.old) (T.fault_count tree.new) }

@@ -12,11 +12,10 @@ use rl_sample::sample_source;
 use rl_source::Name;
 use std::alloc::Global;
 
-/// What `sample` is to do: it judges the sampled source, as a file `sample.py`, and writes the last line of its report in
-/// text.
+/// Plans `sample`: it judges the sampled source, as a file named `sample.py`, and writes the last line of the text report.
 ///
 /// # Errors
-/// [`OutOfMemory`].
+/// [`OutOfMemory`] if memory runs out.
 pub fn sample_plan(
     alloc: Global,
     seed: u32,

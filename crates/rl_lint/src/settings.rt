@@ -9,11 +9,11 @@ use rl_judge::Settings;
 use rl_settings::{SettingsError, read_settings};
 use std::alloc::Global;
 
-/// The settings with the values of the keys that a settings file with these bytes has in their place.
+/// Returns the settings `start`, with the values of a settings file with these bytes in place of the old ones.
 ///
 /// # Errors
-/// [`SettingsError::Refused`] exactly where the bytes are no TOML document, a key isn't one of `compile-as`, `max-degree`,
-/// `max-pairs`, `format` and `report`, or a key doesn't take its value; [`SettingsError::OutOfMemory`].
+/// [`SettingsError::Refused`] if and only if the bytes aren't a TOML document, a key isn't one of `compile-as`, `max-degree`,
+/// `max-pairs`, `format` and `report`, or a key doesn't take its value; [`SettingsError::OutOfMemory`] if memory runs out.
 pub fn settings_from(
     alloc: Global,
     bytes: &Vec<u8>,

@@ -13,7 +13,8 @@ ghost use Rattle.rl_lint.specs.VerifyEnding.{CertificateEnds, IsVerifyEnding, Tr
 ghost use Rattle.rl_lint.specs.internal.Made.{held_text};
 ghost use Rattle.rl_lint.specs.internal.Reads.{IsFileRead, IsGiven};
 
-use crate::files::{FileRead, MOST_READ, read_file};
+use crate::files::{FileRead, read_file};
+use crate::limits::MOST_READ;
 use crate::pattern_argument::{PatternArgument, parse_argument};
 use crate::plan::{Message, Plan};
 use rl_cert::{Certificate, ReadError, check, read};
@@ -23,10 +24,10 @@ use rl_source::Tree;
 use rl_syntax::{LowerError, Mode, Pattern, Universe, Verdict, lower};
 use std::alloc::Global;
 
-/// What a certificate's file with these bytes gives.
+/// Returns the certificate that a file with these bytes holds, or that it is refused.
 ///
 /// # Errors
-/// [`OutOfMemory`].
+/// [`OutOfMemory`] if memory runs out.
 fn certificate_in(alloc: Global, bytes: Vec<u8>) -> Result<FileRead<Certificate>, OutOfMemory>
     ensures { IfOk result (IsGiven IsForm (Some bytes.items)) }
 {
@@ -38,10 +39,10 @@ fn certificate_in(alloc: Global, bytes: Vec<u8>) -> Result<FileRead<Certificate>
     }
 }
 
-/// What the certificate's file at this path gives. Its first bytes are read by one call of the tree.
+/// Reads the certificate at `path`, with one call of the tree.
 ///
 /// # Errors
-/// [`OutOfMemory`]; the tree may have been read.
+/// [`OutOfMemory`] if memory runs out; the tree may have been read by then.
 fn read_certificate<T: Tree>(
     alloc: Global,
     path: &str,
@@ -57,10 +58,10 @@ fn read_certificate<T: Tree>(
     }
 }
 
-/// Whether a certificate holds for a text pattern in a mode. None does for a pattern of more than 4,000 nodes.
+/// Whether a certificate holds for a text pattern in a mode. No certificate holds for a pattern of more than 4,000 nodes.
 ///
 /// # Errors
-/// [`OutOfMemory`].
+/// [`OutOfMemory`] if memory runs out.
 fn holds(
     alloc: Global,
     pattern: &Pattern,
@@ -85,10 +86,10 @@ fn holds(
     }
 }
 
-/// The line on whether a certificate with this verdict holds.
+/// Returns the line on whether a certificate with this verdict holds.
 ///
 /// # Errors
-/// [`OutOfMemory`].
+/// [`OutOfMemory`] if memory runs out.
 fn held_line(
     alloc: Global,
     held: bool,
@@ -108,10 +109,10 @@ fn held_line(
     Ok(Bytes::from_vec(text))
 }
 
-/// What `verify` is to do for a text pattern in a mode and a certificate.
+/// Plans `verify` for a parsed text pattern in a mode and a certificate.
 ///
 /// # Errors
-/// [`OutOfMemory`].
+/// [`OutOfMemory`] if memory runs out.
 fn certificate_plan(
     alloc: Global,
     pattern: &Pattern,
@@ -134,10 +135,10 @@ fn certificate_plan(
     })
 }
 
-/// What `verify` is to do for a text pattern in a mode and the file at this path.
+/// Plans `verify` for a parsed text pattern in a mode and the certificate file at this path.
 ///
 /// # Errors
-/// [`OutOfMemory`]; the tree may have been read.
+/// [`OutOfMemory`] if memory runs out; the tree may have been read by then.
 fn file_plan<T: Tree>(
     alloc: Global,
     pattern: &Pattern,
@@ -166,11 +167,11 @@ fn file_plan<T: Tree>(
     }
 }
 
-/// What `verify` is to do for a pattern argument in a mode and the file at this path, with how many live pairs are looked at. Where the
-/// pattern is refused, the tree isn't asked.
+/// Plans `verify` for a pattern argument in a mode and the certificate file at this path. At most `max_pairs` live pairs are
+/// examined. If the pattern is refused, the tree isn't asked.
 ///
 /// # Errors
-/// [`OutOfMemory`]; the tree may have been read.
+/// [`OutOfMemory`] if memory runs out; the tree may have been read by then.
 pub fn verify_plan<T: Tree>(
     alloc: Global,
     pattern: &str,

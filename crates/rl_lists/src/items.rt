@@ -6,7 +6,7 @@ use crate::OutOfMemory;
 use std::alloc::Global;
 use std::marker::Model;
 
-/// A growing list of items, which contracts see as the list.
+/// A growable list of items. Contracts see it as a mathematical list.
 #[derive(Drop)]
 pub struct Items<T> {
     items: Vec<T>,
@@ -24,7 +24,7 @@ impl<T> Model for Items<T> {
 }
 
 impl<T> Items<T> {
-    /// The empty list. It takes memory only once it grows.
+    /// Creates an empty list. No memory is allocated until an item is added.
     pub fn new(alloc: Global) -> Items<T>
         ensures { result ≡ [] }
     {
@@ -33,35 +33,35 @@ impl<T> Items<T> {
         }
     }
 
-    /// The list of a vector's items.
+    /// Turns a vector into a list with the same items.
     pub fn from_vec(items: Vec<T>) -> Items<T>
         ensures { result ≡ items.items }
     {
         Items { items }
     }
 
-    /// The vector of the list's items.
+    /// Returns the list's items as a vector.
     pub fn into_vec(self) -> Vec<T>
         ensures { result.items ≡ self }
     {
         self.items
     }
 
-    /// How many items the list has.
+    /// Returns the number of items.
     pub fn len(&self) -> usize
         ensures { result ≡ length self.now }
     {
         self.items.len()
     }
 
-    /// Whether the list has no item.
+    /// Whether the list is empty.
     pub fn is_empty(&self) -> bool
         ensures { result ≡ (length self.now == 0) }
     {
         self.items.is_empty()
     }
 
-    /// The items as a slice.
+    /// Returns the items as a slice.
     pub fn as_slice(&self) -> &[T]
         ensures { result.now ≡ self.now }
     {
@@ -70,10 +70,10 @@ impl<T> Items<T> {
 }
 
 impl<T: Copy> Items<T> {
-    /// The list of a slice's items.
+    /// Creates a list with a copy of the slice's items.
     ///
     /// # Errors
-    /// [`OutOfMemory`] where there was no memory for the list.
+    /// [`OutOfMemory`] if there is no memory for the list.
     pub fn from_slice(alloc: Global, items: &[T]) -> Result<Items<T>, OutOfMemory>
         ensures { IfOk result (λ list. list ≡ items.now) }
     {
@@ -83,10 +83,10 @@ impl<T: Copy> Items<T> {
 }
 
 impl<T: Drop> Items<T> {
-    /// Puts an item behind the last one.
+    /// Appends an item.
     ///
     /// # Errors
-    /// [`OutOfMemory`] where the list couldn't grow; it is unchanged then, and the item is dropped.
+    /// [`OutOfMemory`] if the list can't grow. The list is unchanged then, and the item is dropped.
     pub fn push(&mut self, item: T) -> Result<(), OutOfMemory>
         ensures pushed { OnOk result (self.new ≡ self.old ++ item ∷ []) }
         ensures unchanged { OnErr result (self.new ≡ self.old) }

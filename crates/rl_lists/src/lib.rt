@@ -1,13 +1,13 @@
-//! One list type for all crates above, and one error for running out of memory.
+//! One list type for all crates above, and one error type for running out of memory.
 //!
-//! [`Items`] is a growing list. [`Items::push`] may run out of memory: it then returns [`OutOfMemory`] and leaves the list as
-//! it was. [`Codes`], [`Word`], [`Path`], [`Ranks`], [`Places`], [`Members`] and [`Bytes`] are names for it that say what the
-//! items mean. [`Items::from_vec`] makes a list of a vector, and [`Items::into_vec`] gives the vector back.
+//! [`Items`] is a growable list. [`Items::push`] may run out of memory; it then returns [`OutOfMemory`] and leaves the list
+//! unchanged. [`Codes`], [`Word`], [`Path`], [`Ranks`], [`Places`], [`Members`] and [`Bytes`] are aliases that say what the
+//! items mean. [`Items::from_vec`] turns a vector into a list, and [`Items::into_vec`] turns it back.
 //!
 //! # What is proved
 //!
-//! Contracts see an `Items` as the list of its items, and each call does to that list what its name says. A list that
-//! couldn't grow is unchanged.
+//! Contracts see an `Items` value as the list of its items, and each method does to that list what its name says. A list
+//! that couldn't grow is unchanged.
 //!
 //! # Example
 //!
@@ -18,7 +18,7 @@
 //! list.as_slice(); // [7, 9]
 //! ```
 //!
-//! You need no definition to read the contracts: they use the lists of the standard library.
+//! You need no definitions to read the contracts: they use only the lists of the standard library.
 #![tactic(auto)]
 
 pub mod items;
@@ -28,7 +28,7 @@ pub use items::Items;
 pub use limits::MOST_BYTES;
 use std::alloc::{AllocError, AllocFailed};
 
-/// Out of memory. What the call was given is unchanged.
+/// The error of a call that ran out of memory.
 #[derive(Clone, Copy, Debug, PartialEq, Eq)]
 pub struct OutOfMemory;
 
@@ -44,7 +44,7 @@ impl<T: Drop> From<AllocFailed<T>> for OutOfMemory {
     }
 }
 
-/// A text, a list of codes of a universe.
+/// A text: a list of codes of a universe.
 pub type Codes = Items<u32>;
 
 /// A word over numbered letters.
@@ -56,10 +56,10 @@ pub type Path = Items<u32>;
 /// A rank for each state.
 pub type Ranks = Items<u32>;
 
-/// A byte place for each code.
+/// A byte offset for each code.
 pub type Places = Items<u32>;
 
-/// The members of a set of states, rising.
+/// The members of a set of states, in ascending order.
 pub type Members = Items<u32>;
 
 /// A list of bytes.

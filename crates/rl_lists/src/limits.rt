@@ -1,12 +1,13 @@
-//! The limits on what is read from files.
+//! The limit on what is read from a file.
 
 ghost use Rattle.std.specs.Prelude.{◌≡◌};
 ghost use Rattle.rl_lists.specs.declared.limits.TheConstants.{MOST_BYTES};
 
-/// The most bytes of a source. A longer one has no tokens, and one byte more of it is read at most.
+/// The maximum length of a source file, in bytes. A longer file has no tokens, and at most one byte beyond the limit is
+/// read.
 pub const MOST_BYTES: usize = 4_194_304;
 
-/// The number of the limit: 4,194,304 bytes.
+/// Says which number the limit is: 4,194,304 bytes.
 pub fn limits_are()
     ensures bytes { MOST_BYTES ≡ 4194304 }
 {}

@@ -41,7 +41,7 @@ whole a cells into letter n all stand letters at = record {
   cell = λ q other below. stand.cell letters at q other (omega (arith, below, all));
 }
 
--- the values of a function at what is left of a list, one item earlier
+-- The values of a function at what is left of a list, one item earlier.
 pub letters_before : (f : ℕ → ℕ) (codes : List ℕ) (left other : ℕ) → 0 < left → left ≤ length codes
     → map f (drop (left - 1) codes) ≡ f (slice_index_or codes (left - 1) other) ∷ map f (drop left codes)
 letters_before f codes left other some within =
@@ -50,7 +50,7 @@ letters_before f codes left other some within =
     same : left - 1 + 1 ≡ left
     same = omega (arith, some)
 
--- what shows the walk on a text shows the cost of the text for each tree that the automaton stands for
+-- An answer that shows the walk on a text shows the cost of the text for each tree for which the automaton stands.
 pub shows_cost : (c : Counted) (a : Automaton) (t : Tree) (ending : Ending) (text : List ℕ) → StandsFor a t ending → All (λ code. code < a.table.codes) text
     → ShowsText c a text → ShowsCost c t ending text
 shows_cost c a t ending text stands inside shown = record {

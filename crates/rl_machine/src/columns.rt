@@ -1,4 +1,4 @@
-//! Columns, from the text's end to its start.
+//! Columns of counted steps, computed from the end of a text to its start.
 
 ghost use Rattle.std.specs.Prelude.{◌≡◌, ℕ, ◌<◌, ◌≤◌, ◌-◌, [], ◌∷◌, List, Bool, ◌++◌, length, All, IfOk, slice_index_or, true, false, ◌==◌, if◌then◌else◌};
 ghost use Rattle.rl_prio.specs.Automaton.{Automaton, IsAutomaton, letters_count, accepting_state};
@@ -13,8 +13,8 @@ use rl_ranges::OutOfMemory;
 use std::alloc::Global;
 use std::marker::Model;
 
-/// The column of a list of letters: for each state of an automaton the steps from it on these letters and the end letter, and
-/// whether there is a hit. Contracts see it as the list of what it has for each state.
+/// The column of a list of letters: for each state of an automaton, the number of steps from that state on these letters and
+/// the end letter, and whether there is a hit. In contracts, a column is the list of these entries.
 #[derive(Drop)]
 pub struct Columns {
     cells: Vec<Counted>,
@@ -32,7 +32,8 @@ impl Model for Columns {
     ghost invariant = { λ c. (0 < length c.cells.items) × (length c.spare.items ≡ length c.cells.items) };
 }
 
-/// The step of one move: a hit where it leads to the accepting state, and else what is counted from its state.
+/// Returns the steps of one move: a single hit if the move leads to the accepting state, and otherwise a miss followed by the
+/// steps from its target.
 fn one_step(cells: &[Counted], accepting: u32, target: u32) -> Counted
     requires { target < length cells.now }
     ensures { (next : ℕ → List Bool)
@@ -49,7 +50,7 @@ fn one_step(cells: &[Counted], accepting: u32, target: u32) -> Counted
     }
 }
 
-/// The steps of moves in order, up to and with the first hit.
+/// Returns the steps of the moves in order, up to and including the first hit.
 fn all_steps(cells: &[Counted], accepting: u32, targets: &[u32]) -> Counted
     requires { All (λ target. target < length cells.now) targets.now }
     ensures { (next : ℕ → List Bool)
@@ -64,7 +65,7 @@ fn all_steps(cells: &[Counted], accepting: u32, targets: &[u32]) -> Counted
     }
 }
 
-/// Writes what is counted from each state on a letter and, behind it, the letters that `cells` is the column of.
+/// Computes the column of `letter` followed by the letters of the column `cells`, and writes it to `into`.
 fn put_letter(a: &Prio, letter: u32, cells: &[Counted], into: &mut Vec<Counted>)
     requires made_for { length cells.now ≡ a.now.states }
     requires same_size { length into.old.items ≡ length cells.now }
@@ -79,7 +80,7 @@ fn put_letter(a: &Prio, letter: u32, cells: &[Counted], into: &mut Vec<Counted>)
     }
 }
 
-/// What stands at no letter at all, for so many states.
+/// Returns the column of no letters at all, not even the end letter, for `states` states.
 fn nothing_counted(alloc: Global, states: u32) -> Result<Vec<Counted>, OutOfMemory>
     ensures size { IfOk result (λ cells. length cells.items ≡ states) }
     ensures stand { IfOk result (λ cells. (a : Automaton) → a.states ≡ states → StandAt a cells.items []) }
@@ -89,10 +90,10 @@ fn nothing_counted(alloc: Global, states: u32) -> Result<Vec<Counted>, OutOfMemo
 }
 
 impl Columns {
-    /// The column of the empty list of letters.
+    /// Creates the column of the empty list of letters.
     ///
     /// # Errors
-    /// [`OutOfMemory`] where there was no memory for two columns.
+    /// [`OutOfMemory`] if there is not enough memory for two columns.
     pub fn at_end(alloc: Global, a: &Prio) -> Result<Columns, OutOfMemory>
         ensures { IfOk result (λ c. StandFor a.now c []) }
     {
@@ -104,7 +105,7 @@ impl Columns {
         Ok(columns)
     }
 
-    /// Puts a letter in front of the letters that this is the column of. It takes no memory.
+    /// Puts a letter in front of the letters of this column. It allocates no memory.
     pub fn advance(&mut self, a: &Prio, letter: u32)
         requires made_for { length self.old ≡ a.now.states }
         requires letter_in { letter < letters_count a.now }
@@ -114,7 +115,7 @@ impl Columns {
         self.put(a, letter);
     }
 
-    /// Puts a letter, or the end letter, in front.
+    /// Puts a letter, or the end letter, in front of the letters of this column.
     fn put(&mut self, a: &Prio, letter: u32)
         requires made_for { length self.old ≡ a.now.states }
         requires letter_in { letter ≤ letters_count a.now }
@@ -125,7 +126,7 @@ impl Columns {
         std::mem::swap(&mut self.cells, &mut self.spare);
     }
 
-    /// The cost of the text of the letters that this is the column of, and whether it is matched.
+    /// Returns the cost of the text that consists of the letters of this column, and whether the text is matched.
     pub fn answer(&self) -> Counted
         ensures { (a : Automaton) (letters : List ℕ) → StandFor a self.now letters → ShowsWalk result a letters }
     {

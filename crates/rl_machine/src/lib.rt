@@ -1,19 +1,19 @@
-//! The exact number of steps that a backtracking matcher takes on one text.
+//! The exact number of steps that a backtracking matcher takes on a text.
 //!
-//! [`cost`] goes over the text once, from its end, by dynamic programming: [`Columns`] has, for each state of the ordered
-//! automaton, how many steps the matcher takes from there on what is left of the text, and whether it finds a match. So
-//! billions of steps are counted without being taken. The result is a [`Counted`]: the number of steps, exact up to 2^128 - 1
-//! and else [`Steps::Past`], and whether the text is matched.
+//! [`cost`] reads the text once, from its end, by dynamic programming: [`Columns`] records, for each state of the ordered
+//! automaton, how many steps the matcher takes from that state on the rest of the text, and whether it finds a match. So
+//! billions of steps are counted without being taken. The result is a [`Counted`]: the number of steps, which is exact up to
+//! 2^128 - 1 and [`Steps::Past`] beyond, and whether the text is matched.
 //!
 //! # What is proved
 //!
-//! The number is that of the automaton's walk, and so it is the cost of the text for every tree that the automaton stands
-//! for.
+//! The number is the cost of the automaton's walk, and so the cost of the text for every tree for which the automaton
+//! stands.
 //!
 //! # Example
 //!
 //! ```
-//! // `automaton` is that of `(a|a)*`, matched whole
+//! // `automaton` is the automaton of `(a|a)*`, matched to the end of the text
 //! cost(alloc, &automaton, &text)?; // for the text `ab`: steps Exact(10), not matched
 //! cost(alloc, &automaton, &text)?; // for the text `aab`: steps Exact(22), not matched
 //! ```

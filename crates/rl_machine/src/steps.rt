@@ -6,23 +6,23 @@ ghost use Rattle.rl_machine.specs.Counts.{Counts, Shows};
 /// A number of steps.
 #[derive(Clone, Copy, Debug, PartialEq, Eq)]
 pub enum Steps {
-    /// Exactly so many.
+    /// Exactly this many.
     Exact(u128),
     /// More than 2^128 - 1.
     Past,
 }
 
-/// How many steps a match takes, and whether the text is matched.
+/// The number of steps that a match takes, and whether the text is matched.
 #[derive(Clone, Copy, Debug, PartialEq, Eq)]
 pub struct Counted {
-    /// The steps up to and with the first hit, or all of them.
+    /// The number of steps up to and including the first hit, or of all steps if there is no hit.
     pub steps: Steps,
     /// Whether there is a hit.
     pub matched: bool,
 }
 
 impl Steps {
-    /// The sum. What is past 2^128 - 1 stays past.
+    /// Returns the sum. If a term or the sum is more than 2^128 - 1, the result is [`Steps::Past`].
     pub(crate) fn plus(self, other: Steps) -> Steps
         ensures { (m n : ℕ) → Counts self m → Counts other n → Counts result (m + n) }
     {
@@ -37,7 +37,7 @@ impl Steps {
 }
 
 impl Counted {
-    /// What no step shows.
+    /// Returns the count of no steps.
     pub(crate) fn nothing() -> Counted
         ensures { Shows result [] }
     {
@@ -47,7 +47,7 @@ impl Counted {
         }
     }
 
-    /// One step that is no hit, and these after it.
+    /// Returns the count of one step that is a miss, followed by these steps.
     pub(crate) fn after_miss(self) -> Counted
         ensures { (l : List Bool) → Shows self l → Shows result (false ∷ l) }
     {
@@ -57,7 +57,8 @@ impl Counted {
         }
     }
 
-    /// The steps of what comes first, and behind them, where it has no hit, those of what comes after it.
+    /// Returns the count of these steps followed by the steps in `after`. If these steps have a hit, the later ones aren't
+    /// taken.
 
     pub(crate) fn before(self, after: Counted) -> Counted
         ensures { (l r : List Bool) → Shows self l → Shows after r → Shows result (l ++ r) }

@@ -13,12 +13,12 @@ use rl_prio::Prio;
 use rl_ranges::{Codes, OutOfMemory};
 use std::alloc::Global;
 
-/// How many steps the automaton's walk takes on a text up to and with the first hit, or in all where there is none, and
-/// whether there is a hit: one, and each test that a backtracking matcher makes. For a tree that the automaton stands for this
-/// is the cost of the text. It goes over the text once, from its end, by dynamic programming over two columns.
+/// Returns the cost of a text, that is, one plus the number of steps of the automaton's walk up to and including the first
+/// hit, or plus the number of all steps if there is no hit; and whether there is a hit. Each step is a test that a
+/// backtracking matcher makes. The function reads the text once, from its end, by dynamic programming over two columns.
 ///
 /// # Errors
-/// [`OutOfMemory`] where there was no memory for two columns.
+/// [`OutOfMemory`] if there is not enough memory for two columns.
 pub fn cost(alloc: Global, a: &Prio, text: &Codes) -> Result<Counted, OutOfMemory>
     requires { All (λ code. code < a.now.table.codes) text.now }
     ensures walked { IfOk result (λ c. ShowsText c a.now text.now) }
@@ -28,7 +28,7 @@ pub fn cost(alloc: Global, a: &Prio, text: &Codes) -> Result<Counted, OutOfMemor
     Ok(counted)
 }
 
-/// The steps of the walk on the text, and whether it has a hit.
+/// Returns the cost of the walk on the text, and whether the walk has a hit.
 fn counted_on(alloc: Global, a: &Prio, text: &Codes) -> Result<Counted, OutOfMemory>
     requires { All (λ code. code < a.now.table.codes) text.now }
     ensures { IfOk result (λ c. ShowsText c a.now text.now) }

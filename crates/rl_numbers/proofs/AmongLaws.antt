@@ -15,7 +15,7 @@ place-in keys i key lt = by (position (eqb key) keys) refl
     by None e = lt
     by (Some k) e = (position-Some (eqb key) keys k 0 e).0
 
--- the moves of a triple, and its lift
+-- The moves of a triple, and its lift.
 abbrev pub with_lift : Graph → ℕ → ℕ → List ℕ
 with_lift g key l = triple_moves (edges_of g) g.states key l ++ lift_of g.states key ∷ []
 
@@ -37,7 +37,7 @@ among-none g keys i l key e big = by (ltb i (length keys) && (ltb (get_or keys i
         let lt = ltb-true (get_or keys i 0) (g.states * g.states * g.states) q.0 in
         absurd (omega (arith, lt, big, e))
 
--- where there is a move, all is in range
+-- If there is a move, everything is in range.
 pub among-some : (g : Graph) (keys : List ℕ) (i l j : ℕ) → Has j (among_moves g keys i l) → (i < length keys) × (get_or keys i 0 < g.states * g.states * g.states) × (l < g.letters) × Has j (map (place_or keys i) (with_lift g (get_or keys i 0) l))
 among-some g keys i l j h = by (ltb i (length keys) && (ltb (get_or keys i 0) (g.states * g.states * g.states) && ltb l g.letters)) refl h
   where
@@ -84,7 +84,7 @@ among-lift g keys i l key number target lt e small letter at_end t =
     ∙ (sym (get_or-map (place_or keys i) (with_lift g key l) number 0 0 (omega (arith, length_push (triple_moves (edges_of g) g.states key l) (lift_of g.states key), at_end)))
     ∙ ap (λ (r : List ℕ). get_or r number 0) (sym (among-there g keys i l key lt e small letter)))
 
--- a number of a move: the triple is in range, and the number is that of a step or of the lift
+-- A number of a move: the triple is in range, and the number is the number of a step or of the lift.
 pub among-number : (g : Graph) (keys : List ℕ) (i l key number : ℕ) → i < length keys → key ≡ get_or keys i 0 → l < g.letters → number < length (among_moves g keys i l) → (key < g.states * g.states * g.states) × (number ≤ length (triple_moves (edges_of g) g.states key l))
 among-number g keys i l key number lt e letter h = by (cases_lt key (g.states * g.states * g.states))
   where

@@ -19,7 +19,7 @@ sum-more f row i s lt e =
 pub sum-all : (f : ℕ → ℕ) (row : List ℕ) (i s : ℕ) → length row ≤ i → s ≡ min 2 (total f (take i row)) → s ≡ min 2 (total f row)
 sum-all f row i s past e = e ∙ ap (λ (r : List ℕ). min 2 (total f r)) (take_all i row past)
 
--- a list that was put together item by item
+-- A list that was put together item by item.
 pub each-push : (f : ℕ → ℕ) (old new : List ℕ) (k x : ℕ) → length old ≡ k → new ≡ old ++ x ∷ [] → x ≡ f k → ((q : ℕ) → q < k → get_or old q 0 ≡ f q) → (length new ≡ k + 1) × ((q : ℕ) → q < k + 1 → get_or new q 0 ≡ f q)
 each-push f old new k x e is here all = (omega (arith, ap length is, length_push old x, e), each)
   where

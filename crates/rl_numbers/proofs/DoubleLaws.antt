@@ -16,7 +16,7 @@ use Rattle.rl_numbers.specs.Doubled.{double_at, is_double, double_number, OnceEa
 use Rattle.rl_numbers.specs.internal.DoubledFalls.{FirstsFall, StepsFall, ApartsFall, LeavesFall, HoldsIn}
 use Rattle.rl_numbers.proofs.StepLaws.{some-number, is-some, its-number}
 
--- past the last letter there is no move
+-- Past the last letter there is no move.
 no-row : (g : Graph) (q l count : ℕ) → IsWhole g → g.letters ≤ count → count ≤ l → edges_of g q l ≡ []
 no-row g q l count whole le past = (bounded-whole g whole).letters q l (omega (arith, le, past))
 

@@ -48,7 +48,7 @@ module _ (next : ℕ → ℕ → List ℕ) (n k : ℕ) (starts keys : List ℕ) 
       by zero h = absurd (omega arith)
       by (suc c) h = omega arith
 
-  -- the states of a key
+  -- The states of a key.
   key-in : (m : ℕ) → Has m keys → (m / n < n) × (m % n < n)
   key-in m h =
       let lt = Each-has (λ (x : ℕ). x < n * n) m keys inside h in
@@ -112,7 +112,7 @@ module _ (next : ℕ → ℕ → List ℕ) (n k : ℕ) (starts keys : List ℕ) 
           let m = has-map (double_of parts n) d keys h in
           subst (IsInside n) (sym m.2) (key-in m.0 m.1)
 
--- the diagonal, as it grows
+-- The diagonal, as it grows.
 pub diagonal-none : (n : ℕ) → IsDiagonalUpTo n 0 []
 diagonal-none n = record { sound = λ s h. absurd h; whole = λ r lt. absurd (omega (arith, lt)) }
 

@@ -1,5 +1,5 @@
--- The parts of the product of two copies of a graph number its doubles; they fall where a state is left by two different moves,
--- since a way back would be a twin.
+-- The parts of the product of two copies of a graph number its doubles. The numbers decrease where two different moves leave
+-- a state, since a way back would be a twin.
 use Rattle.std.proofs.Common.{◌≡◌, ◌≢◌, ℕ, zero, suc, ◌+◌, ◌*◌, ◌<◌, ◌≤◌, ◌⊎◌, inl, inr, Bool, IsTrue, List, ◌∷◌, slice_get, Some, subst, arith, zero-mul}
 use Rattle.std.proofs.lemmas.Bool.{cases_eq}
 use Rattle.std.proofs.lemmas.Nat.{mul-add-lt}
@@ -24,7 +24,7 @@ both-some zero b h = absurd (none-times b h)
 both-some (suc a) zero h = absurd (times-none (suc a) h)
 both-some (suc a) (suc b) h = (omega arith, omega arith)
 
--- a move of each copy is a move of the product
+-- A move of each copy is a move of the product.
 pub has-pair : (next : ℕ → ℕ → List ℕ) (n p q l x y : ℕ) → q < n → Has x (next p l) → Has y (next q l) → Has (x * n + y) (pair_moves next n (p * n + q) l)
 has-pair next n p q l x y lt hx hy =
     let i = at-has x (next p l) hx in

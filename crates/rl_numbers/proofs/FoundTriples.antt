@@ -18,6 +18,7 @@ use Rattle.rl_numbers.specs.internal.ReachedTriples.{AreReachedTriples}
 use Rattle.rl_numbers.specs.declared.numbering.TriplesError.{TriplesError}
 use Rattle.rl_numbers.specs.declared.numbering.TriplesError.TheVariants.{TooMany}
 use Rattle.rl_numbers.specs.declared.triple.Triple.{Triple}
+use Rattle.rl_numbers.specs.declared.numbering.TheConstants.{MOST_TRIPLES}
 use Rattle.rl_numbers.proofs.FoundLaws.{found_holds, found_more, found_few}
 use Rattle.rl_kernel.proofs.InnerLaws.{move-letter}
 
@@ -61,7 +62,7 @@ module _ (g h : Graph) (rank : ℕ → ℕ) (components : PartTable) (starts : L
       (found_holds (edges_of g) rank h starts level-here within sound complete keys parts whole some
       (subst (λ (n : ℕ). HasNoEqualSplit (edges_of g) n rank) (sym level.states) none) reach inside is-parts)
     where
-      -- where a triple is reached, a state is on a cycle, and a move is on a letter
+      -- If a triple is reached, a state is on a cycle, and a move is on a letter.
       some : 0 < length keys → 0 < h.letters
       some lt =
           let r = Each-has (IsReached (triple_moves (edges_of h) h.states) starts) (get_or keys 0 0) keys reach.sound (Has-get_or keys 0 0 lt) in
@@ -78,18 +79,18 @@ module _ (g h : Graph) (rank : ℕ → ℕ) (components : PartTable) (starts : L
       found_few (edges_of g) rank h starts level-here within sound complete keys m reach few
       (subst (λ (n : ℕ). AreMoreThan m (LeastTriple (edges_of g) n rank)) (sym level.states) more)
 
-  -- the same of the triples that are reached, where there are not too many
+  -- The same for the triples that are reached, if there are not too many.
   pub triples-from : {E : Type 0} → HasNoEqualSplit (edges_of g) g.states rank → (r : Result (List Triple) E) → IfOk r (AreReachedTriples h starts) → IfOk r (AreTriples (edges_of g) g.states rank)
   triples-from none (Ok l) f =
       let same : l ≡ listing f.parts g.states 0 f.keys = f.same ∙ ap (λ (n : ℕ). listing f.parts n 0 f.keys) level.states in
       subst (AreTriples (edges_of g) g.states rank) (sym same) (triples-held f.keys f.parts f.whole none f.reach f.inside f.are_parts)
   triples-from none (Err e) f = tt
 
-  pub few-from : {E : Type 0} → (r : Result (List Triple) E) → IfOk r (AreReachedTriples h starts) → OnOk r (AreMoreThan 1000000 (LeastTriple (edges_of g) g.states rank) → ⊥)
-  few-from (Ok l) f = triples-few f.keys 1000000 f.reach f.few
+  pub few-from : {E : Type 0} → (r : Result (List Triple) E) → IfOk r (AreReachedTriples h starts) → OnOk r (AreMoreThan MOST_TRIPLES (LeastTriple (edges_of g) g.states rank) → ⊥)
+  few-from (Ok l) f = triples-few f.keys MOST_TRIPLES f.reach f.few
   few-from (Err e) f = tt
 
-  pub more-from : (r : Result (List Triple) TriplesError) → IfErr r (λ e. e ≡ TooMany → AreMore 1000000 (IsReached (triple_moves (edges_of h) h.states) starts))
-      → IfErr r (λ e. e ≡ TooMany → AreMoreThan 1000000 (LeastTriple (edges_of g) g.states rank))
+  pub more-from : (r : Result (List Triple) TriplesError) → IfErr r (λ e. e ≡ TooMany → AreMore MOST_TRIPLES (IsReached (triple_moves (edges_of h) h.states) starts))
+      → IfErr r (λ e. e ≡ TooMany → AreMoreThan MOST_TRIPLES (LeastTriple (edges_of g) g.states rank))
   more-from (Ok l) f = tt
-  more-from (Err e) f = λ same. triples-more 1000000 (f same)
+  more-from (Err e) f = λ same. triples-more MOST_TRIPLES (f same)

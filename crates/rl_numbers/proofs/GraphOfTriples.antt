@@ -25,7 +25,7 @@ three-code n x y z hy hz =
     ap₂ (λ (u : ℕ) (v : ℕ). let t : Three = record { p = u; q = v; r = ((x * n + y) * n + z) % n } in t) (ap (λ (w : ℕ). w / n) d ∙ div-mul-add x n y hy) (ap (λ (w : ℕ). w % n) d ∙ mod-mul-add x n y hy)
     ∙ ap (λ (w : ℕ). let t : Three = record { p = x; q = y; r = w } in t) (mod-mul-add (x * n + y) n z hz)
 
--- the three moves of a move of the product
+-- The three moves of a move of the product.
 pub moves-of : (h : ℕ → ℕ → List ℕ) (n t l m : ℕ) → Has m (triple_moves h n t l) → (x : ℕ) × (y : ℕ) × (z : ℕ) × Has x (h (t / n / n) l) × Has y (h (t / n % n) l) × Has z (h (t % n) l) × (m ≡ (x * n + y) * n + z)
 moves-of h n t l m i =
     let a = has-flat_map (λ x. map (λ y. x * n + y) (h (t % n) l)) m (pair_moves h n (t / n) l) i in
@@ -40,7 +40,7 @@ moves-there h n t l x y z hx hy hz =
     (flat-has (λ u. map (λ v. u * n + v) (h (t / n % n) l)) x (x * n + y) (h (t / n / n) l) hx (Has-map (λ v. x * n + v) y (h (t / n % n) l) hy))
     (Has-map (λ v. (x * n + y) * n + v) z (h (t % n) l) hz)
 
--- a number is that of its triple
+-- A number is the number of its triple.
 pub whole : (n u : ℕ) → (u / n / n * n + u / n % n) * n + u % n ≡ u
 whole n u = ap (λ (w : ℕ). w * n + u % n) (div-add-mod' (u / n) n) ∙ div-add-mod' u n
 
@@ -52,7 +52,7 @@ lifted n t u twice a b c =
 pub unlifted : (n t : ℕ) → t / n % n ≢ t % n → lift_of n t ≡ t
 unlifted n t ne = ap (λ (d : Bool). cond d ((t / n / n * n + t / n / n) * n + t % n) t) (ne_eqb (t / n % n) (t % n) ne)
 
--- a lift, or the triple itself
+-- A lift, or the triple itself.
 lift-kinds : (n t u : ℕ) → t / n / n < n → t % n < n → u ≡ lift_of n t → IsLift (three_of n t) (three_of n u) ⊎ (three_of n u ≡ three_of n t)
 lift-kinds n t u lp lr is = by (cases_eq (t / n % n) (t % n)) (cases_eq (t / n / n) (t % n))
   where
@@ -70,7 +70,7 @@ lift-kinds n t u lp lr is = by (cases_eq (t / n % n) (t % n)) (cases_eq (t / n /
         kinds (inr ne) = inl (record { apart = ne; twice = same; first = ap (λ (x : Three). x.p) there; middle = ap (λ (x : Three). x.q) there; last = ap (λ (x : Three). x.r) there })
         kinds (inl e) = inr (there ∙ ap (λ (y : ℕ). let x : Three = record { p = t / n / n; q = y; r = t % n } in x) (e ∙ sym same))
 
--- where a key stands once, its place is found
+-- If a key occurs once, its place is found.
 once-at : (keys : List ℕ) (i j : ℕ) → Pairs (λ x y. x ≢ y) keys → i < length keys → j < length keys → get_or keys i 0 ≡ get_or keys j 0 → i ≡ j
 once-at [] i j once a b e = absurd (omega arith)
 once-at (x ∷ keys) zero zero once a b e = refl
@@ -78,7 +78,7 @@ once-at (x ∷ keys) zero (suc j) once a b e = absurd (Each-has (λ (y : ℕ). x
 once-at (x ∷ keys) (suc i) zero once a b e = absurd (Each-has (λ (y : ℕ). x ≢ y) (get_or keys i 0) keys once.0 (Has-get_or keys i 0 (omega arith)) (sym e))
 once-at (x ∷ keys) (suc i) (suc j) once a b e = ap suc (once-at keys i j once.1 (omega arith) (omega arith) e)
 
--- the place that is found, or the other one
+-- The place that is found, or the other one.
 place-found : (keys : List ℕ) (i key : ℕ) → ((place_or keys i key < length keys) × (get_or keys (place_or keys i key) 0 ≡ key)) ⊎ (place_or keys i key ≡ i)
 place-found keys i key = by (position (eqb key) keys) refl
   where

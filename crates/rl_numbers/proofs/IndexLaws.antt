@@ -15,7 +15,7 @@ use Rattle.rl_numbers.specs.Index.{number_in, IsIndex}
 abbrev pub no_triple : Triple
 no_triple = record { p = 0; q = 0; r = 0; number = 0 }
 
--- whether a triple is one of three states
+-- Whether a triple is one of three states.
 abbrev pub is_at : Triple → ℕ → ℕ → ℕ → Bool
 is_at t p q r = nat_eq t.p p && (nat_eq t.q q && nat_eq t.r r)
 
@@ -28,7 +28,7 @@ is_at-same t p q r h =
 pub same-is_at : (t : Triple) (p q r : ℕ) → t.p ≡ p → t.q ≡ q → t.r ≡ r → is_at t p q r ≡ true
 same-is_at t p q r a b c = and_from (nat_eq t.p p) (nat_eq t.q q && nat_eq t.r r) (eq-eqb t.p p a) (and_from (nat_eq t.q q) (nat_eq t.r r) (eq-eqb t.q q b) (eq-eqb t.r r c))
 
--- what is found is the number of a triple of the list
+-- What is found is the number of a triple of the list.
 pub at-there : (l : List Triple) (p q r k : ℕ) → triple_at l p q r ≡ Some k → (t : Triple) × Has t l × (t.p ≡ p) × (t.q ≡ q) × (t.r ≡ r) × (t.number ≡ k)
 at-there [] p q r k h = cc
 at-there (t ∷ l) p q r k h = by (is_at t p q r) refl h (at-there l p q r k)
@@ -37,7 +37,7 @@ at-there (t ∷ l) p q r k h = by (is_at t p q r) refl h (at-there l p q r k)
     by true e h rest = let s = is_at-same t p q r e in (t, inl refl, s.0, s.1, s.2, cc)
     by false e h rest = let u = rest h in (u.0, inr u.1, u.2, u.3, u.4, u.5)
 
--- a triple of the list is found, if not with its own number
+-- A triple of the list is found, if not with its own number.
 pub at-held : (l : List Triple) (t : Triple) → Has t l → (k : ℕ) × (triple_at l t.p t.q t.r ≡ Some k)
 at-held [] t h = absurd h
 at-held (u ∷ l) t (inl e) = (u.number, ap (λ (b : Bool). cond b (Some u.number) (triple_at l t.p t.q t.r)) (same-is_at u t.p t.q t.r (ap (λ (x : Triple). x.p) (sym e)) (ap (λ (x : Triple). x.q) (sym e)) (ap (λ (x : Triple). x.r) (sym e))))
@@ -47,7 +47,7 @@ at-held (u ∷ l) t (inr h) = by (is_at u t.p t.q t.r) (at-held l t h)
     by true r = (u.number, refl)
     by false r = r
 
--- where no triple stands twice, with its own number
+-- If no triple occurs twice, each is found with its own number.
 pub at-once : (l : List Triple) (t : Triple) → OnceEach l → Has t l → triple_at l t.p t.q t.r ≡ Some t.number
 at-once [] t once h = absurd h
 at-once (u ∷ l) t once (inl e) =
@@ -59,7 +59,7 @@ at-once (u ∷ l) t once (inr h) = by (is_at u t.p t.q t.r) refl (at-once l t on
     by true e rest = let s = is_at-same u t.p t.q t.r e in absurd (Each-has (λ (x : Triple). u.p ≡ x.p → u.q ≡ x.q → u.r ≡ x.r → ⊥) t l once.0 h s.0 s.1 s.2)
     by false e rest = rest
 
--- one more triple
+-- One more triple.
 at-push : (l : List Triple) (t : Triple) (p q r : ℕ) → triple_at l t.p t.q t.r ≡ None → triple_at (l ++ t ∷ []) p q r ≡ cond (is_at t p q r) (Some t.number) (triple_at l p q r)
 at-push [] t p q r none = refl
 at-push (u ∷ l) t p q r none = by (is_at u t.p t.q t.r) refl none (at-push l t p q r)

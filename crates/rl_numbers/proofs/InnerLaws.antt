@@ -17,7 +17,7 @@ added-short h k s c t q l a room old = by (cases_eq q s) (cases_eq l c)
     by (inl e) (inr n) = omega (arith, old, ap length (a.elsewhere q l (inr n)))
     by (inl e) (inl f) = rw (e, f) (omega (arith, room, ap length a.here, length_push (edges_of h s c) t))
 
--- the first moves of the state on the letter that stay in its component are there
+-- The first moves of the state on the letter that stay in its component are there.
 abbrev pub IsRowUpTo : Graph → PartTable → ℕ → ℕ → ℕ → Graph → Type 0
 IsRowUpTo g p s c end h =
     (i : ℕ) → i < end → number_of p (get_or (edges_of g s c) i 0) ≡ number_of p s → Has (get_or (edges_of g s c) i 0) (edges_of h s c)
@@ -51,7 +51,7 @@ row-passed g p s c end h ne old i lt same = by (cases_lt i end)
     by (inl b) = old i b same
     by (inr b) = let e : i ≡ end = omega arith in absurd (ne (rw e at same))
 
--- all kept moves of the state on the letter are there
+-- All kept moves of the state on the letter are there.
 pub inner-full : (g : Graph) (p : PartTable) (s c : ℕ) (h : Graph) → ((m : ℕ) → IsKept g p s c m → Has m (edges_of h s c)) → IsInnerUpTo g p s c h → IsInnerUpTo g p s (c + 1) h
 inner-full g p s c h here i = record {
   same_states = i.same_states;

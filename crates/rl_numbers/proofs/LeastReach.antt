@@ -1,4 +1,4 @@
--- The triples of the least closed list are those that are reached in the product of three copies.
+-- The triples of the least closed list are the triples that are reached in the product of three copies.
 use Rattle.std.proofs.Common.{◌≡◌, ◌≢◌, ◌∙◌, ℕ, ◌+◌, ◌*◌, ◌/◌, ◌%◌, ◌<◌, List, sym, refl, ap, subst}
 use Rattle.rl_graph.specs.Graph.{Graph, edges_of}
 use Rattle.rl_graph.specs.Paths.{Has, OnCycle}
@@ -19,7 +19,7 @@ module _ (next : ℕ → ℕ → List ℕ) (n : ℕ) (rank : ℕ → ℕ) (g : G
       let h = least-rank s before in
       (within s.p move.letter t.p h.0 move.first, within s.q move.letter t.q h.1 move.middle, within s.r move.letter t.r h.2 move.last, (move.middle_rank ∙ sym move.first_rank, move.last_rank ∙ sym move.first_rank))
 
-  -- what is reached is in the least closed list
+  -- What is reached is in the least closed list.
   pub reached_least : (t : ℕ) → IsReached (triple_moves (edges_of g) n) starts t → LeastTriple next n rank (three_of n t)
   reached_least t h =
       let s = sound h.0 h.1 in
@@ -37,7 +37,7 @@ module _ (next : ℕ → ℕ → List ℕ) (n : ℕ) (rank : ℕ → ℕ) (g : G
           let there = ap (three_of n) v.6 ∙ three-code n v.0 v.1 v.2 (within (q / n % n) l v.1 r.1 y.0) (within (q % n) l v.2 r.2 z.0) in
           subst (LeastTriple next n rank) (sym there) (step least (record { letter = l; first = x.0; middle = y.0; last = z.0; first_rank = x.1; middle_rank = y.1 ∙ r.3.0; last_rank = z.1 ∙ r.3.1 }))
 
-  -- and the other way round
+  -- And the other way round.
   pub least_reached : (t : Three) → LeastTriple next n rank t → IsReached (triple_moves (edges_of g) n) starts ((t.p * n + t.q) * n + t.r)
   least_reached t (start r q lr lq ne e cr cq) = ((r * n + r) * n + q, whole r q lr lq ne e cr cq, Reaches-self (triple_moves (edges_of g) n) ((r * n + r) * n + q))
   least_reached t (step {s = s} before move) =

@@ -1,5 +1,5 @@
--- A list that holds the starts, only what it must, and is closed, is the least one; there are more than `m` triples exactly where
--- it is longer.
+-- A closed list that has the starts, and only what it must have, is the least one. There are more than `m` triples if and
+-- only if it is longer than `m`.
 use Rattle.std.proofs.Common.{◌≡◌, ◌≢◌, ◌∙◌, ℕ, ◌<◌, ◌≤◌, List, length, sym, arith}
 use Rattle.rl_graph.specs.Paths.{Has, Each, Pairs, OnCycle}
 use Rattle.rl_graph.proofs.Sums.{Each-has, distinct-short}
@@ -16,13 +16,13 @@ module _ (next : ℕ → ℕ → List ℕ) (n : ℕ) (rank : ℕ → ℕ) where
       whole t (start r q lr lq ne e cr cq) = starts r q lr lq ne e cr cq
       whole t (step {s = s} before move) = closed s t (whole s before) move
 
-  -- no more than a least list has
+  -- No more than a least list has.
   pub no_more : (keys : List Three) (m : ℕ) → IsLeastList next n rank keys → length keys ≤ m → AreMoreThan m (LeastTriple next n rank) → ⊥
   no_more keys m least few more =
       let short = distinct-short more.0 keys more.1 (λ t i. least.whole t (Each-has (LeastTriple next n rank) t more.0 more.2 i)) in
       absurd (omega (arith, short, more.3))
 
-  -- another rank that is the same below `n` has the same least list
+  -- Another rank that is the same below `n` has the same least list.
   pub same_rank : (other : ℕ → ℕ) → ((q l m : ℕ) → q < n → Has m (next q l) → m < n) → ((q : ℕ) → q < n → rank q ≡ other q) → (t : Three) → LeastTriple next n rank t
       → (t.p < n) × (t.q < n) × (t.r < n) × LeastTriple next n other t
   same_rank other targets same t (start r q lr lq ne e cr cq) = (lr, lr, lq, start r q lr lq ne (sym (same r lr) ∙ (e ∙ same q lq)) cr cq)

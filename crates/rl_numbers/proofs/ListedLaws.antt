@@ -100,7 +100,7 @@ module _ (next : ℕ → ℕ → List ℕ) (n : ℕ) (rank : ℕ → ℕ) (keys 
           let b = graph.one_rank j.0 j.1 in
           subst (IsLevel n rank) (sym j.2) (a.0, a.1, a.2, b.0, b.1)
 
--- one code more
+-- One code more.
 listing-push : (parts : PartTable) (n i : ℕ) (ks : List ℕ) (k : ℕ) → listing parts n i (ks ++ k ∷ []) ≡ listing parts n i ks ++ triple_of parts n (i + length ks) k ∷ []
 listing-push parts n i [] k = ap (λ (z : ℕ). triple_of parts n z k ∷ []) e
   where

@@ -8,7 +8,7 @@ use Rattle.rl_graph.proofs.Sums.{Has-last, Has-get_or, at-has, at-short, at-get_
 use Rattle.rl_kernel.proofs.InnerLaws.{row-added}
 use Rattle.rl_numbers.specs.internal.Marks.{AreMarks}
 
--- the marks of the first targets
+-- The marks of the first targets.
 pub record AreMarksUpTo (ranks targets : List ℕ) (own end : ℕ) (marks : List Bool) : Type 0 where
   pub size : length marks ≡ length ranks
   pub there : (k : ℕ) → k < end → get_or marks (get_or targets k 0) false ≡ eqb (get_or ranks (get_or targets k 0) 0) own
@@ -54,7 +54,7 @@ marks-done ranks targets own end marks long m = record {
         let t = m.there a.0 (omega (arith, at-short targets a.0 q a.1)) in
         ap (λ z. get_or marks z false) (sym e) ∙ (t ∙ (ap (λ z. eqb (get_or ranks z 0) own) e ∙ eq-eqb (get_or ranks q 0) own h.1))
 
--- the first marked states are targets of moves
+-- The first marked states are targets of moves.
 abbrev pub AreAddedUpTo : List Bool → ℕ → ℕ → ℕ → Graph → Type 0
 AreAddedUpTo marks s c end h = (m : ℕ) → m < end → get_or marks m false ≡ true → Has m (edges_of h s c)
 
@@ -76,6 +76,6 @@ marked-passed marks s c end h unmarked old m lt mark = by (cases_lt m end)
         let e : m ≡ end = omega arith in
         absurd (true≢false (sym mark ∙ (ap (λ z. get_or marks z false) e ∙ unmarked)))
 
--- what is read of a list in range is one of its numbers
+-- What is read of a list in range is one of its numbers.
 pub Has-read : (l : List ℕ) (k d : ℕ) → k < length l → Has (get_or l k d) l
 Has-read l k d h = subst (λ (x : ℕ). Has x l) (sym (get_or_default_zero l k d h)) (Has-get_or l k 0 h)

@@ -37,7 +37,7 @@ has-any q (x ∷ keys) (inr h) = any-right (eqb q x) (list_any (eqb q) keys) (ha
 pub any-none : (q : ℕ) (keys : List ℕ) → list_any (eqb q) keys ≡ false → Has q keys → ⊥
 any-none q keys e h = true≢false (sym (has-any q keys h) ∙ e)
 
--- one more key
+-- One more key
 
 pub put-has : (q : ℕ) (old new : List ℕ) → IsPut q old new → Has q new
 put-has q old new (inl (h, e)) = subst (Has q) (sym e) h
@@ -74,7 +74,7 @@ module _ (next : ℕ → ℕ → List ℕ) (n : ℕ) (starts : List ℕ) (limit 
       two x (inl i) = Each-has (λ (y : ℕ). y < n) x old f.inside i
       two x (inr d) = subst (λ (y : ℕ). y < n) (sym d) lt
 
-  -- one more than there may be
+  -- One more than there may be.
   pub too-many : (q : ℕ) (keys : List ℕ) → IsFinding next n starts limit keys → length keys ≡ limit → (Has q keys → ⊥) → IsReached next starts q → AreMore limit (IsReached next starts)
   too-many q keys f e fresh reached = (
     keys ++ q ∷ [],
@@ -112,7 +112,7 @@ module _ (next : ℕ → ℕ → List ℕ) (n : ℕ) (starts : List ℕ) (limit 
 reached-move : (next : ℕ → ℕ → List ℕ) (starts : List ℕ) (from l t : ℕ) → IsReached next starts from → Has t (next from l) → IsReached next starts t
 reached-move next starts from l t r h = (r.0, r.1, Reaches-trans next r.0 from t r.2 (Reaches-move next from t l h))
 
--- the loops
+-- The loops
 
 pub on-start : (next : ℕ → ℕ → List ℕ) (n limit from : ℕ) (row keys : List ℕ) → Spreads next n limit from (λ t. Has t (take 0 row)) keys keys
 on-start next n limit from row keys starts f r = spread-none next n starts limit (λ t. Has t (take 0 row)) keys (λ t i. nothing t row i) f
@@ -160,7 +160,7 @@ all-end next n limit from k width old new b le s starts f r =
     by t i (inl lt) put = put t (i.0, lt, i.1)
     by t i (inr ge) put = absurd (subst (Has t) (b.letters from i.0 (omega (arith, le, ge))) i.1)
 
--- the starts
+-- The starts
 
 start-reached : (next : ℕ → ℕ → List ℕ) (starts : List ℕ) (s : ℕ) → Has s starts → IsReached next starts s
 start-reached next starts s h = (s, h, Reaches-self next s)
@@ -188,7 +188,7 @@ starts-over count limit i starts keys lt e fresh found next =
 pub starts-end : (i : ℕ) (starts keys : List ℕ) → length starts ≤ i → ((s : ℕ) → Has s (take i starts) → Has s keys) → (s : ℕ) → Has s starts → Has s keys
 starts-end i starts keys past all s h = all s (subst (Has s) (sym (take_all i starts past)) h)
 
--- the whole search
+-- The whole search
 
 pub record IsSearching (next : ℕ → ℕ → List ℕ) (n : ℕ) (starts : List ℕ) (limit place : ℕ) (keys : List ℕ) : Type 0 where
   pub finding : IsFinding next n starts limit keys

@@ -13,7 +13,7 @@ use Rattle.rl_numbers.specs.Numbered.{triple_at, is_triple, triple_number, OnceE
 use Rattle.rl_numbers.specs.internal.NumberedFalls.{FirstsFall, StepsFall, IsApart, StartsHeld, HoldsIn, AllHold}
 use Rattle.rl_numbers.proofs.IndexLaws.{at-there, at-once}
 
--- past the last letter there is no move
+-- Past the last letter there is no move.
 pub all-letters : (g : Graph) (at : ℕ → ℕ → ℕ → Option ℕ) (rank : ℕ → ℕ) (t : Triple) (count : ℕ) → IsWhole g → g.letters ≤ count
     → ((l : ℕ) → l < count → FirstsFall at rank (rank t.p) t.number (edges_of g t.p l) (edges_of g t.q l) (edges_of g t.r l)) → StepsFall (edges_of g) at rank t
 all-letters g at rank t count whole le below l = by (cases_lt l count)
@@ -38,7 +38,7 @@ its-number None k e = cc
 its-number (Some j) k e = cc
 
 module _ (next : ℕ → ℕ → List ℕ) (n : ℕ) (rank : ℕ → ℕ) (l : List Triple) where
-  -- what is looked at, triple by triple, makes the numbers right
+  -- What is looked at, triple by triple, makes the numbers right.
   pub triples_shown : OnceEach l → Each (IsLevel n rank) l → Each (StepsFall next (triple_at l) rank) l → Each (IsApart (triple_at l)) l → StartsHeld next n (triple_at l) rank → AreTriples next n rank l
   triples_shown once levels steps apart starts = record {
     once = once;
@@ -46,7 +46,7 @@ module _ (next : ℕ → ℕ → List ℕ) (n : ℕ) (rank : ℕ → ℕ) (l : L
     numbers = record { starts = starts; closed = closed; never_rises = never; apart = greater };
   }
     where
-      -- what a step of a held triple leads to
+      -- What a step of a held triple leads to.
       step : (p q r l2 x y z : ℕ) → IsTrue (is_triple l p q r) → Has x (next p l2) → Has y (next q l2) → Has z (next r l2) → rank x ≡ rank p → rank y ≡ rank p → rank z ≡ rank p
           → (k : ℕ) × (triple_at l x y z ≡ Some k) × (k ≤ triple_number l p q r)
       step p q r l2 x y z held hx hy hz rx ry rz =
@@ -71,7 +71,7 @@ module _ (next : ℕ → ℕ → List ℕ) (n : ℕ) (rank : ℕ → ℕ) (l : L
           (subst (λ (x : ℕ). triple_at l x t.0.r t.0.r ≡ Some other.0) (sym t.2) (subst (λ (x : ℕ). triple_at l r x x ≡ Some other.0) (sym t.4) other.1)) in
           omega (arith, less, t.5, some.2, other.2)
 
-  -- and right numbers show what is looked at
+  -- And right numbers show what is looked at.
   pub steps_of : AreTriples next n rank l → (t : Triple) → Has t l → StepsFall next (triple_at l) rank t
   steps_of are t h l2 x hx rx y hy ry z hz rz =
       let own = at-once l t are.once h in
@@ -89,7 +89,7 @@ each-part : {A : Type 0} (P Q : A → Type 0) (l : List A) → ((x : A) → P x 
 each-part P Q [] f h = tt
 each-part P Q (x ∷ l) f h = (f x h.0, each-part P Q l f h.1)
 
--- what an index finds decides whether the triples hold
+-- What an index finds decides whether the triples hold.
 pub all-decide : (g : Graph) (p : PartTable) (at : ℕ → ℕ → ℕ → Option ℕ) (rank : ℕ → ℕ) (l : List Triple) → IsParts (edges_of g) g.states p → ((x y z : ℕ) → at x y z ≡ triple_at l x y z) → OnceEach l
     → AllHold g p at rank l ↔ AreTriples (edges_of g) g.states rank l
 all-decide g p at rank l parts same once = (there, back)

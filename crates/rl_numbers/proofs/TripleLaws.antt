@@ -14,12 +14,12 @@ small-square a b h k = let x : a * b ≤ 65536 * 65536 = mul-le-mul h k in x
 pub small-cube : (a b : ℕ) → a ≤ 4294967296 → b ≤ 65536 → a * b ≤ 281474976710656
 small-cube a b h k = let x : a * b ≤ 4294967296 * 65536 = mul-le-mul h k in x
 
--- where there is a triple, there is a state
+-- If there is a triple, there is a state.
 pub some-states : (n t : ℕ) → t < n * n * n → 0 < n
 some-states zero t lt = absurd (omega (arith, lt))
 some-states (suc n) t lt = omega arith
 
--- the states of a triple are states
+-- The states of a triple are states.
 pub first-below : (n m t : ℕ) → m ≡ n → t < n * n * n → t / m / m < n
 first-below n m t e lt = subst (λ (k : ℕ). t / k / k < n) (sym e) (div_below (t / n) n n (some-states n t lt) (div_below t n (n * n) (some-states n t lt) lt))
 
@@ -29,7 +29,7 @@ middle-below n m t e lt = subst (λ (k : ℕ). t / k % k < n) (sym e) (mod_below
 pub last-below : (n m t : ℕ) → m ≡ n → t < n * n * n → t % m < n
 last-below n m t e lt = subst (λ (k : ℕ). t % k < n) (sym e) (mod_below t n (some-states n t lt))
 
--- a triple has few moves
+-- A triple has few moves.
 pub triples-few : (g : Graph) (t l : ℕ) → IsLow g → length (triple_moves (edges_of g) g.states t l) ≤ 281474976710656
 triples-few g t l low =
     let a = low.few_moves (t / g.states / g.states) l in

@@ -10,7 +10,7 @@ use Rattle.rl_degree.specs.FallingNumbers.{IsTriples}
 use Rattle.rl_degree.specs.Leavers.{HasNoEqualSplit}
 use Rattle.rl_numbers.specs.Closed.{Three, IsTripleStep, IsLift, AreClosedTriples, IsTripleGraph, AreNumbers}
 
--- one word with paths between the outer states, and to the middle state from the first or from the middle one
+-- One word with paths between the outer states, and to the middle state from the first or from the middle one.
 pub record IsShadow (next : ℕ → ℕ → List ℕ) (s t : Three) : Type 0 where
   pub word : List ℕ
   pub first : 1 ≤ paths next s.p t.p word
@@ -57,7 +57,7 @@ module _ (next : ℕ → ℕ → List ℕ) (n : ℕ) (rank : ℕ → ℕ) (m : �
       by x (inr (inl lift)) rest = lifted (key i) (key x) (key j) lift rest
       by x (inr (inr stay)) rest = subst (λ (s : Three). IsShadow next s (key j)) stay rest
 
-  -- a way from `(r, r, q)` to `(r, q, q)` is a split
+  -- A way from `(r, r, q)` to `(r, q, q)` is a split.
   pub way-split : (i j r q : ℕ) → i < m → r ≢ q → (key i).p ≡ r → (key i).q ≡ r → (key i).r ≡ q → (key j).p ≡ r → (key j).q ≡ q → (key j).r ≡ q → Reaches moves i j → (y : List ℕ) × IsSplit next r q y
   way-split i j r q lt ne a b c d e f way =
       let w = shadow i j way.0 lt way.1 in (

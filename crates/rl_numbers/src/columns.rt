@@ -1,4 +1,4 @@
-//! How many paths lead to a state along a word, as far as two.
+//! The number of paths that lead to a state along a word, counted up to two.
 
 ghost use Rattle.std.specs.Prelude.{◌≡◌, ℕ, ◌+◌, ◌<◌, ◌≤◌, ◌∷◌, [], All, List, length, slice_index, min, take, IfOk};
 ghost use Rattle.rl_graph.specs.Graph.{edges_of};
@@ -9,7 +9,7 @@ use rl_graph::Multigraph;
 use rl_lists::OutOfMemory;
 use std::alloc::Global;
 
-/// The sum of a column over a row, as far as two.
+/// Returns the sum of a column over the states in a row, but at most two.
 fn sum_over(row: &[u32], column: &[u8]) -> u8
     requires row_in { All (λ m. m < length column.now) row.now }
     requires low { All (λ k. k ≤ 2) column.now }
@@ -22,7 +22,7 @@ fn sum_over(row: &[u32], column: &[u8]) -> u8
     sum
 }
 
-/// The column of the empty word.
+/// Returns the column of the empty word.
 fn start(alloc: Global, g: &Multigraph, to: u32) -> Result<Vec<u8>, OutOfMemory>
     ensures { IfOk result (λ v. IsColumn (edges_of g.now) g.now.states to [] v.items) }
 {
@@ -33,7 +33,7 @@ fn start(alloc: Global, g: &Multigraph, to: u32) -> Result<Vec<u8>, OutOfMemory>
     Ok(column)
 }
 
-/// The column of a word with one more letter in front.
+/// Returns the column of a word with one more letter in front, given the column of the word.
 fn before(alloc: Global, g: &Multigraph, letter: u32, column: &[u8]) -> Result<Vec<u8>, OutOfMemory>
     requires letter_in { letter < g.now.letters }
     requires size { length column.now ≡ g.now.states }
@@ -49,11 +49,11 @@ fn before(alloc: Global, g: &Multigraph, letter: u32, column: &[u8]) -> Result<V
     Ok(sums)
 }
 
-/// For each state how many paths lead from it to a state along a word, as far as two. Each letter of the word costs as much as the
-/// moves of all states on it.
+/// Returns, for each state, the number of paths from it to `to` along a word, counted up to two. Each letter of the word
+/// takes time linear in the number of moves of all states on it.
 ///
 /// # Errors
-/// [`OutOfMemory`] where there was no memory for the columns.
+/// [`OutOfMemory`] if there is not enough memory for the columns.
 pub fn column(alloc: Global, g: &Multigraph, to: u32, word: &[u32]) -> Result<Vec<u8>, OutOfMemory>
     requires { All (λ l. l < g.now.letters) word.now }
     ensures { IfOk result (λ v. IsColumn (edges_of g.now) g.now.states to word.now v.items) }

@@ -1,4 +1,4 @@
-//! The doubles of a state with itself, and the list of the doubles of numbers.
+//! The doubles of a state with itself, and the list of doubles for a list of codes.
 
 ghost use Rattle.std.specs.Prelude.{◌≡◌, ℕ, ◌*◌, ◌/◌, ◌%◌, ◌<◌, ◌^◌, length, IfOk};
 ghost use Rattle.rl_graph.specs.Parts.{number_of};
@@ -11,7 +11,7 @@ use rl_graph::Parts;
 use rl_lists::{Items, OutOfMemory};
 use std::alloc::Global;
 
-/// The numbers of the doubles of a state with itself.
+/// Returns the codes of the doubles of each state with itself.
 pub(crate) fn diagonal(alloc: Global, states: u32) -> Result<Vec<u64>, OutOfMemory>
     requires few { states < 65536 }
     ensures { IfOk result (λ v. IsDiagonalUpTo states states v.items) }
@@ -24,7 +24,7 @@ pub(crate) fn diagonal(alloc: Global, states: u32) -> Result<Vec<u64>, OutOfMemo
     Ok(pairs)
 }
 
-/// The double of a number, with the number of its part.
+/// Returns the double with the given code, with the number of its part.
 fn double_at(states: u32, code: u64, parts: &Parts) -> Double
     requires few { states < 65536 }
     requires inside { code < states * states }
@@ -40,7 +40,7 @@ fn double_at(states: u32, code: u64, parts: &Parts) -> Double
     }
 }
 
-/// The doubles of numbers, with the numbers of their parts.
+/// Returns the doubles with the given codes, with the numbers of their parts.
 pub(crate) fn listed_doubles(
     alloc: Global,
     states: u32,

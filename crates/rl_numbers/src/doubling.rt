@@ -1,4 +1,4 @@
-//! Whether the numbers of doubles exclude a twin.
+//! Checking that the numbers of doubles exclude a twin.
 
 ghost use Rattle.std.specs.Prelude.{◌≡◌, ◌≢◌, ℕ, ◌+◌, ◌<◌, ◌≤◌, ◌^◌, ◌↔◌, IsTrue, All, List, None, Some, length, slice_get, slice_index, is_some, IfOk, IfSome, IfNone};
 ghost use Rattle.rl_graph.specs.Graph.{edges_of};
@@ -19,17 +19,17 @@ pub(crate) struct Pair {
     pub q: u32,
 }
 
-/// The numbers of doubles.
+/// The number of each double, by its states.
 pub(crate) type Index = IndexMap<Pair, u32>;
 
-/// The number of two states, if they are held.
+/// Returns the number of the double of two states, if the list has one.
 fn number_of(index: &Index, p: u32, q: u32) -> Option<u32>
     ensures { result ≡ number_in index.now p q }
 {
     index.get(&Pair { p, q }).copied()
 }
 
-/// The numbers of the doubles, unless one stands twice.
+/// Returns the numbers of the doubles, or `None` if a double occurs twice.
 fn index_of(alloc: Global, doubles: &[Double]) -> Result<Option<Index>, OutOfMemory>
     ensures numbers { IfOk result (λ o. IfSome o (IsIndex doubles.now)) }
     ensures once { IfOk result (λ o. IfSome o (λ _. OnceEach doubles.now)) }
@@ -53,7 +53,7 @@ fn index_of(alloc: Global, doubles: &[Double]) -> Result<Option<Index>, OutOfMem
     Ok(Some(index))
 }
 
-/// Whether two states are held by a number below `most`.
+/// Whether the list has the double of two states with a number less than `most`.
 fn falls_below(index: &Index, most: u64, p: u32, q: u32) -> bool
     ensures { IsTrue result ↔ FallsBelow (number_in index.now) most p q }
 {
@@ -63,7 +63,7 @@ fn falls_below(index: &Index, most: u64, p: u32, q: u32) -> bool
     }
 }
 
-/// Whether the states of a row are held so with another one.
+/// Whether the list has `(p, q)`, with a number less than `most`, for each state `q` in the row.
 fn seconds_fall(index: &Index, most: u64, p: u32, row: &[u32]) -> bool
     ensures { IsTrue result ↔ SecondsFall (number_in index.now) most p row.now }
 {
@@ -75,7 +75,7 @@ fn seconds_fall(index: &Index, most: u64, p: u32, row: &[u32]) -> bool
     true
 }
 
-/// The same for the first states in a row, with the second ones in another.
+/// Whether the list has `(p, q)`, with a number less than `most`, for each state `p` in `row` and `q` in `second`.
 fn firsts_fall(index: &Index, most: u64, row: &[u32], second: &[u32]) -> bool
     ensures { IsTrue result ↔ FirstsFall (number_in index.now) most row.now second.now }
 {
@@ -87,7 +87,8 @@ fn firsts_fall(index: &Index, most: u64, row: &[u32], second: &[u32]) -> bool
     true
 }
 
-/// Whether a move of a row is the move `number`, or its target is held so behind another state.
+/// Whether the move `other` of the row is the move `number`, or the list has the double of `p` and its target with a number
+/// less than `most`.
 fn other_falls(index: &Index, most: u64, number: usize, other: usize, p: u32, row: &[u32]) -> bool
     requires { other < length row.now }
     ensures { IsTrue result ↔ (number ≢ other → FallsBelow (number_in index.now) most p (slice_index row.now other)) }
@@ -95,7 +96,8 @@ fn other_falls(index: &Index, most: u64, number: usize, other: usize, p: u32, ro
     other == number || falls_below(index, most, p, row[other])
 }
 
-/// Whether the other moves of a row lead to two states that are held so with the target of the move `number`.
+/// Whether the list has the double of `p` and the target of each move of the row other than `number`, with a number less than
+/// `most`.
 fn others_fall(index: &Index, most: u64, number: usize, p: u32, row: &[u32]) -> bool
     ensures { IsTrue result ↔ OthersFall (number_in index.now) most number p row.now }
 {
@@ -107,7 +109,7 @@ fn others_fall(index: &Index, most: u64, number: usize, p: u32, row: &[u32]) -> 
     true
 }
 
-/// Whether each two different moves of a row lead to two states that are held so.
+/// Whether the list has the double of the targets of any two different moves of the row, with a number less than `most`.
 fn aparts_fall(index: &Index, most: u64, row: &[u32]) -> bool
     ensures { IsTrue result ↔ ApartsFall (number_in index.now) most row.now }
 {
@@ -119,7 +121,7 @@ fn aparts_fall(index: &Index, most: u64, row: &[u32]) -> bool
     true
 }
 
-/// Whether no step of a double leads to two states that aren't held or have a greater number.
+/// Whether each step of a double leads to a double of the list with a number that is no greater.
 fn steps_fall(g: &Multigraph, index: &Index, double: Double) -> bool
     requires { IsInside g.now.states double }
     ensures { IsTrue result ↔ StepsFall (edges_of g.now) (number_in index.now) double }
@@ -136,7 +138,8 @@ fn steps_fall(g: &Multigraph, index: &Index, double: Double) -> bool
     true
 }
 
-/// Whether two different moves of a state on one letter lead to a smaller number, if the double is the state with itself.
+/// Whether any two different moves of a state on one letter lead to a double with a smaller number, if `double` is the double
+/// of the state with itself.
 fn leaves_fall(g: &Multigraph, index: &Index, double: Double) -> bool
     requires { IsInside g.now.states double }
     ensures { IsTrue result ↔ LeavesFall (edges_of g.now) (number_in index.now) double }
@@ -162,7 +165,8 @@ fn is_inside(states: u32, double: Double) -> bool
     double.p < states && double.q < states
 }
 
-/// Whether a double is in range and its steps fall.
+/// Whether a double is in range, no step of it increases the number, and the number decreases where two different moves leave
+/// one state.
 fn holds(g: &Multigraph, index: &Index, double: Double) -> bool
     ensures { IsTrue result ↔ HoldsIn (edges_of g.now) g.now.states (number_in index.now) double }
 {
@@ -175,7 +179,7 @@ fn holds(g: &Multigraph, index: &Index, double: Double) -> bool
     leaves_fall(g, index, double)
 }
 
-/// Whether each double is in range and its steps fall.
+/// Whether each double passes its checks.
 fn each_holds(g: &Multigraph, index: &Index, doubles: &[Double]) -> bool
     ensures { IsTrue result ↔ Each (HoldsIn (edges_of g.now) g.now.states (number_in index.now)) doubles.now }
 {
@@ -187,7 +191,7 @@ fn each_holds(g: &Multigraph, index: &Index, doubles: &[Double]) -> bool
     true
 }
 
-/// Whether each state is held with itself.
+/// Whether the list has the double of each state with itself.
 fn equals_held(index: &Index, states: u32) -> bool
     ensures { IsTrue result ↔ EqualsHeld states (number_in index.now) }
 {
@@ -199,7 +203,7 @@ fn equals_held(index: &Index, states: u32) -> bool
     true
 }
 
-/// Whether each double holds, and each state is held with itself.
+/// Whether each double passes its checks, and the list has the double of each state with itself.
 fn all_hold(g: &Multigraph, index: &Index, doubles: &[Double]) -> bool
     ensures { IsTrue result ↔ (Each (HoldsIn (edges_of g.now) g.now.states (number_in index.now)) doubles.now × EqualsHeld g.now.states (number_in index.now)) }
 {
@@ -209,7 +213,7 @@ fn all_hold(g: &Multigraph, index: &Index, doubles: &[Double]) -> bool
 /// Whether a list of doubles holds for a graph.
 ///
 /// # Errors
-/// [`OutOfMemory`] where there was no memory for the index.
+/// [`OutOfMemory`] if there is not enough memory for the index.
 pub fn doubles_hold(alloc: Global, g: &Multigraph, doubles: &[Double]) -> Result<bool, OutOfMemory>
     ensures { IfOk result (λ yes. IsTrue yes ↔ AreDoubles (edges_of g.now) g.now.states doubles.now) }
 {

@@ -1,4 +1,4 @@
-//! The moves of a graph that stay on the rank of their state.
+//! The moves of a graph that lead to states of the same rank.
 
 ghost use Rattle.std.specs.Prelude.{◌≡◌, ℕ, ◌<◌, ◌≤◌, ◌+◌, All, length, slice_index, IfOk, OnOk};
 ghost use Rattle.rl_numbers.specs.internal.Inner.{IsBareFrom, IsInnerUpTo};
@@ -10,10 +10,11 @@ use rl_graph::Multigraph;
 use rl_lists::OutOfMemory;
 use std::alloc::Global;
 
-/// So many moves of a state on a letter are kept one by one. Of more than that some lead to one state, and one of these is kept.
+/// Up to this many moves of a state on a letter are copied one by one. If there are more, several lead to the same state, and
+/// only one of these is kept.
 const MOST_MOVES: usize = 65_535;
 
-/// Adds the moves on its rank of a state on a letter with few moves.
+/// Adds the moves within the rank of a state on a letter with few moves.
 fn add_few_on(
     inner: &mut Multigraph,
     g: &Multigraph,
@@ -41,7 +42,7 @@ fn add_few_on(
     Ok(())
 }
 
-/// For each state whether it is one of the targets and on a rank.
+/// Marks the states that are among the targets and have the rank `own`.
 fn marks_of(
     alloc: Global,
     ranks: &[u32],
@@ -59,7 +60,7 @@ fn marks_of(
     Ok(marks)
 }
 
-/// Adds a move of a state on a letter to each state that is marked.
+/// Adds a move of a state on a letter to each marked state.
 fn add_marked_on(
     inner: &mut Multigraph,
     g: &Multigraph,
@@ -86,7 +87,7 @@ fn add_marked_on(
     Ok(())
 }
 
-/// Adds the moves on its rank of a state on a letter.
+/// Adds the moves within the rank of a state on a letter.
 fn add_level_on(
     alloc: Global,
     inner: &mut Multigraph,
@@ -114,7 +115,7 @@ fn add_level_on(
     added
 }
 
-/// Adds the moves on its rank of a state.
+/// Adds the moves within the rank of a state.
 fn add_level_from(
     alloc: Global,
     inner: &mut Multigraph,
@@ -136,11 +137,11 @@ fn add_level_from(
     Ok(())
 }
 
-/// The graph of the moves on its rank. Where a state has more than 65,535 moves on a letter, one of the moves to each state is
-/// kept.
+/// Makes the graph of the moves that lead to states of the same rank. If a state has more than 65,535 moves on a letter, only
+/// one move to each target is kept.
 ///
 /// # Errors
-/// [`OutOfMemory`] where there was no memory for the graph.
+/// [`OutOfMemory`] if there is not enough memory for the graph.
 pub fn level_graph(alloc: Global, g: &Multigraph, ranks: &[u32]) -> Result<Multigraph, OutOfMemory>
     requires few_states { g.now.states < 65536 }
     requires size { length ranks.now ≡ g.now.states }

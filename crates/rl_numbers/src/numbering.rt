@@ -1,4 +1,4 @@
-//! Lists of doubles and of triples with their numbers.
+//! Making the lists of doubles and of triples, with their numbers.
 
 ghost use Rattle.std.specs.Prelude.{◌≡◌, ℕ, ◌*◌, ◌<◌, ◌≤◌, All, length, slice_index, IfOk, OnOk, IfErr};
 ghost use Rattle.rl_graph.specs.Graph.{edges_of};
@@ -31,18 +31,18 @@ use rl_graph::{Multigraph, Twice, parts_of, product_parts};
 use rl_lists::OutOfMemory;
 use std::alloc::Global;
 
-/// The most triples of a list.
+/// The greatest number of triples in a list.
 pub const MOST_TRIPLES: usize = 1_000_000;
 
-/// The number of the limit: 1,000,000 triples.
+/// States the value of the limit: 1,000,000 triples.
 pub fn limits_are()
     ensures triples { MOST_TRIPLES ≡ 1000000 }
 {}
 
-/// Why there is no list of triples.
+/// The reason why there is no list of triples.
 #[derive(Clone, Copy)]
 pub enum TriplesError {
-    /// The least list has more than 1,000,000.
+    /// The least list has more than 1,000,000 triples.
     TooMany,
     /// Out of memory.
     OutOfMemory,
@@ -58,31 +58,25 @@ impl From<OutOfMemory> for TriplesError {
     }
 }
 
-/// The doubles that are reached, each with the number of its part.
+/// Returns the doubles that are reached from the starts, each with the number of its part.
 fn doubles_by(alloc: Global, g: &Multigraph, starts: &[u64]) -> Result<Doubles, OutOfMemory>
     requires few_states { g.now.states < 65536 }
     requires starts { All (λ s. s < g.now.states * g.now.states) starts.now }
     ensures { IfOk result (AreReachedDoubles g.now starts.now) }
 {
     let states = g.states();
-    // There are never more than fit.
+    // The search can't find more than `usize::MAX` doubles, so it fails only if memory runs out.
     let Ok(keys) = reached(alloc, &Twice { graph: g }, starts, usize::MAX) else {
         return Err(OutOfMemory);
     };
-    let Ok(parts) = product_parts(alloc, g) else {
-        drop(keys);
-        return Err(OutOfMemory);
-    };
-    let doubles = listed_doubles(alloc, states, &keys, &parts);
-    drop(parts);
-    drop(keys);
-    doubles
+    let parts = product_parts(alloc, g)?;
+    listed_doubles(alloc, states, &keys, &parts)
 }
 
-/// The doubles of a graph without a twin.
+/// Returns the doubles of a graph without a twin.
 ///
 /// # Errors
-/// [`OutOfMemory`] where there was no memory for them.
+/// [`OutOfMemory`] if there is not enough memory for them.
 pub fn doubles_of(alloc: Global, g: &Multigraph) -> Result<Doubles, OutOfMemory>
     requires few_states { g.now.states < 65536 }
     requires no_twin { HasNoTwin (edges_of g.now) }
@@ -91,12 +85,10 @@ pub fn doubles_of(alloc: Global, g: &Multigraph) -> Result<Doubles, OutOfMemory>
     let states = g.states();
     let _letters = g.letters();
     let starts = diagonal(alloc, states)?;
-    let doubles = doubles_by(alloc, g, &starts);
-    drop(starts);
-    doubles
+    doubles_by(alloc, g, &starts)
 }
 
-/// The moves on its rank.
+/// Returns the graph of the moves that lead to states of the same rank.
 fn level(alloc: Global, g: &Multigraph, ranks: &[u32]) -> Result<Level, OutOfMemory>
     requires few_states { g.now.states < 65536 }
     requires size { length ranks.now ≡ g.now.states }
@@ -107,13 +99,13 @@ fn level(alloc: Global, g: &Multigraph, ranks: &[u32]) -> Result<Level, OutOfMem
     Ok(Level::of(graph))
 }
 
-/// The numbers of the triples that are reached, unless they are too many.
+/// Returns the codes of the triples that are reached from the starts, unless there are too many.
 fn keys_of(alloc: Global, level: &Level, starts: &[u64]) -> Result<IndexSet<u64>, TriplesError>
     requires { All (λ s. s < level.now.states * level.now.states * level.now.states) starts.now }
     ensures reach { IfOk result (λ keys. IsReach (triple_moves (edges_of level.now) level.now.states) starts.now keys.keys) }
-    ensures few { IfOk result (λ keys. length keys.keys ≤ 1000000) }
+    ensures few { IfOk result (λ keys. length keys.keys ≤ MOST_TRIPLES) }
     ensures inside { IfOk result (λ keys. Each (λ x. x < level.now.states * level.now.states * level.now.states) keys.keys) }
-    ensures too_many { IfErr result (λ e. e ≡ TriplesError.TooMany → AreMore 1000000 (IsReached (triple_moves (edges_of level.now) level.now.states) starts.now)) }
+    ensures too_many { IfErr result (λ e. e ≡ TriplesError.TooMany → AreMore MOST_TRIPLES (IsReached (triple_moves (edges_of level.now) level.now.states) starts.now)) }
 {
     match reached(alloc, &Thrice { level }, starts, MOST_TRIPLES) {
         Ok(keys) => Ok(keys),
@@ -122,7 +114,7 @@ fn keys_of(alloc: Global, level: &Level, starts: &[u64]) -> Result<IndexSet<u64>
     }
 }
 
-/// The numbers of the triples from which the others are reached.
+/// Returns the codes of the triples from which the others are reached.
 fn first_triples(alloc: Global, g: &Multigraph, ranks: &[u32]) -> Result<Vec<u64>, OutOfMemory>
     requires few_states { g.now.states < 65536 }
     requires size { length ranks.now ≡ g.now.states }
@@ -130,51 +122,38 @@ fn first_triples(alloc: Global, g: &Multigraph, ranks: &[u32]) -> Result<Vec<u64
         × AreStartsUpTo g.now.states (slice_index ranks.now) (cycle_of components) g.now.states 0 v.items) }
 {
     let components = g.components()?;
-    let starts = starts_of(alloc, g.states(), ranks, &components);
-    drop(components);
-    starts
+    starts_of(alloc, g.states(), ranks, &components)
 }
 
-/// The triples that are reached, each with the number of its part.
+/// Returns the triples that are reached from the starts, each with the number of its part.
 fn triples_from(alloc: Global, level: &Level, starts: &[u64]) -> Result<Triples, TriplesError>
     requires { All (λ s. s < level.now.states * level.now.states * level.now.states) starts.now }
     ensures triples { IfOk result (AreReachedTriples level.now starts.now) }
-    ensures too_many { IfErr result (λ e. e ≡ TriplesError.TooMany → AreMore 1000000 (IsReached (triple_moves (edges_of level.now) level.now.states) starts.now)) }
+    ensures too_many { IfErr result (λ e. e ≡ TriplesError.TooMany → AreMore MOST_TRIPLES (IsReached (triple_moves (edges_of level.now) level.now.states) starts.now)) }
 {
     let states = level.graph().states();
     let keys = keys_of(alloc, level, starts)?;
-    let Ok(parts) = parts_of(alloc, &Among { level, keys: &keys }) else {
-        drop(keys);
-        return Err(TriplesError::OutOfMemory);
-    };
-    let triples = listed(alloc, states, &keys, &parts);
-    drop(parts);
-    drop(keys);
-    Ok(triples?)
+    let parts = parts_of(alloc, &Among { level, keys: &keys })?;
+    let triples = listed(alloc, states, &keys, &parts)?;
+    Ok(triples)
 }
 
-/// The triples of a graph without a split between states of one rank.
+/// Returns the triples of a graph without a split between states of the same rank.
 ///
 /// # Errors
-/// [`TriplesError::TooMany`] where the least list has more than 1,000,000, and [`TriplesError::OutOfMemory`] where there was no
-/// memory for them.
+/// [`TriplesError::TooMany`] if the least list has more than 1,000,000 triples; [`TriplesError::OutOfMemory`] if there is not
+/// enough memory for them.
 pub fn triples_of(alloc: Global, g: &Multigraph, ranks: &[u32]) -> Result<Triples, TriplesError>
     requires few_states { g.now.states < 65536 }
     requires size { length ranks.now ≡ g.now.states }
     requires no_split { HasNoEqualSplit (edges_of g.now) g.now.states (slice_index ranks.now) }
     ensures triples { IfOk result (λ l. AreTriples (edges_of g.now) g.now.states (slice_index ranks.now) l) }
-    ensures few { OnOk result (AreMoreThan 1000000 (LeastTriple (edges_of g.now) g.now.states (slice_index ranks.now)) → ⊥) }
-    ensures too_many { IfErr result (λ e. e ≡ TriplesError.TooMany → AreMoreThan 1000000 (LeastTriple (edges_of g.now) g.now.states (slice_index ranks.now))) }
+    ensures few { OnOk result (AreMoreThan MOST_TRIPLES (LeastTriple (edges_of g.now) g.now.states (slice_index ranks.now)) → ⊥) }
+    ensures too_many { IfErr result (λ e. e ≡ TriplesError.TooMany → AreMoreThan MOST_TRIPLES (LeastTriple (edges_of g.now) g.now.states (slice_index ranks.now))) }
 {
-    // Reading the numbers shows that it is a whole graph.
+    // Reading these numbers makes it known that the graph is well formed.
     let _read = (g.states(), g.letters());
     let starts = first_triples(alloc, g, ranks)?;
-    let Ok(level) = level(alloc, g, ranks) else {
-        drop(starts);
-        return Err(TriplesError::OutOfMemory);
-    };
-    let triples = triples_from(alloc, &level, &starts);
-    drop(level);
-    drop(starts);
-    triples
+    let level = level(alloc, g, ranks)?;
+    triples_from(alloc, &level, &starts)
 }

@@ -7,7 +7,7 @@ use Rattle.rl_pairs.specs.declared.pair.Pair.{Pair}
 use Rattle.rl_pairs.specs.declared.finder.Key.{Key}
 use Rattle.rl_pairs.specs.internal.Finding.{pair_of}
 
--- the pairs of keys
+-- The pairs of keys.
 pub pairs-more : (w : Walk) (keys : List Key) (k : ℕ) (key : Key) (items new : List Pair) (set : List ℕ) → items ≡ map (pair_of w) (take k keys) → slice_get keys k ≡ Some key → set ≡ set_at w key.set → new ≡ items ++ record { state = key.state; set = set } ∷ [] → new ≡ map (pair_of w) (take (k + 1) keys)
 pairs-more w keys k key items new set e read is more =
     let lt = slice_get_within keys k key read in

@@ -36,7 +36,7 @@ pumps-count : (links : List Link) (y : List ℕ) → length (chain_pumps links y
 pumps-count [] y = refl
 pumps-count (m ∷ links) y = ap suc (pumps-count links y)
 
--- words of letters
+-- Words of letters
 
 module _ (a : Automaton) (still : IsStill a) (next : ℕ → ℕ → List ℕ) (at : ℕ → Pair) (n : ℕ) (g : IsPairGraph a next at n) where
   pub cost_of_twin : (q : ℕ) (x y rest : List ℕ) (k : ℕ) → 1 ≤ paths next 0 q x → 2 ≤ paths next q q y → refuses a (at q).set rest ≡ true → IsRest a (x ++ (copies k y ++ rest)) → 2 ^ k ≤ walk_cost a (x ++ (copies k y ++ rest))
@@ -46,7 +46,7 @@ module _ (a : Automaton) (still : IsStill a) (next : ℕ → ℕ → List ℕ) (
   cost_of_chain links x z y rest k chain cycle some ok r =
       omega (arith, power_of_links next (refused a at) 0 links x z y rest k (stays_all a still next at n g) chain cycle some ok, exact_cost a still next at n g (chain_word k links x ++ (copies k y ++ rest)) r)
 
-  -- the same with the words pumped as a family's texts are
+  -- The same with the words pumped as a family's texts are.
   pub pumped_twin : (q : ℕ) (x y last : List ℕ) (k : ℕ) → 1 ≤ paths next 0 q x → 2 ≤ paths next q q y → refuses a (at q).set (to_end a last) ≡ true → IsRest a (to_end a (pumped k (x ∷ (last ∷ [])) (y ∷ []))) → 2 ^ k ≤ walk_cost a (to_end a (pumped k (x ∷ (last ∷ [])) (y ∷ [])))
   pumped_twin q x y last k lead twin ok r =
       let word : to_end a (pumped k (x ∷ (last ∷ [])) (y ∷ [])) ≡ x ++ (copies k y ++ to_end a last) = text_of_chain k [] x last y (letters_count a ∷ []) in
@@ -58,7 +58,7 @@ module _ (a : Automaton) (still : IsStill a) (next : ℕ → ℕ → List ℕ) (
       let word : to_end a (pumped k (chain_heads links x last) (chain_pumps links y)) ≡ chain_word k links x ++ (copies k y ++ to_end a last) = text_of_chain k links x last y (letters_count a ∷ []) in
       subst (λ (w : List ℕ). k ^ suc (length links) ≤ walk_cost a w) (sym word) (cost_of_chain links x z y (to_end a last) k chain cycle some ok (subst (IsRest a) word r))
 
-  -- each word of a twin's family, and of a chain's, is made of letters
+  -- Each word of a twin's family, and of a chain's, is made of letters.
   pub twin-move : (q : ℕ) (y : List ℕ) → 2 ≤ paths next q q y → HasMove next q
   twin-move q [] h = absurd (none (eqb-one q) h)
     where
@@ -86,7 +86,7 @@ module _ (a : Automaton) (still : IsStill a) (next : ℕ → ℕ → List ℕ) (
       let move = word-move next z z y some cycle in
       (chain-moves a still next at n g 0 links x z chain move last (rest-letters a last r), chain-rounds a still next at n g 0 links x z y chain move cycle)
 
--- texts of codes
+-- Texts of codes
 
 text-rest : (a : Automaton) (sets : List (ℕ → Bool)) → IsLetters a.table sets a.table.codes → (f : Family) (heads pumps : List (List ℕ)) (k : ℕ) → Reads a f heads pumps → IsRest a (to_end a (pumped k heads pumps))
 text-rest a sets is f heads pumps k reads =
@@ -101,7 +101,7 @@ module _ (a : Automaton) (t : Tree) (ending : Ending) (next : ℕ → ℕ → Li
   still-here : IsStill a
   still-here = still_of a t ending (all_sets t) whole stands
 
-  -- the letters of a family's texts are those of a twin: at least a power of two
+  -- If the letters of a family's texts are the letters of a twin: at least a power of two.
   pub twin_reads : (f : Family) (q : ℕ) (x y last : List ℕ) → Reads a f (x ∷ (last ∷ [])) (y ∷ []) → 1 ≤ paths next 0 q x → 2 ≤ paths next q q y → refuses a (at q).set (to_end a last) ≡ true → (k : ℕ) → 2 ^ k ≤ cost t ending (family_text f k)
   twin_reads f q x y last reads lead twin ok k =
       omega (
@@ -110,7 +110,7 @@ module _ (a : Automaton) (t : Tree) (ending : Ending) (next : ℕ → ℕ → Li
         pumped_twin a still-here next at n g q x y last k lead twin ok (text-rest a (all_sets t) stands.same_letters f (x ∷ (last ∷ [])) (y ∷ []) k reads),
       )
 
-  -- the letters of a family's texts are those of a chain: at least a power of the number of rounds
+  -- If the letters of a family's texts are the letters of a chain: at least a power of the number of rounds.
   pub chain_reads : (f : Family) (links : List Link) (x : List ℕ) (z : ℕ) (y last : List ℕ) → Reads a f (chain_heads links x last) (chain_pumps links y) → Chained next 0 links x z → 1 ≤ paths next z z y → 1 ≤ length y → refuses a (at z).set (to_end a last) ≡ true
       → (k : ℕ) → k ^ suc (length links) ≤ cost t ending (family_text f k)
   chain_reads f links x z y last reads chain cycle some ok k =
@@ -120,7 +120,7 @@ module _ (a : Automaton) (t : Tree) (ending : Ending) (next : ℕ → ℕ → Li
         pumped_chain a still-here next at n g links x z y last k chain cycle some ok (text-rest a (all_sets t) stands.same_letters f (chain_heads links x last) (chain_pumps links y) k reads),
       )
 
-  -- the same for the samples of a twin's letters, and of a chain's
+  -- The same for the samples of a twin's letters, and of a chain's.
   pub twin_spells : (f : Family) (q : ℕ) (x y last : List ℕ) → Spells a f (x ∷ (last ∷ [])) (y ∷ []) → 1 ≤ paths next 0 q x → 2 ≤ paths next q q y → IsRest a (to_end a last) → refuses a (at q).set (to_end a last) ≡ true → (k : ℕ) → 2 ^ k ≤ cost t ending (family_text f k)
   twin_spells f q x y last spells lead twin r ok k =
       let inside = twin-inside a still-here next at n g q x y last lead twin r in
@@ -132,7 +132,7 @@ module _ (a : Automaton) (t : Tree) (ending : Ending) (next : ℕ → ℕ → Li
       let inside = chain-inside a still-here next at n g links x z y last chain cycle some r in
       chain_reads f links x z y last (spells-reads a (all_sets t) f (chain_heads links x last) (chain_pumps links y) stands.same_letters inside.0 inside.1 spells) chain cycle some ok k
 
-  -- these samples make a family of the universe
+  -- These samples make a family of the universe.
   pub twin_family : (universe : Universe) (f : Family) (q : ℕ) (x y last : List ℕ) → a.table.codes ≡ code_count universe → Spells a f (x ∷ (last ∷ [])) (y ∷ []) → 1 ≤ paths next 0 q x → 2 ≤ paths next q q y → IsRest a (to_end a last) → IsFamily universe 1 f
   twin_family universe f q x y last codes spells lead twin r =
       let inside = twin-inside a still-here next at n g q x y last lead twin r in
@@ -153,7 +153,7 @@ module _ (a : Automaton) (t : Tree) (ending : Ending) (next : ℕ → ℕ → Li
       spells-family a (all_sets t) universe (suc (length links)) f (chain_heads links x last) (chain_pumps links y) stands.same_letters codes inside.0 inside.1 spells
       (chain-some next 0 links x z y chain some) (heads-count links x last) (pumps-count links y)
 
--- the laws as they are cited
+-- The laws as they are cited
 
 pub words_exact : (a : Automaton) (t : Tree) (ending : Ending) (sets : List (ℕ → Bool)) (next : ℕ → ℕ → List ℕ) (at : ℕ → Pair) (n : ℕ) → IsAutomaton a → StandsOver a t ending sets → IsPairGraph a next at n
     → (w : List ℕ) → IsRest a w → walk_cost a w ≡ 1 + walked next (refused a at) 0 w

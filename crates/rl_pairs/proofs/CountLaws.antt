@@ -21,7 +21,7 @@ pub length-below : (n : ℕ) → length (below n) ≡ n
 length-below zero = refl
 length-below (suc n) = omega (arith, length-append (below n) (n ∷ []), length-below n)
 
--- the sets of states below a number
+-- The sets of states below a number
 
 pub subsets : ℕ → List (List ℕ)
 subsets zero = [] ∷ []
@@ -46,7 +46,7 @@ unfolding subsets
 no-states zero = inl refl
 no-states (suc n) = Has-left [] (subsets n) (map (λ (s : List ℕ). s ++ n ∷ []) (subsets n)) (no-states n)
 
--- pairs of a state below a number and a set of such states
+-- Pairs of a state below a number and a set of such states
 
 pairs-of : ℕ → List (List ℕ) → List Pair
 pairs-of n [] = []
@@ -68,7 +68,7 @@ has-pair n q s (r ∷ sets) lt (inr h) =
     let make : List ℕ → ℕ → Pair = λ s q. record { state = q; set = s } in
     Has-right (make s q) (map (make r) (below n)) (pairs-of n sets) (has-pair n q s sets lt h)
 
--- a pair is a state and a set of states
+-- A pair is a state and a set of states.
 pub record IsPairOf (a : Automaton) (p : Pair) : Type 0 where
   pub state_in : p.state < a.states
   pub set_in : Has p.set (subsets a.states)
@@ -107,7 +107,7 @@ live-pair_of a still q (move {p = p} letter from le has live) =
       set_in = sets-in a (image a p.set letter) (moves_at a p.state letter) q (image-in a p.set letter) has;
     }
 
--- at most `8 s + 3` states are few enough for the bound
+-- At most `8 s + 3` states are few enough for the bound.
 pub enough : (q s : ℕ) → q ≤ 8 * s + 3 → 2 ^ q * q ≤ bound_n s
 unfolding bound_n
 enough q s h =
@@ -125,7 +125,7 @@ pub few-pairs : (a : Automaton) → IsStill a → (s : ℕ) → a.states ≤ 8 *
 few-pairs a still s few (l, apart, each, long) =
     absurd (omega (arith, pairs_at_most a l (each-live a still l each) apart, enough a.states s few, long))
 
--- the states of a graph of live pairs are the live pairs
+-- The states of a graph of live pairs are the live pairs
 
 kept-number : (a : Automaton) (at : ℕ → Pair) (ps : List Pair) (ks : List ℕ) (p : Pair) → KeptLive a at ps ks → Has p ps → IsLive a p.set → (k : ℕ) × Has k ks × (at k ≡ p)
 kept-number a at [] ks p e h live = absurd h

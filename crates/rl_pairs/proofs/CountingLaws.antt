@@ -20,7 +20,7 @@ use Rattle.rl_pairs.specs.internal.Errors.{IsRightError}
 use Rattle.rl_pairs.specs.internal.Counting.{IsCounted, IsCounting, Keeps, IsOnward, IsNumberOf, HasImage, IsClosed}
 use Rattle.rl_pairs.proofs.SetLaws.{has-holds, holds-has}
 
--- members by index and by recursion
+-- Members by index and by recursion
 
 pub Has-contains : {A : Type 0} (l : List A) (x : A) → Has x l → Contains l x
 Has-contains l x h = let r = at-has x l h in (r.0, at-short l r.0 x r.1, at-get_or l r.0 x x r.1)
@@ -28,7 +28,7 @@ Has-contains l x h = let r = at-has x l h in (r.0, at-short l r.0 x r.1, at-get_
 pub contains-Has : {A : Type 0} (l : List A) (x : A) → Contains l x → Has x l
 contains-Has {A = A} l x c = subst (λ (y : A). Has y l) c.2 (Has-get_or l c.0 x c.1)
 
--- the empty set
+-- The empty set
 
 filter-none : {A : Type 0} (p : A → Bool) (l : List A) → ((x : A) → p x ≡ false) → filter p l ≡ []
 filter-none p [] h = refl
@@ -52,7 +52,7 @@ start-moves a p q first letter le h =
     subst (CountedSet a) (image-empty a letter) (moved m.0 letter first le m.1)
 start-moves a r q (move {p = p} from_letter from from_le has live) letter le h = start-moves a p r from from_letter from_le has
 
--- where a set is counted, the empty set is
+-- If some set is counted, the empty set is.
 pub empty-counted : (a : Automaton) (set : List ℕ) → CountedSet a set → CountedSet a []
 empty-counted a set (moved {p = p} state letter from le has) = start-moves a p (record { state = state; set = set }) from letter le has
 empty-counted a set (imaged {set = old} letter from le free) = empty-counted a old from
@@ -61,7 +61,7 @@ pub image-counted : (a : Automaton) (set : List ℕ) (letter : ℕ) → IsCounte
 image-counted a set letter (inl e) le free = inl (ap (λ (s : List ℕ). image a s letter) e ∙ image-empty a letter)
 image-counted a set letter (inr c) le free = inr (imaged letter c le free)
 
--- a set without the accepting state, by the test and by its members
+-- A set without the accepting state, by the test and by its members.
 pub free-has : (a : Automaton) (set : List ℕ) → holds set (accepting_state a) ≡ false → Has (accepting_state a) set → ⊥
 free-has a set e h = both_ways (holds set (accepting_state a)) e (has-holds set (accepting_state a) h)
 
@@ -70,7 +70,7 @@ module _ (a : Automaton) (from : List ℕ) (c : IsCounted a from) where
   reached-counted set here = c
   reached-counted s (further {set = set} letter r free le) = image-counted a set letter (reached-counted set r) le (free-has a set free)
 
--- too many sets
+-- Too many sets
 
 all-counted : (a : Automaton) (set : List ℕ) → CountedSet a [] → IsCounted a set → CountedSet a set
 all-counted a set c (inl e) = subst (CountedSet a) (sym e) c
@@ -85,7 +85,7 @@ one-counted a x y ne (inr c) k = empty-counted a x c
 one-counted a x y ne (inl e) (inr c) = empty-counted a y c
 one-counted a x y ne (inl e) (inl d) = absurd (ne (e ∙ sym d))
 
--- more sets than there may be: at least two of them, so one is counted
+-- More sets than there may be: at least two of them, so one is counted.
 pub too-many : (a : Automaton) (n : ℕ) (sets : List (List ℕ)) → 1 ≤ n → Pairs (λ x y. x ≢ y) sets → Each (IsCounted a) sets → length sets ≡ suc n → MoreThan n (CountedSet a)
 too-many a n [] some apart each long = absurd (omega arith)
 too-many a n (x ∷ []) some apart each long = absurd (omega arith)
@@ -111,7 +111,7 @@ sets-apart a w made = Pairs-at (λ x y. x ≢ y) w.sets (λ i j d lt less e. mad
 pub sets-counted : (a : Automaton) (w : Walk) → IsCounting a w → Each (IsCounted a) w.sets
 sets-counted a w c = each-has (IsCounted a) w.sets (λ s h. let r = at-has s w.sets h in subst (IsCounted a) (at-get_or w.sets r.0 s [] r.1) (c.counted r.0 (at-short w.sets r.0 s r.1)))
 
--- a full walk and one more counted set
+-- A full walk and one more counted set.
 pub full-over : (a : Automaton) (w : Walk) (set : List ℕ) → IsCounting a w → IsCounted a set → IsFull w.sets w.limit set → MoreThan 20000 (CountedSet a)
 full-over a w set c is full =
     too-many a 20000 (w.sets ++ set ∷ []) (omega arith)
@@ -124,7 +124,7 @@ full-over a w set c is full =
     by s (inr (inl e)) = subst (IsCounted a) (sym e) is
     by s (inr (inr n)) = absurd n
 
--- the sets of a search for a rest
+-- The sets of a search for a rest.
 pub search-over : (a : Automaton) (w : Walk) (from : List ℕ) → IsCounting a w → IsCounted a from → IsOver a from w.sets w.limit → MoreThan 20000 (CountedSet a)
 search-over a w from c is over =
     too-many a 20000 over.sets (omega arith) (Pairs-at (λ x y. x ≢ y) over.sets over.apart)
@@ -135,13 +135,13 @@ search-over a w from c is over =
     by s (inl h) = Each-has (IsCounted a) s w.sets (sets-counted a w c) (contains-Has w.sets s h)
     by s (inr r) = reached-counted a from is s r
 
--- errors
+-- Errors
 
 pub right-error : (a : Automaton) (limit : ℕ) (x : SetsError) → (x ≡ Sets → MoreThan 20000 (CountedSet a)) → IsRightError a limit (sets_error x)
 right-error a limit Sets h = h refl
 right-error a limit OutOfMemory h = tt
 
--- walks that grow
+-- Walks that grow
 
 pub Keeps-refl : (w : Walk) → Keeps w w
 Keeps-refl w = record { longer = omega arith; same = λ n lt. refl }
@@ -200,7 +200,7 @@ pub one-only : {A : Type 0} (x : A) (n : ℕ) → get_or (x ∷ []) n x ≡ x
 one-only x zero = refl
 one-only x (suc n) = refl
 
--- the empty walk, and the first set of a new one
+-- The empty walk, and the first set of a new one.
 pub counting-start : (a : Automaton) (old new : Walk) (n : ℕ) → old.sets ≡ [] → new.limit ≡ 20000 → IsMadeFor new a → IsListed old.sets new.sets [] n → IsCounting a new
 counting-start a old new n none limit made listed = by listed.grown
   where
@@ -217,7 +217,7 @@ counting-start a old new n none limit made listed = by listed.grown
     by (inl e) = absurd (omega (arith, slice_get_within new.sets n [] listed.stands, ap length (e ∙ none)))
     by (inr h) = only (h.1 ∙ ap (λ (l : List (List ℕ)). l ++ [] ∷ []) none)
 
--- closed walks
+-- Closed walks
 
 image-keeps : (a : Automaton) (old new : Walk) (n letter : ℕ) → Keeps old new → n < length old.sets → HasImage a old n letter → HasImage a new n letter
 image-keeps a old new n letter k lt h free =
@@ -254,13 +254,13 @@ closed-set a w count c h = record {
 pub closed-none : (a : Automaton) (w : Walk) → IsClosed a w 0 0
 closed-none a w = record { whole = λ n letter less le. absurd (omega arith); part = λ letter less. absurd (omega arith) }
 
--- the image of a set that was made on a walk that has grown since the number was read
+-- The image of a set that was made on a walk that has grown since the number was read.
 pub image-made : (a : Automaton) (old new : Walk) (set letter m : ℕ) → Keeps old new → set < length old.sets → IsNumberOf new (image a (set_at old set) letter) m → HasImage a new set letter
 image-made a old new set letter m k lt is free = (m, record { within = is.within; is = is.is ∙ ap (λ (s : List ℕ). image a s letter) (sym (k.same set lt)) })
 
 -- ---- the loops that close a walk
 
--- the images of the first sets, and of the next one on the first letters, are made
+-- The images of the first sets, and of the next one on the first letters, are made.
 pub record IsClosing (a : Automaton) (old w : Walk) (set letter : ℕ) : Type 0 where
   pub onward : IsOnward a old w
   pub closed : IsClosed a w set letter
@@ -302,7 +302,7 @@ set-of-none a members e = ap (set_of a) e ∙ filter-none (holds []) (below a.st
 pub closing-set : (a : Automaton) (old w new : Walk) (set : ℕ) → IsClosing a old w set 0 → set < length w.sets → IsOnward a w new → IsClosed a new (suc set) 0 → IsClosing a old new (set + 1) 0
 closing-set a old w new set i lt o c = record { onward = onward-trans a old w new i.onward.keeps o; closed = let e : suc set ≡ set + 1 = omega arith in subst (λ (n : ℕ). IsClosed a new n 0) e c }
 
--- a set with the accepting state has no image
+-- A set with the accepting state has no image.
 pub closing-free : (a : Automaton) (old w : Walk) (set : ℕ) → IsClosing a old w set 0 → holds (set_at w set) (accepting_state a) ≡ true → IsClosing a old w (set + 1) 0
 closing-free a old w set i e = record {
   onward = i.onward;

@@ -1,5 +1,5 @@
--- The exact cost by live pairs: the walk of an automaton has one step for each path of live pairs whose last set refuses what
--- is left.
+-- The exact cost by live pairs: the walk of an automaton has one step for each path of live pairs whose last set refuses the
+-- rest of the word.
 use Rattle.std.proofs.Common.{◌≡◌, ◌≢◌, ◌∙◌, ℕ, suc, ◌+◌, ◌<◌, ◌≤◌, ◌⊎◌, inl, inr, List, [], ◌∷◌, ◌++◌, Bool, true, false, ◌||◌, eqb, eqb-true, eq-eqb, cond, refl, sym, ap, subst, arith}
 use Rattle.std.proofs.lemmas.Bool.{cases_Bool, false≢true, or_cases, cases_lt}
 use Rattle.std.specs.List.{list_any}
@@ -18,8 +18,8 @@ use Rattle.rl_pairs.specs.PairGraph.{KeptLive, IsPairGraph}
 use Rattle.rl_pairs.proofs.SetLaws.{any-there, any-has, image-has, Has-image, image-alive, Within, image-within, joined-old, joined-new, Has-joined, joined-within, refuses-member, refuses-none, accepts-member, refuses-not}
 use Rattle.rl_pairs.proofs.GraphWords.{Stays}
 
--- what is needed of an automaton: its moves lead to states, none leads on from the accepting and the dead state, and those on
--- the end letter lead to one of these two
+-- What is required of an automaton: its moves lead to states, the accepting state and the dead state have no moves, and each
+-- move on the end letter leads to one of these two.
 pub record IsStill (a : Automaton) : Type 0 where
   pub three : 3 ≤ a.states
   pub targets : (q letter t : ℕ) → Has t (moves_at a q letter) → t < a.states
@@ -27,7 +27,7 @@ pub record IsStill (a : Automaton) : Type 0 where
   pub died : (letter : ℕ) → moves_at a (dead_state a) letter ≡ []
   pub ends : (q t : ℕ) → Has t (moves_at a q (letters_count a)) → (t ≡ accepting_state a) ⊎ (t ≡ dead_state a)
 
--- steps of walks
+-- Steps of walks
 
 up_to_hit-hit : (l m : List Bool) → has_hit l ≡ true → up_to_hit (l ++ m) ≡ up_to_hit l
 up_to_hit-hit [] m h = absurd (false≢true h)
@@ -67,7 +67,7 @@ accepts-accepting : (a : Automaton) (w : List ℕ) (q : ℕ) → q ≡ accepting
 accepts-accepting a [] q e = eq-eqb q (accepting_state a) e
 accepts-accepting a (l ∷ w) q e = or-first (eqb q (accepting_state a)) (list_any (λ t. accepts a t w) (moves_at a q l)) (eq-eqb q (accepting_state a) e)
 
--- a set that holds the accepting state refuses nothing
+-- A set that holds the accepting state refuses nothing.
 pub live-free : (a : Automaton) (set : List ℕ) → IsLive a set → Has (accepting_state a) set → ⊥
 live-free a set live h = refuses-member a set live.0 (accepting_state a) live.2 h (accepts-accepting a live.0 (accepting_state a) refl)
 
@@ -89,7 +89,7 @@ module _ (a : Automaton) (still : IsStill a) where
       by (inl k) = let m : q ≡ accepting_state a = eqb-true q (accepting_state a) k in omega (arith, still.three)
       by (inr k) = let none : moves_at a q l ≡ [] = ap (λ x. moves_at a x l) e ∙ still.died l in false≢true (rw none at k)
 
-  -- some target of a member that accepts the letters accepts the letters behind
+  -- Some target of a member that accepts the letters accepts the letters behind.
   target-accepts : (q l : ℕ) (w : List ℕ) → q ≢ accepting_state a → accepts a q (l ∷ w) ≡ true → (t : ℕ) × Has t (moves_at a q l) × (accepts a t w ≡ true)
   target-accepts q l w ne h = any-there (λ t. accepts a t w) (moves_at a q l) (by (or_cases (eqb q (accepting_state a)) (list_any (λ t. accepts a t w) (moves_at a q l)) h))
     where
@@ -103,7 +103,7 @@ module _ (a : Automaton) (still : IsStill a) where
       let t = target-accepts m.0 l w (λ e. live-free a set live (subst (λ (x : ℕ). Has x set) e m.1)) m.2 in
       refuses-not a (image a set l) w t.0 (image-has a set l m.0 t.0 m.1 t.1 (λ e. accepts-dead w t.0 e t.2) (still.targets m.0 l t.0 t.1)) t.2
 
-  -- what follows the letters read is a rest; or nothing, and then each target, and each member, is where the end letter leads
+  -- What follows the letters read is a rest; or nothing, and then the end letter leads to each target and each member.
   Ending : List ℕ → List ℕ → List ℕ → Type 0
   Ending w ts set =
       IsRest a w ⊎ ((w ≡ []) × ((t : ℕ) → Has t ts → (t ≡ accepting_state a) ⊎ (t ≡ dead_state a)) × ((q : ℕ) → Has q set → q ≡ accepting_state a))
@@ -140,7 +140,7 @@ module _ (a : Automaton) (still : IsStill a) where
   still-accepts : (t : ℕ) (set w : List ℕ) → Within a set → refuses a set w ≡ false → refuses a (joined a t set) w ≡ false
   still-accepts t set w within h = let m = accepts-member a set w h in refuses-not a (joined a t set) w m.0 (joined-old a t m.0 set within m.1) m.2
 
--- the pairs behind the kept numbers of moves
+-- The pairs behind the kept numbers of moves
 
 pairs-hold : (a : Automaton) (set ts : List ℕ) (p : Pair) (x : ℕ) → Within a set → Has p (pairs_from a set ts) → Has x set → Has x p.set
 pairs-hold a set [] p x w h i = absurd h
@@ -157,11 +157,11 @@ kept-pair a at (p ∷ ps) ks k (inr (j, rest, live, e, same, more)) h = by (rw e
     by (inr i) deeper = inr (deeper i)
 
 module _ (a : Automaton) (still : IsStill a) (next : ℕ → ℕ → List ℕ) (at : ℕ → Pair) (n : ℕ) where
-  -- the paths that one move begins: the move itself where its set refuses the rest, and those that go on
+  -- The paths that begin with one move: the move itself if its set refuses the rest, and the paths that go on.
   begun : List ℕ → ℕ → ℕ
   begun w k = one (refuses a (at k).set w) + walked next (refused a at) k w
 
-  -- once a target accepts the rest no path is counted
+  -- Once a target accepts the rest no path is counted.
   nothing : (w ts ks set : List ℕ) → ((k : ℕ) → k < n → refuses a (at k).set w ≡ false → walked next (refused a at) k w ≡ 0) → Within a set → KeptLive a at (pairs_from a set ts) ks → ((k : ℕ) → Has k ks → k < n) → refuses a set w ≡ false → total (begun w) ks ≡ 0
   unfolding begun
   nothing w [] ks set quiet within e small h = rw e refl
@@ -173,7 +173,7 @@ module _ (a : Automaton) (still : IsStill a) (next : ℕ → ℕ → List ℕ) (
       let later = nothing w ts rest (joined a t set) quiet (joined-within a t set within) more (λ j i. small j (rw e (inr i))) (still-accepts a still t set w within h) in
       rw e (omega (arith, here, later))
 
-  -- before that, the paths counted are the steps
+  -- Before that, the paths counted are the steps.
   in_order : (w ts ks set : List ℕ) → ((k : ℕ) → k < n → refuses a (at k).set w ≡ false → walked next (refused a at) k w ≡ 0) → ((k : ℕ) → k < n → refuses a (at k).set w ≡ true → walked next (refused a at) k w ≡ up_to_hit (walk a (at k).state w))
       → Within a set → ((t : ℕ) → Has t ts → t < a.states) → KeptLive a at (pairs_from a set ts) ks → ((k : ℕ) → Has k ks → k < n) → Ending a still w ts set → refuses a set w ≡ true
       → total (begun w) ks ≡ up_to_hit (stepped (accepting_state a) (λ r. walk a r w) ts)
@@ -240,7 +240,7 @@ module _ (a : Automaton) (still : IsStill a) (next : ℕ → ℕ → List ℕ) (
       let start : up_to_hit (walk a (at 0).state w) ≡ up_to_hit (walk a 0 w) = ap (λ (p : Pair). up_to_hit (walk a p.state w)) g.first in
       omega (arith, steps, start)
 
-  -- a set holds the image of each set before it, so what it refuses is refused before too, with the letters between in front
+  -- A set holds the image of each set before it, so what it refuses is refused before too, with the letters between in front.
   pub stays_all : Stays next (refused a at)
   stays_all s t [] v h ok = rw (nil-same next s t h) ok
   stays_all s t (l ∷ u) v h ok =

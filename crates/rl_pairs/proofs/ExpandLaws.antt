@@ -23,7 +23,7 @@ use Rattle.rl_pairs.proofs.CountingLaws.{image-counted, Keeps-trans, onward-refl
 use Rattle.rl_pairs.proofs.RowLaws.{flat-push, next-at, next-last, next-old, Each-push, Each-weaker, KeptLive-same, KeptLive-dead, KeptLive-live, pairs-step, pairs-has, tried-for}
 use Rattle.rl_pairs.proofs.FindingLaws.{number-keeps, pair-keeps, found-keeps, found-row, Stays-refl, Stays-trans}
 
--- the pairs of a row stay
+-- The pairs of a row stay
 
 stands-keeps : (v w : Walk) (set : List ℕ) → Keeps v w → Stands v set → Stands w set
 stands-keeps v w set k s = (s.0, number-keeps v w set s.0 k s.1)
@@ -47,7 +47,7 @@ row-push a w g ps p row new r (inr (k, live, lt, is, e)) s = record {
   standing = Each-push (λ q. Stands w q.set) ps p r.standing s;
 }
 
--- the targets of a row are among all targets
+-- The targets of a row are among all targets
 
 has-flat : (k p : ℕ) (rows : List (List ℕ)) → Has k (get_or rows p []) → Has k (flat rows)
 has-flat k p [] h = h
@@ -60,13 +60,13 @@ row-inside a w g row i k h = Each-has (λ k. k < length g.keys) k (flat (g.rows 
 pub next-inside : (a : Automaton) (w : Walk) (f : Found) (q letter : ℕ) → IsFound a w f → letter < width a → (k : ℕ) → Has k (next_of a f q letter) → k < length f.keys
 next-inside a w f q letter i lt k h = Each-has (λ k. k < length f.keys) k (flat f.rows) i.targets (has-flat k (q * width a + letter) f.rows (subst (Has k) (next-at (width a) f.rows q letter lt) h))
 
--- the image of a pair's set
+-- The image of a pair's set.
 pub pair-image : (a : Automaton) (w : Walk) (f : Found) (key : Key) (from letter : ℕ) → IsCounting a w → IsFound a w f → from < length f.keys → key ≡ key_at f from → letter ≤ letters_count a → IsCounted a (image a (set_at w key.set) letter)
 pair-image a w f key from letter c i lt e le =
     subst (λ (k : Key). IsCounted a (image a (set_at w k.set) letter)) (sym e)
     (image-counted a (set_at w (key_at f from).set) letter (c.counted (key_at f from).set (i.sets from lt)) le (λ h. accepting-dead a (set_at w (key_at f from).set) (has-holds (set_at w (key_at f from).set) (accepting_state a) h) (let r = i.rests from lt in (rest_at f from, r.0, r.1))))
 
--- the moves in terms of the pair's key
+-- The moves in terms of the pair's key.
 pub move-pairs : (a : Automaton) (v : Walk) (f : Found) (key : Key) (from letter : ℕ) (ts : List ℕ) → key ≡ key_at f from → ts ≡ moves_at a key.state letter → pairs_from a (image a (pair_at v f from).set letter) ts ≡ next_pairs a (pair_at v f from) letter
 move-pairs a v f key from letter ts e t = ap (pairs_from a (image a (pair_at v f from).set letter)) (t ∙ ap (λ (k : Key). moves_at a k.state letter) e)
 

@@ -45,7 +45,7 @@ pumped-each P k (w ∷ heads) (y ∷ pumps) h p c i =
     by (inl j) rest = front (Has-append c w (copies k y) j)
     by (inr j) rest = rest j
 
--- the letters of a family's text are the pumped words of its heads and pumps
+-- The letters of a family's text are the pumped words of its heads and pumps.
 pub text-word : (a : Automaton) (f : Family) (heads pumps : List (List ℕ)) (k : ℕ) → Reads a f heads pumps → letters_in a (family_text f k) ≡ pumped k heads pumps
 text-word a f heads pumps k reads = map-pumped (letter_at a.table) k f.heads f.pumps ∙ ap₂ (pumped k) reads.same_heads reads.same_pumps
 
@@ -55,7 +55,7 @@ text-codes a f heads pumps k reads =
     (λ w i c j. All-has (λ c. c < a.table.codes) w c (All-has (All (λ code. code < a.table.codes)) f.heads w reads.head_codes i) j)
     (λ w i c j. All-has (λ c. c < a.table.codes) w c (All-has (All (λ code. code < a.table.codes)) f.pumps w reads.pump_codes i) j))
 
--- letters alone
+-- Only letters.
 abbrev pub Inside : Automaton → List (List ℕ) → Type 0
 Inside a words = (w : List ℕ) → Has w words → (l : ℕ) → Has l w → l < letters_count a
 
@@ -70,7 +70,7 @@ words-codes a sets is words h =
     let r = has-map (spelled a) text words i in
     subst (All (λ code. code < a.table.codes)) (sym r.2) (has-All (λ code. code < a.table.codes) (spelled a r.0) (spelled-within a sets is r.0 (h r.0 r.1))))
 
--- the samples of letters are read as these letters
+-- The samples of letters are read as these letters.
 pub spells-reads : (a : Automaton) (sets : List (ℕ → Bool)) (f : Family) (heads pumps : List (List ℕ)) → IsLetters a.table sets a.table.codes → Inside a heads → Inside a pumps → Spells a f heads pumps → Reads a f heads pumps
 spells-reads a sets f heads pumps is h p s =
     record {
@@ -84,7 +84,7 @@ no-empty : (a : Automaton) (w : List ℕ) → 1 ≤ length w → spelled a w ≢
 no-empty a [] h e = absurd (omega arith)
 no-empty a (l ∷ w) h e = cc
 
--- and make a family where no pump is empty
+-- They make a family without an empty pump.
 pub spells-family : (a : Automaton) (sets : List (ℕ → Bool)) (universe : Universe) (d : ℕ) (f : Family) (heads pumps : List (List ℕ)) → IsLetters a.table sets a.table.codes → a.table.codes ≡ code_count universe → Inside a heads → Inside a pumps → Spells a f heads pumps
     → ((w : List ℕ) → Has w pumps → 1 ≤ length w) → length heads ≡ suc d → length pumps ≡ d → IsFamily universe d f
 spells-family a sets universe d f heads pumps is codes h p s some lh lp =

@@ -11,7 +11,7 @@ length-copies : (k : ℕ) (w : List ℕ) → length (copies k w) ≡ k * length 
 length-copies zero w = omega (arith, zero-mul (length w))
 length-copies (suc k) w = omega (arith, length-append w (copies k w), length-copies k w, suc-mul k (length w))
 
--- the sum of the lengths
+-- The sum of the lengths.
 sizes : List (List ℕ) → ℕ
 sizes [] = 0
 sizes (w ∷ words) = length w + sizes words
@@ -23,14 +23,14 @@ length-pumped k (head ∷ heads) [] = omega arith
 length-pumped k (head ∷ heads) (pump ∷ pumps) =
     omega (arith, length-append (head ++ copies k pump) (pumped k heads pumps), length-append head (copies k pump), length-copies k pump, length-pumped k heads pumps, mul-add k (length pump) (sizes pumps))
 
--- in plain numbers
+-- In plain numbers.
 spread : (a b k n : ℕ) → 1 ≤ k → n ≤ a + k * b → n + 1 ≤ (a + b + 1) * k
 spread a b k n some h = let more : a * 1 ≤ a * k = mul-le-mul same some in omega (arith, more)
   where
     same : a ≤ a
     same = omega arith
 
--- one more than the codes of all heads and pumps
+-- One more than the codes of all heads and pumps.
 pub factor_of : Family → ℕ
 factor_of f = sizes f.heads + sizes f.pumps + 1
 

@@ -23,7 +23,7 @@ use Rattle.rl_pairs.proofs.SetLaws.{Has-below}
 use Rattle.rl_pairs.proofs.CountLaws.{length-below}
 use Rattle.rl_pairs.proofs.RowLaws.{AreFirstSeen-push, seen-old, seen-new, flat-last, flat-nil, next-more, next-nil, next-last, Each-push, Each-weaker}
 
--- keys
+-- Keys
 
 abbrev pub key_eq : Key → Key → Bool
 key_eq x y = eqb x.state y.state && eqb x.set y.set
@@ -49,7 +49,7 @@ key-found key keys n e = let h = position-Some (key_eq key) keys n first_key (sy
 pub key-missing : (key : Key) (keys : List Key) → list_any (key_eq key) keys ≡ false → (k : ℕ) → k < length keys → get_or keys k first_key ≢ key
 key-missing key keys none k lt e = both_ways (list_any (key_eq key) keys) none (list_any_at (key_eq key) keys k first_key lt (same-key_eq key (get_or keys k first_key) (sym e)))
 
--- the walk grows
+-- The walk grows
 
 pub number-keeps : (v w : Walk) (set : List ℕ) (n : ℕ) → Keeps v w → IsNumberOf v set n → IsNumberOf w set n
 number-keeps v w set n k is = record { within = omega (arith, is.within, k.longer); is = k.same n is.within ∙ is.is }
@@ -78,7 +78,7 @@ found-keeps a v w f k i =
       count = i.count;
     }
 
--- a row begins
+-- A row begins
 
 pub found-row : (a : Automaton) (w : Walk) (f : Found) → IsFound a w f → IsFound a w (with_row f [])
 found-row a w f i = record {
@@ -99,7 +99,7 @@ found-row a w f i = record {
   count = ap (seen_after 1) (flat-nil f.rows) ∙ i.count;
 }
 
--- one more move to a pair that was found before
+-- One more move to a pair that was found before
 
 pub found-old : (a : Automaton) (w : Walk) (f : Found) (row : List ℕ) (j : ℕ) → j < length f.keys → IsFound a w (with_row f row) → IsFound a w (with_row f (row ++ j ∷ []))
 found-old a w f row j less i = record {
@@ -120,7 +120,7 @@ found-old a w f row j less i = record {
   count = ap (seen_after 1) (flat-last f.rows row j) ∙ seen-old 1 j (flat (f.rows ++ row ∷ [])) (omega (arith, i.count)) ∙ i.count;
 }
 
--- one more pair
+-- One more pair
 
 abbrev pub pushed : Found → Key → List ℕ → List ℕ → Found
 pushed f key lead rest = record { limit = f.limit; keys = f.keys ++ key ∷ []; leads = f.leads ++ lead ∷ []; rests = f.rests ++ rest ∷ []; rows = f.rows }
@@ -134,7 +134,7 @@ Stays-refl f = record { limit = refl; longer = omega arith; same = λ k lt. refl
 pub Stays-trans : (f g h : Found) → Stays f g → Stays g h → Stays f h
 Stays-trans f g h x y = record { limit = y.limit ∙ x.limit; longer = omega (arith, x.longer, y.longer); same = λ k lt. y.same k (omega (arith, x.longer)) ∙ x.same k lt }
 
--- the pair of the move that leads to it, its number and what is known of it
+-- The pair of the move that leads to it, its number and what is known of it.
 pub record IsNew (a : Automaton) (w : Walk) (f : Found) (from letter : ℕ) (key : Key) (rest : List ℕ) : Type 0 where
   pub place : length f.rows ≡ from * width a + letter
   pub from_in : from < length f.keys
@@ -177,7 +177,7 @@ module _ (a : Automaton) (w : Walk) (f : Found) (row : List ℕ) (from letter : 
   either : (k : ℕ) → k < length g.keys → (k < length f.keys) ⊎ (k ≡ length f.keys)
   either k lt = elim (cases_lt k (length f.keys)) [ inl less ↦ inl less | inr more ↦ inr (omega (arith, many)) ]
 
-  -- what holds of the old keys and of the new one holds of each
+  -- What holds of the old keys and of the new one holds of each.
   each-key : (P : ℕ → Key → Type 0) → ((k : ℕ) → k < length f.keys → P k (key_at f k)) → ((k : ℕ) → k ≡ length f.keys → P k key) → (k : ℕ) → k < length g.keys → P k (key_at g k)
   each-key P old fresh k lt = elim (either k lt) [ inl less ↦ subst (P k) (sym (key-old k less)) (old k less) | inr e ↦ subst (P k) (sym (key-new k e)) (fresh k e) ]
 
@@ -220,13 +220,13 @@ module _ (a : Automaton) (w : Walk) (f : Found) (row : List ℕ) (from letter : 
   pub noted-new : IsNoted a w (pushed f key lead rest) (pair_of w key) row (row ++ length f.keys ∷ [])
   noted-new = inr (length f.keys, (rest, new.refused.0, new.refused.1), omega (arith, many), ap (pair_of w) (key-new (length f.keys) refl), refl)
 
--- a pair that is found already
+-- A pair that is found already.
 pub noted-old : (a : Automaton) (w : Walk) (f : Found) (row : List ℕ) (key : Key) (j : ℕ) → IsFound a w (with_row f row) → j < length f.keys → key_at f j ≡ key → IsNoted a w f (pair_of w key) row (row ++ j ∷ [])
 noted-old a w f row key j i lt e =
     let r = i.rests j lt in
     inr (j, subst (λ (k : Key). IsLive a (set_at w k.set)) e (rest_at f j, r.0, r.1), lt, ap (pair_of w) e, refl)
 
--- too many pairs
+-- Too many pairs
 
 number-same : (a : Automaton) (w : Walk) → IsMadeFor w a → (m n : ℕ) → m < length w.sets → n < length w.sets → set_at w m ≡ set_at w n → m ≡ n
 number-same a w made m n x y e = elim (cases_order m n) [
@@ -268,7 +268,7 @@ too-many-pairs a w f row key made i full lt live absent =
 
 -- ---- one move
 
--- what a visit makes of the pairs and the row
+-- What a visit makes of the pairs and the row.
 pub record IsVisited (a : Automaton) (w : Walk) (f g : Found) (p : Pair) (row new : List ℕ) : Type 0 where
   pub found : IsFound a w (with_row g new)
   pub stays : Stays f g

@@ -20,7 +20,7 @@ share-more : (b n m : ℕ) (ok : Bool) → b * n ≤ m → b * n ≤ one ok + m
 share-more b n m true h = omega arith
 share-more b n m false h = omega arith
 
--- paths to a state whose own paths are counted too, with the empty one
+-- Paths to a state whose own paths are counted too, with the empty one.
 pub walked_there : (next : ℕ → ℕ → List ℕ) (ok : ℕ → List ℕ → Bool) (s q : ℕ) (u v : List ℕ) → ok q v ≡ true → 1 ≤ length u → paths next s q u * suc (walked next ok q v) ≤ walked next ok s (u ++ v)
 walked_there next ok s q [] v h k = absurd (omega arith)
 walked_there next ok s q (l ∷ []) v h k =
@@ -34,7 +34,7 @@ walked_there next ok s q (l ∷ (c ∷ u)) v h k =
     (λ m i. share-more (paths next m q (c ∷ u)) (suc (walked next ok q v)) (walked next ok m ((c ∷ u) ++ v)) (ok m ((c ∷ u) ++ v)) (walked_there next ok m q (c ∷ u) v h (omega arith))) in
     omega (arith, a, b)
 
--- paths to a state whose own paths are counted
+-- Paths to a state whose own paths are counted.
 pub walked_behind : (next : ℕ → ℕ → List ℕ) (ok : ℕ → List ℕ → Bool) (s q : ℕ) (u v : List ℕ) → paths next s q u * walked next ok q v ≤ walked next ok s (u ++ v)
 walked_behind next ok s q [] v =
     through-nil (one (eqb s q)) (walked next ok q v) (walked next ok s v) (one-le (eqb s q)) (λ e. ap (λ x. walked next ok x v) (sym (eqb-true s q (one-true (eqb s q) e))))
@@ -44,7 +44,7 @@ walked_behind next ok s q (l ∷ u) v =
     (λ m i. share-more (paths next m q u) (walked next ok q v) (walked next ok m (u ++ v)) (ok m (u ++ v)) (walked_behind next ok m q u v)) in
     omega (arith, a, b)
 
--- the same from a bound on the number of paths
+-- The same from a bound on the number of paths.
 times_behind : (next : ℕ → ℕ → List ℕ) (ok : ℕ → List ℕ → Bool) (s q k : ℕ) (u v : List ℕ) → k ≤ paths next s q u → k * walked next ok q v ≤ walked next ok s (u ++ v)
 times_behind next ok s q k u v h =
     let a : k * walked next ok q v ≤ paths next s q u * walked next ok q v = mul-le-mul h le-self in
@@ -60,7 +60,7 @@ word_some : (next : ℕ → ℕ → List ℕ) (q : ℕ) (y : List ℕ) → 2 ≤
 word_some next q [] h = absurd (omega (arith, one-le (eqb q q)))
 word_some next q (l ∷ y) h = omega arith
 
--- each further round of a twin doubles
+-- Each further round of a twin doubles.
 twin_rounds : (next : ℕ → ℕ → List ℕ) (ok : ℕ → List ℕ → Bool) (q : ℕ) (y rest : List ℕ) (k : ℕ) → 2 ≤ paths next q q y → ok q rest ≡ true → 2 ^ suc k ≤ walked next ok q (copies (suc k) y ++ rest)
 twin_rounds next ok q y rest zero h r =
     rw (append_assoc) (let a = walked_there next ok q q y rest r (word_some next q y h) in let b = mul-le-mul h le-one in omega (arith, a, b))
@@ -77,17 +77,17 @@ two_to_the next ok s q x y rest zero g h r = omega arith
 two_to_the next ok s q x y rest (suc k) g h r =
     omega (arith, once_behind next ok s q x (copies (suc k) y ++ rest) g, twin_rounds next ok q y rest k h r)
 
--- a state whose rest is refused is led to only by longer rests that are refused
+-- A state whose rest is refused is led to only by longer rests that are refused.
 abbrev pub Stays : (ℕ → ℕ → List ℕ) → (ℕ → List ℕ → Bool) → Type 0
 Stays next ok = (s t : ℕ) (u v : List ℕ) → 1 ≤ paths next s t u → ok t v ≡ true → ok s (u ++ v) ≡ true
 
--- rounds of a cycle lead back
+-- Rounds of a cycle lead back.
 pub round_paths : (next : ℕ → ℕ → List ℕ) (q : ℕ) (y : List ℕ) (k : ℕ) → 1 ≤ paths next q q y → 1 ≤ paths next q q (copies k y)
 round_paths next q y zero h = omega (arith, paths-nil next q)
 round_paths next q y (suc k) h =
     omega (arith, through_one next q q q y (copies k y), positive (paths next q q y) (paths next q q (copies k y)) h (round_paths next q y k h))
 
--- in any one of the rounds a split may be crossed
+-- In any one of the rounds a split may be crossed.
 pub across : (next : ℕ → ℕ → List ℕ) (r q : ℕ) (y : List ℕ) (k : ℕ) → IsSplit next r q y → k ≤ paths next r q (copies k y)
 across next r q y zero h = omega arith
 across next r q y (suc k) h =
@@ -96,7 +96,7 @@ across next r q y (suc k) h =
     let c = positive (paths next r q y) (paths next q q (copies k y)) h.over (round_paths next q y k h.behind) in
     omega (arith, a, b, c)
 
--- the last cycle may be left after any one of the rounds
+-- The last cycle may be left after any one of the rounds.
 pub cycle_rounds : (next : ℕ → ℕ → List ℕ) (ok : ℕ → List ℕ → Bool) (z : ℕ) (y rest : List ℕ) (k : ℕ) → Stays next ok → 1 ≤ paths next z z y → 1 ≤ length y → ok z rest ≡ true → k ≤ walked next ok z (copies k y ++ rest)
 cycle_rounds next ok z y rest zero stays h some r = omega arith
 cycle_rounds next ok z y rest (suc k) stays h some r =
@@ -109,7 +109,7 @@ cycle_rounds next ok z y rest (suc k) stays h some r =
     le-self : suc (walked next ok z (copies k y ++ rest)) ≤ suc (walked next ok z (copies k y ++ rest))
     le-self = omega arith
 
--- the words of a chain, with `k` rounds of each split, and what leads to its end
+-- The words of a chain, with `k` rounds of each split, and what leads to its end.
 abbrev pub chain_word : ℕ → List Link → List ℕ → List ℕ
 chain_word k [] x = x
 chain_word k (m ∷ links) x = m.lead ++ (copies k m.word ++ chain_word k links x)

@@ -1,16 +1,16 @@
--- Which powers outgrow which: a power outgrows each smaller one, and a power of two outgrows each power.
+-- Growth of powers: a power outgrows each smaller one, and a power of two outgrows each power.
 use Rattle.std.proofs.Common.{◌≡◌, ◌∙◌, ℕ, zero, suc, ◌+◌, ◌*◌, ◌^◌, ◌<◌, ◌≤◌, sym, ap, subst, arith, le_trans, mul-le-mul, pow-suc, pow-add, pow_pos, pow_mono, mul-suc, suc-mul}
 use Rattle.std.proofs.Math.Nat.{pow-le-pow_right, one-le-pow, pow-zero, two-pow-succ, mul-zero}
 use Rattle.std.proofs.lemmas.Nat.{mul-pow}
 
--- in plain numbers
+-- In plain numbers.
 too-many : (m x : ℕ) → 1 ≤ x → x * suc m ≤ m * x → ⊥
 too-many m x some h = absurd (omega (arith, mul-suc x m))
 
 at-most : (c b x y : ℕ) → y ≤ c * (b * x) → y ≤ c * b * x
 at-most c b x y h = omega arith
 
--- the factor stands in front
+-- The factor is in front.
 parted : (c l k d y : ℕ) → y ≤ c * (l * k) ^ d → y ≤ c * l ^ d * k ^ d
 parted c l k d y h = at-most c (l ^ d) (k ^ d) y (subst (λ (x : ℕ). y ≤ c * x) (mul-pow l k d) h)
 
@@ -20,7 +20,7 @@ no-power-below m d e lt h = too-many m (suc m ^ d) (one-le-pow d (suc m) some) (
     some : 0 < suc m
     some = omega arith
 
--- a power isn't bounded by a smaller one
+-- A power isn't bounded by a smaller one.
 pub no-smaller-power : (c l d e : ℕ) → d < e → ((k : ℕ) → 1 ≤ k → k ^ e ≤ c * (l * k) ^ d) → ⊥
 no-smaller-power c l d e lt h = no-power-below (c * l ^ d) d e lt (parted c l (suc (c * l ^ d)) d (suc (c * l ^ d) ^ e) (h (suc (c * l ^ d)) (omega arith)))
 
@@ -33,7 +33,7 @@ power-of-power m zero = pow-zero (2 ^ m) ∙ sym (ap (λ (x : ℕ). 2 ^ x) (mul-
 power-of-power m (suc d) =
     pow-suc (2 ^ m) d ∙ (ap (λ (x : ℕ). x * 2 ^ m) (power-of-power m d) ∙ sym (ap (λ (x : ℕ). 2 ^ x) (mul-suc m d) ∙ pow-add 2 (m * d) m))
 
--- in plain numbers
+-- In plain numbers.
 doubled : (t n p : ℕ) → t * (n + n) ≤ p → (t + t) * n ≤ p
 doubled t n p h = omega arith
 
@@ -43,7 +43,7 @@ both m a d some h = let more : 1 * a ≤ m * a = mul-le-mul some same in omega (
     same : a ≤ a
     same = omega arith
 
--- a number whose power of two exceeds so many times it
+-- A number whose power of two exceeds a given multiple of it.
 large : ℕ → ℕ
 large n = suc n + suc n
 
@@ -70,7 +70,7 @@ no-power-above a d m enough h = absurd (omega (arith, bound, lower, less, suc-mu
     less : suc a * 2 ^ (m * d) ≤ 2 ^ a * 2 ^ (m * d)
     less = mul-le-mul (below-power a) (omega arith)
 
--- a power of two isn't bounded by a power
+-- A power of two isn't bounded by a power.
 pub no-power : (c l d : ℕ) → ((k : ℕ) → 1 ≤ k → 2 ^ k ≤ c * (l * k) ^ d) → ⊥
 no-power c l d h =
     let a = c * l ^ d in

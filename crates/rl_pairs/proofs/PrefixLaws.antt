@@ -13,7 +13,7 @@ use Rattle.rl_pairs.proofs.SetLaws.{below-has}
 use Rattle.rl_pairs.proofs.CountLaws.{length-below}
 use Rattle.rl_pairs.proofs.GraphWords.{pow-one}
 
--- a walked path is a path with one more move, to a state that passes
+-- A walked path is a path with one more move, to a state for which the test is true.
 steps_on : (ℕ → ℕ → List ℕ) → (ℕ → List ℕ → Bool) → ℕ → List ℕ → ℕ
 steps_on next ok a [] = 0
 steps_on next ok a (l ∷ w) = total (λ m. one (ok m w)) (next a l)
@@ -63,7 +63,7 @@ module _ (next : ℕ → ℕ → List ℕ) (ok : ℕ → List ℕ → Bool) (n k
       let all : along next (steps_on next ok) s w ≤ upto (share w) (length w) + share w (length w) = along-upto next (steps_on next ok) n within.targets w s start in
       omega (arith, walked-along next ok w s, all, share-last w)
 
-  -- where the paths along a word are at most `b` times a power of its length and one
+  -- If the number of paths along a word is at most `b` times a power of its length plus one.
   pub sum_of_prefixes : (b d : ℕ) → ((q : ℕ) (u : List ℕ) → paths next s q u ≤ b * suc (length u) ^ d) → (w : List ℕ) → walked next ok s w ≤ length w * (n * (b * length w ^ d * k))
   sum_of_prefixes b d h w =
       let all = upto-bound (share w) (n * (b * length w ^ d * k)) (length w) (λ i lt. share-bound w i (b * length w ^ d) (λ q. bounded i q lt)) in
@@ -84,9 +84,9 @@ module _ (next : ℕ → ℕ → List ℕ) (ok : ℕ → List ℕ → Bool) (n k
           let m : b * suc (length (take i w)) ^ d ≤ b * length w ^ d = mul-le-mul (same b) p in
           omega (arith, h q (take i w), m)
 
--- without a cycle a path visits each state once at most
+-- Without a cycle a path visits each state once at most
 
--- some non-empty word leads from `s` to `x`
+-- Some non-empty word leads from `s` to `x`.
 abbrev Onward : (ℕ → ℕ → List ℕ) → ℕ → ℕ → Type 0
 Onward next s x = (l : ℕ) × (v : List ℕ) × (1 ≤ paths next s x (l ∷ v))
 
@@ -124,7 +124,7 @@ upto-short f c (suc n) (suc len) h none =
 taken-length : (i : ℕ) (w : List ℕ) → i < length w → length (take i w) ≡ i
 taken-length i w lt = length-take-le i w (omega arith)
 
--- where there is no cycle, and at most `b` paths lead to a state along a word
+-- If there is no cycle, and at most `b` paths lead to a state along a word.
 pub walked_short : (next : ℕ → ℕ → List ℕ) (ok : ℕ → List ℕ → Bool) (n k : ℕ) → IsWithin next n k → (s : ℕ) → s < n → ((q l : ℕ) (w : List ℕ) → paths next q q (l ∷ w) ≡ 0) → (b : ℕ) → ((q : ℕ) (u : List ℕ) → paths next s q u ≤ b) → (w : List ℕ) → walked next ok s w ≤ n * (n * (b * k))
 walked_short next ok n k within s start none b h w =
     omega (arith, walked-shares next ok n k within s start w, upto-short (share next ok n k within s start w) (n * (b * k)) n (length w) (λ i lt small. share-bound next ok n k within s start w i b (λ q. h q (take i w))) (λ i lt le. gone i lt le))
@@ -142,7 +142,7 @@ walked_short next ok n k within s start none b h w =
     gone : (i : ℕ) → i < length w → n ≤ i → share next ok n k within s start w i ≡ 0
     gone i lt le = nought n k (share next ok n k within s start w i) (share-bound next ok n k within s start w i 0 (no-path i lt le))
 
--- the bounds with the constants
+-- The bounds with the constants
 
 more-factors : (x : ℕ) (d : ℕ) → 1 ≤ x → x ^ d ≤ x ^ suc d
 more-factors x d h = let a : 1 * x ^ d ≤ x * x ^ d = mul-le-mul h (same (x ^ d)) in omega (arith, a, pow-succ' x d)
@@ -150,7 +150,7 @@ more-factors x d h = let a : 1 * x ^ d ≤ x * x ^ d = mul-le-mul h (same (x ^ d
     same : (y : ℕ) → y ≤ y
     same y = omega arith
 
--- in plain numbers
+-- In plain numbers.
 put-together : (n k b c len power m : ℕ) → n * k * b ≤ c → 1 ≤ len * power → m ≤ len * (n * (b * power * k)) → 1 + m ≤ (1 + c) * (len * power)
 put-together n k b c len power m h some le =
     let a : n * k * b * (len * power) ≤ c * (len * power) = mul-le-mul h (same (len * power)) in

@@ -1,4 +1,5 @@
--- Laws of the search for live pairs: where a pair has the same moves on a letter as on the letter before it, the row is the same.
+-- Laws of the search for live pairs: if a pair has the same moves on a letter as on the letter before it, the row is the
+-- same.
 use Rattle.std.proofs.Common.{◌≡◌, ◌∙◌, ℕ, zero, suc, ◌+◌, ◌-◌, ◌*◌, ◌<◌, ◌≤◌, inl, inr, List, [], ◌∷◌, ◌++◌, length, take, refl, sym, ap, ap₂, subst, arith}
 use Rattle.std.proofs.Math.Nat.{suc-mul, mul-le-mul_right}
 use Rattle.std.proofs.lemmas.Bool.{cases_lt}
@@ -16,12 +17,12 @@ use Rattle.rl_pairs.proofs.RowLaws.{pairs-has}
 use Rattle.rl_pairs.proofs.FindingLaws.{found-keeps, found-old, found-row, Stays-refl}
 use Rattle.rl_pairs.proofs.ExpandLaws.{row-stays, pair-stays, next-inside, letter-done}
 
--- a row of pairs that are found already
+-- A row of pairs that are found already.
 found-more : (a : Automaton) (w : Walk) (f : Found) (done row : List ℕ) → IsFound a w (with_row f done) → Each (λ k. k < length f.keys) row → IsFound a w (with_row f (done ++ row))
 found-more a w f done [] i e = subst (λ l. IsFound a w (with_row f l)) (sym (append-nil done)) i
 found-more a w f done (j ∷ row) i e = subst (λ l. IsFound a w (with_row f l)) (append_assoc done (j ∷ []) row) (found-more a w f (done ++ j ∷ []) row (found-old a w f done j e.0 i) e.1)
 
--- the set for the last move stands in the walk
+-- The walk has the set for the last move.
 last-stands : (a : Automaton) (w : Walk) (img ts : List ℕ) → Stands w img → Each (λ p. Stands w p.set) (pairs_from a img ts) → Stands w (tried a img (take (length ts - 1) ts))
 last-stands a w img [] s e = s
 last-stands a w img (t ∷ ts) s e =
@@ -38,7 +39,7 @@ module _ (a : Automaton) (v w : Walk) (f : Found) (from letter : ℕ) (i : IsFou
   row-keeps : (q l : ℕ) → l ≤ letters_count a → q * width a + l < from * width a + letter → IsRowOf a w f (next_pairs a (pair_at v f q) l) (next_of a f q l)
   row-keeps q l small lt = row-stays a v w f f (next_pairs a (pair_at v f q) l) (next_of a f q l) o.keeps (Stays-refl f) (next-inside a v f q l i (omega arith)) i.sets (m.moves q l small lt)
 
-  -- the walk grows while a pair's moves are looked at
+  -- The walk grows while a pair's moves are looked at.
   pub further-onward : IsFurther a v w f f (from * width a + letter)
   further-onward = record {
     onward = o;
@@ -76,7 +77,7 @@ module _ (a : Automaton) (v w : Walk) (f : Found) (from letter : ℕ) (i : IsFou
       number = (last-stands a w img ts s before.standing).1;
     }
 
-    -- the row of the letter before is that of the letter
+    -- The row of the letter before is the row of the letter.
     pub row-again : IsFurther a v w f (with_row f row) (from * width a + suc letter)
     row-again = letter-done a v f from letter img ts refl i from_in le w f row (length ts) (last-stands a w img ts s before.standing).0 trying (omega arith) m
 

@@ -11,7 +11,7 @@ use Rattle.rl_pairs.specs.LivePairs.{pairs_from}
 use Rattle.rl_pairs.specs.PairGraph.{KeptLive, AreFirstSeen, seen_after}
 use Rattle.rl_pairs.specs.internal.Finding.{next_in, flat, tried, set_for}
 
--- numbers by first sight
+-- Numbers by first sight
 
 pub AreFirstSeen-push : (m k : ℕ) (l : List ℕ) → AreFirstSeen m l → k ≤ seen_after m l → AreFirstSeen m (l ++ k ∷ [])
 AreFirstSeen-push m k [] h le = (le, tt)
@@ -31,7 +31,7 @@ seen-old m k l lt = seen_after-append m l (k ∷ []) ∙ omega arith
 pub seen-new : (m k : ℕ) (l : List ℕ) → seen_after m l ≡ k → seen_after m (l ++ k ∷ []) ≡ k + 1
 seen-new m k l e = seen_after-append m l (k ∷ []) ∙ omega arith
 
--- rows one behind another
+-- Rows one behind another
 
 pub flat-append : (x y : List (List ℕ)) → flat (x ++ y) ≡ flat x ++ flat y
 flat-append [] y = refl
@@ -49,7 +49,7 @@ flat-last rows r k = flat-push rows (r ++ k ∷ []) ∙ sym (append_assoc (flat 
 pub flat-nil : (rows : List (List ℕ)) → flat (rows ++ [] ∷ []) ≡ flat rows
 flat-nil rows = flat-push rows [] ∙ append-nil (flat rows)
 
--- moves
+-- Moves
 
 pub next-at : (wide : ℕ) (rows : List (List ℕ)) (q l : ℕ) → l < wide → next_in wide rows q l ≡ get_or rows (q * wide + l) []
 next-at wide rows q l lt = cond-true (ltb l wide) (get_or rows (q * wide + l) []) [] (lt-ltb l wide lt)
@@ -74,7 +74,7 @@ push-nil (t ∷ rows) zero = refl
 push-nil (t ∷ rows) (suc i) = push-nil rows i
 
 module _ (wide : ℕ) (rows : List (List ℕ)) (q l x : ℕ) where
-  -- a move stays where the last row grows
+  -- A move stays when the last row grows.
   pub next-more : (r : List ℕ) (k : ℕ) → Has x (next_in wide (rows ++ r ∷ []) q l) → Has x (next_in wide (rows ++ (r ++ k ∷ []) ∷ []) q l)
   next-more r k h = cond-mono (ltb l wide) x (get_or (rows ++ r ∷ []) (q * wide + l) []) (get_or (rows ++ (r ++ k ∷ []) ∷ []) (q * wide + l) []) (last-mono x r (r ++ k ∷ []) (λ y i. Has-left y r (k ∷ []) i) rows (q * wide + l)) h
 
@@ -87,7 +87,7 @@ next-last wide rows q l r lt e = next-at wide (rows ++ r ∷ []) q l lt ∙ get_
 pub next-old : (wide : ℕ) (rows : List (List ℕ)) (q l : ℕ) (r : List ℕ) → l < wide → q * wide + l < length rows → next_in wide (rows ++ r ∷ []) q l ≡ next_in wide rows q l
 next-old wide rows q l r lt less = next-at wide (rows ++ r ∷ []) q l lt ∙ get_or_append_left rows (r ∷ []) [] (q * wide + l) less ∙ sym (next-at wide rows q l lt)
 
--- each member
+-- Each member
 
 pub Each-push : {A : Type 0} (P : A → Type 0) (l : List A) (x : A) → Each P l → P x → Each P (l ++ x ∷ [])
 Each-push P [] x h p = (p, tt)
@@ -97,7 +97,7 @@ pub Each-weaker : {A : Type 0} (P Q : A → Type 0) (l : List A) → ((x : A) �
 Each-weaker P Q [] f h = tt
 Each-weaker P Q (y ∷ l) f h = (f y h.0, Each-weaker P Q l f h.1)
 
--- kept pairs
+-- Kept pairs
 
 pub KeptLive-same : (a : Automaton) (at to : ℕ → Pair) (ps : List Pair) (ks : List ℕ) → ((k : ℕ) → Has k ks → to k ≡ at k) → KeptLive a at ps ks → KeptLive a to ps ks
 KeptLive-same a at to [] ks h e = e
@@ -116,7 +116,7 @@ KeptLive-live a at (q ∷ ps) ks p j (inl (d, more)) alive is = inl (d, KeptLive
 KeptLive-live a at (q ∷ ps) ks p j (inr (k, rest, live, e, same, more)) alive is =
     inr (k, rest ++ j ∷ [], live, ap (λ (l : List ℕ). l ++ j ∷ []) e, same, KeptLive-live a at ps rest p j more alive is)
 
--- moves one after another
+-- Moves one after another
 
 pub tried-step : (a : Automaton) (set ts : List ℕ) (k : ℕ) → k < length ts → tried a set (take (suc k) ts) ≡ joined a (get_or ts k 0) (tried a set (take k ts))
 tried-step a set [] k lt = absurd (omega arith)

@@ -9,7 +9,7 @@ use Rattle.rl_prio.specs.Automaton.{Automaton, dead_state, moves_at}
 use Rattle.rl_sets.specs.Live.{accepts, below, set_where, holds, image, joined, refuses}
 use Rattle.rl_sets.proofs.RowLemmas.{joined-dead}
 
--- tests of the members of a list
+-- Tests of the members of a list
 
 pub any-there : {A : Type 0} (p : A → Bool) (l : List A) → list_any p l ≡ true → (x : A) × Has x l × (p x ≡ true)
 any-there p [] h = absurd (false≢true h)
@@ -46,7 +46,7 @@ holds-has set q h = let r = any-there (λ x. eqb x q) set h in subst (λ (x : �
 pub has-holds : (set : List ℕ) (q : ℕ) → Has q set → holds set q ≡ true
 has-holds set q h = any-has (λ x. eqb x q) q set h (eq-eqb q q refl)
 
--- the numbers below a bound
+-- The numbers below a bound
 
 pub below-has : (n x : ℕ) → x < n → Has x (below n)
 below-has zero x h = absurd (omega arith)
@@ -83,7 +83,7 @@ filter-has {A = A} p x (a ∷ l) (inr h) k = by (p a) (filter-has p x l h k)
     by true i = inr i
     by false i = i
 
--- images and joined sets
+-- Images and joined sets
 
 pub image-has : (a : Automaton) (set : List ℕ) (letter q t : ℕ) → Has q set → Has t (moves_at a q letter) → t ≢ dead_state a → t < a.states → Has t (image a set letter)
 unfolding image
@@ -105,7 +105,7 @@ image-alive a set letter h =
     let d = (and_parts (not (eqb (dead_state a) (dead_state a))) (list_any (λ q. holds (moves_at a q letter) (dead_state a)) set) p).0 in
     false≢true (ap not (sym (eq-eqb (dead_state a) (dead_state a) refl)) ∙ d)
 
--- each member is a state
+-- Each member is a state.
 abbrev pub Within : Automaton → List ℕ → Type 0
 Within a set = (x : ℕ) → Has x set → x < a.states
 
@@ -146,7 +146,7 @@ joined-within a t set w x h = by (cases_eq t (dead_state a))
     by (inl e) = w x (rw (joined-dead a t set e) at h)
     by (inr ne) = let k = rw (joined-live a t set ne) at h in Has-below a.states x (Has-filter (λ x. eqb x t || holds set x) x (below a.states) k)
 
--- what a set refuses
+-- What a set refuses
 
 not-true : (b : Bool) → not b ≡ true → b ≡ false
 not-true true h = absurd (false≢true h)

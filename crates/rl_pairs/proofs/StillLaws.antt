@@ -1,4 +1,4 @@
--- What is needed of an automaton follows where it stands for a tree; and letters of texts.
+-- What is required of an automaton follows if it stands for a tree; and letters of texts.
 use Rattle.std.proofs.Common.{◌≡◌, ◌∙◌, ℕ, ◌<◌, ◌⊎◌, inl, inr, List, [], ◌∷◌, get_or, All, Bool, refl, sym, ap, subst, arith}
 use Rattle.std.proofs.lemmas.List.Elements.{All-get_or}
 use Rattle.rl_graph.specs.Paths.{Has}
@@ -30,7 +30,7 @@ still_of a t ending sets whole stands =
       ends = λ q u h. All-has (λ target. (target ≡ accepting_state a) ⊎ (target ≡ dead_state a)) (moves_at a q (letters_count a)) u (end_moves a t ending sets stands q) h;
     }
 
--- letters and then the end letter are a rest
+-- Letters and then the end letter are a rest.
 pub rest-of : (a : Automaton) (w : List ℕ) → ((l : ℕ) → Has l w → l < letters_count a) → IsRest a (to_end a w)
 rest-of a [] h = inl (refl, refl)
 rest-of a (l ∷ w) h = inr (h l (inl refl), rest-of a w (λ c i. h c (inr i)))
@@ -42,14 +42,14 @@ rest-letters a (c ∷ (b ∷ w)) (inl (e, d)) l h = cc
 rest-letters a (c ∷ w) (inr (lt, r)) l (inl e) = omega arith
 rest-letters a (c ∷ w) (inr (lt, r)) l (inr h) = rest-letters a w r l h
 
--- codes have letters
+-- Codes have letters.
 pub letter-within : (a : Automaton) (sets : List (ℕ → Bool)) → IsLetters a.table sets a.table.codes → (c : ℕ) → c < a.table.codes → letter_at a.table c < letters_count a
 letter-within a sets is c lt = omega (arith, is.same_letter c lt, class_of-lt sets a.table.codes c lt, is.same_count)
 
 pub text-letters : (a : Automaton) (sets : List (ℕ → Bool)) → IsLetters a.table sets a.table.codes → (w : List ℕ) → ((c : ℕ) → Has c w → c < a.table.codes) → (l : ℕ) → Has l (letters_in a w) → l < letters_count a
 text-letters a sets is w h l i = let r = has-map (letter_at a.table) l w i in omega (arith, ap (λ x. x) r.2, letter-within a sets is r.0 (h r.0 r.1))
 
--- the sample of a letter is a code of it
+-- The sample of a letter is a code of it.
 pub sample-within : (a : Automaton) (sets : List (ℕ → Bool)) → IsLetters a.table sets a.table.codes → (l : ℕ) → l < letters_count a → get_or a.table.samples l 0 < a.table.codes
 sample-within a sets is l lt = (is.same_sample l lt).within
 

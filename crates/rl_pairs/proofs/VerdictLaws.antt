@@ -87,7 +87,7 @@ graph-within a t ending sets next at n stands g = record { targets = λ q l m lt
 pub pairs-within : (q : Question) (a : Automaton) (next : ℕ → ℕ → List ℕ) (at : ℕ → Pair) (n : ℕ) → IsMachine q a → IsPairGraph a next at n → n ≤ q.max_pairs → IsPassed q Pairs → ⊥
 pairs-within q a next at n machine g few passed = no-more-than-states a next at n q.max_pairs g few (pairs-passed q a machine passed)
 
--- the bounds from above
+-- The bounds from above
 
 pub graph-bounded : (a : Automaton) (t : Tree) (ending : Ending) (sets : List (ℕ → Bool)) (next : ℕ → ℕ → List ℕ) (at : ℕ → Pair) (n : ℕ) → IsAutomaton a → StandsOver a t ending sets → IsPairGraph a next at n → IsNumbered a next at n → IsWithin next (bound_n (size t)) (bound_k (size t))
 graph-bounded a t ending sets next at n whole stands g numbered =

@@ -1,5 +1,5 @@
--- Laws of the whole search: where each pair's moves were looked at, the rows are the graph of the live pairs, numbered by first
--- sight, and where the walk is closed, it holds each counted set.
+-- Laws of the whole search: if each pair's moves were looked at, the rows are the graph of the live pairs, numbered in the
+-- order of first sight; and if the walk is closed, it has each counted set.
 use Rattle.std.proofs.Common.{◌≡◌, ◌∙◌, ℕ, zero, suc, ◌+◌, ◌*◌, ◌<◌, ◌≤◌, ◌⊎◌, inl, inr, List, [], ◌∷◌, ◌++◌, length, take, drop, get_or, map, flat_map, All, true, refl, sym, ap, subst, arith, append-nil, append_assoc}
 use Rattle.std.proofs.Math.Nat.{suc-mul, mul-le-mul_right}
 use Rattle.std.proofs.lemmas.Bool.{cases_lt, cases_eq}
@@ -37,7 +37,7 @@ place-in q l n wide lt = elim (cases_lt q n) [ inl less ↦ less | inr more ↦ 
 in-place : (q l n wide : ℕ) → l < wide → q < n → q * wide + l < n * wide
 in-place q l n wide small lt = omega (arith, mul-le-mul_right {m = suc q} {n = n} wide (omega arith), suc-mul q wide)
 
--- the walk has grown since the pairs were found
+-- The walk has grown since the pairs were found.
 pub moved-keeps : (a : Automaton) (w x : Walk) (f : Found) → Keeps w x → IsFound a w f → IsMoved a w f (length f.keys * width a) → IsMoved a x f (length f.keys * width a)
 moved-keeps a w x f k i m = record {
   long = m.long;
@@ -49,7 +49,7 @@ moved-keeps a w x f k i m = record {
 }
 
 module _ (a : Automaton) (w : Walk) (f : Found) (c : IsCounting a w) (i : IsFound a w f) (m : IsMoved a w f (length f.keys * width a)) where
-  -- the first pair
+  -- The first pair.
   pub first-is : first_pair ≡ pair_of w first_key
   first-is = ap (λ (s : List ℕ). let p : Pair = record { state = 0; set = s } in p) (sym c.empty)
 
@@ -75,7 +75,7 @@ module _ (a : Automaton) (w : Walk) (f : Found) (c : IsCounting a w) (i : IsFoun
     empty = λ q l h. elim h [ inl le ↦ out q l le | inr lt ↦ next-out (width a) f.rows q l (omega arith) ];
   }
 
-  -- the rows of a pair are its targets
+  -- The rows of a pair are its targets.
   block : (q n : ℕ) → n ≤ width a → q * width a + n ≤ length f.rows → flat (take (q * width a + n) f.rows) ≡ flat (take (q * width a) f.rows) ++ flat_map (next_of a f q) (below n)
   block q zero le lt =
       let e : q * width a + 0 ≡ q * width a = omega arith in
@@ -117,7 +117,7 @@ module _ (a : Automaton) (w : Walk) (f : Found) (c : IsCounting a w) (i : IsFoun
     apart = λ j k x y e. i.apart j k x y (pair-same a w c.made (key_at f j) (key_at f k) (i.sets j x) (i.sets k y) e);
   }
 
-  -- leads
+  -- Leads.
   lead-leads : (n k : ℕ) → k < n → k < length f.keys → 1 ≤ paths (next_of a f) 0 k (lead_at f k)
   lead-leads zero k less lt = absurd (omega arith)
   lead-leads (suc n) k less lt = by (cases_eq k 0) (lead-leads n)
@@ -135,7 +135,7 @@ module _ (a : Automaton) (w : Walk) (f : Found) (c : IsCounting a w) (i : IsFoun
   pub leads-lead : (k : ℕ) → k < length f.keys → 1 ≤ paths (next_of a f) 0 k (lead_at f k)
   leads-lead k lt = lead-leads (suc k) k (omega arith) lt
 
-  -- each counted set stands in a closed walk
+  -- A closed walk has each counted set.
   counted-stands : IsClosed a w (length w.sets) 0 → (set : List ℕ) → CountedSet a set → Stands w set
   counted-stands closed set (moved {p = p} state letter from le has) =
       let n = number-there a (next_of a f) (pair_at w f) (length f.keys) pair_graph p from in
@@ -211,7 +211,7 @@ module _ (a : Automaton) (w : Walk) (f : Found) (c : IsCounting a w) (i : IsFoun
       rests = ap length b.rests ∙ i.refused ∙ sym states-are;
     }
 
--- the walk was closed after the search
+-- The walk was closed after the search.
 pub whole-found : (a : Automaton) (u w x : Walk) (e f : Found) (max_pairs : ℕ) → IsFurther a u w e f (length f.keys * width a) → IsOnward a w x → IsClosed a x (length x.sets) 0 → e.limit ≡ max_pairs → IsWhole a x f max_pairs
 whole-found a u w x e f max_pairs y o closed limit = record {
   counting = o.counting;
@@ -221,7 +221,7 @@ whole-found a u w x e f max_pairs y o closed limit = record {
   limit = y.stays.limit ∙ limit;
 }
 
--- what is ensured of the graph
+-- What is ensured of the graph.
 pub record IsAnswer (a : Automaton) (max_pairs : ℕ) (g : PairTable) : Type 0 where
   pub graph : IsPairGraph a (moves_in g) (pair_in g) g.graph.states
   pub numbered : IsNumbered a (moves_in g) (pair_in g) g.graph.states
@@ -296,7 +296,7 @@ all-targets n rows each = λ p d lt q e less. Each-has (λ k. k < n) (get_or (ge
 pub all-sets : (a : Automaton) (w : Walk) (f : Found) → IsFound a w f → All (λ key. key.set < length w.sets) f.keys
 all-sets a w f i = λ n d lt. subst (λ (key : Key). key.set < length w.sets) (get_or_default f.keys n first_key d lt) (i.sets n lt)
 
--- errors
+-- Errors.
 pub right-pairs : (a : Automaton) (limit : ℕ) (e : PairsError) → IsRightError a limit e → e ≡ TooMany → MoreThan limit (LivePair a)
 right-pairs a limit Sets h e = cc
 right-pairs a limit TooMany h e = h

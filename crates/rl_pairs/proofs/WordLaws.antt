@@ -14,13 +14,13 @@ use Rattle.rl_pairs.specs.PairGraph.{IsPairGraph}
 use Rattle.rl_pairs.specs.Families.{Chained, chain_heads, chain_pumps}
 use Rattle.rl_pairs.proofs.ExactLaws.{IsStill, kept-pair}
 
--- the state of a pair of moves is a target
+-- The state of a pair of moves is a target.
 pub pairs-state : (a : Automaton) (set ts : List ℕ) (p : Pair) → Has p (pairs_from a set ts) → Has p.state ts
 pairs-state a set [] p h = absurd h
 pairs-state a set (t ∷ ts) p (inl e) = inl (ap (λ (p : Pair). p.state) e)
 pairs-state a set (t ∷ ts) p (inr h) = inr (pairs-state a (joined a t set) ts p h)
 
--- a state has a move
+-- A state has a move.
 abbrev pub HasMove : (ℕ → ℕ → List ℕ) → ℕ → Type 0
 HasMove next q = (l : ℕ) × (m : ℕ) × Has m (next q l)
 
@@ -54,7 +54,7 @@ module _ (a : Automaton) (still : IsStill a) (next : ℕ → ℕ → List ℕ) (
   pub move-within : (q : ℕ) → HasMove next q → q < n
   move-within q h = (move-inside q h.0 h.1 h.2).0
 
-  -- behind the end letter there is no move
+  -- Behind the end letter there is no move.
   end-stops : (q m : ℕ) → Has m (next q (letters_count a)) → (l : ℕ) → next m l ≡ []
   end-stops q m h l =
       let i = move-inside q (letters_count a) m h in
@@ -76,7 +76,7 @@ module _ (a : Automaton) (still : IsStill a) (next : ℕ → ℕ → List ℕ) (
       by le m j h (inl d) (inr ne) rest = omega arith
       by le m j h (inr i) (inr ne) rest = rest i
 
-  -- each word of a chain is made of letters
+  -- Each word of a chain is made of letters.
   Inner : List (List ℕ) → Type 0
   Inner words = (w : List ℕ) → Has w words → (l : ℕ) → Has l w → l < letters_count a
 

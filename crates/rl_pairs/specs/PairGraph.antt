@@ -1,4 +1,4 @@
--- The graph of live pairs, as a function from the number of a pair and a letter to the numbers of the pairs that are moved to.
+-- The graph of live pairs, as a function from the number of a pair and a letter to the numbers of the target pairs.
 use Rattle.std.specs.Prelude.{◌≡◌, ℕ, zero, suc, ◌<◌, ◌≤◌, ◌⊎◌, List, [], ◌∷◌, flat_map, max}
 use Rattle.rl_prio.specs.Automaton.{Automaton, letters_count}
 use Rattle.rl_sets.specs.Live.{below, IsLive}
@@ -6,13 +6,14 @@ use Rattle.rl_graph.specs.Paths.{Has}
 use Rattle.rl_pairs.specs.declared.pair.Pair.{Pair}
 use Rattle.rl_pairs.specs.LivePairs.{first_pair, next_pairs}
 
--- the numbers are those of the pairs of the list whose set is live, in order; `at` gives the pair of a number
+-- `numbers` lists the numbers of those pairs of the list whose sets are live, in order; `at` gives the pair with a number.
 abbrev pub KeptLive : Automaton → (ℕ → Pair) → List Pair → List ℕ → Type 0
 KeptLive a at [] numbers = numbers ≡ []
 KeptLive a at (p ∷ pairs) numbers =
     ((IsLive a p.set → ⊥) × KeptLive a at pairs numbers) ⊎ ((k : ℕ) × (rest : List ℕ) × IsLive a p.set × (numbers ≡ k ∷ rest) × (at k ≡ p) × KeptLive a at pairs rest)
 
--- a graph of `n` live pairs: the first pair is its state 0, the moves of a state are those of its pair that lead to live pairs
+-- A graph of `n` live pairs: its state 0 is the first pair, and the moves of a state are the moves of its pair to live pairs,
+-- in order.
 pub record IsPairGraph (a : Automaton) (next : ℕ → ℕ → List ℕ) (at : ℕ → Pair) (n : ℕ) : Type 0 where
   pub some : 0 < n
   pub first : at 0 ≡ first_pair
@@ -21,26 +22,27 @@ pub record IsPairGraph (a : Automaton) (next : ℕ → ℕ → List ℕ) (at : �
   pub moves : (i letter : ℕ) → i < n → letter ≤ letters_count a → KeptLive a at (next_pairs a (at i) letter) (next i letter)
   pub empty : (i letter : ℕ) → (n ≤ i) ⊎ (letters_count a < letter) → next i letter ≡ []
 
--- the targets of a pair's moves: the letters in rising order, the end letter last, and of one letter the moves in order
+-- The targets of a pair's moves: by letter in increasing order, with the end letter last, and for each letter in the order of
+-- the moves.
 abbrev pub targets_of : Automaton → (ℕ → ℕ → List ℕ) → ℕ → List ℕ
 targets_of a next i = flat_map (next i) (below (suc (letters_count a)))
 
--- how many numbers are seen after those of a list, where the ones below `m` were seen before
+-- How many numbers have been seen after the numbers of the list, if the numbers below `m` had been seen before.
 abbrev pub seen_after : ℕ → List ℕ → ℕ
 seen_after m [] = m
 seen_after m (k ∷ numbers) = seen_after (max m (suc k)) numbers
 
--- each number of the list was seen before, or is the least one that wasn't
+-- Each number of the list has been seen before, or is the least one that hasn't.
 abbrev pub AreFirstSeen : ℕ → List ℕ → Type 0
 AreFirstSeen m [] = Unit {0}
 AreFirstSeen m (k ∷ numbers) = (k ≤ m) × AreFirstSeen (max m (suc k)) numbers
 
--- how many numbers are seen before the moves of the pair `i` are looked at, pair by pair from the first one on
+-- How many numbers have been seen before the moves of the pair `i` are looked at, pair by pair from the first one on.
 abbrev pub seen_before : Automaton → (ℕ → ℕ → List ℕ) → ℕ → ℕ
 seen_before a next zero = 1
 seen_before a next (suc i) = seen_after (seen_before a next i) (targets_of a next i)
 
--- the pairs are numbered by first sight, breadth first, and no pair has two numbers
+-- The pairs are numbered in the order in which they are first seen, breadth first, and no pair has two numbers.
 pub record IsNumbered (a : Automaton) (next : ℕ → ℕ → List ℕ) (at : ℕ → Pair) (n : ℕ) : Type 0 where
   pub seen : (i : ℕ) → i < n → i < seen_before a next i
   pub in_order : (i : ℕ) → i < n → AreFirstSeen (seen_before a next i) (targets_of a next i)

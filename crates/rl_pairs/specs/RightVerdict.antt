@@ -1,5 +1,5 @@
--- Right verdicts. What a verdict on a tree, an ending and a universe says of the costs of all texts, and when none has to be
--- given because a limit is passed. This is the degree of growth of Weber and Seidl (1991), said of costs.
+-- Right verdicts: what a verdict on a tree, an ending and a universe states about the costs of all texts, and when no verdict
+-- has to be given because a limit is exceeded. This is the degree of growth of Weber and Seidl (1991), applied to costs.
 use Rattle.std.specs.Prelude.{ℕ, ◌+◌, ◌*◌, ◌^◌, ◌<◌, ◌≤◌, ◌≡◌, List, length}
 use Rattle.rl_ranges.specs.declared.universe.Universe.{Universe}
 use Rattle.rl_ranges.specs.Text.{code_count, IsText}
@@ -22,19 +22,20 @@ use Rattle.rl_pairs.specs.Counted.{CountedSet, MoreThan}
 use Rattle.rl_ranges.specs.declared.letters.TheConstants.{MOST_LETTERS}
 use Rattle.rl_syntax.specs.declared.limits.TheConstants.{MOST_NODES, MOST_MOVES, MOST_COUNTED_SETS}
 
--- a tree with an ending, the universe of its texts, and how many live pairs it may have
+-- The subject of a verdict: a tree with an ending, the universe of its texts, and the greatest number of live pairs allowed.
 pub record Question : Type 0 where
   pub tree : Tree
   pub ending : Ending
   pub universe : Universe
   pub max_pairs : ℕ
 
--- an automaton that stands for the tree and the ending, over the codes of the universe
+-- The automaton stands for the tree and the ending, over the codes of the universe.
 pub record IsMachine (q : Question) (a : Automaton) : Type 0 where
   pub stands : StandsFor a q.tree q.ending
   pub same_codes : a.table.codes ≡ code_count q.universe
 
--- more nodes, letters or items of a list than a tree may have; more live pairs than asked for; more sets than are counted
+-- The limit is exceeded: the tree has too many nodes, too many letters or too long an item list, its automaton has more live
+-- pairs than allowed, or there are too many counted sets.
 abbrev pub IsPassed : Question → Limit → Type 0
 IsPassed q Size = MOST_NODES < size q.tree
 IsPassed q Letters = MOST_LETTERS < length (letters q.tree (code_count q.universe))
@@ -42,14 +43,14 @@ IsPassed q Moves = MOST_MOVES < longest q.tree
 IsPassed q Pairs = (a : Automaton) × IsMachine q a × MoreThan q.max_pairs (LivePair a)
 IsPassed q Sets = (a : Automaton) × IsMachine q a × MoreThan MOST_COUNTED_SETS (CountedSet a)
 
--- none of the limits that are judged before the automaton is made is passed
+-- None of the limits that are checked before the automaton is built is exceeded.
 pub record IsSmall (q : Question) : Type 0 where
   pub size : IsPassed q Size → ⊥
   pub letters : IsPassed q Letters → ⊥
   pub moves : IsPassed q Moves → ⊥
 
--- the limit is the first of size, letters and moves that is passed; or none of these three is, and it is one of the other two
--- and is passed
+-- It is right to name the limit: it is the first one exceeded among size, letters and moves, or none of these three is
+-- exceeded and the limit is pairs or sets and is exceeded.
 abbrev pub IsNamed : Question → Limit → Type 0
 IsNamed q Size = IsPassed q Size
 IsNamed q Letters = (IsPassed q Size → ⊥) × IsPassed q Letters
@@ -57,23 +58,25 @@ IsNamed q Moves = (IsPassed q Size → ⊥) × (IsPassed q Letters → ⊥) × I
 IsNamed q Pairs = IsSmall q × IsPassed q Pairs
 IsNamed q Sets = IsSmall q × IsPassed q Sets
 
--- the texts of a family of degree `d` cost at least a `d`-th power
+-- The family is a family of degree `d`, no limit is exceeded, and the text of the family for each `k` costs at least `k^d`.
 pub record HasDegree (q : Question) (d : ℕ) (f : Family) : Type 0 where
   pub within : (limit : Limit) → IsPassed q limit → ⊥
   pub family : IsFamily q.universe d f
   pub lower : (k : ℕ) → k ^ d ≤ cost q.tree q.ending (family_text f k)
 
--- no text costs more than a `d`-th power of its length and one, up to a factor
+-- The cost of every text is at most a constant, which depends only on the size of the tree and on `d`, times the `d`-th power
+-- of its length plus one.
 abbrev pub IsBounded : Question → ℕ → Type 0
 IsBounded q d = (w : List ℕ) → IsText q.universe w → cost q.tree q.ending w ≤ bound_c (size q.tree) d * (length w + 1) ^ d
 
--- the texts of an exponential family cost at least a power of two
+-- The family is an exponential family, no limit is exceeded, and the text of the family for each `k` costs at least `2^k`.
 pub record IsExpo (q : Question) (f : Family) : Type 0 where
   pub within : (limit : Limit) → IsPassed q limit → ⊥
   pub family : IsExpoFamily q.universe f
   pub lower : (k : ℕ) → 2 ^ k ≤ cost q.tree q.ending (family_text f k)
 
--- the verdict is right
+-- The verdict is right. A degree needs a family as its lower bound and the upper bound for all texts; exponential growth
+-- needs a family; and an undecided verdict must name the right limit.
 abbrev pub RightVerdict : Question → Verdict → Type 0
 RightVerdict q (Degree d f) = HasDegree q d f × IsBounded q d
 RightVerdict q (Expo f) = IsExpo q f

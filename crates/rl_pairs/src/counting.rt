@@ -1,4 +1,4 @@
-//! Walks over counted sets: the sets that the moves of live pairs and images give.
+//! Walks over counted sets, that is, over the sets that the moves of live pairs and the images of sets give.
 
 ghost use Rattle.std.specs.Prelude.{◌≡◌, ℕ, suc, ◌+◌, ◌<◌, ◌≤◌, false, length, IfOk, IfErr, OnOk, IfSome, IfNone};
 ghost use Rattle.rl_prio.specs.Automaton.{letters_count, accepting_state};
@@ -15,7 +15,7 @@ use rl_sets::SetWalk;
 use rl_syntax::MOST_COUNTED_SETS;
 use std::alloc::Global;
 
-/// A walk with the empty set alone.
+/// Creates a walk that has only the empty set.
 pub(crate) fn start(alloc: Global, a: &Prio) -> Result<SetWalk, PairsError>
     ensures counting { IfOk result (IsCounting a.now) }
     ensures errors { (limit : ℕ) → IfErr result (IsRightError a.now limit) }
@@ -31,7 +31,7 @@ pub(crate) fn start(alloc: Global, a: &Prio) -> Result<SetWalk, PairsError>
     }
 }
 
-/// The number of the image of a set on a letter.
+/// Returns the number of the image of a set on a letter.
 pub(crate) fn image_of(
     walk: &mut SetWalk,
     a: &Prio,
@@ -50,7 +50,7 @@ pub(crate) fn image_of(
     Ok(number)
 }
 
-/// The number of a set with one more member.
+/// Returns the number of a set with one more member.
 pub(crate) fn joined_with(
     walk: &mut SetWalk,
     a: &Prio,
@@ -69,7 +69,7 @@ pub(crate) fn joined_with(
     Ok(number)
 }
 
-/// A rest that a set refuses, if it is live.
+/// Returns a rest that a set refuses, or `None` if the set isn't live.
 pub(crate) fn rest_of(walk: &mut SetWalk, a: &Prio, set: u32) -> Result<Option<Word>, PairsError>
     requires counting { IsCounting a.now walk.old }
     requires set_in { set < length walk.old.sets }
@@ -100,7 +100,7 @@ fn close_set(walk: &mut SetWalk, a: &Prio, set: u32) -> Result<(), PairsError>
     Ok(())
 }
 
-/// Makes the images of all sets of a walk, and theirs.
+/// Makes the images of all sets of a walk, including the sets that this adds.
 pub(crate) fn close(walk: &mut SetWalk, a: &Prio) -> Result<(), PairsError>
     requires counting { IsCounting a.now walk.old }
     ensures closed { OnOk result (IsClosed a.now walk.new (length walk.new.sets) 0) }

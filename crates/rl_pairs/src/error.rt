@@ -1,4 +1,4 @@
-//! Why a graph of live pairs isn't made.
+//! The reasons why a graph of live pairs isn't made.
 
 ghost use Rattle.std.specs.Prelude.{◌≡◌};
 
@@ -6,12 +6,12 @@ use rl_lists::OutOfMemory;
 use rl_sets::SetsError;
 use std::alloc::{AllocError, AllocFailed};
 
-/// Why there is no graph of live pairs.
+/// The reason why there is no graph of live pairs.
 #[derive(Clone, Copy, Debug, PartialEq, Eq)]
 pub enum PairsError {
     /// There are more than 20,000 counted sets.
     Sets,
-    /// There are more live pairs than there may be.
+    /// There are more live pairs than the caller allows.
     Pairs,
     /// Out of memory.
     OutOfMemory,

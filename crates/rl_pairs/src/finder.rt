@@ -19,7 +19,7 @@ use rl_prio::Prio;
 use rl_sets::SetWalk;
 use std::alloc::Global;
 
-/// A pair by its state and the number of its set.
+/// A pair, given by its state and the number of its set.
 #[derive(Clone, Copy, Debug, PartialEq, Eq, Hash)]
 pub(crate) struct Key {
     /// The state.
@@ -28,10 +28,10 @@ pub(crate) struct Key {
     pub set: u32,
 }
 
-/// For how many pairs there is room at first. Many automata have no more live pairs.
+/// The number of pairs for which there is room at first. Many automata have no more live pairs.
 const FIRST_ROOM: usize = 18;
 
-/// A list of one item, with room for more.
+/// Creates a list of one item, with room for more.
 fn begun_with<T: Drop>(alloc: Global, room: usize, item: T) -> Result<Vec<T>, OutOfMemory>
     ensures { IfOk result (λ list. list.items ≡ item ∷ []) }
 {
@@ -40,7 +40,7 @@ fn begun_with<T: Drop>(alloc: Global, room: usize, item: T) -> Result<Vec<T>, Ou
     Ok(list)
 }
 
-/// The key of the first pair, with room for more.
+/// Returns a set that holds the key of the first pair, with room for more.
 fn first_keys(alloc: Global) -> Result<IndexSet<Key>, OutOfMemory>
     ensures { IfOk result (λ keys. keys.keys ≡ first_key ∷ []) }
 {
@@ -49,24 +49,24 @@ fn first_keys(alloc: Global) -> Result<IndexSet<Key>, OutOfMemory>
     Ok(keys)
 }
 
-/// The pairs that are found, in the order in which they were found, with a lead and a rest for each, and the targets of the
-/// moves that were looked at, a row for each pair and letter.
+/// The pairs found so far, in the order in which they were found, with a lead and a rest for each of them, and the targets of
+/// the moves that were looked at, as a row for each pair and letter.
 #[derive(Drop)]
 pub(crate) struct Finder {
-    /// How many pairs there may be.
+    /// The greatest number of pairs allowed.
     pub limit: u32,
-    /// The pairs.
+    /// The keys of the pairs.
     pub keys: IndexSet<Key>,
-    /// The leads.
+    /// For each pair, a word that leads to it.
     pub leads: Vec<Word>,
-    /// The rests.
+    /// For each pair, a rest that its set refuses.
     pub rests: Vec<Word>,
-    /// The rows.
+    /// For each pair and letter, the targets of its moves.
     pub rows: RowList,
 }
 
 impl Finder {
-    /// A search that has found the first pair.
+    /// Creates a search that has found only the first pair.
     pub(crate) fn new(alloc: Global, a: &Prio, limit: u32) -> Result<Finder, OutOfMemory>
         ensures { IfOk result (λ f. found_of f ≡ record { limit = limit; keys = first_key ∷ []; leads = [] ∷ []; rests = (letters_count a.now ∷ []) ∷ []; rows = [] }) }
     {
@@ -90,7 +90,7 @@ impl Finder {
         })
     }
 
-    /// The lead of a pair with one more letter.
+    /// Returns the lead of a pair, followed by one more letter.
     fn longer_lead(&self, from: u32, letter: u32) -> Result<Word, OutOfMemory>
         requires { from < length (found_of self.now).leads }
         ensures { IfOk result (λ w. w ≡ lead_at (found_of self.now) from ++ letter ∷ []) }
@@ -113,7 +113,7 @@ impl Finder {
         Ok(())
     }
 
-    /// How many pairs are found.
+    /// Returns the number of pairs found.
     pub(crate) fn count(&self) -> u32
         requires { length (found_of self.now).keys ≤ (found_of self.now).limit }
         ensures count { result ≡ length (found_of self.now).keys }
@@ -130,13 +130,13 @@ impl Finder {
         self.rows.push_row(row)
     }
 
-    /// The number of a pair, if it is found.
+    /// Returns the number of a pair, or `None` if it hasn't been found.
     fn number_of(&self, key: Key) -> Option<u32>
         requires { length (found_of self.now).keys ≤ (found_of self.now).limit }
         ensures found { IfSome result (λ k. (k < length (found_of self.now).keys) × (key_at (found_of self.now) k ≡ key)) }
         ensures none { IfNone result ((k : ℕ) → k < length (found_of self.now).keys → key_at (found_of self.now) k ≢ key) }
     {
-        // There are at most as many pairs, so that a number fits.
+        // The number of pairs is at most the limit, so a pair's number fits.
         let _limit = self.limit;
         match self.keys.get_index_of(&key) {
             Some(number) => Some(number as u32),
@@ -144,7 +144,8 @@ impl Finder {
         }
     }
 
-    /// Puts the number of the pair of a move behind the row of a pair and a letter, if the pair is live.
+    /// Handles a move to the pair `key`: if this pair is live, appends its number to the row, and appends the pair itself if
+    /// it is new.
     fn visit(
         &mut self,
         a: &Prio,
@@ -190,7 +191,7 @@ impl Finder {
         Ok(())
     }
 
-    /// Looks at the moves of a pair on a letter. The row is a place to write in; what it holds is let go.
+    /// Looks at the moves of a pair on a letter. The contents of `row` are replaced by the targets of these moves.
     fn expand_on(
         &mut self,
         a: &Prio,
@@ -225,7 +226,8 @@ impl Finder {
         Ok(())
     }
 
-    /// Whether a pair has the same moves on a letter as on the letter before it: the state moves alike, and the set has one image.
+    /// Whether a pair has the same moves on a letter as on the letter before it: its state has the same moves, and its set
+    /// has the same image.
     fn repeats(
         &self,
         a: &Prio,
@@ -251,8 +253,8 @@ impl Finder {
         Ok(before == after && a.moves(pair.state, letter - 1) == a.moves(pair.state, letter))
     }
 
-    /// Looks at the moves of a pair on a letter behind the first one. The row holds that of the letter before, which is taken
-    /// again where the moves are the same.
+    /// Looks at the moves of a pair on a letter that isn't the first one. `row` holds the row of the letter before, which is
+    /// used again if the moves are the same.
     fn expand_next(
         &mut self,
         a: &Prio,
@@ -279,7 +281,7 @@ impl Finder {
         self.expand_on(a, walk, row, from, letter)
     }
 
-    /// Looks at the moves of a pair: the letters in rising order, the end letter last.
+    /// Looks at the moves of a pair on all letters in increasing order, with the end letter last.
     fn expand(
         &mut self,
         a: &Prio,
@@ -320,7 +322,7 @@ impl Finder {
     }
 }
 
-/// The number of the set for a move, from that of the set for the move before.
+/// Returns the number of the set for the move `k`, given the number of the set for the move before it.
 fn set_before(
     walk: &mut SetWalk,
     a: &Prio,

@@ -26,8 +26,9 @@ ghost use Rattle.rl_pairs.specs.Families.{Chained, chain_heads, chain_pumps, to_
 ghost use Rattle.rl_pairs.specs.RightVerdict.{Question, IsMachine, IsPassed, HasDegree, IsExpo, IsBounded, RightVerdict};
 ghost use Rattle.rl_syntax.specs.declared.limits.TheConstants.{MOST_COUNTED_SETS};
 
-/// The cost is one and the number of non-empty paths of live pairs along a beginning of the letters and the end letter, whose
-/// last set refuses what is left. So says `words` of the walk of an automaton, and `texts` of the cost of a tree.
+/// The cost is one plus the number of non-empty paths of live pairs along prefixes of the letters and the end letter, such
+/// that the set of the last pair refuses the rest of the letters. `words` states this for the walk of an automaton, and
+/// `texts` for the cost of a tree.
 pub fn exact_cost_by_live_pairs()
     ensures words { (a : Automaton) (t : Tree) (ending : Ending) (sets : List (ℕ → Bool)) (next : ℕ → ℕ → List ℕ) (at : ℕ → Pair) (n : ℕ)
         → IsAutomaton a → StandsOver a t ending sets → IsPairGraph a next at n
@@ -37,26 +38,27 @@ pub fn exact_cost_by_live_pairs()
         → (w : List ℕ) → All (λ c. c < a.table.codes) w → cost t ending w ≡ 1 + walked next (refused a at) 0 (word_at a w) }
 {}
 
-/// A set of a pair holds the image of each set before it. So where a pair's set refuses a list of letters, the set of each pair
-/// that a word leads from refuses the word and then these letters.
+/// The set of a pair contains the image of the set of each pair before it. So if the set of a pair refuses a list of letters,
+/// and a word leads to that pair from another one, then the set of the other pair refuses the word followed by the letters.
 pub fn earlier_sets_refuse()
     ensures { (a : Automaton) (t : Tree) (ending : Ending) (sets : List (ℕ → Bool)) (next : ℕ → ℕ → List ℕ) (at : ℕ → Pair) (n : ℕ)
         → IsAutomaton a → StandsOver a t ending sets → IsPairGraph a next at n
         → (p q : ℕ) (u v : List ℕ) → 1 ≤ paths next p q u → refused a at q v ≡ true → refused a at p (u ++ v) ≡ true }
 {}
 
-/// Behind the end letter no pair has a move. So a word that leads to a pair with a move, and each word of a twin's or a chain's
-/// family but the last, is made of letters without the end letter.
+/// After the end letter, no pair has any moves. So a word that leads to a pair with moves is made of letters without the end
+/// letter. The same holds for each word of the family of a twin or a chain, except the last word.
 pub fn words_before_moves_are_letters()
     ensures { (a : Automaton) (t : Tree) (ending : Ending) (sets : List (ℕ → Bool)) (next : ℕ → ℕ → List ℕ) (at : ℕ → Pair) (n : ℕ)
         → IsAutomaton a → StandsOver a t ending sets → IsPairGraph a next at n
         → (p q letter target : ℕ) (w : List ℕ) → 1 ≤ paths next p q w → Has target (next q letter) → All (λ l. l < letters_count a) w }
 {}
 
-/// The law of 2^k. In the graph of live pairs let `x` lead to a pair that has a twin on `y`, and let the pair's set refuse
-/// `last` and the end letter. Then `x`, `k` times `y` and `last` cost at least `2^k`. So says `words` of the walk of an
-/// automaton; `texts` says it of the cost of a tree, for each family whose texts have these letters, and `samples` for the
-/// family of the samples of these letters. `family` says that the latter is a family.
+/// The law of `2^k`. In the graph of live pairs, let `x` lead to a pair that has a twin on `y`, and let the set of this pair
+/// refuse `last` followed by the end letter. Then `x`, followed by `y` repeated `k` times, followed by `last`, costs at least
+/// `2^k`. `words` states this for the walk of an automaton. `texts` states it for the cost of a tree and each family whose
+/// texts have these letters, and `samples` for the family that is made of the sample codes of these letters. `family` states
+/// that the latter is a family.
 pub fn twins_double()
     ensures words { (a : Automaton) (t : Tree) (ending : Ending) (sets : List (ℕ → Bool)) (next : ℕ → ℕ → List ℕ) (at : ℕ → Pair) (n : ℕ)
         → IsAutomaton a → StandsOver a t ending sets → IsPairGraph a next at n
@@ -78,11 +80,12 @@ pub fn twins_double()
         → IsRest a (to_end a last) → IsFamily universe 1 f }
 {}
 
-/// The law of k^d. In the graph of live pairs let there be a chain of splits that ends on a cycle, `y`, and let the set of the
-/// pair on the cycle refuse `last` and the end letter. Then the leads, with each split's word, and the cycle, `k` times between
-/// them, cost at least `k^d`, where `d` is one and the number of splits. So says `words` of the walk of an automaton; `texts`
-/// says it of the cost of a tree, for each family whose texts have these letters, and `samples` for the family of the samples
-/// of these letters. `family` says that the latter is a family of degree `d`.
+/// The law of `k^d`. In the graph of live pairs, let there be a chain of splits that ends on a cycle on `y`, and let the set
+/// of the pair on the cycle refuse `last` followed by the end letter. Consider the word made of the leads, with the word of
+/// each split and of the cycle repeated `k` times after its lead, followed by `last`. It costs at least `k^d`, where `d` is
+/// one more than the number of splits. `words` states this for the walk of an automaton. `texts` states it for the cost of a
+/// tree and each family whose texts have these letters, and `samples` for the family that is made of the sample codes of
+/// these letters. `family` states that the latter is a family of degree `d`.
 pub fn chains_multiply()
     ensures words { (a : Automaton) (t : Tree) (ending : Ending) (sets : List (ℕ → Bool)) (next : ℕ → ℕ → List ℕ) (at : ℕ → Pair) (n : ℕ)
         → IsAutomaton a → StandsOver a t ending sets → IsPairGraph a next at n
@@ -107,8 +110,8 @@ pub fn chains_multiply()
         → IsRest a (to_end a last) → IsFamily universe (suc (length links)) f }
 {}
 
-/// The states of a graph of live pairs that is numbered by first sight are the live pairs, each once: there are more than `m`
-/// live pairs exactly where the graph has more than `m` states.
+/// The states of a graph of live pairs that is numbered in the order of first sight are the live pairs, each exactly once. So
+/// there are more than `m` live pairs if and only if the graph has more than `m` states.
 pub fn states_are_live_pairs()
     ensures live { (a : Automaton) (next : ℕ → ℕ → List ℕ) (at : ℕ → Pair) (n : ℕ) → IsPairGraph a next at n → IsNumbered a next at n
         → (i : ℕ) → i < n → LivePair a (at i) }
@@ -120,8 +123,8 @@ pub fn states_are_live_pairs()
         → n ≤ m → MoreThan m (LivePair a) → ⊥ }
 {}
 
-/// A tree has few live pairs for its size: an automaton that stands for it has no more than the bound `N`, a graph of them that
-/// is numbered has no more states, and no more than `K` moves of one state on one letter.
+/// A tree has few live pairs for its size. An automaton that stands for the tree has at most `N` live pairs, and a numbered
+/// graph of them has at most `N` states, with at most `K` moves of a state on a letter.
 pub fn live_pairs_are_few()
     ensures pairs { (a : Automaton) (t : Tree) (ending : Ending) (sets : List (ℕ → Bool)) → IsAutomaton a → StandsOver a t ending sets
         → MoreThan (bound_n (size t)) (LivePair a) → ⊥ }
@@ -134,8 +137,9 @@ pub fn live_pairs_are_few()
         → IsWithin next (bound_n (size t)) (bound_k (size t)) }
 {}
 
-/// Automata that stand for one tree and ending over the codes of one universe have the same live pairs and counted sets. So the
-/// limits on these may be read from any one of them, and the one on pairs from its graph.
+/// All automata that stand for the same tree and ending over the codes of one universe have the same live pairs and counted
+/// sets. So any of these automata tells whether a limit on them is exceeded, and its graph tells whether the limit on pairs
+/// is.
 pub fn one_automaton_decides()
     ensures pairs { (q : Question) (a : Automaton) → IsMachine q a → IsPassed q Limit.Pairs → MoreThan q.max_pairs (LivePair a) }
     ensures sets { (q : Question) (a : Automaton) → IsMachine q a → IsPassed q Limit.Sets → MoreThan MOST_COUNTED_SETS (CountedSet a) }
@@ -143,7 +147,7 @@ pub fn one_automaton_decides()
         → n ≤ q.max_pairs → IsPassed q Limit.Pairs → ⊥ }
 {}
 
-/// Where no limit is passed, the family of a twin of the graph of live pairs makes the verdict of exponential growth right.
+/// If no limit is exceeded, the family of a twin in the graph of live pairs is right for the verdict of exponential growth.
 pub fn twins_are_exponential()
     ensures { (q : Question) (a : Automaton) (next : ℕ → ℕ → List ℕ) (at : ℕ → Pair) (n : ℕ)
         → IsMachine q a → IsAutomaton a → IsPairGraph a next at n → ((limit : Limit) → IsPassed q limit → ⊥)
@@ -151,8 +155,8 @@ pub fn twins_are_exponential()
         → IsRest a (to_end a last) → refused a at p (to_end a last) ≡ true → IsExpo q f }
 {}
 
-/// Where no limit is passed, the family of a chain of splits that ends on a cycle has the degree that is one and the number of
-/// splits, as far as the bound from below goes; and each family of degree 0 has the degree 0.
+/// If no limit is exceeded, the family of a chain of splits that ends on a cycle has a degree of one more than the number of
+/// splits, as far as the lower bound is concerned. Every family of degree 0 has the degree 0.
 pub fn chains_have_degree()
     ensures chains { (q : Question) (a : Automaton) (next : ℕ → ℕ → List ℕ) (at : ℕ → Pair) (n : ℕ)
         → IsMachine q a → IsAutomaton a → IsPairGraph a next at n → ((limit : Limit) → IsPassed q limit → ⊥)
@@ -162,9 +166,10 @@ pub fn chains_have_degree()
     ensures flat { (q : Question) → ((limit : Limit) → IsPassed q limit → ⊥) → (f : Family) → IsFamily q.universe 0 f → HasDegree q 0 f }
 {}
 
-/// The sum over the prefixes. Where the paths from the first pair along a word are at most as many as the graph allows by the
-/// `d`-th power of the word's length and one, the cost has a bound of degree `d` and one. Where the graph of live pairs has no
-/// cycle, and these paths are at most as many as it allows without a split, the cost has a bound of degree 0.
+/// Costs are sums of path counts over prefixes, so bounds on paths give bounds on costs. If the number of paths from the
+/// first pair along any word is at most a constant of the graph times the `d`-th power of the length of the word plus one,
+/// the cost has a bound of degree `d + 1`. If the graph of live pairs has no cycle and these numbers are at most the bound
+/// for paths without a split, the cost has a bound of degree 0.
 pub fn paths_bound_costs()
     ensures degree { (q : Question) (a : Automaton) (next : ℕ → ℕ → List ℕ) (at : ℕ → Pair) (n : ℕ)
         → IsMachine q a → IsAutomaton a → IsPairGraph a next at n → IsNumbered a next at n
@@ -177,8 +182,8 @@ pub fn paths_bound_costs()
         → ((p : ℕ) (u : List ℕ) → paths next 0 p u ≤ bound_h (bound_n (size q.tree)) (bound_k (size q.tree))) → IsBounded q 0 }
 {}
 
-/// Of one question at most one class of verdicts is right: two right degrees are one, where a degree is right no exponential
-/// growth is, and where a limit is named no class of growth is right.
+/// At most one class of verdicts is right for a question. Two right degrees are equal. If a degree is right, exponential
+/// growth isn't. If it is right to name a limit, neither a degree nor exponential growth is right.
 pub fn one_class_is_right()
     ensures degrees { (q : Question) (d e : ℕ) (f g : Family)
         → RightVerdict q (Degree d f) → RightVerdict q (Degree e g) → d ≡ e }

@@ -2,11 +2,11 @@
 
 use rl_lists::Members;
 
-/// A state of an automaton, and the states that were tried in vain before it.
+/// A state of an automaton, and the set of the states that were tried before it without success.
 #[derive(Drop)]
 pub struct Pair {
     /// The state.
     pub state: u32,
-    /// The states that were tried before it, rising.
+    /// The states that were tried before it, in increasing order.
     pub set: Members,
 }

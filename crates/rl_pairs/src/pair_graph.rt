@@ -27,8 +27,9 @@ use rl_sets::SetWalk;
 use std::alloc::Global;
 use std::marker::Model;
 
-/// The live pairs of an automaton and their moves. The pairs are numbered by first sight: breadth first from the first pair,
-/// which is 0, of one pair the letters in rising order, the end letter last, of one letter the moves in order.
+/// The live pairs of an automaton and their moves. The pairs are numbered in the order in which they are first seen: breadth
+/// first from the first pair, which has the number 0; for each pair, by letter in increasing order, with the end letter last;
+/// and for each letter, in the order of the moves.
 #[derive(Drop)]
 pub struct PairGraph {
     graph: Multigraph,
@@ -48,15 +49,15 @@ impl Model for PairGraph {
 }
 
 impl PairGraph {
-    /// The multigraph of the moves. Its states are the numbers of the pairs, its letters those of the automaton, and its last
-    /// letter the end letter.
+    /// Returns the multigraph of the moves. Its states are the numbers of the pairs. Its letters are the letters of the
+    /// automaton, followed by the end letter.
     pub fn graph(&self) -> &Multigraph
         ensures { result.now ≡ self.now.graph }
     {
         &self.graph
     }
 
-    /// The pair with a number.
+    /// Returns the pair with the number `i`.
     pub fn pair(&self, i: u32) -> &Pair
         requires { i < self.now.graph.states }
         ensures { result.now ≡ pair_in self.now i }
@@ -64,7 +65,7 @@ impl PairGraph {
         &self.pairs[i as usize]
     }
 
-    /// A word that leads from the first pair to the pair with a number.
+    /// Returns a word that leads from the first pair to the pair with the number `i`.
     pub fn lead(&self, i: u32) -> &Word
         requires { i < self.now.graph.states }
         ensures { result.now ≡ lead_in self.now i }
@@ -72,7 +73,7 @@ impl PairGraph {
         &self.leads[i as usize]
     }
 
-    /// A rest that the set of the pair with a number refuses.
+    /// Returns a rest that the set of the pair with the number `i` refuses.
     pub fn rest(&self, i: u32) -> &Word
         requires { i < self.now.graph.states }
         ensures { result.now ≡ rest_in self.now i }
@@ -81,7 +82,7 @@ impl PairGraph {
     }
 }
 
-/// The pairs of keys.
+/// Returns the pairs that the keys describe.
 fn listed(alloc: Global, walk: &SetWalk, keys: &IndexSet<Key>) -> Result<Vec<Pair>, OutOfMemory>
     requires { All (λ key. key.set < length walk.now.sets) keys.now.keys }
     ensures { IfOk result (λ pairs. pairs.items ≡ map (pair_of walk.now) keys.now.keys) }
@@ -98,7 +99,7 @@ fn listed(alloc: Global, walk: &SetWalk, keys: &IndexSet<Key>) -> Result<Vec<Pai
     Ok(pairs)
 }
 
-/// The graph of the pairs that were found.
+/// Builds the graph of the pairs that were found.
 fn built(
     alloc: Global,
     letters: u32,
@@ -135,7 +136,7 @@ fn built(
     })
 }
 
-/// Finds all live pairs, from a walk on that begins with the empty set, and makes the images of all sets of the walk.
+/// Finds all live pairs, and makes the images of all sets of the walk. The walk must begin with the empty set.
 fn find_all(
     alloc: Global,
     a: &Prio,
@@ -158,13 +159,13 @@ fn find_all(
     }
 }
 
-/// The graph of the live pairs of an automaton: the product of the automaton with the powerset construction of earlier tries,
-/// as far as breadth-first search over live sets reaches it.
+/// Builds the graph of the live pairs of an automaton: the product of the automaton with the powerset construction of the
+/// earlier tries, as far as breadth-first search over live sets reaches it.
 ///
 /// # Errors
-/// [`PairsError::Pairs`] where there are more than `max_pairs` live pairs, [`PairsError::Sets`] where there are more than
-/// 20,000 counted sets, and [`PairsError::OutOfMemory`] where there was no memory for the graph. Where one of the first two
-/// holds, there is no graph.
+/// [`PairsError::Pairs`] if there are more than `max_pairs` live pairs; [`PairsError::Sets`] if there are more than 20,000
+/// counted sets; [`PairsError::OutOfMemory`] if there is not enough memory for the graph. If either limit is exceeded, no
+/// graph is returned.
 pub fn pairs(alloc: Global, a: &Prio, max_pairs: u32) -> Result<PairGraph, PairsError>
     requires some { 1 ≤ max_pairs }
     requires few { max_pairs ≤ 1000 }

@@ -1,4 +1,4 @@
--- Taking outer anchors off the ends of a branch.
+-- Removing outer anchors from the ends of a branch.
 use Rattle.std.proofs.Common.{◌≡◌, ◌≢◌, ◌<◌, length, arith, Bool, true, false, cond, List, [], ◌∷◌, ◌++◌, map, reverse, Option, Some, None, refl, sym, ap, ◌∙◌}
 use Rattle.std.proofs.lemmas.Bool.{false≢true}
 use Rattle.std.proofs.lemmas.List.{map-append, reverse-append, reverse-reverse, append-nil}
@@ -15,7 +15,7 @@ pub listed-nodes : (ps : List SyntaxNode) → listed (nodes ps) ≡ ps
 listed-nodes [] = refl
 listed-nodes (p ∷ ps) = ap (λ qs. p ∷ qs) (listed-nodes ps)
 
--- an anchor for the beginning is none for the end
+-- A leading anchor is never a trailing one.
 leading_is_no_trail : (p : SyntaxNode) → is_leading p ≡ true → trail_of p ≡ no_trail
 leading_is_no_trail (mark s f text_start) h = refl
 leading_is_no_trail (mark s f caret) h = refl
@@ -33,7 +33,7 @@ run_before : (ps : List SyntaxNode) (p : SyntaxNode) → trail_of p ≡ no_trail
 run_before [] p h = ap (λ t. run_of t no_trail) h
 run_before (q ∷ ps) p h = ap (run_of (trail_of q)) (run_before ps p h)
 
--- the run at the end doesn't go on into the one at the beginning
+-- The run at the end doesn't extend into the one at the start.
 pub run_of_rest : (ps : List SyntaxNode) → trailing_run (reverse (without_leading ps)) ≡ trailing_run (reverse ps)
 run_of_rest [] = refl
 run_of_rest (p ∷ ps) = go (is_leading p) refl (run_of_rest ps)
@@ -53,14 +53,14 @@ map-reverse f (x ∷ xs) =
     ∙ ap (λ ys. ys ++ f x ∷ []) (map-reverse f xs)
     ∙ sym (reverse-append (f x ∷ []) (map f xs))
 
--- the last item stands first from the end
+-- The last item is the first one in reverse order.
 last_first : {A : Type 0} (f : A → SyntaxNode) (xs ys : List A) (x : A) → xs ≡ ys ++ x ∷ [] → reverse (map f xs) ≡ f x ∷ reverse (map f ys)
 last_first f xs ys x e = ap (λ zs. reverse (map f zs)) e ∙ ap reverse (map-append f ys (x ∷ [])) ∙ reverse-append (map f ys) (f x ∷ [])
 
 all_left : {A : Type 0} (f : A → SyntaxNode) (xs ys : List A) → xs ≡ ys ++ [] → reverse (map f ys) ≡ reverse (map f xs)
 all_left f xs ys e = ap (λ zs. reverse (map f zs)) (sym (e ∙ append-nil ys))
 
--- one leading anchor less at the end, and none
+-- Removing one leading anchor at the end, and none.
 pub leading_off : {A : Type 0} (f : A → SyntaxNode) (xs ys : List A) (last : Option A) → begins_leading (reverse (map f xs)) ≡ true → xs ≡ ys ++ option_to_list last → without_leading (reverse (map f ys)) ≡ without_leading (reverse (map f xs))
 leading_off f xs ys None h e = ap without_leading (all_left f xs ys e)
 leading_off f xs ys (Some x) h e =
@@ -71,7 +71,7 @@ pub leading_kept : (ps : List SyntaxNode) → begins_leading ps ≡ false → ps
 leading_kept [] h = refl
 leading_kept (p ∷ ps) h = sym (ap (λ b. cond b (without_leading ps) (p ∷ ps)) h)
 
--- one trailing anchor less at the end, and none
+-- Removing one trailing anchor at the end, and none.
 trail_first : {A : Type 0} (f : A → SyntaxNode) (xs ys : List A) (x : A) (trail : Trail) → xs ≡ ys ++ x ∷ [] → trail ≡ trail_at (reverse (map f xs)) → trail ≡ trail_of (f x)
 trail_first f xs ys x trail e h = h ∙ ap trail_at (last_first f xs ys x e)
 
@@ -80,7 +80,7 @@ trailing_off f xs ys None trail t h e = ap without_trailing (all_left f xs ys e)
 trailing_off f xs ys (Some x) trail t h e =
     sym (ap without_trailing (last_first f xs ys x e) ∙ ap (λ b. cond b (without_trailing (reverse (map f ys))) (f x ∷ reverse (map f ys))) (sym (ap drops (trail_first f xs ys x trail e t)) ∙ h))
 
--- the anchor of a run, taken together one after the other
+-- What a run of trailing anchors amounts to, combined one after another.
 run_on : (run trail rest : Trail) → drops trail ≡ true → both_trails (both_trails run trail) rest ≡ both_trails run (run_of trail rest)
 run_on run no_trail rest h = absurd (false≢true h)
 run_on no_trail dollar_trail rest h = refl
@@ -120,7 +120,7 @@ some_trail no_trail h = absurd (h refl)
 some_trail dollar_trail h = refl
 some_trail end_trail h = refl
 
--- turned, taken from the end, and turned back
+-- Reversing the items, removing the run from their end, and reversing them back.
 pub taken_in_front : {A : Type 0} (f : A → SyntaxNode) (xs turned rest back : List A) → turned ≡ reverse xs → reverse (map f rest) ≡ without_leading (reverse (map f turned)) → back ≡ reverse rest → map f back ≡ without_leading (map f xs)
 taken_in_front f xs turned rest back e h b =
     ap (map f) b
@@ -130,7 +130,7 @@ taken_in_front f xs turned rest back e h b =
     ∙ ap (λ ys. without_leading (reverse ys)) (map-reverse f xs)
     ∙ ap without_leading (reverse-reverse (map f xs))
 
--- what is left of the items of a branch, where their ends were taken off one after the other
+-- What is left of the items of a branch after its ends have been removed one after the other.
 pub ends_taken : (s : Span) (ps rest middle : List SyntaxNode) (body : SyntaxNode) (leading : Bool) (run : Trail) → leading ≡ begins_leading ps → rest ≡ without_leading ps → reverse middle ≡ without_trailing (reverse rest) → run ≡ trailing_run (reverse rest) → body ≡ branch_body s middle → record { body = body; leading = leading; trail = run } ≡ inner_of s (nothing s) (Some ps)
 ends_taken s ps rest middle body leading run l r m t b = made l whole_run whole_body
   where

@@ -1,4 +1,4 @@
--- Each tree that may stand in a body is the body of a pattern, whose sets list their codes one by one.
+-- Each tree that may occur in a body is the body of a pattern whose sets list their codes one by one.
 use Rattle.std.proofs.Common.{◌≡◌, ℕ, zero, suc, ◌<◌, Bool, true, false, ◌&&◌, if◌then◌else◌, nat_lt, List, [], ◌∷◌, map, refl, sym, ap, ◌∙◌, subst, arith, Global}
 use Rattle.std.proofs.lemmas.Bool.Decides.{nat_tests}
 use Rattle.std.proofs.Math.Path.{fun_ext}
@@ -20,7 +20,7 @@ use Rattle.rl_syntax.specs.Counting.{branch_tree}
 use Rattle.rl_syntax.specs.IsPattern.{IsPart, AreParts, AreBranches, IsPattern}
 use Rattle.rl_syntax.specs.Pattern.{body_of, is_anchored, trail_of, universe_of}
 
--- the codes below a number that pass a test, each as a range
+-- The codes below a number that satisfy a test, each as a range.
 pub listed_below : ℕ → (ℕ → Bool) → List (ℕ × ℕ)
 listed_below zero test = []
 listed_below (suc n) test = if test n then (n, n) ∷ listed_below n test else listed_below n test
@@ -34,7 +34,7 @@ has_listed (suc n) test c = go (test n) refl (has_listed n test c)
     go true e h = grind (arith, nat_tests, e, h)
     go false e h = h ∙ grind (arith, nat_tests, e)
 
--- a set of the universe is the one that lists its codes
+-- A set of the universe equals the one that lists its codes.
 same_set : (u : Universe) (set : ℕ → Bool) → LiesIn u set → has (listed_below (code_count u) set) ≡ set
 same_set u set h = fun_ext (λ c. has_listed (code_count u) set c ∙ go c (set c) refl)
   where
@@ -99,7 +99,7 @@ mutual
   branches_of-from u (branch s p bs) h = let e : branch_tree (at_span s (pat_from u p)) ≡ (s, pat_of (pat_from u p)) = branch_at s (pat_from u p) in
       ap (λ b. branch b.0 b.1 (branches_of (map branch_tree (branches_from u bs)))) e ∙ ap (λ q. branch s q (branches_of (map branch_tree (branches_from u bs)))) (pat_of-from u p h.0) ∙ ap (branch s p) (branches_of-from u bs h.1)
 
--- the pattern of a body and its outer anchors
+-- The pattern of a body and its outer anchors.
 pub pattern_from : (u : Universe) (p : PatTree) (leading : Bool) (trail : Trail) → IsPattern u p → Pattern
 pattern_from u p leading trail h = record { body = pat_from u p; leading = leading; trailing = trail; universe = u; judged = subst (IsPattern u) (sym (pat_of-from u p h.parts)) h }
 

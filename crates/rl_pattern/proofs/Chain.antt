@@ -1,4 +1,4 @@
--- What the trials of branches leave: the language, and a pattern in which each choice keeps a branch.
+-- What trying the branches preserves: the language, and that each choice keeps a branch.
 use Rattle.std.proofs.Common.{◌≡◌, Bool, true, false, List, [], ◌∷◌, true≢false}
 use Rattle.std.proofs.lemmas.Bool.{cond_both}
 use Rattle.rl_ranges.specs.declared.universe.Universe.{Universe}
@@ -13,7 +13,7 @@ use Rattle.rl_pattern.specs.Suggested.{among, holds_guard, some_guard, branch_gu
 use Rattle.rl_pattern.proofs.Linking.{or_none}
 use Rattle.rl_pattern.proofs.Rising.{Fewer, none_fewer, left_out, taken}
 
--- the language stays
+-- The language stays the same.
 pub tried_language : (Answers : Tree → Tree → Verdict → Type 0) (u : Universe) → ((s t : Tree) → Answers s t equal → OneLanguage u s t) → (body : PatTree) {bs dropped passed : List Span} → Tried Answers body bs dropped passed → OneLanguage u (without [] body) (without dropped body)
 tried_language Answers u sound body none_tried w is = (λ h. h, λ h. h)
 tried_language Answers u sound body (left_alone h e) w is = tried_language Answers u sound body h w is
@@ -24,7 +24,7 @@ tried_language Answers u sound body (dropped_one {dropped = d} {b = b} h m a) w 
 tried_language Answers u sound body (kept_one h m a) w is = tried_language Answers u sound body h w is
 tried_language Answers u sound body (passed_one h m a) w is = tried_language Answers u sound body h w is
 
--- what was dropped may go
+-- What was dropped may be dropped.
 pub tried_goes : (Answers : Tree → Tree → Verdict → Type 0) (body : PatTree) {bs dropped passed : List Span} → Tried Answers body bs dropped passed → may_go (among []) body ≡ true → may_go (among dropped) body ≡ true
 tried_goes Answers body none_tried e = e
 tried_goes Answers body (left_alone h m) e = tried_goes Answers body h e
@@ -32,7 +32,7 @@ tried_goes Answers body (dropped_one h m a) e = m
 tried_goes Answers body (kept_one h m a) e = tried_goes Answers body h e
 tried_goes Answers body (passed_one h m a) e = tried_goes Answers body h e
 
--- what was dropped, and what passed the limit, are some of the branches that were tried
+-- The branches that were dropped, and those that exceeded the limit, are among the branches that were tried.
 pub dropped_fewer : (Answers : Tree → Tree → Verdict → Type 0) (body : PatTree) {bs dropped passed : List Span} → Tried Answers body bs dropped passed → Fewer dropped bs
 dropped_fewer Answers body none_tried = none_fewer
 dropped_fewer Answers body (left_alone h m) = left_out (dropped_fewer Answers body h)

@@ -1,4 +1,4 @@
--- What is said of a pattern says it of the tree that it was made of.
+-- What holds for a pattern also holds for the syntax tree that it was made from.
 use Rattle.std.proofs.Common.{◌≡◌, ℕ, Bool, true, false, not, ◌||◌, if◌then◌else◌, List, [], ◌++◌, refl, sym, ap, ◌∙◌, true≢false}
 use Rattle.rl_ranges.specs.declared.universe.Universe.{Universe}
 use Rattle.rl_syntax.specs.PatTree as s
@@ -21,7 +21,7 @@ plain_of text i atomic h = absurd (cc h)
 plain_of text i conditional h = absurd (cc h)
 
 module _ (u : Universe) where
-  -- what holds no group that captures holds no named one
+  -- A part without a capturing group contains no named group.
   group_capture : (r : Span) (i : ℕ) (kd : Kind) (p : s.PatTree) → is_plain kd ≡ true → holds_capture (group_shape r kd p) ≡ false → (kind_names i kd ≡ []) × (holds_capture p ≡ false)
   group_capture r i capturing p pl h = absurd (true≢false h)
   group_capture r i (named n) p pl h = absurd (true≢false h)

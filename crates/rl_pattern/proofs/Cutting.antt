@@ -1,4 +1,4 @@
--- Codes without what is gone spell what is left.
+-- The codes that aren't gone spell what is left.
 use Rattle.std.proofs.Common.{◌≡◌, ◌⊎◌, ℕ, zero, suc, ◌+◌, Bool, true, false, not, if◌then◌else◌, List, [], ◌∷◌, ◌++◌, length, map, Some, None, refl, sym, ap, ◌∙◌, arith, slice_get}
 use Rattle.std.proofs.lemmas.Option.{slice_get_within}
 use mathlib.Core.Logic.{inl, inr, ⊎_elim}
@@ -66,12 +66,12 @@ module _ (kept : ℕ → Bool) where
       at_zero : (i : ℕ) → kept (0 + i) ≡ kept i
       at_zero i = let e : 0 + i ≡ i = omega arith in ap kept e
 
--- the places that are kept where branches and quantifiers are taken out of a tree
+-- The positions that are kept when branches and quantifiers are removed from a tree.
 abbrev pub stays : Universe → (Span → Bool) → (Span → Bool) → SyntaxNode → ℕ → Bool
 stays u drop out p t = not (gone drop out (shape u p) t)
 
 module _ (u : Universe) (drop out : Span → Bool) (call : Flags) (w : List ℕ) where
-  -- what the codes that are left spell
+  -- What the remaining codes spell.
   pub record Cuts (p : Whole) : Type 0 where
     pub what : Whole
     pub is_spelled : Spells call (is_text u) (kept_from (stays u drop out p.body) 0 w) what
@@ -95,7 +95,7 @@ module _ (u : Universe) (drop out : Span → Bool) (call : Flags) (w : List ℕ)
   two_no_one (x ∷ []) b c some e = cc e
   two_no_one (x ∷ z ∷ bs) b c some e = cc e
 
-  -- nothing is dropped, or no branch of the body begins or ends with an outer anchor
+  -- Nothing is dropped, or no branch of the body begins or ends with an outer anchor.
   abbrev pub Free : Whole → Type 0
   Free p = ((x : Span) → drop x ≡ false) ⊎ (items_of p.body ≡ None → (bs : List Branch) → p.body ≡ whole_body p.place bs → BareSome u drop out bs)
 

@@ -1,4 +1,4 @@
--- How many groups are open where a parenthesis begins one.
+-- How many groups are open where a parenthesis begins another one.
 use Rattle.std.proofs.Common.{◌≡◌, ℕ, zero, suc, ◌+◌, Bool, List, [], ◌∷◌, length, take, Option, Some, None, refl, sym, ap, ◌∙◌, subst, slice_get, arith, append-nil, length-take-le}
 use Rattle.std.proofs.lemmas.Option.{same_Some, none-some, slice_get_within}
 use Rattle.rl_pattern.specs.declared.flags.Flags.{Flags}
@@ -40,7 +40,7 @@ opened_lex n (in_escape a x) = None
 opened_lex n (set_open a) = None
 opened_lex n (in_class a v s) = None
 
--- how many groups are open where the last code is a parenthesis between items
+-- The number of open groups if the last code is a parenthesis between items.
 abbrev pub opened : ℕ → State → Option ℕ
 opened k s = opened_lex (length s.base.below) s.lex
 
@@ -100,7 +100,7 @@ module _ (text : Bool) (w : List ℕ) where
         reads = r.reads ∙ opening_between text w opened opened_fair (base fl outer r.out r.from r.before r.its r.end) o ∙ s.reads;
       }
 
--- where the grammar has d groups open before the last parenthesis, so has the machine
+-- If by the grammar `d` groups are open before the last parenthesis, they are open in the machine.
 pub open_seen : (call : Flags) (text : Bool) (w : List ℕ) (kd : Kind) (fl : Flags) (k d : ℕ) → Open text w call kd fl k d → At text w k 40 → length w ≡ suc k → observe text opened 0 (Some (start call)) w ≡ Some d
 open_seen call text w kd fl k d h at_k len =
     let r = open_goes text w call h in
@@ -121,11 +121,11 @@ module _ (call : Flags) (text : Bool) (w : List ℕ) where
   pub base_open : (k : ℕ) (b : Base) → BaseOk call text w k b → Open text w call b.top.kind b.top.flags k (length b.below)
   base_open k b h = open_of b.fronts b.top.flags b.top.kind b.top.opened b.top.start b.top.from k b.top.branches (settled b.top.items b.last) b.below h.before (all_items call text w b h) h.below
 
-  -- where the machine stands behind a parenthesis, the grammar has as many groups open
+  -- If the machine has just read a parenthesis, the same number of groups is open by the grammar.
   pub seen_open : (s : State) (a : ℕ) → run text 0 (Some (start call)) w ≡ Some s → s.lex ≡ in_head a paren → Open text w call s.base.top.kind s.base.top.flags a (length s.base.below)
   seen_open s a e is = let h = subst (λ x. LexOk call text w (length w) s.base x) is (run_ok call text w s e) in base_open a s.base h.0
 
-  -- and the parenthesis is the last code
+  -- The parenthesis is the last code.
   pub seen_last : (s : State) (a : ℕ) → run text 0 (Some (start call)) w ≡ Some s → s.lex ≡ in_head a paren → length w ≡ suc a
   seen_last s a e is = let h = subst (λ x. LexOk call text w (length w) s.base x) is (run_ok call text w s e) in h.1.1
 
@@ -157,7 +157,7 @@ lex_from n d (in_escape a x) e = absurd (none-some d e)
 lex_from n d (set_open a) e = absurd (none-some d e)
 lex_from n d (in_class a v s) e = absurd (none-some d e)
 
--- the machine behind a parenthesis at p that so many open groups are around
+-- The machine has just read the parenthesis at `p`, around which `d` groups are open.
 pub record Behind (call : Flags) (text : Bool) (w : List ℕ) (p d : ℕ) : Type 0 where
   pub state : State
   pub runs : run text 0 (Some (start call)) (take (suc p) w) ≡ Some state
@@ -182,11 +182,11 @@ open_behind call text w kd fl p d at_p h =
     let same : r.2 ≡ p = omega (arith, seen_last call text u r.0 r.2 r.1 r.3, len) in
     record { state = r.0; runs = r.1; lex = r.3 ∙ ap (λ a. in_head a paren) same; deep = r.4 }
 
--- where a group opens too deep, the machine is behind its parenthesis with 100 groups open
+-- If a group is nested too deep, the machine has just read its parenthesis, with 100 groups open.
 pub too_deep_seen : (call : Flags) (text : Bool) (w : List ℕ) (p : ℕ) → TooDeepAt call text w p → Behind call text w p 100
 too_deep_seen call text w p h = open_behind call text w h.deep.0 h.deep.1 p 100 h.opens h.deep.2
 
--- and where it is, and no (?# or (?P= stands there, a group opens too deep
+-- Conversely, if no `(?#` or `(?P=` is there, a group is nested too deep.
 pub seen_too_deep : (call : Flags) (text : Bool) (w : List ℕ) (p : ℕ) → Behind call text w p 100 → At text w p 40 → ¬ Stands text w p "(?#" → ¬ Stands text w p "(?P=" → TooDeepAt call text w p
 seen_too_deep call text w p h at_p no_r no_f =
     record {
@@ -196,6 +196,6 @@ seen_too_deep call text w p h at_p no_r no_f =
       deep = (h.state.base.top.kind, h.state.base.top.flags, subst (λ d. Open text (take (suc p) w) call h.state.base.top.kind h.state.base.top.flags p d) h.deep (seen_open call text (take (suc p) w) h.state p h.runs h.lex));
     }
 
--- the codes up to such a parenthesis begin a spelled pattern
+-- The codes up to such a parenthesis can be continued to a pattern.
 pub too_deep_begins : (call : Flags) (text : Bool) (w : List ℕ) (p : ℕ) → TooDeepAt call text w p → Begins call text (take (suc p) w)
 too_deep_begins call text w p h = let r = too_deep_seen call text w p h in begins call text (take (suc p) w) r.state r.runs

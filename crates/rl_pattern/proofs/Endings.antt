@@ -1,4 +1,4 @@
--- Whatever the machine is in the middle of, a few codes more make a spelled pattern.
+-- Whatever the machine is in the middle of, a few more codes make a pattern.
 use Rattle.std.proofs.Common.{◌≡◌, ℕ, zero, suc, sub-one, ◌-◌, ◌<◌, Bool, true, false, cond, if◌then◌else◌, nat_le, List, [], ◌∷◌, ◌++◌, length, replicate, Some, refl, sym, ap, ◌∙◌, subst, append_assoc, arith}
 use Rattle.std.specs.Prelude.{All}
 use Rattle.std.specs.List.{list_all}
@@ -14,7 +14,7 @@ use Rattle.rl_pattern.specs.internal.Signs.{code_up_to}
 use Rattle.rl_pattern.specs.Codes.{with_digit, sign, numeral, is_digit, hex, slashed, begins_name, goes_in_name, on_letter, off_letter, headed, no_flags, with_letter, counts, octal_code, hex_code, is_kind}
 use Rattle.rl_pattern.specs.internal.Machine.{stops, goes, ends, InEscape, in_hex, name_brace, name_begins, name_goes, in_octal, after_low, after_high, after_two, escape_next, escape_rest, InSet, set_first, set_next, set_slash, set_escape, set_side, set_dash, dash_slash, dash_escape, in_set, escape_set_next, escape_dash_next, set_answer, InHead, paren, quest, after_p, after_less, group_name, group_name_goes, reference_name, reference_name_goes, asks, asks_digits, asks_name_goes, letters_on, letters_dash, letters_off, Frame, Base, Lex, between, line, comment, in_braces, counted, at_slash, in_escape, in_head, set_open, in_class, State, at, put_leaf, put_code, put_codes, no_count, put_repeat, open_group, close, escape_step, step_at, observe, finish_below, finish_escape, finish_at}
 
--- how an escape ends that was begun
+-- The codes that end an escape.
 abbrev pub escape_ending : InEscape → List ℕ
 escape_ending (in_hex still v) = replicate still 48
 escape_ending name_brace = 123 ∷ 46 ∷ 125 ∷ []
@@ -63,7 +63,7 @@ ending (in_head a h) = head_ending h
 ending (set_open a) = 48 ∷ 93 ∷ []
 ending (in_class a v s) = set_ending s.part
 
--- each of a few codes is one of ASCII
+-- Each of these codes is ASCII.
 ascii : (codes : List ℕ) → list_all (λ c. ltb c 128) codes ≡ true → All (λ c. c < 128) codes
 ascii codes h = All-weaker (λ c. ltb c 128 ≡ true) (λ c. c < 128) (λ c. ltb-true c 128) codes (AllPass-from_list_all (λ c. ltb c 128) codes h)
 
@@ -115,8 +115,8 @@ ending_ascii (in_head a h) = head_ascii h
 ending_ascii (set_open a) = ascii (48 ∷ 93 ∷ []) refl
 ending_ascii (in_class a v s) = set_ascii s.part
 
--- text and bytes have the codes of ASCII
--- the universe of text, or that of bytes
+-- `str` and `bytes` both contain the codes of ASCII.
+-- The universe of `str` or of `bytes`.
 abbrev pub universe_if : Bool → Universe
 universe_if text = if text then Str else Bytes
 
@@ -124,13 +124,13 @@ ascii_in : (text : Bool) (c : ℕ) → c < 128 → c < code_count (universe_if t
 ascii_in true c l = omega (arith, l)
 ascii_in false c l = omega (arith, l)
 
--- the codes that end what the machine is in the middle of, and so many groups, are a text of each universe
+-- The codes that end what the machine is in the middle of, and a number of groups, are a text of each universe.
 pub ending_text : (text : Bool) (x : Lex) (n : ℕ) → IsText (universe_if text) (ending x ++ replicate n 41)
 ending_text text x n =
     All-weaker (λ c. c < 128) (λ c. c < code_count (universe_if text)) (ascii_in text) (ending x ++ replicate n 41)
     (All-append (λ c. c < 128) (ending x) (replicate n 41) (ending_ascii x) (All-replicate (λ c. c < 128) n 41 (omega arith)))
 
--- an escape that may still end
+-- An escape that can still be completed.
 abbrev pub MayEnd : InEscape → Type 0
 MayEnd (in_hex still v) = 0 < still
 MayEnd name_brace = Unit {0}
@@ -141,7 +141,7 @@ MayEnd (after_low v) = Unit {0}
 MayEnd after_high = Unit {0}
 MayEnd (after_two v) = Unit {0}
 
--- the same in a class
+-- The same within a class.
 abbrev pub SetMayEnd : InSet → Type 0
 SetMayEnd (set_escape i x) = MayEnd x
 SetMayEnd (dash_escape i e x) = MayEnd x
@@ -152,7 +152,7 @@ SetMayEnd (set_side i e) = Unit {0}
 SetMayEnd (set_dash i j e) = Unit {0}
 SetMayEnd (dash_slash i e) = Unit {0}
 
--- what the machine is in the middle of may still end
+-- What the machine is in the middle of can still be completed.
 abbrev pub LexMayEnd : Lex → Type 0
 LexMayEnd (in_escape a x) = MayEnd x
 LexMayEnd (in_class a v s) = SetMayEnd s.part
@@ -165,7 +165,7 @@ LexMayEnd (at_slash a) = Unit {0}
 LexMayEnd (in_head a h) = Unit {0}
 LexMayEnd (set_open a) = Unit {0}
 
--- these codes end an escape as e, or it is e before a ) and a ]
+-- These codes complete an escape as `e`, or the escape is `e` before a `)` and a `]`.
 data Feeds (e : Escaped) : InEscape → List ℕ → Type 0 where
   at_rest : {x : InEscape} → escape_rest x ≡ Some e → escape_next x 41 ≡ stops → escape_next x 93 ≡ stops → Feeds e x []
   at_last : {x : InEscape} {c : ℕ} → escape_next x c ≡ ends e → Feeds e x (c ∷ [])
@@ -203,7 +203,7 @@ escape_fed after_high l = record { value = reference; feeds = at_rest refl refl 
 escape_fed (after_two v) l = record { value = reference; feeds = at_rest refl refl refl; no_kind = refl }
 
 module _ (text : Bool) where
-  -- the codes from k on are read to a whole pattern
+  -- The codes from `k` on are read to a whole pattern.
   pub record IsRead (k : ℕ) (s : State) (r : List ℕ) : Type 0 where
     pub whole : Whole
     pub reads : observe text finish_at k (Some s) r ≡ Some whole
@@ -214,7 +214,7 @@ module _ (text : Bool) where
   same_read : (k c : ℕ) (s t : State) (r : List ℕ) → step_at text k s c ≡ step_at text k t c → IsRead k t (c ∷ r) → IsRead k s (c ∷ r)
   same_read k c s t r e h = record { whole = h.whole; reads = ap (λ o. observe text finish_at (suc k) o r) e ∙ h.reads }
 
-  -- a ) for each open group
+  -- One `)` for each open group.
   closes_all : (fs : List Frame) (k : ℕ) (b : Base) → b.below ≡ fs → IsRead k (at b between) (replicate (length fs) 41)
   unfolding sign
   closes_all [] k b e = record { whole = _; reads = ap (finish_below k b) e }
@@ -223,7 +223,7 @@ module _ (text : Bool) where
   closed : (k : ℕ) (b : Base) → IsRead k (at b between) (replicate (length b.below) 41)
   closed k b = closes_all b.below k b refl
 
-  -- what is pending is final before a ) and at the end
+  -- What is pending is settled before a `)` and at the end.
   pending : (k : ℕ) (s t : State) (n : ℕ) → finish_at k s ≡ finish_at k t → step_at text k s 41 ≡ step_at text k t 41 → IsRead k t (replicate n 41) → IsRead k s (replicate n 41)
   pending k s t zero e f h = record { whole = h.whole; reads = e ∙ h.reads }
   pending k s t (suc n) e f h = same_read k 41 s t (replicate n 41) f h
@@ -277,7 +277,7 @@ module _ (text : Bool) where
     set_ends k ms (dash_slash i e) h = read_step k 46 _ _ (93 ∷ tail) refl (class_closes (suc k) _)
     set_ends k ms (dash_escape i e x) h = let f = escape_fed x h in subst (λ r. IsRead k (In ms (dash_escape i e x)) r) (sym (append_assoc (escape_ending x) (93 ∷ []) tail)) (second_escape_read ms i e f.value f.no_kind f.feeds k)
 
-  -- a group that was just opened closes
+  -- A group that was just opened can be closed.
   opened_closes : (k a j : ℕ) (b : Base) (kd : Kind) → IsRead k (at (open_group b a j kd) between) (41 ∷ replicate (length b.below) 41)
   unfolding sign
   opened_closes k a j b kd = read_step k 41 _ _ (replicate (length b.below) 41) refl (closed (suc k) _)

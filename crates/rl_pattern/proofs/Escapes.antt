@@ -1,4 +1,4 @@
--- An escape that the grammar spells is read.
+-- The machine reads an escape that the grammar spells.
 use Rattle.std.proofs.Common.{◌≡◌, ◌⊎◌, ℕ, suc, ◌+◌, ◌-◌, sub-one, ◌<◌, Bool, true, false, cond, List, Option, Some, refl, sym, ap, ◌∙◌, subst, ◌==◌, if◌then◌else◌, true≢false, arith, ◌&&◌, ◌||◌, not}
 use Rattle.std.proofs.lemmas.Bool.{ne_eqb}
 use mathlib.Core.Logic.{inl, inr, ⊎_elim}
@@ -8,7 +8,7 @@ use Rattle.rl_pattern.specs.Grammar.{At, Without, no_code, one_code, Hexes, no_h
 use Rattle.rl_pattern.specs.internal.Machine.{State, stops, goes, ends, InEscape, in_hex, name_brace, name_begins, name_goes, in_octal, after_low, after_high, after_two, escape_first, escape_next, escape_rest, hex_next, octal_next, low_next, high_next, two_next, step_at}
 use Rattle.rl_pattern.proofs.Steps.{reads_from, goes_to, alike_steps}
 
--- a number of hexadecimal digits to come isn't 0
+-- The number of missing hexadecimal digits isn't 0.
 abbrev Some_hexes : EscapeClass → Type 0
 Some_hexes (hexes n) = 0 < n
 Some_hexes (single c) = Unit {0}
@@ -52,7 +52,7 @@ unfolding is_digit
 digit_false c g e h d = true≢false (sym d ∙ ap is_some_digit e ∙ h)
 
 module _ (text : Bool) (w : List ℕ) {X : Type 0} (ask : ℕ → State → Option X) where
-  -- states within an escape of the value e: behind the backslash, behind a code more, and past the end
+  -- The states within an escape with the value `e`: after the backslash, after one more code, and after its end.
   pub record Reader (in_class : Bool) (e : Escaped) (behind : State) (within : InEscape → State) (past : ℕ → State) : Type 0 where
     pub first_goes : (i c : ℕ) (x : InEscape) → escape_first (slashed text in_class c) ≡ goes x → step_at text i behind c ≡ Some (within x)
     pub first_ends : (i c : ℕ) → escape_first (slashed text in_class c) ≡ ends e → step_at text i behind c ≡ Some (past (suc i))
@@ -77,7 +77,7 @@ module _ (text : Bool) (w : List ℕ) {X : Type 0} (ask : ℕ → State → Opti
     last : (j c : ℕ) (x : InEscape) → At text w j c → escape_next x c ≡ ends e → From j (within x) ≡ From (suc j) (past (suc j))
     last j c x h st = goes_to text w ask j c (within x) (past (suc j)) h (r.next_ends j c x st)
 
-    -- what is pending is final
+    -- What is pending is settled.
     stays : (j : ℕ) (x : InEscape) → escape_rest x ≡ Some e → ((c : ℕ) → At text w j c → escape_next x c ≡ stops) → From j (within x) ≡ From j (past j)
     stays j x h f = alike_steps text w ask j (within x) (past j) (r.rests_end j x h) (λ c at_c. r.rests j c x h (f c at_c))
 
@@ -179,11 +179,11 @@ module _ (text : Bool) (w : List ℕ) {X : Type 0} (ask : ℕ → State → Opti
     escape_reads (reference_one {i = i} {s = s} sl rf no_d) q = refer_one i s q sl rf no_d
     escape_reads (reference_two {i = i} {s = s} sl rf is_d no_three) q = refer_two i s q sl rf is_d no_three
 
-  -- an escape that the grammar spells is read
+  -- The machine reads an escape that the grammar spells.
   pub escape_goes : (in_class : Bool) (e : Escaped) (behind : State) (within : InEscape → State) (past : ℕ → State) → Reader in_class e behind within past → {i j : ℕ} → Escape text w in_class i j e → reads_from text w ask (suc i) behind ≡ reads_from text w ask j (past j)
   escape_goes in_class e behind within past r h = escape_reads in_class e behind within past r h refl
 
--- an escape begins with a backslash
+-- An escape begins with a backslash.
 pub backslash : (text : Bool) (w : List ℕ) {in_class : Bool} {i j : ℕ} {e : Escaped} → Escape text w in_class i j e → At text w i 92
 backslash text w (escape_single (c, back, at_c, is_s)) = back
 backslash text w (escape_kind (c, back, at_c, is_s)) = back

@@ -1,4 +1,5 @@
--- The text of a right suggestion is read as the pattern without what was dropped and taken out, which spans what was left.
+-- The text of a right suggestion is read as the pattern without the dropped branches and removed quantifiers, which spans
+-- what was left.
 use Rattle.std.proofs.Common.{◌≡◌, ◌⊎◌, ℕ, suc, ◌≤◌, Bool, true, false, not, if◌then◌else◌, List, [], ◌∷◌, ◌++◌, length, reverse, Option, Some, None, Result, Ok, Err, refl, sym, ap, ◌∙◌, subst, arith, true≢false}
 use Rattle.std.proofs.lemmas.Bool.{cases_Bool}
 use Rattle.std.proofs.lemmas.List.{reverse-append, reverse-reverse}
@@ -51,12 +52,12 @@ module _ (text : Bool) (w : List ℕ) where
       go [] b e = cc e
       go (x ∷ bs) b e = cc e
 
-  -- a body of one branch is that branch
+  -- A body of one branch is that branch.
   pub one_body : (call : Flags) (p : Whole) → Spells call text w p → (ps : List SyntaxNode) → items_of p.body ≡ Some ps → p.body ≡ branch_body p.place ps
   one_body call p (spelled {i = i} f (first_branch {ps = qs} its)) ps e = ap (branch_body (span i (length w))) (same_Some qs ps (sym (branch_items (span i (length w)) qs (items_are its)) ∙ e))
   one_body call p (spelled {i = i} f (next_branch {j = j} {bs = bs} {ps = qs} h at_j may hs)) ps e = absurd (none-some ps (sym (several_body (span i (length w)) bs (branch (span (suc j) (length w)) qs) (some_branch h)) ∙ e))
 
-  -- the items within are a part of all items
+  -- The inner items are a part of all items.
   leading_rest : (ps : List SyntaxNode) → (xs : List SyntaxNode) × (ps ≡ xs ++ without_leading ps)
   leading_rest [] = ([], refl)
   leading_rest (p ∷ ps) = go (is_leading p) refl (leading_rest ps)
@@ -89,7 +90,7 @@ module _ (u : Universe) where
       from_more [] k j i l h = omega (arith, l, h)
       from_more (y ∷ ys) k j i l (m, h, hs) = (m, placed_more (shape u y) k m i m l (omega arith) h, hs)
 
-  -- a pattern without its outer anchors is placed
+  -- The parts of a pattern without its outer anchors are in place.
   pub inner_placed : (call : Flags) (text : Bool) (w : List ℕ) (p : Whole) → Spells call text w p → (i : ℕ) × Placed (shape u (inner p).body) i (length w)
   inner_placed call text w p (spelled {i = i} f (first_branch {ps = ps} its)) =
       let n = length w in
@@ -193,21 +194,21 @@ module _ (flags : Flags) (u : Universe) (w : List ℕ) (found : Pattern) (whole 
       let holes : (t : ℕ) → gone D O (body_of found) t ≡ gone D O (shape u whole.body) t = λ t. ap (λ p. gone D O p t) sp.pattern.body ∙ outer_holes u D O whole.place whole.place whole.body (items_of whole.body) refl (one_body (is_text u) w flags whole sp.read.spelled) t in
       λ i. kept_from (λ t. not (holes t i)) 0 w
 
-  -- there is a pattern that the text is read as
+  -- There is a pattern that the text is read as.
   pub suggested_found : (new : Pattern) × IsParsed flags u (text_of (body_of found) dropped merged w) (Ok new) × IsLeft D O found new
   suggested_found =
       let h : (new : Pattern) × IsParsed flags u (kept_from (stays u D O whole.body) 0 w) (Ok new) × IsLeft D O found new = cut_found u flags D O w found whole sp good clean free in
       (h.0, subst (λ v. IsParsed flags u v (Ok h.0)) (sym same_codes) h.1, h.2)
 
-  -- whatever the reader answers of the text
+  -- Whatever the result of parsing the text is.
   pub suggested_reads : (r : Result Pattern PatError) → IsParsed flags u (text_of (body_of found) dropped merged w) r → (r ≡ Err error.OutOfMemory) ⊎ ((new : Pattern) × (r ≡ Ok new) × IsLeft D O found new)
   suggested_reads r h = cut_reads u flags D O w found whole sp good clean free r (subst (λ v. IsParsed flags u v r) same_codes h)
 
-  -- the quantifiers that are taken out change no span
+  -- The removed quantifiers change no span.
   pub merged_spans : SameSpans (lowered (left D O (body_of found))) (lowered kept)
   merged_spans = subst (λ t. SameSpans (lowered t) (lowered kept)) (left_twice D O (body_of found)) (merged_same O kept merges)
 
--- the same, of what the reader answered of the codes
+-- The same, for a pattern that was parsed from codes.
 pub right_text_found : (flags : Flags) (u : Universe) (w : List ℕ) (found : Pattern) (dropped : List Span) → IsParsed flags u w (Ok found) → may_go (among dropped) (body_of found) ≡ true → (holds_guard (body_of found) ≡ true → dropped ≡ []) → (new : Pattern) × IsParsed flags u (text_of (body_of found) dropped (merged_in (left (among dropped) no_span (body_of found))) w) (Ok new) × IsLeft (among dropped) (among (merged_in (left (among dropped) no_span (body_of found)))) found new
 right_text_found flags u w found dropped (whole, sp) may guarded = suggested_found flags u w found whole sp dropped may guarded
 

@@ -4,7 +4,7 @@ use Rattle.std.proofs.lemmas.Bool.{true≢false}
 use Rattle.std.proofs.lemmas.Bool.Decides.{nat_tests}
 use Rattle.rl_pattern.specs.Found.{Fault, rank, comes_first, first_fault, earlier}
 
--- the order of places and ranks
+-- The order of positions and ranks.
 abbrev upto : ℕ → ℕ → ℕ → ℕ → Bool
 upto p r q s = nat_lt p q || (p == q && nat_le r s)
 
@@ -20,7 +20,7 @@ first_trans a b c h k = upto_trans a.place (rank a.what) b.place (rank b.what) c
 first_total : (a b : Fault) → comes_first a b ≡ false → comes_first b a ≡ true
 first_total a b h = upto_total a.place (rank a.what) b.place (rank b.what) h
 
--- a fault, then one of two
+-- A fault, and then one of two.
 of_three : (a b c : Fault) → earlier (Some a) (earlier (Some b) (Some c)) ≡ earlier (earlier (Some a) (Some b)) (Some c)
 of_three a b c = go (comes_first a b) (comes_first b c) refl refl
   where
@@ -57,10 +57,10 @@ pub first_of_joined : (xs ys : List Fault) → first_fault (xs ++ ys) ≡ earlie
 first_of_joined [] ys = refl
 first_of_joined (a ∷ xs) ys = ap (earlier (Some a)) (first_of_joined xs ys) ∙ earlier_assoc (Some a) (first_fault xs) (first_fault ys)
 
--- the first fault so far, and one list more
+-- The first fault so far, and one more list.
 pub best_of_more : (best : Option Fault) (xs ys : List Fault) → earlier (earlier best (first_fault xs)) (first_fault ys) ≡ earlier best (first_fault (xs ++ ys))
 best_of_more best xs ys = sym (ap (earlier best) (first_of_joined xs ys) ∙ earlier_assoc best (first_fault xs) (first_fault ys))
 
--- a first fault before that of another list
+-- A first fault before the first fault of another list.
 pub own_first : (whole own inner : Option Fault) (xs ys : List Fault) → whole ≡ earlier own inner → own ≡ first_fault xs → inner ≡ first_fault ys → whole ≡ first_fault (xs ++ ys)
 own_first whole own inner xs ys e f g = e ∙ ap (λ a. earlier a inner) f ∙ ap (earlier (first_fault xs)) g ∙ sym (first_of_joined xs ys)

@@ -1,4 +1,4 @@
--- The head of a group that the grammar spells is read.
+-- The machine reads the head of a group that the grammar spells.
 use Rattle.std.proofs.Common.{◌≡◌, ℕ, suc, Bool, true, false, cond, List, [], ◌∷◌, ◌++◌, Option, Some, refl, ap, ◌∙◌, ◌==◌, arith}
 use Rattle.std.proofs.lemmas.Bool.{ne_eqb}
 use Rattle.std.proofs.lemmas.Bool.Decides.{nat_tests}
@@ -22,7 +22,7 @@ letter_not : (on_letter 58 ≡ false) × (on_letter 41 ≡ false) × (on_letter 
 unfolding on_letter off_letter
 letter_not = (refl, refl, refl, refl)
 
--- what single codes are behind (?
+-- The classes of single codes after `(?`.
 heads : (headed 58 ≡ colon) × (headed 45 ≡ minus) × (headed 80 ≡ letter_p) × (headed 35 ≡ sharps) × (headed 60 ≡ less) × (headed 62 ≡ greater) × (headed 40 ≡ condition)
 unfolding headed on_letter
 heads = (refl, refl, refl, refl, refl, refl, refl)
@@ -31,7 +31,7 @@ letter_heads : (c : ℕ) → on_letter c ≡ true → headed c ≡ letter
 unfolding headed
 letter_heads c h = rw h refl
 
--- a code that begins a name is no digit
+-- A code that begins a name isn't a digit.
 name_no_digit : (text : Bool) (c : ℕ) → begins_name text c ≡ true → is_digit c ≡ false
 unfolding begins_name is_digit numeral
 name_no_digit text c h = grind (arith, nat_tests)
@@ -43,11 +43,11 @@ module _ (text : Bool) (w : List ℕ) {X : Type 0} (ask : ℕ → State → Opti
   abbrev In : InHead → State
   In h = at b (in_head a h)
 
-  -- a code that goes on with the head
+  -- A code that continues the head.
   on : (i c : ℕ) (h k : InHead) → At text w i c → head_step text h c ≡ goes k → From i (In h) ≡ From (suc i) (In k)
   on i c h k at_c st = goes_to text w ask i c (In h) (In k) at_c (ap (λ r. head_answer i b a h r c) st)
 
-  -- a code that ends it
+  -- A code that completes the head.
   off : (i c : ℕ) (h : InHead) (o : GroupStart) (s : State) → At text w i c → head_step text h c ≡ ends o → begin b a (suc i) o ≡ Some s → From i (In h) ≡ From (suc i) s
   off i c h o s at_c st be = goes_to text w ask i c (In h) s at_c (ap (λ r. head_answer i b a h r c) st ∙ be)
 
@@ -85,7 +85,7 @@ module _ (text : Bool) (w : List ℕ) {X : Type 0} (ask : ℕ → State → Opti
   off_go f (next_letter {j = j} {c = c} {f = g} hs at_c h) =
       off_go f hs ∙ on j c (letters_off f g) (letters_off f (with_letter g c)) at_c (ap (λ t. cond t (ends (begins_group (scoped f g))) (cond (off_letter c) (goes (letters_off f (with_letter g c))) stops)) (differs off_letter 58 c letter_not.3 h) ∙ ap (λ t. cond t (goes (letters_off f (with_letter g c))) stops) h)
 
-  -- the code behind (? by its sign
+  -- The code after `(?`, by its class.
   by_head : (i c : ℕ) (g : GroupPrefix) (k : InHead) → At text w i c → headed c ≡ g → quest_next g c ≡ goes k → From i (In quest) ≡ From (suc i) (In k)
   by_head i c g k at_c e st = on i c quest k at_c (ap (λ h. quest_next h c) e ∙ st)
 
@@ -115,12 +115,12 @@ module _ (text : Bool) (w : List ℕ) {X : Type 0} (ask : ℕ → State → Opti
   opening_goes (asks_name {j = j} (at_a, (at_q, at_c)) name at_end) =
       asked at_q ∙ (by_head (suc (suc a)) 40 condition asks at_c heads.6 refl ∙ asks_goes_on name ∙ off j 41 asks_name_goes (begins_group conditional) _ at_end refl refl)
 
-  -- a reference to a name
+  -- A reference to a named group.
   pub reference_goes : {j : ℕ} {n : List ℕ} → Stands text w a "(?P=" → Name text w (suc (suc (suc (suc a)))) j n → At text w j 41 → reads_from text w ask (suc a) (at b (in_head a paren)) ≡ reads_from text w ask (suc j) (at (put_leaf b a (suc j) (glyph reference)) between)
   reference_goes {j} (at_a, (at_q, (at_p, at_is))) name at_end =
       asked at_q ∙ (by_head (suc (suc a)) 80 letter_p after_p at_p heads.2 refl ∙ on (suc (suc (suc a))) 61 after_p reference_name at_is refl ∙ reference_goes_on name ∙ off j 41 reference_name_goes is_reference _ at_end refl refl)
 
-  -- a comment in parentheses
+  -- A comment in parentheses.
   comment_goes_on : {i j : ℕ} → Without text w 41 i j → From i (at b comment) ≡ From j (at b comment)
   comment_goes_on no_code = refl
   comment_goes_on (one_code {j = j} {c = c} h at_c ne) = comment_goes_on h ∙ goes_to text w ask j c _ _ at_c (ap (λ t. cond t (Some (at b between)) (Some (at b comment))) (ne_eqb c 41 ne))
@@ -129,6 +129,6 @@ module _ (text : Bool) (w : List ℕ) {X : Type 0} (ask : ℕ → State → Opti
   comment_goes {j} (at_a, (at_q, at_c)) h at_end =
       asked at_q ∙ (by_head_ends (suc (suc a)) 35 sharps begins_comment _ at_c heads.3 refl refl ∙ comment_goes_on h ∙ goes_to text w ask j 41 _ _ at_end refl)
 
-  -- a flag group, where the machine takes it
+  -- A flag group that the machine accepts.
   pub front_goes : {j : ℕ} {f : Flags} → FlagGroup text w a j f → (s : State) → put_front b a j f ≡ Some s → reads_from text w ask (suc a) (at b (in_head a paren)) ≡ reads_from text w ask j s
   front_goes (flag_group {j = j} {f = f} (at_a, at_q) ls at_end) s st = asked at_q ∙ (letters_go ls ∙ off j 41 (letters_on f) (is_front f) s at_end refl st)

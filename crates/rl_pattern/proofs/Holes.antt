@@ -1,4 +1,4 @@
--- Where the codes are that are gone.
+-- The holes of a syntax tree: the positions of the codes that are gone.
 use Rattle.std.proofs.Common.{◌≡◌, ◌⊎◌, ℕ, suc, ◌-◌, ◌<◌, ◌≤◌, Bool, true, false, not, ◌||◌, ◌&&◌, if◌then◌else◌, nat_le, nat_lt, List, [], ◌∷◌, ◌++◌, refl, sym, ap, ◌∙◌, arith, true≢false}
 use Rattle.std.proofs.lemmas.Bool.{leb-true, ltb-true, le-leb, lt-ltb}
 use mathlib.Core.Logic.{inl, inr, ⊎_elim}
@@ -50,7 +50,7 @@ module _ (u : Universe) (drop out : Span → Bool) where
   abbrev pub hole : SyntaxNode → ℕ → Bool
   hole p t = gone drop out (shape u p) t
 
-  -- of items, and of the branches of a body, where `d` says which are dropped
+  -- The holes of items, and of the branches of a body, where `d` says which are dropped.
   abbrev pub holes : List SyntaxNode → ℕ → Bool
   holes [] t = false
   holes (p ∷ ps) t = hole p t || holes ps t
@@ -66,7 +66,7 @@ module _ (u : Universe) (drop out : Span → Bool) where
   some_left d [] = false
   some_left d (b ∷ bs) = not (d b.place) || some_left d bs
 
-  -- a body of one branch has no branch that could be dropped
+  -- A body of one branch has no branch that could be dropped.
   abbrev pub drops_in : List Branch → Span → Bool
   drops_in [] = λ r. false
   drops_in (b ∷ []) = λ r. false
@@ -85,7 +85,7 @@ module _ (u : Universe) (drop out : Span → Bool) where
   some_left_snoc d [] b = or_false (not (d b.place))
   some_left_snoc d (c ∷ bs) b = ap (λ z. not (d c.place) || z) (some_left_snoc d bs b) ∙ sym (or_assoc (not (d c.place)) (some_left d bs) (not (d b.place)))
 
-  -- the holes of a branch, and of a body
+  -- The holes of a branch and of a body.
   gone_nodes : (ps : List SyntaxNode) (t : ℕ) → gone_items drop out (s.items_of (shapes u (nodes ps))) t ≡ holes ps t
   gone_nodes [] t = refl
   gone_nodes (p ∷ ps) t = ap (λ b. hole p t || b) (gone_nodes ps t)
@@ -157,7 +157,7 @@ module _ (u : Universe) (drop out : Span → Bool) where
       items_within (one_item {ps = ps} {p = p} a b) t h =
           ⊎_elim (λ (z : holes ps t ≡ true). let r = items_within a t z in (r.0, omega (arith, r.1, item_lt (is_text u) w b))) (λ (z : hole p t ≡ true). let r = item_within b t z in (omega (arith, r.0, items_le (is_text u) w a), r.1)) (or_cases (holes ps t) (hole p t) (sym (holes_snoc ps p t) ∙ h))
 
-      -- the | behind branches is gone where none of them is left
+      -- The `|` after some branches is gone if none of them is left.
       pub branches_within : {kd : Kind} {fl : Flags} {i j : ℕ} {bs : List Branch} → IsBranches (is_text u) w kd fl i j bs → (d : Span → Bool) (t : ℕ) → branch_holes d bs false t ≡ true → (i ≤ t) × (t ≤ j) × (t ≡ j → some_left d bs ≡ false)
       branches_within (first_branch {i = i} {j = j} {ps = ps} a) d t h =
           ⊎_elim (λ (z : (d (span i j) ≡ true) × (in_dropped false (span i j) t ≡ true)). let r = first_within i j t z.1 in (r.0, r.1, λ e. ap (λ x. not x || false) z.0))

@@ -10,14 +10,14 @@ use Rattle.rl_pattern.specs.internal.Machine.{Answer, stops, goes, ends, InEscap
 use Rattle.rl_pattern.proofs.Steps.{same_code}
 use Rattle.rl_pattern.proofs.Escapes.{digit_from, digit_false, hexes_pos}
 
--- what an answer says of the state that it goes on with, or of what it ends
+-- What holds for the state that an answer continues with, or for its result.
 abbrev pub Answers : {S A : Type 0} → Answer S A → (S → Type 0) → (A → Type 0) → Type 0
 Answers stops P Q = Unit {0}
 Answers (goes s) P Q = P s
 Answers (ends a) P Q = Q a
 
 module _ (text : Bool) (w : List ℕ) where
-  -- what was read of an escape, from the backslash at i up to k
+  -- What has been read of an escape, from the backslash at `i` up to `k`.
   abbrev pub EscapeOk : Bool → InEscape → ℕ → ℕ → Type 0
   EscapeOk in_class (in_hex still v) i k = (goal : ℕ) × (n : ℕ) × Slash text w in_class i (hexes goal) × Hexes text w (suc (suc i)) k n v × (n + still ≡ goal) × (0 < still)
   EscapeOk in_class name_brace i k = Slash text w in_class i naming × (k ≡ suc (suc i))
@@ -37,7 +37,7 @@ module _ (text : Bool) (w : List ℕ) where
   last_octal no_octal l = absurd (omega (arith, l))
   last_octal (one_octal {j = j} {c = c} {d = o} h at_c is) l = (j, refl, (c, o, at_c, is))
 
-  -- what stands at the next place is no octal digit
+  -- The code at the next position isn't an octal digit.
   not_octal : (k c : ℕ) (g : Numeral) → At text w k c → numeral c ≡ g → ((d : ℕ) → g ≡ low_digit d → ⊥) → ¬ OctalAt text w k
   not_octal k c g at_c q n (c2, d, at_c2, is) = n d (sym q ∙ ap numeral (same_code w k c c2 at_c at_c2) ∙ is)
 
@@ -79,7 +79,7 @@ module _ (text : Bool) (w : List ℕ) where
         subst (λ m. Escape text w in_class i (suc m) reference) (sym e) (reference_two h (inl (v, refl)) (c, subst (λ m. At text w m c) e at_c, digit_from c high_digit q refl) (λ t. not_octal (suc (suc i)) c high_digit (subst (λ m. At text w m c) e at_c) q (λ d z. cc) (first_octal t.3 (omega arith))))
     low_kept v k c no_digit q h at_c = tt
 
-    -- 8 or 9 begins no three octal digits
+    -- 8 or 9 doesn't begin three octal digits.
     high_pair : (k c : ℕ) → is_digit c ≡ true → Slash text w in_class i high → k ≡ suc (suc i) → At text w k c → Escape text w in_class i (suc k) reference
     high_pair k c is h e at_c = subst (λ m. Escape text w in_class i (suc m) reference) (sym e) (reference_two h (inr refl) (c, subst (λ m. At text w m c) e at_c, is) no_three)
       where
@@ -109,7 +109,7 @@ module _ (text : Bool) (w : List ℕ) where
     next_ok after_high k c h at_c = high_kept k c (numeral c) refl h at_c
     next_ok (after_two v) k c h at_c = two_kept v k c (numeral c) refl h at_c
 
-    -- no code goes on
+    -- No code continues it.
     abbrev pub Quiet : InEscape → ℕ → Type 0
     Quiet x k = (c : ℕ) → At text w k c → escape_next x c ≡ stops
 

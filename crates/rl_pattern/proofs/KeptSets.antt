@@ -10,7 +10,7 @@ use Rattle.rl_pattern.proofs.Escapes.{backslash}
 use Rattle.rl_pattern.proofs.Kept.{Answers, EscapeOk, first_ok, next_ok, Quiet, rest_ok}
 
 module _ (text : Bool) (w : List ℕ) (st : ℕ) where
-  -- the members from the class's head up to here. The flag says that there is none yet
+  -- The members from the head of the class up to here. The flag says that there is none yet.
   pub data Before : Bool → ℕ → List Member → Type 0 where
     none_before : Before true st []
     some_before : {j : ℕ} {ms : List Member} → Members text w st j ms → Before false j ms
@@ -22,14 +22,14 @@ module _ (text : Bool) (w : List ℕ) (st : ℕ) where
   members_before : {j : ℕ} {ms : List Member} → Before false j ms → Members text w st j ms
   members_before (some_before h) = h
 
-  -- a member may begin at i
+  -- A member may begin at `i`.
   abbrev MayBegin : Bool → ℕ → Type 0
   MayBegin f i = f ≡ false → ¬ At text w i 93
 
   slash_begins : (f : Bool) (i : ℕ) → At text w i 92 → MayBegin f i
   slash_begins f i back z at_c = absurd (eqb-false 92 93 refl (same_code w i 92 93 back at_c))
 
-  -- where the machine is in a class, up to k
+  -- The state of the machine within a class, up to `k`.
   abbrev pub PartOk : List Member → InSet → ℕ → Type 0
   PartOk ms set_first k = Before true k ms
   PartOk ms set_next k = Before false k ms
@@ -110,7 +110,7 @@ module _ (text : Bool) (w : List ℕ) (st : ℕ) where
   dash_escape_kept f k ms i j e x c (goes y) o q z h side ok at_45 nk es at_c a = (f, j, h, side, ok, at_45, nk, a)
   dash_escape_kept f k ms i j e x c (ends d) o q z h side ok at_45 nk es at_c a = range_ends_kept f k ms i j e d h side ok at_45 nk a
 
-  -- the code behind a backslash at i
+  -- The code after a backslash at `i`.
   first_at : (i k c : ℕ) → At text w i 92 → k ≡ suc i → At text w k c → Answers (escape_first (slashed text true c)) (λ x. EscapeOk text w true x i (suc k)) (λ e. Escape text w true i (suc k) e)
   first_at i k c back q at_c =
       subst (λ m. Answers (escape_first (slashed text true c)) (λ x. EscapeOk text w true x i (suc m)) (λ e. Escape text w true i (suc m) e)) (sym q) (first_ok text w true i (slashed text true c) (c, back, subst (λ m. At text w m c) q at_c, refl))

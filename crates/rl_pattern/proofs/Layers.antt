@@ -19,7 +19,7 @@ node_of-group s k b = search the_lemmas
 pub branch_of-fields : (b : Branch) → branch_of b ≡ record { place = b.place; body = node_of b.body }
 branch_of-fields b = search the_lemmas
 
--- where one item at most stands in a list and one is taken off its end, that is the list
+-- If a list has at most one item, and one is removed from its end, the list consists of that item.
 pub one_left : {A B : Type 0} (f : A → B) (xs ys zs : List A) (o : Option A) (x : A) → ys ≡ xs → ys ≡ zs ++ option_to_list o → o ≡ Some x → length xs ≤ 1 → map f xs ≡ f x ∷ []
 one_left f xs ys zs o x e h s l = go zs (sym e ∙ h ∙ ap (λ p. zs ++ option_to_list p) s)
   where

@@ -1,4 +1,4 @@
--- What the sets of the parts of a leaf hold is what the leaf holds.
+-- The sets of the parts of a leaf hold what the leaf matches.
 use Rattle.std.proofs.Common.{◌≡◌, ℕ, zero, suc, ◌<◌, ◌-◌, ◌==◌, min, nat_lt, Bool, true, false, not, ◌&&◌, ◌||◌, cond, List, [], ◌∷◌, length, drop, ◌+◌, inl, inr, Result, Ok, Err, refl, sym, ap, ap₂, ◌∙◌, arith}
 use Rattle.std.proofs.lemmas.Bool.{and_parts, and_from, or_cases, or_left, or_right, lt-ltb, ltb-true, cases_eq, true≢false}
 use Rattle.std.proofs.lemmas.Bool.Decides.{nat_tests}
@@ -18,7 +18,7 @@ use Rattle.rl_pattern.specs.Codes.{no_flags}
 use Rattle.rl_pattern.specs.Shape.{is_text, some_below, closed_holds, within, leaf_codes, code_member, kind_member, members_hold}
 use Rattle.rl_pattern.specs.internal.LeafSets.{closing_in, kind_in, escaped_in, code_in, codes_in, class_in, classes_in, members_in, some_member}
 
--- what a call answers, by what it is known to be
+-- The result of a call, by what is known about it.
 pub answered : {A E : Type 0} (r : Result A E) (P Q : A → Type 0) → ((a : A) → P a → Q a) → IfOk r P → IfOk r Q
 answered (Ok a) P Q f h = f a h
 answered (Err e) P Q f h = tt
@@ -30,7 +30,7 @@ answered_both (Err e) P Q R f h k = tt
 pub codes_same : {E : Type 0} (r : Result (List (ℕ × ℕ)) E) (p q : ℕ → Bool) → ((x : ℕ) → p x ≡ q x) → IfOk r (λ s. (x : ℕ) → has s x ≡ p x) → IfOk r (λ s. (x : ℕ) → has s x ≡ q x)
 codes_same r p q same h = answered r (λ s. (x : ℕ) → has s x ≡ p x) (λ s. (x : ℕ) → has s x ≡ q x) (λ s g x. g x ∙ same x) h
 
--- a range cut off at the universe's end
+-- A range that is cut off at the end of the universe.
 pub between_some : (u : Universe) (first last code n upto : ℕ) → n ≡ code_count u → upto ≡ min last (n - 1) → is_between first upto code ≡ within u (is_between first last) code
 unfolding is_between
 between_some Str first last code n upto e f = grind (arith, nat_tests)
@@ -48,15 +48,14 @@ between_one code d = grind (arith, nat_tests)
 pub same_within : (u : Universe) (p q : ℕ → Bool) → ((d : ℕ) → p d ≡ q d) → (d : ℕ) → within u p d ≡ within u q d
 same_within u p q same d = ap (λ b. nat_lt d (code_count u) && b) (same d)
 
--- the two words for the universe
--- the two words for the rule of ASCII
+-- The two ways to say that ASCII decides.
 pub ascii_rule : (ascii : Bool) (u : Universe) → (ascii || not (is_text u)) ≡ goes_by_ascii ascii u
 ascii_rule true Str = refl
 ascii_rule false Str = refl
 ascii_rule true Bytes = refl
 ascii_rule false Bytes = refl
 
--- a set of the universe holds no other codes
+-- A set of the universe holds no other codes.
 pub inside_same : (u : Universe) (set : List (ℕ × ℕ)) (code : ℕ) (v : Bool) → IsInside u set → has set code ≡ v → has set code ≡ (nat_lt code (code_count u) && v)
 inside_same u set code true inside e = e ∙ sym (ap (λ b. b && true) (lt-ltb code (code_count u) (inside code e)))
 inside_same u set code false inside e = e ∙ sym (and_no (nat_lt code (code_count u)))
@@ -87,7 +86,7 @@ same_true true false f g = sym (f refl)
 same_true false true f g = g refl
 same_true false false f g = refl
 
--- a set that is closed under case holds what the closing of its codes holds
+-- A set that is closed under case holds what the closure of its codes holds.
 closed_same : (u : Universe) (ascii : Bool) (set closed : List (ℕ × ℕ)) (p : ℕ → Bool) → ((d : ℕ) → has set d ≡ within u p d) → IsCaseClosed ascii set closed → IsInside u closed
     → (code : ℕ) → has closed code ≡ within u (closed_holds u ascii p) code
 closed_same u ascii set closed p same is inside code =
@@ -129,7 +128,7 @@ none_held set code e = ap (λ l. has l code) e ∙ has-nil code
 pub none_inside : (u : Universe) (set : List (ℕ × ℕ)) → set ≡ [] → IsInside u set
 none_inside u set e code h = absurd (true≢false (sym h ∙ none_held set code e))
 
--- the parts of a leaf by their variants
+-- The parts of a leaf, by their variants.
 pub range_held : (u : Universe) (place : Span) (e d : Escaped) (first last x : ℕ) (held : Bool) → e ≡ t.code first → d ≡ t.code last → held ≡ within u (is_between first last) x → held ≡ code_in u (t.range place e d) x
 unfolding code_in is_between
 range_held u place e d first last x held i j h = h ∙ sym (ap (λ v. code_in u (t.range place v d) x) i ∙ ap (λ v. code_in u (t.range place (t.code first) v) x) j)
@@ -154,7 +153,7 @@ class_kind u f m place e k inverse x set i j inside h =
 pub line_feed_out : (u : Universe) (f : Flags) (x : ℕ) → f.dot_all ≡ false → within u (is_between 10 10) x ≡ within u (λ d. not f.dot_all && d == 10) x
 line_feed_out u f x e = same_within u (is_between 10 10) (λ d. d == 10) (between_one 10) x ∙ sym (ap (λ b. nat_lt x (code_count u) && (not b && x == 10)) e)
 
--- the members of a class one after another
+-- The members of a class, one after another.
 spread : (a b c : Bool) → (a && (b || c)) ≡ ((a && b) || (a && c))
 spread true b c = refl
 spread false b c = refl
@@ -195,7 +194,7 @@ pub classes_end : (u : Universe) (f : Flags) (x : ℕ) (held : Bool) → (held |
 unfolding classes_in
 classes_end u f x held = ap (λ b. held || b) (and_false (nat_lt x (code_count u))) ∙ or-false held
 
--- the flags don't matter for the codes and ranges of a class
+-- The flags don't matter for the characters and ranges of a class.
 member_free : (u : Universe) (f : Flags) (m : Member) (x : ℕ)
     → code_member u no_flags m x ≡ code_member u f m x
 member_free u f (t.one s (t.code d)) x = refl
@@ -231,7 +230,7 @@ members_held u f ms x codes classes h k =
     ap₂ ◌||◌ (h ∙ ap (λ p. within u (closing_in u f p) x) (λ i y. members_free u f ms y i)) k
     ∙ sym (spread (nat_lt x (code_count u)) (closing_in u f (codes_held u f ms) x) (some_member (kind_member u f) ms x))
 
--- what a leaf holds
+-- What a leaf matches.
 pub any_held : (u : Universe) (f : Flags) (l : Leaf) (x : ℕ) (out : Bool) → l ≡ t.any → out ≡ within u (λ d. not f.dot_all && d == 10) x → (nat_lt x (code_count u) && not out) ≡ leaf_codes u f l x
 unfolding leaf_codes
 any_held u f l x out i h =

@@ -1,4 +1,4 @@
--- Trees that are the same but for places and for what is taken out.
+-- Syntax trees that are equal except for positions and for what is removed.
 use Rattle.std.proofs.Common.{nat_lt, flat_map, ◌≡◌, ℕ, Bool, true, false, not, ◌||◌, ◌&&◌, ◌==◌, if◌then◌else◌, List, [], ◌∷◌, ◌++◌, map, refl, sym, ap, ◌∙◌, true≢false}
 use Rattle.std.proofs.lemmas.List.{map-append}
 use mathlib.Core.Logic.{inl, inr}
@@ -24,7 +24,7 @@ nil_parts (x ∷ xs) ys h = absurd (cc h)
 pub nil_join : {A : Type 0} (xs ys : List A) → xs ≡ [] → ys ≡ [] → xs ++ ys ≡ []
 nil_join xs ys p q = ap (λ z. z ++ ys) p ∙ q
 
--- faults of a place are there at each place
+-- A fault at one position is a fault at any position.
 pub fault_moved : (b : Bool) (i j : ℕ) (f : Feature) → fault_if b i f ≡ [] → fault_if b j f ≡ []
 fault_moved true i j f h = absurd (cc h)
 fault_moved false i j f h = refl
@@ -130,14 +130,14 @@ module _ (u : Universe) (drop out : Span → Bool) where
   abbrev pub left_tree : SyntaxNode → y.Tree
   left_tree p = lowered (left drop out (shape u p))
 
-  -- the second is what is left of the first: its tree is the same, it has no fault, and the same groups have names
+  -- The second node is what is left of the first: it has the same tree and no fault, and the same groups have names.
   pub record Leaves (p q : SyntaxNode) : Type 0 where
     pub same : tree q ≡ left_tree p
     pub faultless : node_faults (is_text u) p ≡ [] → node_faults (is_text u) q ≡ []
     pub names : names_of q ≡ names_of p
     pub nested : (n : ℕ) → Has q n → Has p n
 
-  -- and it is the same outer anchor, if one
+  -- It is the same outer anchor, if it is one.
   pub record AlikeEdge (p q : SyntaxNode) : Type 0 where
     pub leads : is_leading q ≡ is_leading p
     pub trails : trail_of q ≡ trail_of p
@@ -178,7 +178,7 @@ module _ (u : Universe) (drop out : Span → Bool) where
       let all = all_more h e (all_more h2 e2 hs) in
       record { same = ap in_turn (items_same all); faultless = items_faultless all; names = items_names all; nested = items_nested all }
 
-  -- what is left of branches, where `d` says which are dropped
+  -- What is left of branches, where `d` says which are dropped.
   pub data LeavesSome (d : Span → Bool) : List Branch → List Branch → Type 0 where
     some_none : LeavesSome d [] []
     some_stays : {r t : Span} {ps qs : List SyntaxNode} {bs cs : List Branch} → d r ≡ false → AllItems ps → LeavesAll ps qs → LeavesSome d bs cs → LeavesSome d (branch r ps ∷ bs) (branch t qs ∷ cs)
@@ -263,7 +263,7 @@ module _ (u : Universe) (drop out : Span → Bool) where
   one_leaves r t b (some_stays {r = r2} {t = t2} e i h some_none) = body_leaves r2 t2 h
   one_leaves r t b (some_goes e h hs) = absurd (true≢false (sym e))
 
-  -- the body of a group or of the whole, and what is left of it
+  -- The body of a group or of the whole pattern, and what is left of it.
   pub whole_leaves : (r t : Span) (bs cs : List Branch) → LeavesSome (drops_in u drop out bs) bs cs → Leaves (whole_body r bs) (whole_body t cs)
   whole_leaves r t [] cs some_none = record { same = refl; faultless = λ e. refl; names = refl; nested = λ n x. x }
   whole_leaves r t (b ∷ []) cs h = one_leaves r t b h

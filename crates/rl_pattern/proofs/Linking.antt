@@ -1,4 +1,4 @@
--- Where the codes that are kept are those that are no holes of a spelled tree, a tree is left.
+-- If the codes that are kept are those outside the holes of a syntax tree, a syntax tree is left.
 use Rattle.std.proofs.Common.{◌≡◌, ◌⊎◌, ℕ, suc, ◌-◌, ◌<◌, ◌≤◌, Bool, true, false, not, ◌||◌, ◌&&◌, ◌==◌, if◌then◌else◌, nat_lt, List, [], ◌∷◌, ◌++◌, map, refl, sym, ap, ◌∙◌, arith, true≢false}
 use Rattle.std.proofs.lemmas.Bool.{eqb-true, eqb-false, cases_Bool, false_from_ne_true, ltb-true, ltb-false}
 use Rattle.std.proofs.lemmas.List.{map-append}
@@ -66,7 +66,7 @@ module _ (u : Universe) (drop out : Span → Bool) where
   some_stay (more_branches r p bs) = not (drop r) || some_stay bs
 
   abbrev mutual
-    -- each choice keeps a branch, and those that it drops hold no named group
+    -- Each choice keeps a branch, and the branches that it drops contain no named group.
     pub Good : SyntaxNode → Type 0
     Good (leaf r f x) = Unit {0}
     Good (mark r f m) = Unit {0}
@@ -126,7 +126,7 @@ module _ (u : Universe) (drop out : Span → Bool) where
   cons_some [] x h = absurd (cc h)
   cons_some (z ∷ xs) x h = absurd (cc h)
 
-  -- groups that aren't refused
+  -- Groups that aren't refused.
   pub record Plain (kd : Kind) : Type 0 where
     pub splits_on : (bs : List Branch) → splits kd bs ≡ true
     pub holes_of : (r : Span) (q : s.PatTree) (t : ℕ) → gone drop out (group_shape r kd q) t ≡ gone drop out q t
@@ -153,7 +153,7 @@ module _ (u : Universe) (drop out : Span → Bool) where
     text : Bool
     text = is_text u
 
-    -- the codes from i up to j are kept unless they are in these holes
+    -- The codes from `i` up to `j` are kept unless they are in these holes.
     abbrev pub Agrees : ℕ → ℕ → (ℕ → Bool) → Type 0
     Agrees i j f = (t : ℕ) → i ≤ t → t < j → kept t ≡ not (f t)
 
@@ -175,7 +175,7 @@ module _ (u : Universe) (drop out : Span → Bool) where
     pub right_or : (a b : Bool) → (a ≡ true → ⊥) → (a || b) ≡ b
     right_or a b h = ap (λ z. z || b) (no_true a h)
 
-    -- what is left of an atom
+    -- What is left of an atom.
     pub record AtomLinks (fl : Flags) (i j : ℕ) (p : SyntaxNode) : Type 0 where
       pub what : SyntaxNode
       pub is_left : LeftAtom (is_text u) w kept g fl i j what
@@ -193,7 +193,7 @@ module _ (u : Universe) (drop out : Span → Bool) where
       pub is_left : LeftItems (is_text u) w kept g fl i j what
       pub leaves : LeavesAll u drop out ps what
 
-    -- some branches are left, or all are gone
+    -- Some branches are left, or all are gone.
     pub record SomeLink (kd : Kind) (fl : Flags) (d : Span → Bool) (i j : ℕ) (bs : List Branch) : Type 0 where
       pub what : List Branch
       pub some : some_left u drop out d bs ≡ true
@@ -256,7 +256,7 @@ module _ (u : Universe) (drop out : Span → Bool) where
           edge = mark_edge r (moved_span g r) fl m;
         }
 
-    -- an atom is no outer anchor
+    -- An atom isn't an outer anchor.
     atom_leads : {fl : Flags} {i j : ℕ} {p : SyntaxNode} → Atom (is_text u) w fl i j p → (h : AtomLinks fl i j p) → is_leading h.what ≡ false
     atom_leads a h = h.edge.leads ∙ no_lead a
       where
@@ -281,7 +281,7 @@ module _ (u : Universe) (drop out : Span → Bool) where
         no_tail (bracketed h ms z) = refl
         no_tail (grouped o hs z) = refl
 
-    -- an item whose quantifier stays, or is gone
+    -- An item whose quantifier is kept or gone.
     repeat_links : {fl : Flags} {i j k l : ℕ} {p : SyntaxNode} {n : Count} {r : Greed} → Atom (is_text u) w fl i j p → Blanks (is_text u) w fl j k → Quantifier (is_text u) w k l n r → Agrees i l (hole_in (repeat (span i l) (span k l) n r p)) → AtomLinks fl i j p → ItemLinks fl i l (repeat (span i l) (span k l) n r p)
     repeat_links {fl} {i} {j} {k} {l} {p} {n} {r} a bl q ag h = go (out (span k l)) refl
       where
@@ -319,7 +319,7 @@ module _ (u : Universe) (drop out : Span → Bool) where
               edge = record { leads = refl; trails = refl; stays_item = refl };
             }
 
-    -- the | behind branches none of which is left
+    -- The `|` after branches none of which is left.
     pub bar_gone : {kd : Kind} {fl : Flags} {i j : ℕ} {bs : List Branch} → IsBranches (is_text u) w kd fl i j bs → (d : Span → Bool) → some_left u drop out d bs ≡ false → branch_holes u drop out d bs false j ≡ true
     bar_gone (first_branch {i = i} {j = j} {ps = ps} h) d e =
         let is = not_false (d (span i j)) (sym (or_false (not (d (span i j)))) ∙ e) in
@@ -334,7 +334,7 @@ module _ (u : Universe) (drop out : Span → Bool) where
     no_branch (first_branch h) e = cc e
     no_branch (next_branch {bs = bs} h at_j may hs) e = cons_some bs _ e
 
-    -- one more branch behind others
+    -- One more branch after others.
     next_some : {kd : Kind} {fl : Flags} {i j k : ℕ} {bs : List Branch} {ps : List SyntaxNode} → Plain kd → IsBranches (is_text u) w kd fl i j bs → At (is_text u) w j 124 → Items (is_text u) w fl (suc j) k ps → (d : Span → Bool) → (d (span (suc j) k) ≡ true → node_names (branch_body (span (suc j) k) ps) ≡ [])
         → Agrees i k (branch_holes u drop out d (bs ++ branch (span (suc j) k) ps ∷ []) false) → (d (span (suc j) k) ≡ false → Agrees (suc j) k (holes u drop out ps) → ItemsLink fl (suc j) k ps) → SomeLink kd fl d i j bs ⊎ NoneLeft d i j bs → SomeLink kd fl d i k (bs ++ branch (span (suc j) k) ps ∷ []) ⊎ NoneLeft d i k (bs ++ branch (span (suc j) k) ps ∷ [])
     next_some {kd} {fl} {i} {j} {k} {bs} {ps} plain h at_j hs d nameless ag items before = go (d (span (suc j) k)) refl before
@@ -363,22 +363,22 @@ module _ (u : Universe) (drop out : Span → Bool) where
         in_body : (t : ℕ) → hole_in b.body t ≡ true → (suc j ≤ t) × (t < k)
         in_body t e = items_within u drop out w hs t (sym (body_holes u drop out (span (suc j) k) ps t) ∙ e)
 
-        -- the branches before lie before
+        -- The earlier branches come before it.
         past : (t : ℕ) → suc j ≤ t → branch_holes u drop out d bs false t ≡ true → ⊥
         past t x e = omega (arith, x, (branches_within u drop out w h d t e).1)
 
-        -- the last branch has its items
+        -- The last branch has its items.
         items_agree : d (span (suc j) k) ≡ false → Agrees (suc j) k (holes u drop out ps)
         items_agree e = agree_to f (holes u drop out ps) (λ t x z. parts t ∙ right_or (branch_holes u drop out d bs false t) (hole_of u drop out d some b t) (past t x) ∙ one false e t ∙ body_holes u drop out (span (suc j) k) ps t) (agree_part f (suc j) k (omega (arith, le)) (omega arith) ag)
 
-        -- the last branch lies behind
+        -- The last branch comes after them.
         last_at : (t : ℕ) → hole_of u drop out d some b t ≡ true → j ≤ t
         last_at t e = ⊎_elim (λ (y : (d (span (suc j) k) ≡ true) × (in_dropped some (span (suc j) k) t ≡ true)). (dropped_within u drop out w j k some t le2 y.1).0) (λ (y : (d (span (suc j) k) ≡ false) × (hole_in b.body t ≡ true)). omega (arith, (in_body t y.1).0)) (cond_cases (d (span (suc j) k)) (in_dropped some (span (suc j) k) t) (hole_in b.body t) e)
 
         before_last : NoneLeft d i j bs → (t : ℕ) → t < j → hole_of u drop out d some b t ≡ true → ⊥
         before_last r t x e = omega (arith, x, last_at t e)
 
-        -- what is gone before it, with the | between
+        -- What is gone before it, including the `|` between.
         gone_to : NoneLeft d i j bs → (t : ℕ) → i ≤ t → t < suc j → branch_holes u drop out d bs false t ≡ true
         gone_to r t x z =
             ⊎_elim (λ (y : (t == j) ≡ true). ap (branch_holes u drop out d bs false) (eqb-true t j y) ∙ bar_gone h d r.none_stays)
@@ -444,7 +444,7 @@ module _ (u : Universe) (drop out : Span → Bool) where
               leaves = some_stays e (items_are h) its.leaves some_none;
             })
 
-    -- the branches before the last have their own holes
+    -- The branches before the last one have their own holes.
     pub first_agree : {kd : Kind} {fl : Flags} {i j k : ℕ} {bs : List Branch} {ps : List SyntaxNode} → IsBranches (is_text u) w kd fl i j bs → Items (is_text u) w fl (suc j) k ps → (d : Span → Bool) → Agrees i k (branch_holes u drop out d (bs ++ branch (span (suc j) k) ps ∷ []) false) → Agrees i j (branch_holes u drop out d bs false)
     first_agree {i = i} {j = j} {k = k} {bs = bs} {ps = ps} h hs d ag =
         let b = branch (span (suc j) k) ps in

@@ -1,4 +1,4 @@
--- The branches of a pattern, and the quantifiers that are taken out of it, lie in its codes by rising place.
+-- The branches of a pattern, and the quantifiers that are removed from it, lie within its codes in ascending order.
 use Rattle.std.proofs.Common.{ℕ, ◌<◌, ◌≤◌, Bool, true, false, not, ◌&&◌, if◌then◌else◌, List, [], ◌∷◌, length, Option, Ok, sym, subst, arith}
 use Rattle.rl_ranges.specs.declared.universe.Universe.{Universe}
 use Rattle.rl_syntax.specs.declared.span.Span.{Span}

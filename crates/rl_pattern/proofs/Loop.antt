@@ -1,4 +1,4 @@
--- The laws of the reader's loop over the codes.
+-- Laws about the reader's loop over the codes.
 use Rattle.std.proofs.Common.{◌≡◌, ℕ, zero, suc, ◌+◌, ◌<◌, ◌≤◌, Bool, true, false, not, ◌&&◌, ◌||◌, ◌==◌, List, [], ◌∷◌, length, take, Option, Some, None, Result, Ok, Err, refl, sym, ap, ◌∙◌, subst, slice_get, arith, take_all, length-take-le, le_of_lt}
 use Rattle.std.proofs.lemmas.Bool.{cases_eq, cases_lt, eq-eqb, eqb-true, and_parts, or_cases, cases_Bool, false≢true, true≢false, and_from}
 use Rattle.std.proofs.lemmas.Option.{same_Some, none-some, slice_get_within}
@@ -19,7 +19,7 @@ use Rattle.rl_pattern.proofs.Sound.{LexOk, StateOk, read_is_spelled}
 use Rattle.rl_pattern.proofs.Viability.{run-append, run_ok, take_one, stops_at, stopped_spells_none, takes_all, run_then_finish, unread_spells_none}
 use Rattle.rl_pattern.proofs.Deep.{Behind, too_deep_seen, seen_too_deep, too_deep_begins, seen_last}
 
--- tests of codes
+-- Tests of codes.
 code_there : (o : Option ℕ) (c : ℕ) → is_code o c ≡ true → o ≡ Some c
 code_there None c h = absurd (false≢true h)
 code_there (Some d) c h = ap Some (eqb-true d c h)
@@ -78,7 +78,7 @@ none_not w p no_comment no_reference = ⊎_elim (λ (z : opens_none w p ≡ true
         let q = code_there (slice_get w (suc p)) 63 h.0 in
         ⊎_elim (λ y. no_comment q (code_there (slice_get w (suc (suc p))) 35 y)) (λ y. let g = and_parts (is_code (slice_get w (suc (suc p))) 80) _ y in no_reference q (code_there (slice_get w (suc (suc p))) 80 g.0) (code_there (slice_get w (suc (suc (suc p)))) 61 g.1)) (or_cases (is_code (slice_get w (suc (suc p))) 35) _ h.1)
 
--- a code of a front of the list is one of the list
+-- A code of a prefix of the list is one of the list.
 taken_at : (w : List ℕ) (n i c : ℕ) → slice_get (take n w) i ≡ Some c → slice_get w i ≡ Some c
 taken_at [] zero i c h = h
 taken_at [] (suc n) i c h = h
@@ -108,7 +108,7 @@ module _ (call : Flags) (text : Bool) (w : List ℕ) where
   pub stand_fits : (i : ℕ) (s : State) → i ≤ length w → Standing call text w i s → FitsAt s.lex i
   stand_fits i s l h = subst (λ k. FitsAt s.lex k) (length-take-le i w l) (fits_lex (take i w) (length (take i w)) s (run_ok call text (take i w) s h.runs))
 
-  -- one code more
+  -- One more code.
   one_more : (i c : ℕ) (s : State) (o : Option State) → Standing call text w i s → slice_get w i ≡ Some c → step_at text i s c ≡ o → run text 0 (Some (start call)) (take (suc i) w) ≡ o
   one_more i c s o h at_c st =
       let len : 0 + length (take i w) ≡ i = omega (arith, length-take-le i w (le_of_lt (slice_get_within w i c at_c))) in
@@ -118,7 +118,7 @@ module _ (call : Flags) (text : Bool) (w : List ℕ) where
       ends None e = ap (λ z. run text (suc i) z []) e
       ends (Some r) e = ap (λ z. run text (suc i) z []) e
 
-  -- where a group opens too deep, the test of the state behind its parenthesis says so
+  -- If a group is nested too deep, the test of the state after its parenthesis says so.
   deep_test : (i : ℕ) (r : State) → run text 0 (Some (start call)) (take (suc i) w) ≡ Some r → TooDeepAt call text w i → is_too_deep r w i ≡ true
   deep_test i r e h =
       let b = too_deep_seen call text w i h in
@@ -135,7 +135,7 @@ module _ (call : Flags) (text : Bool) (w : List ℕ) where
         shallow = λ q l d. ⊎_elim (λ (z : q ≡ i). true≢false (sym (deep_test i r (one_more i c s (Some r) h at_c st) (subst (λ m. TooDeepAt call text w m) z d)) ∙ shallow_here)) (λ (z : q ≡ i → ⊥). h.shallow q (omega (arith, l, z)) d) (cases_eq q i);
       }
 
-  -- a group opens too deep behind the last code
+  -- A group is nested too deep after the last code.
   pub stand_deep : (i c : ℕ) (s r : State) → Standing call text w i s → slice_get w i ≡ Some c → step_at text i s c ≡ Some r → is_too_deep r w i ≡ true → TooDeepAt call text w i × Begins call text (take (suc i) w) × ((q : ℕ) → q < i → ¬ TooDeepAt call text w q)
   stand_deep i c s r h at_c st deep_here =
       let runs = one_more i c s (Some r) h at_c st in
@@ -152,17 +152,17 @@ module _ (call : Flags) (text : Bool) (w : List ℕ) where
       let deep = seen_too_deep call text w i behind opens (λ z. heads.0 (z.0, z.1.0) z.1.1) (λ z. heads.1 (z.0, z.1.0) z.1.1.0 z.1.1.1) in
       (deep, too_deep_begins call text w i deep, h.shallow)
 
-  -- no group opens too deep where the codes before are all that begins a spelled pattern
+  -- No group is nested too deep if the longest prefix that can be continued to a pattern has none.
   none_deeper : (n : ℕ) → Viable call text w n → ((q : ℕ) → q < n → ¬ TooDeepAt call text w q) → Shallow call text w
   none_deeper n v h q d = ⊎_elim (λ (z : q < n). h q z d) (λ (z : n ≤ q). v.longest (suc q) (omega (arith, z)) (slice_get_within w q 40 d.opens) (too_deep_begins call text w q d)) (cases_lt q n)
 
-  -- the machine stops
+  -- The machine stops.
   pub stand_dead : (i c : ℕ) (s : State) → Standing call text w i s → slice_get w i ≡ Some c → step_at text i s c ≡ None → Viable call text w i × ((p : Whole) → ¬ Spells call text w p) × Shallow call text w
   stand_dead i c s h at_c st =
       let v = stops_at call text w i c s h.runs at_c st in
       (v, stopped_spells_none call text w i c s h.runs at_c st, none_deeper i v h.shallow)
 
-  -- the machine took all codes
+  -- The machine has read all codes.
   all_taken : (s : State) → Standing call text w (length w) s → run text 0 (Some (start call)) w ≡ Some s
   all_taken s h = ap (run text 0 (Some (start call))) (sym (take_all (length w) w (omega arith))) ∙ h.runs
 
@@ -177,7 +177,7 @@ module _ (call : Flags) (text : Bool) (w : List ℕ) where
       let v = takes_all call text w s runs in
       (v, unread_spells_none call text w (run_then_finish call text w s runs ∙ e), none_deeper (length w) v h.shallow)
 
-  -- the answers of one code and of the end
+  -- The answers for one code and for the end.
   pub went_on : (i c : ℕ) (s r : State) → Standing call text w i s → slice_get w i ≡ Some c → (step_at text i s c ≡ Some r) × (is_too_deep r w i ≡ false) → Standing call text w (suc i) r
   went_on i c s r h at_c z = stand_step i c s r h at_c z.0 z.1
 

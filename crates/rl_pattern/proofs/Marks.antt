@@ -1,4 +1,4 @@
--- The quantifiers that are taken out are told apart by their spans.
+-- The quantifiers that are removed are told apart by their spans.
 use Rattle.std.proofs.Common.{◌≡◌, ℕ, ◌<◌, ◌≤◌, Bool, true, false, not, ◌||◌, ◌&&◌, ◌==◌, if◌then◌else◌, List, [], ◌∷◌, ◌++◌, Option, Some, None, refl, sym, ap, ◌∙◌, subst, arith, true≢false}
 use Rattle.std.proofs.lemmas.Bool.{eqb-true, cond_both}
 use Rattle.std.proofs.lemmas.List.{append-nil}
@@ -13,8 +13,8 @@ use Rattle.rl_pattern.proofs.Linking.{and_first, and_second, no_true}
 use Rattle.rl_pattern.proofs.Holes.{or_cases, or_false, or_assoc}
 
 abbrev mutual
-  -- the parts stand one behind the other between two places, each quantifier behind what it repeats, and each branch where its
-  -- span says
+  -- The parts follow each other between two positions. Each quantifier comes after what it repeats, and each branch is
+  -- where its span says.
   pub Placed : PatTree → ℕ → ℕ → Type 0
   Placed (nothing s) i j = i ≤ j
   Placed (class s set) i j = i ≤ j
@@ -79,7 +79,7 @@ choice_placed s no_branches i j h = h
 choice_placed s (branch r p no_branches) i j (c, h, l) = placed_more p r.from r.upto i j c l h
 choice_placed s (branch r p (branch t q bs)) i j h = h
 
--- so do those that are left
+-- So do the parts that are left.
 module _ (drop : Span → Bool) where
   mutual
     pub left_placed : (p : PatTree) (i j : ℕ) → Placed p i j → Placed (left drop no_span p) i j
@@ -102,7 +102,7 @@ module _ (drop : Span → Bool) where
     left_branches_placed (branch s p bs) i j (c, h, hs) =
         cond_both (drop s) (left_branches drop no_span bs) (branch s (left drop no_span p) (left_branches drop no_span bs)) (λ z. PlacedBranches z i j) (λ z. branches_more (left_branches drop no_span bs) s.upto j i j (omega (arith, c, placed_le p s.from s.upto h)) (omega arith) (left_branches_placed bs s.upto j hs)) (λ z. (c, left_placed p s.from s.upto h, left_branches_placed bs s.upto j hs))
 
--- spans between two places
+-- Spans between two positions.
 abbrev Within : ℕ → ℕ → List Span → Type 0
 Within i j [] = Unit {0}
 Within i j (r ∷ rs) = ((i ≤ r.from) × (r.from < r.upto) × (r.upto ≤ j)) × Within i j rs
@@ -124,12 +124,12 @@ among_within [] i j q h e = absurd (true≢false (sym e))
 among_within (r ∷ rs) i j q ((a, b, c), hs) e =
     ⊎_elim (λ (z : same_span r q ≡ true). let f = eqb-true r.from q.from (and_first (r.from == q.from) (r.upto == q.upto) z) in let t = eqb-true r.upto q.upto (and_second (r.from == q.from) (r.upto == q.upto) z) in (omega (arith, a, f), omega (arith, c, t))) (λ (z : among rs q ≡ true). among_within rs i j q hs z) (or_cases (same_span r q) (among rs q) e)
 
--- a last span that is there or not
+-- A last span, which may be missing.
 pub own_last : (b : Bool) (rs : List Span) (q : Span) → (if b then rs ++ q ∷ [] else rs) ≡ rs ++ (if b then q ∷ [] else [])
 own_last true rs q = refl
 own_last false rs q = sym (append-nil rs)
 
--- what is taken out of a part stands in it
+-- What is removed from a part lies within it.
 if_within : (b : Bool) (q : Span) (i j : ℕ) → i ≤ q.from → q.from < q.upto → q.upto ≤ j → Within i j (if b then q ∷ [] else [])
 if_within true q i j a b c = ((a, b, c), tt)
 if_within false q i j a b c = tt
@@ -179,7 +179,7 @@ mutual
   inside_within (boundary s n a) i j v x y h = tt
   inside_within (outside s f) i j v x y h = tt
 
--- the pairs that are allowed
+-- The pairs that are allowed.
 under_any : (l least : ℕ) → (least == 0) ≡ true → (l == 0 || l == 1) ≡ true → AllowedPair l None least None
 under_any l least a h =
     subst (λ x. AllowedPair l None x None) (sym (eqb-true least 0 a)) (⊎_elim (λ (z : (l == 0) ≡ true). subst (λ x. AllowedPair x None 0 None) (sym (eqb-true l 0 z)) any_in_any) (λ (z : (l == 1) ≡ true). subst (λ x. AllowedPair x None 0 None) (sym (eqb-true l 1 z)) some_in_any) (or_cases (l == 0) (l == 1) h))
@@ -200,7 +200,7 @@ allowed_pair l None least (Some k) h = absurd (true≢false (sym h))
 allowed_pair l (Some m) least (Some k) h = absurd (true≢false (sym h))
 
 module _ (ms : List Span) where
-  -- between these places, those that are taken out are these
+  -- Between these positions, exactly these are removed.
   abbrev OutIs : List Span → ℕ → ℕ → Type 0
   OutIs rs i j = (q : Span) → i ≤ q.from → q.from < q.upto → q.upto ≤ j → among ms q ≡ among rs q
 
@@ -213,7 +213,7 @@ module _ (ms : List Span) where
   out_right : (rs ss : List Span) (i k j : ℕ) → i ≤ k → Within i k rs → OutIs (rs ++ ss) i j → OutIs ss k j
   out_right rs ss i k j l w h q a b c = h q (omega (arith, a, l)) b c ∙ among_join rs ss q ∙ ap (λ z. z || among ss q) (no_true (among rs q) (λ e. let x = among_within rs i k q w e in omega (arith, x.1, b, a)))
 
-  -- the own quantifier of a repeat isn't among those of its body
+  -- The quantifier of a repeat isn't among those of its body.
   own_free : (rs : List Span) (i k : ℕ) (q : Span) → Within i k rs → k ≤ q.from → q.from < q.upto → among rs q ≡ false
   own_free rs i k q w a b = no_true (among rs q) (λ e. let x = among_within rs i k q w e in omega (arith, x.1, a, b))
 
@@ -282,11 +282,11 @@ module _ (ms : List Span) where
     inside_merge (boundary s n a) i j v x y h o = tt
     inside_merge (outside s f) i j v x y h o = tt
 
--- the quantifiers that the rule takes out may go
+-- The quantifiers that the rule removes may be removed.
 pub rule_merges : (p : PatTree) (i j : ℕ) → Placed p i j → MayMerge (among (merged_in p)) p
 rule_merges p i j h = merge_of (merged_in p) p i j h (λ q a b c. refl)
 
--- taken out of what is left, or all at once
+-- Removing them from what is left, or everything at once.
 module _ (drop out : Span → Bool) where
   abbrev none_of : Span → Bool
   none_of r = false

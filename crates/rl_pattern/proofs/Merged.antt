@@ -1,14 +1,14 @@
--- Quantifiers that are taken out: an inner one that is the whole content of a group that doesn't capture, where that group is
--- the body of an outer one and the two are of a pair that is allowed.
+-- When an inner quantifier may be removed: its repeat is the whole content of a group that doesn't capture, the group is
+-- the body of an outer repeat, and the two quantifiers are an allowed pair.
 use Rattle.std.proofs.Common.{◌≡◌, ℕ, Bool, true, false, Option}
 use Rattle.rl_syntax.specs.declared.span.Span.{Span}
 use Rattle.rl_syntax.specs.AllowedPair.{AllowedPair}
 use Rattle.rl_syntax.specs.PatTree.{PatTree, PatTrees, BranchTrees, nothing, class, seq, choice, repeat, group, anchor, boundary, outside, no_items, item, no_branches, branch}
 
--- the quantifiers of these spans are taken out
+-- The quantifiers with these spans are removed.
 module _ (out : Span → Bool) where
   abbrev mutual
-    -- a part at another place than the whole content of the body of a repeat
+    -- A part that isn't the whole content of the body of a repeat.
     pub MayMerge : PatTree → Type 0
     MayMerge (nothing s) = Unit {0}
     MayMerge (class s set) = Unit {0}
@@ -28,7 +28,7 @@ module _ (out : Span → Bool) where
     BranchesMayMerge no_branches = Unit {0}
     BranchesMayMerge (branch s p bs) = MayMerge p × BranchesMayMerge bs
 
-    -- the body of a repeat with these numbers
+    -- The body of a repeat with these bounds.
     pub MergesUnder : PatTree → ℕ → Option ℕ → Type 0
     MergesUnder (nothing s) least most = Unit {0}
     MergesUnder (class s set) least most = Unit {0}
@@ -40,7 +40,7 @@ module _ (out : Span → Bool) where
     MergesUnder (boundary s negated ascii) least most = Unit {0}
     MergesUnder (outside s what) least most = Unit {0}
 
-    -- the content of the group that is the body of a repeat with these numbers
+    -- The content of the group that is the body of a repeat with these bounds.
     pub MergesIn : PatTree → ℕ → Option ℕ → Type 0
     MergesIn (nothing s) least most = Unit {0}
     MergesIn (class s set) least most = Unit {0}

@@ -1,4 +1,4 @@
--- What is left where quantifiers are taken out as the rule allows spans what the whole spanned.
+-- What is left when quantifiers are removed as the rule allows spans what the whole spanned.
 use Rattle.std.proofs.Common.{◌≡◌, ℕ, Bool, true, false, if◌then◌else◌, Option, refl, sym, ap, subst}
 use Rattle.rl_syntax.specs.declared.span.Span.{Span}
 use Rattle.rl_syntax.specs.Tree.{Tree, empty, one}
@@ -28,14 +28,14 @@ module _ (out : Span → Bool) where
   choice_tree r (s.branch a p s.no_branches) = refl
   choice_tree r (s.branch a p (s.branch b q bs)) = refl
 
-  -- the quantifier stays, since it isn't taken out
+  -- The quantifier stays, because it isn't removed.
   stays_out : (b : Bool) (r q : Span) (least : ℕ) (most : Option ℕ) (g : Bool) (p : s.PatTree) → b ≡ false → lowered (if b then p else s.repeat r q least most g p) ≡ times least most g (lowered p)
   stays_out b r q least most g p e = ap (λ x. lowered (if x then p else s.repeat r q least most g p)) e
 
   goes_out : (b : Bool) (r q : Span) (least : ℕ) (most : Option ℕ) (g : Bool) (p : s.PatTree) → b ≡ true → lowered (if b then p else s.repeat r q least most g p) ≡ lowered p
   goes_out b r q least most g p e = ap (λ x. lowered (if x then p else s.repeat r q least most g p)) e
 
-  -- a repeat whose inner quantifier goes, or stays
+  -- A repeat whose inner quantifier is removed or stays.
   in_place : (r q : Span) (l : ℕ) (m : Option ℕ) (g : Bool) (x : s.PatTree) (least : ℕ) (most : Option ℕ) (outer : Bool) → (out q ≡ true → AllowedPair l m least most) → ((gr : Bool) → SameSpans (times l m gr (lowered (kept_of x))) (times l m gr (lowered x))) → SameSpans (times least most outer (lowered (if out q then kept_of x else s.repeat r q l m g (kept_of x)))) (times least most outer (times l m g (lowered x)))
   in_place r q l m g x least most outer allowed h = go (out q) refl
     where
@@ -53,7 +53,7 @@ module _ (out : Span → Bool) where
   repeat_same r q least most g p e h = subst (λ t. SameSpans t (times least most g (lowered p))) (sym (stays_out (out q) r q least most g (kept_of p) e)) h
 
   mutual
-    -- what is left where quantifiers are taken out spans what the whole spanned
+    -- What is left when quantifiers are removed spans what the whole spanned.
     pub merged_same : (p : s.PatTree) → MayMerge out p → SameSpans (lowered (kept_of p)) (lowered p)
     merged_same (s.nothing r) h = same_refl empty
     merged_same (s.class r set) h = same_refl (one set)

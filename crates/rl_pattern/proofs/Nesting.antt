@@ -1,4 +1,5 @@
--- How deep groups stand in what the machine reads: where so many are open, a group stands that deep in the tree that is read.
+-- How deep groups are nested in what the machine reads: if many groups are open, the syntax tree that is read contains a
+-- group nested that deep.
 use Rattle.std.proofs.Common.{◌≡◌, ◌⊎◌, ℕ, zero, suc, ◌+◌, Bool, true, false, not, ◌&&◌, ◌||◌, ◌==◌, if◌then◌else◌, slice_get, List, [], ◌∷◌, ◌++◌, length, Option, Some, None, refl, sym, ap, ◌∙◌, subst, arith, take, drop, length-take-le, take-append-drop}
 use Rattle.std.proofs.lemmas.Bool.{cond_both, eqb-true}
 use mathlib.Core.Logic.{inl, inr, ⊎_elim}
@@ -16,13 +17,13 @@ use Rattle.rl_pattern.specs.Viable.{TooDeepAt}
 use Rattle.rl_pattern.specs.Grammar.{Spells}
 use Rattle.std.proofs.lemmas.Option.{slice_get_within}
 
--- one group further in
+-- One group further in.
 abbrev pub HasIn : (ℕ → Type 0) → ℕ → Type 0
 HasIn P zero = Unit {0}
 HasIn P (suc n) = P n
 
 abbrev mutual
-  -- a group stands in the node that is nested so deep
+  -- The node contains a group that is nested this deep.
   pub Has : SyntaxNode → ℕ → Type 0
   Has (leaf s f x) n = n ≡ 0
   Has (mark s f m) n = n ≡ 0
@@ -105,11 +106,11 @@ whole_has r (b ∷ c ∷ bs) n h = list_has (b ∷ c ∷ bs) n h
 abbrev FrameHas : Frame → ℕ → Type 0
 FrameHas f n = BranchesHave f.branches n ⊎ ItemsHave f.items n
 
--- what the open body holds, with the last atom
+-- What the open body contains, including the last atom.
 abbrev BaseHas : Base → ℕ → Type 0
 BaseHas b n = BranchesHave b.top.branches n ⊎ ItemsHave (settled b.top.items b.last) n
 
--- once all that is open is closed, a group stands so deep: `has` says what the innermost body holds
+-- Once everything open is closed, there is a group nested this deep. `has` says what the innermost body contains.
 abbrev pub Deepens : ℕ → (ℕ → Type 0) → List Frame → Type 0
 Deepens n has [] = has n
 Deepens n has (f ∷ fs) = Deepens n (λ m. FrameHas f m ⊎ HasIn has m) fs
@@ -122,7 +123,7 @@ deepens_more : (n : ℕ) (fs : List Frame) {P Q : ℕ → Type 0} → ((m : ℕ)
 deepens_more n [] f h = f n h
 deepens_more n (g ∷ fs) {P} {Q} f h = deepens_more n fs (λ m x. ⊎_elim (λ y. inl y) (λ y. inr (under_more f m y)) x) h
 
--- as many groups are open
+-- The same number of groups is open.
 pub deepens_open : (n m : ℕ) (fs : List Frame) (P : ℕ → Type 0) → P m → n ≡ m + length fs → Deepens n P fs
 deepens_open n m [] P h e = let d : m ≡ n = omega (arith, e) in subst P d h
 deepens_open n m (f ∷ fs) P h e = deepens_open n (suc m) fs (λ k. FrameHas f k ⊎ HasIn P k) (inr h) (omega (arith, e))
@@ -130,7 +131,7 @@ deepens_open n m (f ∷ fs) P h e = deepens_open n (suc m) fs (λ k. FrameHas f 
 abbrev pub Promise : ℕ → Base → Type 0
 Promise n b = Deepens n (BaseHas b) b.below
 
--- an item more
+-- One more item.
 put_has : (b : Base) (ps : List SyntaxNode) (l : Last) (n : ℕ) → b.below ≡ b.below → ((m : ℕ) → ItemsHave (settled b.top.items b.last) m → ItemsHave (settled ps l) m) → Promise n b → Promise n (put_last b ps l)
 put_has b ps l n e f h = deepens_more n b.below (λ m x. ⊎_elim (λ y. inl y) (λ y. inr (f m y)) x) h
 
@@ -144,7 +145,7 @@ codes_promise : (t : List ℕ) (b : Base) (i n : ℕ) → Promise n b → Promis
 codes_promise [] b i n h = h
 codes_promise (c ∷ t) b i n h = codes_promise t (put_code b i c) (suc i) n (put_promise b i _ n h)
 
--- a state promises it, with the atom that a quantifier is read for
+-- The state promises it, including the atom whose quantifier is being read.
 abbrev LexHas : Lex → ℕ → Type 0
 LexHas (counted a p q c) n = Has p n
 LexHas between n = n ≡ 0
@@ -167,7 +168,7 @@ zero_items : (ps : List SyntaxNode) → ItemsHave ps 0
 zero_items [] = refl
 zero_items (p ∷ ps) = inl (zero_has p)
 
--- a lexeme that holds no atom
+-- A construct without an atom.
 plain_lex : (n : ℕ) (b : Base) (x : Lex) → ((m : ℕ) → LexHas x m → m ≡ 0) → Promises n (at b x) → Promise n b
 plain_lex n b x f h = deepens_more n b.below (λ m y. ⊎_elim (λ z. z) (λ z. inr (subst (ItemsHave (settled b.top.items b.last)) (sym (f m z)) (zero_items (settled b.top.items b.last)))) y) h
 
@@ -290,7 +291,7 @@ set_promise i b a n v stops h = tt
 set_promise i b a n v (goes x) h = at_base n b (in_class a v x) h
 set_promise i b a n v (ends ms) h = at_base n (put_leaf b a (suc i) (members v ms)) between (put_promise b a _ n h)
 
--- each step keeps what was promised
+-- Each step keeps the promise.
 step_promise : (text : Bool) (i n : ℕ) (b : Base) (x : Lex) (c : ℕ) → Promises n (at b x) → Keeps n (step text i b x c)
 step_promise text i n b between c h = on_promise i b c n (plain_lex n b between (λ m y. y) h)
 step_promise text i n b line c h = let k = plain_lex n b line (λ m y. y) h in cond_both (c == 10) (Some (at b between)) (Some (at b line)) (λ o. Holds o (Promises n)) (λ z. at_base n b between k) (λ z. at_base n b line k)
@@ -306,7 +307,7 @@ step_promise text i n b (set_open a) c h =
     cond_both (c == 94) (Some (at b first)) (set_answer i b a false (set_step text i [] set_first c)) (λ o. Holds o (Promises n)) (λ z. at_base n b (in_class a true (record { before = []; part = set_first })) k) (λ z. set_promise i b a n false (set_step text i [] set_first c) k)
 step_promise text i n b (in_class a v s) c h = set_promise i b a n v (set_step text i s.before s.part c) (plain_lex n b (in_class a v s) (λ m y. y) h)
 
--- at the end it is kept
+-- At the end the promise is fulfilled.
 end_has : (k n : ℕ) (b : Base) (fs : List Frame) → Deepens n (BaseHas b) fs → Holds (finish_below k b fs) (λ q. Has q.body n)
 end_has k n b [] h = whole_has (span b.top.start k) (all_branches b k) n (branches_more b.top.branches (branch (span b.top.from k) (settled b.top.items b.last)) n (⊎_elim (λ y. inl y) (λ y. inr (body_has (span b.top.from k) (settled b.top.items b.last) n y)) h))
 end_has k n b (f ∷ fs) h = tt
@@ -338,7 +339,7 @@ run_has text i n s (c ∷ cs) h = go (step_at text i s c) (keeps h) (λ t. run_h
     go None h f = subst (λ o. Holds o (λ q. Has q.body n)) (sym (observe_none text finish_at (suc i) cs)) tt
     go (Some t) h f = f t h
 
--- a head that goes on to open a group, or to a front flag group
+-- A head that goes on to open a group, or to a flag group.
 abbrev Opens : InHead → Type 0
 Opens paren = ⊥
 Opens quest = ⊥
@@ -476,7 +477,7 @@ module _ (text : Bool) (b : Base) (a n : ℕ) (some : suc n ≡ length b.below) 
       go condition e = heads_deep (suc i) asks r tt
       go no_head e = none_deep (suc i) r
 
-  -- behind a parenthesis, with no (?# and no (?P=
+  -- After a parenthesis that isn't followed by `?#` or `?P=`.
   pub paren_deep : (i : ℕ) (r : List ℕ) → (slice_get r 0 ≡ Some 63 → slice_get r 1 ≡ Some 35 → ⊥) → (slice_get r 0 ≡ Some 63 → slice_get r 1 ≡ Some 80 → slice_get r 2 ≡ Some 61 → ⊥) → Deep i (Some (at b (in_head a paren))) r
   paren_deep i [] no_r no_f = tt
   paren_deep i (c ∷ r) no_r no_f =
@@ -490,7 +491,7 @@ dropped_at (x ∷ w) zero k c m e h = let d : m ≡ k = omega (arith, e) in ap (
 dropped_at (x ∷ w) (suc n) k c zero e h = absurd (omega (arith, e))
 dropped_at (x ∷ w) (suc n) k c (suc m) e h = dropped_at w n k c m (omega (arith, e)) h
 
--- where a group opens too deep in codes that are spelled, a group stands too deep in the tree
+-- If a group is nested too deep in codes that spell a syntax tree, the tree contains a group that is.
 pub too_deep_has : (call : Flags) (text : Bool) (w : List ℕ) (p : ℕ) (q : Whole) → TooDeepAt call text w p → Spells call text w q → Has q.body 101
 too_deep_has call text w p q h sp =
     let bh = too_deep_seen call text w p h in

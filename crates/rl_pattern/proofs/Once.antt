@@ -1,4 +1,4 @@
--- Codes are read in one way only.
+-- Codes are read in only one way.
 use Rattle.std.proofs.Common.{◌≡◌, ◌⊎◌, ℕ, ◌<◌, ◌≤◌, List, length, Some, None, Result, Ok, Err, refl, sym, ap, ◌∙◌, arith}
 use Rattle.std.proofs.lemmas.Bool.{cases_order}
 use Rattle.std.proofs.lemmas.Option.{same_Some, none-some}
@@ -31,7 +31,7 @@ module _ (flags : Flags) (u : Universe) (w : List ℕ) where
         universe = h.pattern.universe ∙ sym k.pattern.universe;
       }
 
-  -- nothing is refused in a tree in which something is
+  -- If something in a tree is refused, it can't be that nothing is.
   not_both : (p q : Whole) (f : Fault) → IsRead flags u w p → IsRead flags u w q → refused flags (is_text u) p ≡ None → refused flags (is_text u) q ≡ Some f → ⊥
   not_both p q f h k none some = none-some f (sym none ∙ ap (refused flags (is_text u)) (same_tree p q h k) ∙ some)
 
@@ -68,7 +68,7 @@ module _ (flags : Flags) (u : Universe) (w : List ℕ) where
   outside_once p q f g (inr (t, h)) (inl k) = absurd (not_refused q g h.read.asked k)
   outside_once p q f g (inr (t, h)) (inr (r, k)) = same_fault p q f g t r h k
 
-  -- codes that are too many, and flags that are refused, are no more read
+  -- If the codes are too many or the flags refused, nothing is read.
   short_of : (p : ℕ) (f : Feature) → IsParsed flags u w (Err (error.Outside p f)) → length w ≤ 10000
   short_of p f (inl h) = h.short
   short_of p f (inr (t, h)) = h.read.asked.short

@@ -14,7 +14,7 @@ use Rattle.rl_pattern.proofs.InnerBare.{AllItems, branch_items}
 use Rattle.rl_pattern.proofs.ShapeParts.{none_first}
 use Rattle.rl_pattern.proofs.Leaves.{nil_parts, nil_join, fault_moved, two_moved, name_of, tree, left_tree, Leaves, LeavesAll, all_none, all_more, all_snoc, body_leaves, LeavesSome, some_none, some_stays, some_goes}
 
--- names stand twice in one tree where they do in the other
+-- If two trees have the same names, names occur twice in both or in neither.
 among_same : (n : List ℕ) (cs ds : List Called) → map name_of cs ≡ map name_of ds → is_among n cs ≡ is_among n ds
 among_same n [] [] e = refl
 among_same n [] (d ∷ ds) e = absurd (cc e)
@@ -39,7 +39,7 @@ fronts_fine g text f (x ∷ gs) h =
     let a = nil_parts (front_own text f x) (front_faults text (joined f x.letters) gs) h in
     nil_join (front_own text f (moved_front g x)) (front_faults text (joined f x.letters) (map (moved_front g) gs)) (two_moved x.letters.locale (x.letters.ascii && (f.unicode || x.letters.unicode) || x.letters.unicode && (f.ascii || not text)) x.place.from (g x.place.from) is_locale is_flag_clash a.0) (fronts_fine g text (joined f x.letters) gs a.1)
 
--- items none of which is an outer anchor
+-- Items none of which is an outer anchor.
 abbrev pub AllBare : List SyntaxNode → Type 0
 AllBare [] = Unit {0}
 AllBare (p ∷ ps) = (is_leading p ≡ false) × (trail_of p ≡ no_trail) × AllBare ps
@@ -112,7 +112,7 @@ module _ (u : Universe) (drop out : Span → Bool) where
   all_inner : {ps qs : List SyntaxNode} → LeavesAll u drop out ps qs → LeavesAll u drop out (inner_items ps) (inner_items qs)
   all_inner hs = all_reverse (all_trailing (all_reverse (all_leading hs)))
 
-  -- the patterns without their outer anchors
+  -- The patterns without their outer anchors.
   pub record LeavesInner (a b : Inner) : Type 0 where
     pub same : tree u drop out b.body ≡ left_tree u drop out a.body
     pub leading : b.leading ≡ a.leading
@@ -126,7 +126,7 @@ module _ (u : Universe) (drop out : Span → Bool) where
       made : LeavesInner (inner_of r (branch_body r2 ps) (Some ps)) (inner_of t (branch_body t2 qs) (Some qs))
       made = let b = body_leaves u drop out r t (all_inner h) in record { same = b.same; leading = all_begin h; trail = all_run (all_reverse h); faultless = b.faultless }
 
-  -- the body that is left where branches of the whole were dropped
+  -- The body that is left when branches of the whole pattern were dropped.
   abbrev pub BareSome : List Branch → Type 0
   BareSome [] = Unit {0}
   BareSome (b ∷ bs) = ((r : Span) (ps : List SyntaxNode) → b ≡ branch r ps → AllBare ps) × BareSome bs
@@ -167,13 +167,13 @@ module _ (u : Universe) (drop out : Span → Bool) where
   alone_many r t (some_stays e i h (some_goes {b = b} e2 h2 hs)) none = absurd (true≢false (sym e2 ∙ none b.place))
   alone_many r t (some_stays e i h (some_stays e2 i2 h2 hs)) none = (refl, refl, refl, λ h. h)
 
-  -- where nothing is dropped, or no branch has an outer anchor at an end
+  -- If nothing is dropped, or no branch has an outer anchor at an end.
   pub several_inner : (r t : Span) (p : SyntaxNode) (bs cs : List Branch) {b b2 : Branch} → items_of p ≡ None → Leaves u drop out p (whole_body t cs) → LeavesSome u drop out drop (b ∷ b2 ∷ bs) cs → ((x : Span) → drop x ≡ false) ⊎ BareSome (b ∷ b2 ∷ bs) → LeavesInner (inner_of r p (items_of p)) (inner_of t (whole_body t cs) (items_of (whole_body t cs)))
   several_inner r t p bs cs several h hs free =
       let a : Alone (whole_body t cs) (inner_of t (whole_body t cs) (items_of (whole_body t cs))) = ⊎_elim (λ (z : (x : Span) → drop x ≡ false). alone_many t t hs z) (λ z. alone_whole t t cs (bare_left hs z)) free in
       subst (λ o. LeavesInner (inner_of r p o) (inner_of t (whole_body t cs) (items_of (whole_body t cs)))) (sym several) (record { same = a.0 ∙ h.same; leading = a.1; trail = a.2; faultless = λ fine. a.3 (h.faultless fine) })
 
-  -- nothing is refused in what is left
+  -- Nothing is refused in what is left.
   pub left_allowed : (call : Flags) (g : ℕ → ℕ) (p q : Whole) → q.fronts ≡ map (moved_front g) p.fronts → Leaves u drop out p.body q.body → LeavesInner (inner p) (inner q) → refused call (is_text u) p ≡ None → refused call (is_text u) q ≡ None
   left_allowed call g p q e h i fine =
       let all = none_first (whole_faults call (is_text u) p) fine in

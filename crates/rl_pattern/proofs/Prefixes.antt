@@ -1,4 +1,5 @@
--- What is spelled before a place is spelled by the codes up to it; so where no group opens too deep, none stands too deep.
+-- What is spelled before a position is spelled by the codes up to there. So if no group opens too deep, none is nested too
+-- deep.
 use Rattle.std.proofs.Common.{◌≡◌, ◌⊎◌, ℕ, zero, suc, ◌+◌, ◌<◌, ◌≤◌, Bool, true, false, ◌==◌, if◌then◌else◌, nat_le, List, [], ◌∷◌, ◌++◌, length, take, map, refl, sym, ap, ◌∙◌, subst, arith, slice_get, true≢false, length-take-le}
 use Rattle.std.proofs.lemmas.Bool.{cases_Bool, leb-true, leb-false, le-leb, cond_both, eqb-true, eqb-false}
 use Rattle.std.proofs.lemmas.Option.{slice_get_within, none-some, slice_get_past}
@@ -16,7 +17,7 @@ use Rattle.rl_pattern.proofs.Tokens.{blanks_le, quantifier_lt, passed_lt, openin
 use Rattle.rl_pattern.proofs.Locality.{atom_lt, item_lt, items_le, branches_le, items_left, branches_left}
 use Rattle.rl_pattern.proofs.Nesting.{too_deep_has, Has, HasSome, HasBranch, ItemsHave, BranchesHave}
 
--- where all codes are kept, all is left
+-- If all codes are kept, everything is left.
 module _ (text : Bool) (w : List ℕ) (kept : ℕ → Bool) (g : ℕ → ℕ) where
   Kept : ℕ → ℕ → Type 0
   Kept i j = AllKept text w kept g i j
@@ -91,7 +92,7 @@ letter_tests = (refl, refl, refl, refl)
 looks_apart : (c d : ℕ) → c ≡ d → headed c ≡ looks → {x : GroupPrefix} → headed d ≡ x → x ≡ looks
 looks_apart c d e h k = sym k ∙ ap headed (sym e) ∙ h
 
--- the codes up to a place
+-- The codes up to a position.
 module _ (w : List ℕ) (p : ℕ) (inside_w : p < length w) where
   up_to : ℕ → Bool
   up_to t = nat_le t p
@@ -168,7 +169,7 @@ module _ (w : List ℕ) (p : ℕ) (inside_w : p < length w) where
     pub fronts_to : {call fl : Flags} {i : ℕ} {gs : List Front} → Fronts text w call i fl gs → i ≤ suc p → (hs : List Front) × Fronts text (take (suc p) w) call i fl hs
     fronts_to {call} {fl} {i} {gs} f l = let hs = map (moved_front at_most) gs in (hs, subst (λ m. Fronts text (take (suc p) w) call m fl hs) (most_is i l) (fronts_moves text w (take (suc p) w) up_to at_most cut_thin f (kept_to 0 i l)))
 
--- a head that opens a group is no comment and no reference
+-- A head that opens a group is neither a comment nor a reference.
 module _ (text : Bool) (w : List ℕ) where
   letters_first : {test : ℕ → Bool} {i j : ℕ} {f : Flags} → Letters text w test i j f → (c : ℕ) → At text w i c → test c ≡ true
   letters_first {test} (first_letter {i = i} {c = d} at_d is) c at_c = ap test (same_code w i c d at_c at_d) ∙ is
@@ -249,18 +250,19 @@ branches_split (c ∷ bs) b m (inl h) = inl (inl h)
 branches_split (c ∷ bs) b m (inr h) = ⊎_elim (λ x. inl (inr x)) (λ x. inr x) (branches_split bs b m h)
 
 module _ (call : Flags) (text : Bool) (w : List ℕ) (shallow : Shallow call text w) where
-  -- with the first branches of a body up to a place, so many groups are open there, by the codes up to any later parenthesis
+  -- After the first branches of a body up to a position, this many groups are open there, judged by the codes up to any
+  -- later parenthesis.
   abbrev BodyOpen : Kind → Flags → ℕ → ℕ → Type 0
   BodyOpen kd fl st d = (p : ℕ) → At text w p 40 → (k : ℕ) → st ≤ k → k ≤ p → Part text (take (suc p) w) kd fl st k → Open text (take (suc p) w) call kd fl k d
 
-  -- items from a place on make such first branches
+  -- Items from a position on make such first branches.
   abbrev ItemsPart : Kind → Flags → ℕ → ℕ → Type 0
   ItemsPart kd fl st i = (p : ℕ) → At text w p 40 → (k : ℕ) → i ≤ k → k ≤ p → (qs : List SyntaxNode) → Items text (take (suc p) w) fl i k qs → Part text (take (suc p) w) kd fl st k
 
   zero_deep : (d m : ℕ) → d ≤ 100 → m ≡ 0 → d + m ≤ 100
   zero_deep d m l e = omega (arith, l, e)
 
-  -- a group that would open too deep
+  -- A group that would be nested too deep.
   opens_deep : {kd outer : Kind} {fl : Flags} {i j d : ℕ} → Opening text w i j kd → Open text (take (suc i) w) call outer fl i d → d ≡ 100 → ⊥
   opens_deep {outer = outer} {fl = fl} {i = i} o h e = shallow i (record { opens = opening_at text w o; no_comment = no_comment text w o; no_reference = no_reference text w o; deep = (outer, fl, subst (λ n. Open text (take (suc i) w) call outer fl i n) e h) })
 
@@ -299,12 +301,12 @@ module _ (call : Flags) (text : Bool) (w : List ℕ) (shallow : Shallow call tex
         let le = branches_le text w a in
         ⊎_elim (λ (x : BranchesHave bs m). branches_deep a d l body m x) (λ (x : Has (branch_body (span (suc j) k) ps) m). items_deep b kd i d (omega (arith, le)) l body (λ p at_p e y z qs its. let r = branches_to w p (slice_get_within w p 40 at_p) text a (omega (arith, y, z)) may in part_next r.1 (code_to w p (slice_get_within w p 40 at_p) text j 124 (omega (arith, y, z)) at_j) r.2 its) m (body_parts (span (suc j) k) ps m x)) (branches_split bs (branch (span (suc j) k) ps) m h)
 
-  -- no group stands too deep
+  -- No group is nested too deep.
   pub shallow_tree : (p : Whole) → Spells call text w p → Has p.body 101 → ⊥
   shallow_tree p (spelled {i = i} {bs = bs} f hs) h =
       let r = branches_deep hs 0 (omega arith) (λ q at_q k x y part. none_open (fronts_to w q (slice_get_within w q 40 at_q) text f (omega (arith, x, y))).1 part) 101 (whole_parts (span i (length w)) bs 101 h) in
       omega (arith, r)
 
--- codes that spell a tree in which no group stands too deep open none too deep
+-- If the codes spell a tree without a group nested too deep, no group opens too deep in them.
 pub tree_shallow : (call : Flags) (text : Bool) (w : List ℕ) (p : Whole) → Spells call text w p → (Has p.body 101 → ⊥) → Shallow call text w
 tree_shallow call text w p h none q deep = none (too_deep_has call text w q p deep h)

@@ -1,4 +1,4 @@
--- The premises of the law, from what is said of a pattern without its outer anchors.
+-- The premises of the law, from what holds for a pattern without its outer anchors.
 use Rattle.std.proofs.Common.{◌≡◌, ℕ, Bool, true, false, ◌||◌, if◌then◌else◌, List, [], ◌∷◌, ◌++◌, reverse, Option, Some, None, refl, sym, ap, ◌∙◌, subst, true≢false}
 use Rattle.std.proofs.lemmas.List.{reverse-append, reverse-reverse}
 use Rattle.rl_ranges.specs.declared.universe.Universe.{Universe}
@@ -12,7 +12,7 @@ use Rattle.rl_pattern.proofs.Holes.{hole, holes, body_holes, mark_hole, holes_sn
 use Rattle.rl_pattern.proofs.Linking.{Good, AllGood, or_none, no_true}
 use Rattle.rl_pattern.proofs.OuterAnchors.{AllBare, BareSome}
 
--- all of a list
+-- All items of a list.
 abbrev pub AllOf : (SyntaxNode → Type 0) → List SyntaxNode → Type 0
 AllOf P [] = Unit {0}
 AllOf P (p ∷ ps) = P p × AllOf P ps
@@ -41,7 +41,7 @@ trailing_back P f (p ∷ ps) h = go (drops (trail_of p)) refl (trailing_back P f
     go true e rest = (f p e, rest (subst (λ b. AllOf P (if b then without_trailing ps else p ∷ ps)) e h))
     go false e rest = subst (λ b. AllOf P (if b then without_trailing ps else p ∷ ps)) e h
 
--- what holds of outer anchors and of the items within holds of all items
+-- What holds for outer anchors and for the items between them holds for all items.
 pub all_back : (P : SyntaxNode → Type 0) → ((p : SyntaxNode) → is_leading p ≡ true → P p) → ((p : SyntaxNode) → drops (trail_of p) ≡ true → P p) → (ps : List SyntaxNode) → AllOf P (inner_items ps) → AllOf P ps
 all_back P f g ps h =
     let back : AllOf P (without_trailing (reverse (without_leading ps))) = subst (AllOf P) (reverse-reverse (without_trailing (reverse (without_leading ps)))) (all_reverse P (inner_items ps) h) in
@@ -84,12 +84,12 @@ module _ (u : Universe) (drop out : Span → Bool) where
   body_each r (p ∷ []) h = (h, tt)
   body_each r (p ∷ q ∷ ps) h = items_each (p ∷ q ∷ ps) h
 
-  -- of a body, whether it has outer anchors or not
+  -- For a body with or without outer anchors.
   pub good_outer : (r t : Span) (p : SyntaxNode) (o : Option (List SyntaxNode)) → items_of p ≡ o → ((ps : List SyntaxNode) → o ≡ Some ps → p ≡ branch_body r ps) → Good u drop out (inner_of t p o).body → Good u drop out p
   good_outer r t p None e f h = h
   good_outer r t p (Some ps) e f h = subst (Good u drop out) (sym (f ps refl)) (body_good r ps (all_back (Good u drop out) lead_good trail_good ps (body_each t (inner_items ps) h)))
 
-  -- items without a guard are no outer anchors
+  -- Items without a guard aren't outer anchors.
   item_bare : (p : SyntaxNode) → holds_guard (shape u p) ≡ false → (is_leading p ≡ false) × (trail_of p ≡ no_trail)
   item_bare (leaf r f x) h = (refl, refl)
   item_bare (mark r f caret) h = absurd (true≢false h)
@@ -126,7 +126,7 @@ module _ (u : Universe) (drop out : Span → Bool) where
   whole_bare r (b ∷ []) h = ((λ t ps e. body_bare t ps (sym (ap (λ x. holds_guard (shape u x.body)) e) ∙ h)), tt)
   whole_bare r (b ∷ c ∷ bs) h = some_bare (b ∷ c ∷ bs) h
 
-  -- outer anchors have no holes
+  -- Outer anchors have no holes.
   lead_hole : (p : SyntaxNode) (t : ℕ) → is_leading p ≡ true → hole u drop out p t ≡ false
   lead_hole (mark r f m) t h = no_true (hole u drop out (mark r f m) t) (mark_hole u drop out r f m t)
   lead_hole (leaf r f x) t h = refl

@@ -1,4 +1,4 @@
--- What the grammar spells is what the machine reads, so at most one tree is spelled.
+-- The machine reads what the grammar spells, so at most one syntax tree is spelled.
 use Rattle.std.proofs.Common.{◌≡◌, ℕ, zero, suc, ◌+◌, ◌≤◌, Bool, true, false, cond, not, List, [], ◌∷◌, ◌++◌, length, Option, Some, None, refl, sym, ap, ◌∙◌, subst, ◌==◌, if◌then◌else◌, ◌||◌, arith, length-append, add-zero}
 use Rattle.std.proofs.lemmas.Bool.{ne_eqb, eq-eqb, eqb-true, cases_Bool}
 use Rattle.std.proofs.lemmas.Bool.Decides.{nat_tests}
@@ -15,12 +15,12 @@ use Rattle.rl_pattern.proofs.Escapes.{Reader, escape_goes, backslash}
 use Rattle.rl_pattern.proofs.Sets.{class_goes}
 use Rattle.rl_pattern.proofs.Heads.{opening_goes, reference_goes, comment_goes, front_goes}
 
--- what single codes are between items
+-- The classes of single codes between items.
 pub signs : (sign 40 ≡ left) × (sign 41 ≡ right) × (sign 124 ≡ bar) × (sign 123 ≡ brace) × (sign 92 ≡ slash) × (sign 46 ≡ dot) × (sign 91 ≡ bracket) × (sign 35 ≡ sharp) × (sign 125 ≡ plain)
 unfolding sign
 signs = (refl, refl, refl, refl, refl, refl, refl, refl, refl)
 
--- the codes of a count are literals by themselves
+-- Outside a count, the codes of a count are literals.
 pub counts_plain : (c : ℕ) → counts c ≡ true → sign c ≡ plain
 unfolding counts sign is_digit numeral
 counts_plain c h = grind (arith, nat_tests)
@@ -29,7 +29,7 @@ pub brace_not : counts 125 ≡ false
 unfolding counts is_digit numeral
 brace_not = refl
 
--- what is open around a branch
+-- What is open around a branch.
 pub record Out : Type 0 where
   pub opened : ℕ
   pub start : ℕ
@@ -54,7 +54,7 @@ module _ (text : Bool) (w : List ℕ) {X : Type 0} (ask : ℕ → State → Opti
   abbrev From : ℕ → State → Option X
   From = reads_from text w ask
 
-  -- the text of a brace that begins no count
+  -- The text after a brace that begins no count.
   brace_step : (b : Base) (i k : ℕ) (t : List ℕ) → ((c : ℕ) → At text w k c → counts c ≡ true → From (suc k) (at b (in_braces i (t ++ c ∷ []))) ≡ From (suc k) (at (no_count b i (t ++ c ∷ [])) between)) → At text w i 123 → ((j : ℕ) (n : Count) → ¬ Braces text w i j n) → Text text w (suc i) k t → From k (at b (in_braces i t)) ≡ From k (at (no_count b i t) between)
   brace_step b i k t on at_i none txt =
       alike text w ask k (at b (in_braces i t)) (at (no_count b i t) between) (fair.at_braces k b i t) (λ c at_c. ⊎_elim (λ (q : (c == 125) ≡ true). close_at c at_c q (count_of t) refl) (λ (q : (c == 125) ≡ false). ⊎_elim (λ (z : counts c ≡ true). more c at_c q z) (λ (z : counts c ≡ false). over c at_c q z) (cases_Bool (counts c))) (cases_Bool (c == 125)))
@@ -82,7 +82,7 @@ module _ (text : Bool) (w : List ℕ) {X : Type 0} (ask : ℕ → State → Opti
   brace_same (suc fuel) b i k t enough at_i none txt =
       brace_step b i k t (λ c at_c z. brace_same fuel b i (suc k) (t ++ c ∷ []) (omega (arith, enough)) at_i none (one_text txt at_c z)) at_i none txt
 
-  -- a state between items
+  -- A state between items.
   abbrev pub Bt : Flags → Kind → Out → ℕ → List Branch → List SyntaxNode → Last → State
   Bt fl kd o f ds ps l = at (base fl kd o f ds ps l) between
 
@@ -104,7 +104,7 @@ module _ (text : Bool) (w : List ℕ) {X : Type 0} (ask : ℕ → State → Opti
   blanks_go no_blank b e = refl
   blanks_go (one_blank h p) b e = blanks_go h b e ∙ passed_goes p b e
 
-  -- an escape between items
+  -- An escape between items.
   top_reader : (b : Base) (i : ℕ) (e : Escaped) → Reader text w ask false e (at b (at_slash i)) (λ x. at b (in_escape i x)) (λ j. at (put_leaf b i j (glyph e)) between)
   top_reader b i e =
       record {
@@ -132,7 +132,7 @@ module _ (text : Bool) (w : List ℕ) {X : Type 0} (ask : ℕ → State → Opti
   text_goes b a (one_text {j = j} {c = c} {t = t} h at_c is_c) =
       text_goes b a h ∙ goes_to text w ask j c _ _ at_c (ap (λ v. cond v (end_braces j b a t (count_of t)) (if counts c then Some (at b (in_braces a (t ++ c ∷ []))) else go_on j (no_count b a t) c)) (differs counts 125 c brace_not is_c) ∙ ap (λ v. cond v (Some (at b (in_braces a (t ++ c ∷ [])))) (go_on j (no_count b a t) c)) is_c)
 
-  -- a quantifier after the atom p from a
+  -- A quantifier after the atom `p` from `a`.
   counts_go : (fl : Flags) (kd : Kind) (o : Out) (f : ℕ) (ds : List Branch) (ps : List SyntaxNode) (a : ℕ) (p : SyntaxNode) {i j : ℕ} {n : Count} → Counts text w i j n → From i (Bt fl kd o f ds ps (an_atom a p)) ≡ From j (at (base fl kd o f ds ps nothing_yet) (counted a p i n))
   counts_go fl kd o f ds ps a p (by_code {i = i} {c = c} {n = n} at_c is) = sign_goes text w ask i c _ (times n) _ at_c is refl
   counts_go fl kd o f ds ps a p (by_braces {i = i} {n = n} (braces {k = k} {t = t} at_i txt at_end is)) =
@@ -170,16 +170,16 @@ module _ (text : Bool) (w : List ℕ) {X : Type 0} (ask : ℕ → State → Opti
   literal_goes b i c at_c (inr (inl h, off)) = sign_goes text w ask i c b blank _ at_c h (ap (λ v. cond v (Some (at b between)) (Some (at (put_code b i c) between))) off)
   literal_goes b i c at_c (inr (inr h, off)) = sign_goes text w ask i c b sharp _ at_c h (ap (λ v. cond v (Some (at b line)) (Some (at (put_code b i c) between))) off)
 
-  -- a | after these branches
+  -- A `|` after these branches.
   pub bar_goes : (fl : Flags) (kd : Kind) (o : Out) (f : ℕ) (ds : List Branch) (ps : List SyntaxNode) (l : Last) (j : ℕ) (bs : List Branch) → At text w j 124 → ds ++ branch (span f j) (settled ps l) ∷ [] ≡ bs → splits kd bs ≡ true → From j (Bt fl kd o f ds ps l) ≡ From (suc j) (Bt fl kd o (suc j) bs [] nothing_yet)
   bar_goes fl kd o f ds ps l j bs at_j all may =
       sign_goes text w ask j 124 (base fl kd o f ds ps l) bar (Bt fl kd o (suc j) bs [] nothing_yet) at_j signs.2 (ap (λ z. cond (splits kd z) (Some (Bt fl kd o (suc j) z [] nothing_yet)) None) all ∙ ap (λ v. cond v (Some (Bt fl kd o (suc j) bs [] nothing_yet)) None) may)
 
-  -- the head of a group, from its parenthesis on
+  -- The head of a group, from its parenthesis on.
   pub opening_between : (b : Base) {i j : ℕ} {kd : Kind} → Opening text w i j kd → From i (at b between) ≡ From j (at (open_group b i j kd) between)
   opening_between b {i} h = sign_goes text w ask i 40 b left _ (opens_at h) signs.0 refl ∙ opening_goes text w ask b i h
 
-  -- the items from a place on, as the open branch shows them
+  -- The items from a position on, as the open branch shows them.
   pub record ItemsRead (fl : Flags) (kd : Kind) (o : Out) (f : ℕ) (ds : List Branch) (i : ℕ) (s : State) (j : ℕ) (ps : List SyntaxNode) : Type 0 where
     pub its : List SyntaxNode
     pub end : Last
@@ -280,7 +280,7 @@ module _ (text : Bool) (w : List ℕ) {X : Type 0} (ask : ℕ → State → Opti
       let s = Bt (joined fl f) outermost (Outermost k (gs ++ record { place = span j k; letters = f } ∷ [])) k [] [] nothing_yet in
       fronts_go h ∙ blanks_go bl b refl ∙ sign_goes text w ask j 40 b left _ (flag_group_at g) signs.0 refl ∙ front_goes text w ask b j g s (ap (λ v. cond v (Some s) None) (front_allowed gs j first))
 
-  -- what is read of a spelled pattern, up to the end
+  -- What has been read of a pattern, up to the end.
   pub whole_goes : {call : Flags} {i : ℕ} {fl : Flags} {gs : List Front} {bs : List Branch} → Fronts text w call i fl gs → IsBranches text w outermost fl i (length w) bs → BranchesRead fl outermost (Outermost i gs) i (length w) bs
   whole_goes {i = i} {gs = gs} h hs = branches_go hs (Outermost i gs)
 
@@ -303,12 +303,12 @@ finish_fair =
       at_class = λ k b a v s. refl;
     }
 
--- what is spelled is read
+-- What is spelled is read.
 pub spelled_is_read : (call : Flags) (text : Bool) (w : List ℕ) (p : Whole) → Spells call text w p → reads call text w ≡ Some p
 spelled_is_read call text w p (spelled {i = i} {fl = fl} {gs = gs} {bs = bs} h hs) =
     let r = whole_goes text w finish_at finish_fair h hs in
     sym (at_the_start text w finish_at (start call)) ∙ fronts_go text w finish_at finish_fair h ∙ r.reads ∙ at_the_end text w finish_at _ ∙ ap (λ z. Some (record { fronts = gs; place = span i (length w); body = whole_body (span i (length w)) z })) r.all
 
--- at most one tree is spelled
+-- At most one syntax tree is spelled.
 pub one_is_spelled : (call : Flags) (text : Bool) (w : List ℕ) (p q : Whole) → Spells call text w p → Spells call text w q → p ≡ q
 one_is_spelled call text w p q h k = same_Some p q (sym (spelled_is_read call text w p h) ∙ spelled_is_read call text w q k)

@@ -1,4 +1,4 @@
--- Codes from which branches and quantifiers were taken out are read as the pattern without them.
+-- Codes from which branches and quantifiers were removed are read as the pattern without them.
 use Rattle.std.proofs.Common.{◌≡◌, ◌⊎◌, ℕ, suc, ◌≤◌, Bool, true, false, if◌then◌else◌, List, [], ◌∷◌, length, None, Result, Ok, Err, refl, sym, ap, ◌∙◌, subst, arith}
 use Rattle.std.proofs.lemmas.Option.{none-some}
 use mathlib.Core.Logic.{inl, inr}
@@ -69,7 +69,7 @@ module _ (u : Universe) (flags : Flags) (drop out : Span → Bool) (w : List ℕ
   is_body : IsPattern u (shape u (inner cuts.what).body)
   is_body = inner_pattern u flags the_codes cuts.what cuts.is_spelled is_allowed
 
-  -- the pattern of what the codes that are left spell
+  -- The pattern that the remaining codes spell.
   the_new : Pattern
   the_new = pattern_from u (shape u (inner cuts.what).body) (inner cuts.what).leading (inner cuts.what).trail is_body
 
@@ -83,11 +83,11 @@ module _ (u : Universe) (flags : Flags) (drop out : Span → Bool) (w : List ℕ
         pattern = record { body = body_of-from u (shape u (inner cuts.what).body) (inner cuts.what).leading (inner cuts.what).trail is_body; leading = others.0; trailing = others.1; universe = others.2 };
       }
 
-  -- there is a pattern that the codes that are left are read as
+  -- There is a pattern that the remaining codes are read as.
   pub cut_found : (new : Pattern) × IsParsed flags u the_codes (Ok new) × IsLeft drop out found new
   cut_found = (the_new, (cuts.what, new_spelled), is_left the_new new_spelled)
 
-  -- whatever the reader answers of the codes that are left
+  -- Whatever the result of parsing the remaining codes is.
   pub cut_reads : (r : Result Pattern PatError) → IsParsed flags u the_codes r → (r ≡ Err error.OutOfMemory) ⊎ ((new : Pattern) × (r ≡ Ok new) × IsLeft drop out found new)
   cut_reads (Ok new) (q, h) = inr (new, refl, is_left new (subst (λ z. IsSpelled flags u the_codes new z) (same_whole q h.read.spelled) h))
   cut_reads (Err error.TooLong) h = absurd (omega (arith, h, shorter (stays u drop out whole.body) 0 w, sp.read.asked.short))

@@ -1,4 +1,4 @@
--- Spans that lie between two places, each beginning no earlier than the one before it.
+-- Spans between two positions, none of which begins before an earlier one in the list.
 use Rattle.std.proofs.Common.{ℕ, zero, suc, ◌≤◌, List, [], ◌∷◌, ◌++◌, All, AllPairs, arith}
 use Rattle.rl_syntax.specs.declared.span.Span.{Span}
 use Rattle.rl_pattern.specs.Placed.{ArePlaced}
@@ -31,7 +31,7 @@ rising_pairs (r ∷ rs) i j (c, d, e, hs) a zero x l m = absurd (omega (arith, l
 rising_pairs (r ∷ rs) i j (c, d, e, hs) zero (suc b) x l m = rising_from rs r.from j hs b x (omega (arith, m))
 rising_pairs (r ∷ rs) i j (c, d, e, hs) (suc a) (suc b) x l m = rising_pairs rs r.from j hs a b x (omega (arith, l)) (omega (arith, m))
 
--- such spans are placed, and placed ones are such
+-- Such spans are placed, and placed spans are of this kind.
 pub rising_placed : (rs : List Span) (i n : ℕ) → Rising i n rs → ArePlaced n rs
 rising_placed rs i n h = (rising_within rs i n h, rising_pairs rs i n h)
 
@@ -41,7 +41,7 @@ placed_rising (r ∷ rs) i n a (within, pairs) =
     let own = within 0 r (omega arith) in
     (a 0 r (omega arith), own.0, own.1, placed_rising rs r.from n (λ k x l. pairs 0 (suc k) x (omega arith) (omega (arith, l))) (λ k x l. within (suc k) x (omega (arith, l)), λ k m x l y. pairs (suc k) (suc m) x (omega (arith, l)) (omega (arith, y))))
 
--- a list from which some were left out
+-- A list from which some items were left out.
 pub data Fewer {X : Type 0} : List X → List X → Type 0 where
   none_fewer : Fewer [] []
   left_out : {y : X} {xs ys : List X} → Fewer xs ys → Fewer xs (y ∷ ys)

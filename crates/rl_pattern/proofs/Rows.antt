@@ -1,4 +1,4 @@
--- What the machine reads of single patterns, by computation.
+-- What the machine reads for some patterns, by computation.
 use Rattle.std.proofs.Common.{◌≡◌, ℕ, suc, pred, true, false, List, [], ◌∷◌, ◌++◌, Option, Some, None, refl, codes, replicate, option_map}
 use Rattle.rl_pattern.specs.declared.flags.Flags.{Flags}
 use Rattle.rl_pattern.specs.Tree.{Whole, span, SyntaxNode, leaf, glyph, code, too_large, by_name, members, one, range, repeat, greedy, possessive, group, capturing, seq, nodes, choice, branches, branch, nothing, reference}
@@ -10,18 +10,18 @@ use Rattle.rl_pattern.proofs.Deep.{Behind, seen_too_deep}
 use Rattle.rl_pattern.specs.Found.{Fault, fault, refused, Inner, inner, no_trail, dollar_trail, end_trail, is_locale, is_flag_clash, is_duplicate_name, is_code_too_large, is_reversed_range, is_repeat_too_large, is_repeat_order, is_possessive_count, is_backreference, is_lookaround, is_named_escape, is_inner_anchor}
 use Rattle.rl_pattern.specs.internal.Machine.{State, start, step_at, reads}
 
--- how many codes the machine takes before it stops, and one more
+-- The number of codes that the machine reads before it stops, plus one.
 abbrev taken : ℕ → Option State → List ℕ → ℕ
 taken n None cs = n
 taken n (Some s) [] = suc n
 taken n (Some s) (c ∷ cs) = taken (suc n) (step_at true n s c) cs
 
--- the place at which the machine stops, or the length
+-- The position at which the machine stops, or the length.
 dies : Flags → List ℕ → ℕ
 unfolding sign numeral is_digit hex begins_name goes_in_name slashed on_letter off_letter headed with_letter joined scoped_flags counts count_of
 dies f w = pred (taken 0 (Some (start f)) w)
 
--- the body that is read of text without flags
+-- The body that is read from a text without flags.
 the_body : Option Whole → Option SyntaxNode
 the_body None = None
 the_body (Some p) = Some p.body
@@ -69,7 +69,7 @@ comment_not_closed : dies no_flags (replicate 100 40 ++ codes "(?#") ≡ 103
 unfolding dies
 comment_not_closed = refl
 
--- a group's head that goes on wrongly is too deep at its parenthesis, with 100 groups open
+-- A group's head that continues in a wrong way is too deep at its parenthesis, with 100 groups open.
 behind_row : Behind no_flags true (replicate 101 40 ++ codes "?P!") 100 100
 unfolding sign
 behind_row = record { state = _; runs = refl; lex = refl; deep = refl }
@@ -77,7 +77,7 @@ behind_row = record { state = _; runs = refl; lex = refl; deep = refl }
 too_deep_row : TooDeepAt no_flags true (replicate 101 40 ++ codes "?P!") 100
 too_deep_row = seen_too_deep no_flags true (replicate 101 40 ++ codes "?P!") 100 behind_row refl (λ h. eqb-false 80 35 refl (same_Some 80 35 h.1.1)) (λ h. eqb-false 33 61 refl (same_Some 33 61 h.1.1.1))
 
--- the leaf of one code
+-- The leaf of one character.
 lit : ℕ → ℕ → SyntaxNode
 lit i c = leaf (span i (suc i)) no_flags (glyph (code c))
 
@@ -121,7 +121,7 @@ empty_pattern : read [] ≡ Some (nothing (span 0 0))
 unfolding read
 empty_pattern = refl
 
--- what is refused of text under these flags
+-- What is refused in a text under these flags.
 found : Flags → List ℕ → Option (Option Fault)
 unfolding sign numeral is_digit hex begins_name goes_in_name slashed on_letter off_letter headed with_letter joined scoped_flags counts count_of
 found f w = option_map (refused f true) (reads f true w)
@@ -158,7 +158,7 @@ count_order : (found no_flags (codes "a{3,2}") ≡ Some (Some (fault 1 is_repeat
 unfolding found
 count_order = (refl, refl, refl)
 
--- the outer anchors and the rest
+-- The outer anchors and the rest.
 inner_read : Flags → List ℕ → Option Inner
 unfolding sign numeral is_digit hex begins_name goes_in_name slashed on_letter off_letter headed with_letter joined scoped_flags counts count_of
 inner_read f w = option_map inner (reads f true w)
@@ -175,7 +175,7 @@ anchors_in_branches : (found no_flags (codes "a|b$") ≡ Some (Some (fault 3 is_
 unfolding found with_letter
 anchors_in_branches = (refl, refl)
 
--- a body begins behind the front flag groups, and its span has what is passed over at its ends
+-- A body begins after the flag groups at the front, and its span includes ignored text at its ends.
 both_letters : Flags
 both_letters = record no_flags { verbose = true; ignore_case = true }
 

@@ -1,4 +1,4 @@
--- What comes to stand side by side where codes are gone.
+-- Codes that become neighbors because others are gone.
 use Rattle.std.proofs.Common.{◌≡◌, ◌≢◌, ◌⊎◌, ℕ, zero, suc, ◌+◌, ◌-◌, ◌<◌, ◌≤◌, Bool, true, false, not, ◌||◌, ◌&&◌, ◌==◌, if◌then◌else◌, nat_le, nat_lt, List, [], ◌∷◌, ◌++◌, Some, refl, sym, ap, ◌∙◌, subst, arith, true≢false}
 use Rattle.std.proofs.lemmas.Bool.{eqb-true, eqb-false, cases_Bool, false_from_ne_true, ltb-true, ltb-false, leb-true, ne_eqb, or_from}
 use Rattle.std.proofs.lemmas.Option.{same_Some}
@@ -19,7 +19,7 @@ use Rattle.rl_pattern.proofs.Locality.{atom_lt, item_lt, items_le, branches_le}
 use Rattle.rl_pattern.proofs.Linking.{and_first, and_second, or_none, or_yes, not_false, not_true, no_true, is_plain, Good, GoodItems, GoodSome, good_whole, good_body, good_items_snoc, good_some_snoc, plain_kind, Agrees, agree_to, agree_part, all_kept, left_or, right_or, no_branch, first_agree}
 use Rattle.rl_pattern.proofs.Holes.{or_cases, or_false, lies_from, lies_to, hole, holes, hole_of, branch_holes, some_left, drops_in, holes_snoc, branch_holes_snoc, some_left_snoc, body_holes, whole_holes, group_hole, item_within, items_within, branches_within, mark_hole}
 
--- codes that go on with nothing
+-- A code that is calm: it continues nothing.
 abbrev pub IsCalm : ℕ → Type 0
 IsCalm d = (goes_on d ≡ false) × (d ≢ 63)
 
@@ -44,7 +44,7 @@ sign_63 = (record { least = 0; most = Some 1 }, refl)
 not_asked : (c : ℕ) (x : TokenClass) → sign c ≡ x → ((n : Count) → x ≡ times n → ⊥) → c ≢ 63
 not_asked c x e none e63 = none sign_63.0 (sym e ∙ ap sign e63 ∙ sign_63.1)
 
--- white space is calm
+-- White space is calm.
 abbrev Blank_low : ℕ → TokenClass → Type 0
 Blank_low c blank = c ≤ 32
 Blank_low c (times n) = Unit {0}
@@ -111,7 +111,7 @@ low_calm c l =
 blank_calm : (c : ℕ) → sign c ≡ blank → IsCalm c
 blank_calm c h = low_calm c (subst (Blank_low c) h (sign_low c))
 
--- a front flag group, and an opening, end with a code that is closed
+-- A flag group at the front and an opening end with a code that is closed.
 module _ (text : Bool) (w : List ℕ) where
   pub fronts_end : {call fl : Flags} {i : ℕ} {gs : List Front} → Fronts text w call i fl gs → (t c : ℕ) → suc t ≡ i → At text w t c → is_open c ≡ false
   fronts_end no_fronts t c e at_c = absurd (omega (arith, e))
@@ -119,7 +119,7 @@ module _ (text : Bool) (w : List ℕ) where
       let same : t ≡ j = omega (arith, e) in
       ap is_open (same_code w t c 41 at_c (subst (λ m. At text w m 41) (sym same) z)) ∙ closed_codes.1
 
-  -- the first code of what is spelled is no question mark
+  -- What is spelled never begins with a question mark.
   passed_calm : {fl : Flags} {i j : ℕ} → Passed text w fl i j → (c : ℕ) → At text w i c → IsCalm c
   passed_calm (pass_blank {i = i} {c = d} x at_i is) c at_c = subst IsCalm (same_code w i d c at_i at_c) (blank_calm d is)
   passed_calm (pass_line {i = i} x at_i h z) c at_c = subst IsCalm (same_code w i 35 c at_i at_c) calm_codes.2
@@ -170,7 +170,7 @@ module _ (text : Bool) (w : List ℕ) where
   items_unasked (one_item {i = i} {j = j} h p) l c at_c =
       ⊎_elim (λ (z : (i == j) ≡ true). item_unasked p c (subst (λ m. At text w m c) (eqb-true i j z) at_c)) (λ (z : (i == j) ≡ false). items_unasked h (omega (arith, items_le text w h, eqb-false i j z)) c at_c) (cases_Bool (i == j))
 
-  -- the end of an opening that isn't refused
+  -- The end of an opening that isn't refused.
   pub opening_end : {i j : ℕ} {kd : Kind} → Opening text w i j kd → is_plain kd ≡ true → (t c : ℕ) → suc t ≡ j → At text w t c → is_open c ≡ false
   opening_end (captures {i = i} at_i at_c ne) pl t c e at_t = let same : t ≡ i = omega (arith, e) in ap is_open (same_code w t c 40 at_t (subst (λ m. At text w m 40) (sym same) at_i)) ∙ closed_codes.0
   opening_end (captures_named {j = j} q n z) pl t c e at_t = let same : t ≡ j = omega (arith, e) in ap is_open (same_code w t c 62 at_t (subst (λ m. At text w m 62) (sym same) z)) ∙ closed_codes.3
@@ -185,7 +185,7 @@ module _ (text : Bool) (w : List ℕ) where
   opening_end (asks_name q n z) pl t c e at_t = absurd (true≢false (sym pl))
 
 module _ (u : Universe) (drop out : Span → Bool) where
-  -- a repeat whose own quantifier is taken out
+  -- A repeat whose own quantifier is removed.
   abbrev pub own_out : SyntaxNode → Bool
   own_out (repeat r q n g p) = out q
   own_out (leaf r f x) = false
@@ -196,7 +196,7 @@ module _ (u : Universe) (drop out : Span → Bool) where
   own_out (choice r bs) = false
 
   abbrev mutual
-    -- a quantifier is taken out only where its repeat is the whole content of a branch
+    -- A quantifier is removed only if its repeat is the whole content of a branch.
     pub Clean : SyntaxNode → Type 0
     Clean (leaf r f x) = Unit {0}
     Clean (mark r f m) = Unit {0}
@@ -230,7 +230,7 @@ module _ (u : Universe) (drop out : Span → Bool) where
   clean_nodes [] h = (tt, tt)
   clean_nodes (p ∷ ps) (o, h, hs) = let r = clean_nodes ps hs in ((h, r.0), (o, r.1))
 
-  -- of a branch's body: its items, and whether a quantifier of one of them goes
+  -- The body of a branch: its items, and whether the quantifier of one of them is removed.
   pub Single : List SyntaxNode → Type 0
   Single ps = (p : SyntaxNode) × (ps ≡ p ∷ [])
 
@@ -268,11 +268,11 @@ module _ (u : Universe) (drop out : Span → Bool) where
     abbrev pub Ag : ℕ → ℕ → (ℕ → Bool) → Type 0
     Ag = Agrees u drop out w kept g
 
-    -- the code that is kept from here on is calm
+    -- The next code that is kept is calm.
     abbrev pub Calm : ℕ → Type 0
     Calm j = (d : ℕ) → At (is_text u) v (g j) d → IsCalm d
 
-    -- the code before is closed
+    -- The code before is closed.
     abbrev pub Enters : ℕ → Type 0
     Enters i = (t c : ℕ) → suc t ≡ i → At (is_text u) w t c → is_open c ≡ false
 
@@ -286,7 +286,7 @@ module _ (u : Universe) (drop out : Span → Bool) where
         go zero m = ap g (omega arith)
         go (suc n) m = go n (omega (arith, m)) ∙ sym (sf.no_more (i + n) (f (i + n) (omega arith) (omega (arith, m)))) ∙ ap g (omega arith)
 
-    -- a gone code behind a kept one is the first one of those gone together
+    -- A code that is gone after one that is kept is the first of those that are gone together.
     edge_of : (a b t : ℕ) → ((x : ℕ) → a ≤ x → x < b → kept x ≡ false) → kept t ≡ true → a ≤ suc t → suc t < b → suc t ≡ a
     edge_of a b t f k l m =
         ⊎_elim (λ (z : nat_lt t a ≡ true). let y = ltb-true t a z in omega (arith, l, y)) (λ (z : nat_lt t a ≡ false). let y = ltb-false t a z in absurd (true≢false (sym k ∙ f t y (omega (arith, m))))) (cases_Bool (nat_lt t a))
@@ -297,7 +297,7 @@ module _ (u : Universe) (drop out : Span → Bool) where
     calm_gone : (i j : ℕ) → i ≤ j → ((t : ℕ) → i ≤ t → t < j → kept t ≡ false) → Calm j → Calm i
     calm_gone i j l f calm d at_d = calm d (subst (λ m. At (is_text u) v m d) (gone_along i j l f) at_d)
 
-    -- the first code of an item is never gone
+    -- The first code of an item is never gone.
     atom_strict : {fl : Flags} {i j : ℕ} {p : SyntaxNode} → Atom (is_text u) w fl i j p → hole_in p i ≡ true → ⊥
     atom_strict (literal a z) h = true≢false (sym h)
     atom_strict (literal_brace a z) h = true≢false (sym h)
@@ -321,7 +321,7 @@ module _ (u : Universe) (drop out : Span → Bool) where
     items_strict (one_item {i = i} {j = j} {ps = ps} {p = p} a b) h =
         ⊎_elim (λ (z : holes u drop out ps i ≡ true). items_strict a z) (λ (z : hole_in p i ≡ true). let e : i ≡ j = omega (arith, items_le (is_text u) w a, (item_within u drop out w b i z).0) in item_strict b (subst (λ m. hole_in p m ≡ true) e z)) (or_cases (holes u drop out ps i) (hole_in p i) (sym (holes_snoc u drop out ps p i) ∙ h))
 
-    -- where no branch is left, all of them are gone, with the | behind
+    -- If no branch is left, all of them are gone, including the `|` after them.
     none_holes : {kd : Kind} {fl : Flags} {i j : ℕ} {bs : List Branch} → IsBranches (is_text u) w kd fl i j bs → (d : Span → Bool) → some_left u drop out d bs ≡ false → (t : ℕ) → i ≤ t → t ≤ j → branch_holes u drop out d bs false t ≡ true
     none_holes (first_branch {i = i} {j = j} {ps = ps} h) d e t x z =
         let is = not_false (d (span i j)) (sym (or_false (not (d (span i j)))) ∙ e) in
@@ -336,7 +336,7 @@ module _ (u : Universe) (drop out : Span → Bool) where
     gone_is : (f : ℕ → Bool) {i j : ℕ} → Ag i j f → (t : ℕ) → i ≤ t → t < j → f t ≡ true → kept t ≡ false
     gone_is f ag t a b h = ag t a b ∙ ap not h
 
-    -- a quantifier that is gone
+    -- A quantifier that is gone.
     quantifier_meets : {fl : Flags} {i j k l : ℕ} {p : SyntaxNode} {n : Count} {r : Greed} → Atom (is_text u) w fl i j p → Blanks (is_text u) w fl j k → Quantifier (is_text u) w k l n r → Ag i l (hole_in (repeat (span i l) (span k l) n r p)) → (out (span k l) ≡ false) ⊎ Calm l → (t : ℕ) → (out (span k l) && lies_in k l (suc t)) ≡ true → Meets t
     quantifier_meets a bl q ag (inl no_out) t h c d kt at_c at_d = absurd (true≢false (sym (and_first _ _ h) ∙ no_out))
     quantifier_meets {i = i} {j = j} {k = k} {l = l} {p = p} {n = n} {r = r} a bl q ag (inr calm) t h c d kt at_c at_d =
@@ -367,7 +367,7 @@ module _ (u : Universe) (drop out : Span → Bool) where
     last_own ps p j (inl h) = inl (none_snoc ps p h).1
     last_own ps p j (inr h) = inr h.1
 
-    -- one more branch behind others
+    -- One more branch after others.
     next_meets : {kd : Kind} {fl : Flags} {i j k : ℕ} {bs : List Branch} {ps : List SyntaxNode} → IsBranches (is_text u) w kd fl i j bs → At (is_text u) w j 124 → Items (is_text u) w fl (suc j) k ps → (d : Span → Bool) → Ag i k (branch_holes u drop out d (bs ++ branch (span (suc j) k) ps ∷ []) false) → some_left u drop out d (bs ++ branch (span (suc j) k) ps ∷ []) ≡ true → Enters i → Calm k → (t : ℕ) → branch_holes u drop out d (bs ++ branch (span (suc j) k) ps ∷ []) false (suc t) ≡ true
         → (some_left u drop out d bs ≡ true → Calm j → branch_holes u drop out d bs false (suc t) ≡ true → Meets t) → (d (span (suc j) k) ≡ false → Ag (suc j) k (holes u drop out ps) → holes u drop out ps (suc t) ≡ true → Meets t) → Meets t
     next_meets {kd} {fl} {i} {j} {k} {bs} {ps} h at_j hs d ag whole enters calm t hole_t before items = go (d (span (suc j) k)) refl (some_left u drop out d bs) refl
@@ -402,7 +402,7 @@ module _ (u : Universe) (drop out : Span → Bool) where
         first_gone : some_left u drop out d bs ≡ false → (x : ℕ) → i ≤ x → x < suc j → kept x ≡ false
         first_gone s x y z = gone_is f ag x y (omega (arith, z, le2)) (parts x ∙ ap (λ v. v || hole_of u drop out d (some_left u drop out d bs) b x) (none_holes h d s x y (omega (arith, z))))
 
-        -- the first code that is left of the first branch that is left
+        -- The first code that is left of the first branch that is left.
         begins : d (span (suc j) k) ≡ false → (x : ℕ) → At (is_text u) v (g (suc j)) x → x ≢ 63
         begins e x at_x =
             ⊎_elim (λ (z : nat_lt (suc j) k ≡ true). let l = ltb-true (suc j) k z in items_unasked (is_text u) w hs l x (sym (sf.same (suc j) (items_agree e (suc j) (omega arith) l ∙ ap not (no_true (holes u drop out ps (suc j)) (items_strict hs)))) ∙ at_x))

@@ -1,4 +1,4 @@
--- A class that the grammar spells is read.
+-- The machine reads a class that the grammar spells.
 use Rattle.std.proofs.Common.{◌≡◌, ◌⊎◌, ℕ, suc, Bool, true, false, cond, List, [], ◌∷◌, ◌++◌, Option, Some, refl, sym, ap, ◌∙◌, subst, ◌==◌}
 use Rattle.std.proofs.lemmas.Bool.{ne_eqb, eqb-true, eqb-false, cases_Bool}
 use mathlib.Core.Logic.{inl, inr, ⊎_elim}
@@ -13,14 +13,14 @@ module _ (text : Bool) (w : List ℕ) {X : Type 0} (ask : ℕ → State → Opti
   abbrev From : ℕ → State → Option X
   From = reads_from text w ask
 
-  -- in the class
+  -- Within the class.
   abbrev In : List Member → InSet → State
   In ms p = at b (in_class a inverse (record { before = ms; part = p }))
 
   same_ask : (i : ℕ) (ms ns : List Member) (p q : InSet) → ask i (In ms p) ≡ ask i (In ns q)
   same_ask i ms ns p q = fair.at_class i b a inverse _ ∙ sym (fair.at_class i b a inverse _)
 
-  -- an escape as the first side
+  -- An escape as the first side.
   first_reader : (ms : List Member) (i : ℕ) (e : Escaped) → Reader text w ask true e (In ms (set_slash i)) (λ x. In ms (set_escape i x)) (λ j. In ms (set_side i e))
   first_reader ms i e =
       record {
@@ -32,7 +32,7 @@ module _ (text : Bool) (w : List ℕ) {X : Type 0} (ask : ℕ → State → Opti
         rests_end = λ k x h. same_ask k ms ms _ _;
       }
 
-  -- an escape as the second side
+  -- An escape as the second side.
   second_reader : (ms : List Member) (i : ℕ) (e d : Escaped) → is_kind d ≡ false → Reader text w ask true d (In ms (dash_slash i e)) (λ x. In ms (dash_escape i e x)) (λ j. In (ms ++ range (span i j) e d ∷ []) set_next)
   second_reader ms i e d nk =
       record {
@@ -47,19 +47,19 @@ module _ (text : Bool) (w : List ℕ) {X : Type 0} (ask : ℕ → State → Opti
       whole : (j k : ℕ) → set_answer k b a inverse (range_ends j ms i e d) ≡ Some (In (ms ++ range (span i j) e d ∷ []) set_next)
       whole j k = ap (λ t. set_answer k b a inverse (cond t stops (in_set (ms ++ range (span i j) e d ∷ []) set_next))) nk
 
-  -- a side, from a place where a member may begin
+  -- A side, from a position where a member may begin.
   side_goes : {i j : ℕ} {e : Escaped} → Side text w i j e → (ms : List Member) (p : InSet) → ((c : ℕ) → At text w i c → step_at text i (In ms p) c ≡ set_answer i b a inverse (side_first i ms c)) → From i (In ms p) ≡ From j (In ms (set_side i e))
   side_goes (plain_side {i = i} {c = c} at_c ne) ms p begins =
       goes_to text w ask i c (In ms p) (In ms (set_side i (code c))) at_c (begins c at_c ∙ ap (λ t. set_answer i b a inverse (cond t (in_set ms (set_slash i)) (in_set ms (set_side i (code c))))) (ne_eqb c 92 ne))
   side_goes {i} {j} {e} (escaped_side h) ms p begins =
       goes_to text w ask i 92 (In ms p) (In ms (set_slash i)) (backslash text w h) (begins 92 (backslash text w h)) ∙ escape_goes text w ask true e (In ms (set_slash i)) (λ x. In ms (set_escape i x)) (λ k. In ms (set_side i e)) (first_reader ms i e) h
 
-  -- a member may begin here, with no ] behind the first
+  -- A member may begin here, because there is no `]` after the first one.
   may_begin : (i : ℕ) (ms : List Member) → ¬ At text w i 93 → (c : ℕ) → At text w i c → step_at text i (In ms set_next) c ≡ set_answer i b a inverse (side_first i ms c)
   may_begin i ms no_close c at_c =
       ap (λ t. set_answer i b a inverse (cond t (ends ms) (side_first i ms c))) (ne_eqb c 93 (λ q. no_close (subst (At text w i) q at_c)))
 
-  -- a side that no - joins with what follows is a member
+  -- A side is a member if no `-` joins it with what follows.
   side_stays : (i j : ℕ) (ms : List Member) (e : Escaped) → ¬ Joins text w j → From j (In ms (set_side i e)) ≡ From j (In (with_one ms i j e) set_next)
   side_stays i j ms e no_join =
       alike text w ask j (In ms (set_side i e)) (In (with_one ms i j e) set_next) (same_ask j ms _ _ _) (λ c at_c. ⊎_elim (λ (q : (c == 45) ≡ true). dash c at_c (eqb-true c 45 q)) (λ (q : (c == 45) ≡ false). other c at_c q) (cases_Bool (c == 45)))
@@ -84,7 +84,7 @@ module _ (text : Bool) (w : List ℕ) {X : Type 0} (ask : ℕ → State → Opti
   member_goes (is_range {i = i} {j = j} {k = k} {e = e} {d = d} side ok nk (c, at_45, at_c, ne) other nk') ms p begins =
       side_goes side ms p begins ∙ goes_to text w ask j 45 (In ms (set_side i e)) (In ms (set_dash i j e)) at_45 refl ∙ joined other nk'
     where
-      -- the code after the - isn't the end
+      -- The code after the `-` isn't the end.
       after : (x : ℕ) → At text w (suc j) x → step_at text (suc j) (In ms (set_dash i j e)) x ≡ set_answer (suc j) b a inverse (cond (x == 92) (in_set ms (dash_slash i e)) (in_set (ms ++ range (span i (suc (suc j))) e (code x) ∷ []) set_next))
       after x at_x =
           ap (λ t. set_answer (suc j) b a inverse (cond t (ends (with_one (with_one ms i j e) j (suc j) (code 45))) (cond (is_kind e) stops (cond (x == 92) (in_set ms (dash_slash i e)) (in_set (ms ++ range (span i (suc (suc j))) e (code x) ∷ []) set_next))))) (ne_eqb x 93 (λ q. ne (same_code w (suc j) c x at_c at_x ∙ q)))
@@ -104,7 +104,7 @@ module _ (text : Bool) (w : List ℕ) {X : Type 0} (ask : ℕ → State → Opti
       closes_not (is_one side ok no_join) = ok refl
       closes_not (is_range side ok nk h other nk') = ok refl
 
-  -- the code behind the head, or nothing
+  -- The code after the head, or nothing.
   open_stays : (i : ℕ) → inverse ≡ false → ¬ At text w i 94 → From i (at b (set_open a)) ≡ From i (In [] set_first)
   open_stays i q no_hat =
       alike_steps text w ask i _ _ (fair.at_open i b a ∙ sym (fair.at_class i b a inverse _)) (λ c at_c. ap (λ t. cond t (Some (at b (in_class a true (record { before = []; part = set_first })))) (set_answer i b a false (side_first i [] c))) (ne_eqb c 94 (λ z. no_hat (subst (At text w i) z at_c))) ∙ ap (λ v. set_answer i b a v (side_first i [] c)) (sym q))

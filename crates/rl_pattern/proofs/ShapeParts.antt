@@ -1,4 +1,4 @@
--- Where nothing in a node is refused, what it is as a pattern may stand in one.
+-- If nothing in a node is refused, its pattern may occur in a pattern.
 use Rattle.std.proofs.Common.{◌≡◌, ℕ, Bool, true, false, not, nat_lt, ◌||◌, ◌==◌, cond, List, [], ◌∷◌, ◌++◌, Option, Some, None, refl, sym, ap, ◌∙◌}
 use Rattle.std.proofs.lemmas.Bool.{and_parts, ltb-true, ltb-false}
 use Rattle.rl_ranges.specs.Text.{code_count}
@@ -16,7 +16,7 @@ use Rattle.rl_pattern.specs.Found.{is_bound, Fault, Feature, fault_if, comes_fir
 use Rattle.rl_pattern.specs.Shape.{is_text, leaf_codes, mark_shape, group_shape, shape, shapes, branch_shapes}
 use Rattle.rl_pattern.proofs.LeafLaws.{ascii_rule}
 
--- no first fault, no fault
+-- If there is no first fault, there is no fault.
 pub none_first : (fs : List Fault) → first_fault fs ≡ None → fs ≡ []
 none_first [] e = refl
 none_first (a ∷ fs) e = absurd (some_first a (first_fault fs) e)

@@ -1,4 +1,5 @@
--- What the machine reads is spelled: its state says, in the grammar's words, what was read, and each step keeps that.
+-- What the machine reads is spelled: its state says, in terms of the grammar, what has been read, and each step preserves
+-- that.
 use Rattle.std.proofs.Common.{◌≡◌, ◌≢◌, ◌⊎◌, ℕ, zero, suc, ◌+◌, ◌<◌, ◌≤◌, Bool, true, false, cond, not, List, [], ◌∷◌, ◌++◌, length, drop, Option, Some, None, refl, sym, ap, ◌∙◌, subst, ◌==◌, slice_get, if◌then◌else◌, ◌||◌, arith}
 use Rattle.std.proofs.lemmas.Bool.{cases_eq, cases_lt, eqb-true, eq-eqb, eqb-false, cond_both, and_parts, or_cases, false≢true, true≢false}
 use Rattle.std.proofs.lemmas.Option.{none-some, slice_get_within}
@@ -15,7 +16,7 @@ use Rattle.rl_pattern.proofs.Kept.{Answers, EscapeOk, first_ok, next_ok, rest_ok
 use Rattle.rl_pattern.proofs.KeptSets.{none_before, PartOk, set_kept, SetKept}
 use Rattle.rl_pattern.proofs.KeptHeads.{HeadOk, BegunOk, HeadKept, head_kept}
 
--- each sign between items is that of its code
+-- Each class between items is that of its code.
 sign_is : (c : ℕ) → SignIs (sign c) c
 unfolding sign
 sign_is c =
@@ -25,12 +26,12 @@ sign_is c =
     (λ y. cond_both (c == 92) _ _ P (λ y. eqb-true c 92 y) (λ y. cond_both (c == 46) _ _ P (λ y. eqb-true c 46 y) (λ y. cond_both (c == 91) _ _ P (λ y. eqb-true c 91 y)
     (λ y. cond_both (c == 94) _ _ P (λ y. tt) (λ y. cond_both (c == 36) _ _ P (λ y. tt) (λ y. cond_both (c == 35) _ _ P (λ y. eqb-true c 35 y) (λ y. cond_both (is_blank c) _ _ P (λ y. tt) (λ y. tt))))))))))))))
 
--- what holds of an answer if there is one
+-- What holds for an answer, if there is one.
 abbrev pub Holds : {A : Type 0} → Option A → (A → Type 0) → Type 0
 Holds None P = Unit {0}
 Holds (Some a) P = P a
 
--- the first of what is left
+-- The first of what is left.
 pub front_of : (w : List ℕ) (k c : ℕ) (r : List ℕ) → drop k w ≡ c ∷ r → (slice_get w k ≡ Some c) × (drop (suc k) w ≡ r)
 front_of [] zero c r e = absurd (cc e)
 front_of [] (suc k) c r e = absurd (cc e)
@@ -42,23 +43,23 @@ unfolding sign
 brace_plain = refl
 
 module _ (call : Flags) (text : Bool) (w : List ℕ) where
-  -- the open branch, with the atom that may take a quantifier, from i up to k
+  -- The open branch from `i` up to `k`, including the atom that may take a quantifier.
   abbrev pub LastOk : Flags → ℕ → List SyntaxNode → Last → ℕ → Type 0
   LastOk fl i ps nothing_yet k = Items text w fl i k ps
   LastOk fl i ps (an_atom a p) k = (m : ℕ) × Items text w fl i a ps × Atom text w fl a m p × Blanks text w fl m k
 
-  -- the branches before the open one
+  -- The branches before the open one.
   pub data BranchesOk (kd : Kind) (fl : Flags) (st : ℕ) : ℕ → List Branch → Type 0 where
     none_yet : BranchesOk kd fl st st []
     some_yet : {j : ℕ} {ds : List Branch} → IsBranches text w kd fl st j ds → At text w j 124 → splits kd ds ≡ true → BranchesOk kd fl st (suc j) ds
 
-  -- the bodies below the open one, which begins at st
+  -- The bodies around the open one, which begins at `st`.
   abbrev pub BelowOk : List Front → Flags → Kind → ℕ → ℕ → List Frame → Type 0
   BelowOk gs fl kd opened st [] = Fronts text w call st fl gs × (kd ≡ outermost)
   BelowOk gs fl kd opened st (f ∷ fs) =
       BranchesOk f.kind f.flags f.start f.from f.branches × Items text w f.flags f.from opened f.items × Opening text w opened st kd × (fl ≡ inside kd f.flags) × BelowOk gs f.flags f.kind f.opened f.start fs
 
-  -- what was read up to k
+  -- What has been read up to `k`.
   pub record BaseOk (k : ℕ) (b : Base) : Type 0 where
     pub before : BranchesOk b.top.kind b.top.flags b.top.start b.top.from b.top.branches
     pub last : LastOk b.top.flags b.top.from b.top.items b.last k
@@ -82,7 +83,7 @@ module _ (call : Flags) (text : Bool) (w : List ℕ) where
   abbrev Kept : ℕ → Option State → Type 0
   Kept k o = Holds o (λ s. StateOk k s)
 
-  -- items with what is passed over behind them
+  -- Items followed by ignored text.
   items_blanks : {fl : Flags} {i j k : ℕ} {ps : List SyntaxNode} → Items text w fl i j ps → Blanks text w fl j k → Items text w fl i k ps
   items_blanks h no_blank = h
   items_blanks h (one_blank bl p) = pass_over (items_blanks h bl) p
@@ -156,7 +157,7 @@ module _ (call : Flags) (text : Bool) (w : List ℕ) where
   go_on_ok : (k : ℕ) (b : Base) (c : ℕ) → BaseOk k b → At text w k c → Kept (suc k) (go_on k b c)
   go_on_ok k b c h at_c = by_sign_ok k b c (sign c) refl (sign_is c) h at_c
 
-  -- the text of a brace
+  -- The text after a brace.
   text_at : {i m : ℕ} {u : List ℕ} → Text text w i m u → (k : ℕ) → i ≤ k → k < m → (c : ℕ) × At text w k c × (counts c ≡ true)
   text_at no_text k l r = absurd (omega (arith, l, r))
   text_at {i} (one_text {j = j} {c = c} h at_c is) k l r = ⊎_elim (λ (z : k ≡ j). (c, subst (λ n. At text w n c) (sym z) at_c, is)) (λ (z : k ≡ j → ⊥). text_at h k l (omega (arith, r, z))) (cases_eq k j)
@@ -216,7 +217,7 @@ module _ (call : Flags) (text : Bool) (w : List ℕ) where
       (λ y. repeat_ok a m q (suc k) n possessive b p h atom bl (is_possessive cs (subst (At text w k) (eqb-true c 43 y) at_c)))
       (λ y. go_on_ok k (put_repeat b a p q k n greedy) c (repeat_ok a m q k n greedy b p h atom bl (is_greedy cs (λ x. eqb-false c 63 z (same_code w k c 63 at_c x)) (λ x. eqb-false c 43 y (same_code w k c 43 at_c x)))) at_c))
 
-  -- an escape between items
+  -- An escape between items.
   escape_put : (a k : ℕ) (b : Base) (e : Escaped) → BaseOk a b → Escape text w false a k e → BaseOk k (put_leaf b a k (glyph e))
   escape_put a k b e h esc = put_ok b _ h (escaped esc)
 
@@ -248,14 +249,14 @@ module _ (call : Flags) (text : Bool) (w : List ℕ) where
   escape_ok k a b x c (goes y) o q z h es at_c r = (h, r)
   escape_ok k a b x c (ends e) o q z h es at_c r = escape_put a (suc k) b e h r
 
-  -- items that are none are what is passed over
+  -- If there are no items, there is only ignored text.
   only_blanks : {fl : Flags} {i j : ℕ} {ps : List SyntaxNode} → Items text w fl i j ps → ps ≡ [] → Blanks text w fl i j
   only_blanks no_items e = no_blank
   only_blanks (pass_over h p) e = one_blank (only_blanks h e) p
   only_blanks (one_item {ps = []} h it) e = absurd (cc e)
   only_blanks (one_item {ps = q ∷ qs} h it) e = absurd (cc e)
 
-  -- branches that are none begin where the body begins
+  -- If there are no branches, the open one begins where the body begins.
   no_branches : (kd : Kind) (fl : Flags) (st f : ℕ) (ds : List Branch) → BranchesOk kd fl st f ds → ds ≡ [] → f ≡ st
   no_branches kd fl st f ds none_yet e = refl
   no_branches kd fl st f ds (some_yet h at_j may) e = absurd (some_branches h e)
@@ -336,7 +337,7 @@ module _ (call : Flags) (text : Bool) (w : List ℕ) where
       (λ z. (suc k, h, subst (λ m. SetHead text w a (suc m) true) (sym e) (inverted (at_a, subst (λ m. At text w m 94) e (subst (At text w k) (eqb-true c 94 z) at_c))), none_before))
       (λ z. set_answer_ok k a k b false (set_step text k [] set_first c) h (subst (λ m. SetHead text w a m false) (sym e) (upright at_a (λ at_94. eqb-false c 94 z (same_code w k c 94 at_c (subst (λ m. At text w m 94) (sym e) at_94))))) (set_kept text w k k [] set_first c none_before at_c))
 
-  -- each step keeps what was read
+  -- Each step preserves what has been read.
   pub step_ok : (k : ℕ) (b : Base) (x : Lex) (c : ℕ) → LexOk k b x → At text w k c → Holds (step text k b x c) (λ s. StateOk (suc k) s)
   step_ok k b between c h at_c = go_on_ok k b c h at_c
   step_ok k b line c (i, h, on, at_i, ws) at_c =
@@ -394,6 +395,6 @@ module _ (call : Flags) (text : Bool) (w : List ℕ) where
       next None ok f = tt
       next (Some t) ok f = f t ok
 
--- what is read is spelled
+-- What is read is spelled.
 pub read_is_spelled : (call : Flags) (text : Bool) (w : List ℕ) (p : Whole) → reads call text w ≡ Some p → Spells call text w p
 read_is_spelled call text w p e = subst (λ o. Holds o (λ q. Spells call text w q)) e (all_ok call text w w 0 (start call) refl (omega arith) (start_ok call text w))

@@ -18,11 +18,11 @@ drop_none [] (suc i) h = refl
 drop_none (x ∷ w) zero h = absurd (cc h)
 drop_none (x ∷ w) (suc i) h = drop_none w i h
 
--- a code at which a test fails isn't one at which it holds
+-- A code for which a test fails isn't one for which it holds.
 pub differs : (f : ℕ → Bool) (k c : ℕ) → f k ≡ false → f c ≡ true → (c == k) ≡ false
 differs f k c no_k yes_c = ne_eqb c k (λ e. true≢false (sym yes_c ∙ ap f e ∙ no_k))
 
--- an asker that does not tell what the end or the next code makes final from what is final
+-- A question whose answer doesn't depend on whether something pending is settled by the end or by the next code.
 pub record Fair {X : Type 0} (ask : ℕ → State → Option X) : Type 0 where
   pub at_line : (k : ℕ) (b : Base) → ask k (at b line) ≡ ask k (at b between)
   pub at_braces : (k : ℕ) (b : Base) (a : ℕ) (t : List ℕ) → ask k (at b (in_braces a t)) ≡ ask k (at (no_count b a t) between)
@@ -32,7 +32,7 @@ pub record Fair {X : Type 0} (ask : ℕ → State → Option X) : Type 0 where
   pub at_class : (k : ℕ) (b : Base) (a : ℕ) (inverse : Bool) (s : Set) → ask k (at b (in_class a inverse s)) ≡ None
 
 module _ (text : Bool) (w : List ℕ) {X : Type 0} (ask : ℕ → State → Option X) where
-  -- what is read from i on
+  -- What is read from `i` on.
   unfoldable pub reads_from : ℕ → State → Option X
   reads_from i s = observe text ask i (Some s) (drop i w)
 
@@ -50,7 +50,7 @@ module _ (text : Bool) (w : List ℕ) {X : Type 0} (ask : ℕ → State → Opti
   same_end i s r h e =
       ap (observe text ask i (Some s)) (drop_none w i h) ∙ e ∙ sym (ap (observe text ask i (Some r)) (drop_none w i h))
 
-  -- two states that do the same with what comes next, the end included
+  -- Two states that do the same with whatever comes next, including the end.
   pub alike : (i : ℕ) (s r : State) → ask i s ≡ ask i r → ((c : ℕ) → At text w i c → reads_from i s ≡ reads_from i r) → reads_from i s ≡ reads_from i r
   alike i s r e f = go (slice_get w i) refl
     where
@@ -64,6 +64,6 @@ module _ (text : Bool) (w : List ℕ) {X : Type 0} (ask : ℕ → State → Opti
   pub sign_goes : (i c : ℕ) (b : Base) (g : TokenClass) (r : State) → At text w i c → sign c ≡ g → by_sign i b c g ≡ Some r → reads_from i (at b between) ≡ reads_from (suc i) r
   sign_goes i c b g r h e st = goes_to i c (at b between) r h (ap (by_sign i b c) e ∙ st)
 
--- two codes at one place
+-- Two codes at the same position.
 pub same_code : (w : List ℕ) (i c d : ℕ) → slice_get w i ≡ Some c → slice_get w i ≡ Some d → c ≡ d
 same_code w i c d h k = same_Some c d (sym h ∙ k)

@@ -1,4 +1,4 @@
--- Worked rows of right suggestions, by computation.
+-- Worked examples of right suggestions, by computation.
 use Rattle.std.proofs.Common.{◌≡◌, ℕ, true, false, List, [], ◌∷◌, Option, Some, None, refl, codes}
 use Rattle.rl_ranges.specs.declared.universe.Universe.TheVariants.{Str}
 use Rattle.rl_pattern.specs.Tree.{Whole, span}
@@ -16,7 +16,7 @@ pub body : List ℕ → PatTree
 unfolding sign numeral is_digit hex begins_name goes_in_name slashed on_letter off_letter headed with_letter joined scoped_flags counts count_of body_of
 body w = body_of (reads no_flags true w)
 
--- (?:ab|a|ab)c without its first branch
+-- `(?:ab|a|ab)c` without its last branch, and without its first two.
 first_gone : (branches_in (body (codes "(?:ab|a|ab)c")) ≡ span 3 5 ∷ span 6 7 ∷ span 8 10 ∷ []) × (text_of (body (codes "(?:ab|a|ab)c")) (span 8 10 ∷ []) [] (codes "(?:ab|a|ab)c") ≡ codes "(?:ab|a)c") × (text_of (body (codes "(?:ab|a|ab)c")) (span 3 5 ∷ span 6 7 ∷ []) [] (codes "(?:ab|a|ab)c") ≡ codes "(?:ab)c")
 unfolding body
 first_gone = (refl, refl, refl)

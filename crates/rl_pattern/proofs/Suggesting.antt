@@ -1,4 +1,4 @@
--- A text that is right is read as the pattern without what was dropped and taken out.
+-- The text of a right suggestion is read as the pattern without the dropped branches and removed quantifiers.
 use Rattle.std.proofs.Common.{◌≡◌, ℕ, suc, ◌<◌, ◌≤◌, Bool, true, false, if◌then◌else◌, List, [], ◌∷◌, ◌++◌, length, Option, refl, sym, ap, ◌∙◌, subst, arith, true≢false}
 use Rattle.rl_ranges.specs.declared.universe.Universe.{Universe}
 use Rattle.rl_syntax.specs.PatTree as s
@@ -162,7 +162,7 @@ module _ (u : Universe) where
         go true x f = ((λ z. absurd (true≢false (sym x ∙ z))), f (sym (ap (λ b. if b then rest_branches bs else s.branch r (rest (shape u p)) (rest_branches bs)) x) ∙ e))
         go false x f = absurd (cc (sym (ap (λ b. if b then rest_branches bs else s.branch r (rest (shape u p)) (rest_branches bs)) x) ∙ e))
 
-    -- a branch more, in front of others
+    -- One more branch, before others.
     one_clean : (r t : Span) (p : SyntaxNode) (bs : Branches) → drop r ≡ false → (x : s.BranchTrees) → rest_branches bs ≡ x → (Somewhere (rest (shape u p)) → Clean u drop out p) → (BranchesMayMerge out (rest_branches bs) → CleanBranches u drop out bs) → Somewhere (choice_of t (s.branch r (rest (shape u p)) x)) → CleanBranches u drop out (more_branches r p bs)
     one_clean r t p bs stays s.no_branches e f g h = ((λ z. f h), none_clean bs e)
     one_clean r t p bs stays (s.branch r2 q x) e f g h =
@@ -177,7 +177,7 @@ module _ (u : Universe) where
         go false x = one_clean r t p bs x (rest_branches bs) refl (f x) g (subst (λ b. Somewhere (choice_of t (if b then rest_branches bs else s.branch r (rest (shape u p)) (rest_branches bs)))) x h)
 
     mutual
-      -- quantifiers that may go in what is left are the whole content of a branch
+      -- Quantifiers that may be removed from what is left are the whole content of a branch.
       pub clean_of : (p : SyntaxNode) → Good u drop out p → Somewhere (rest (shape u p)) → Clean u drop out p
       clean_of (leaf r f x) gd h = tt
       clean_of (mark r f m) gd h = tt

@@ -1,4 +1,4 @@
--- A spelled pattern from which nothing is dropped keeps a branch in each choice.
+-- A pattern from which nothing is dropped keeps a branch in each choice.
 use Rattle.std.proofs.Common.{◌≡◌, ℕ, suc, Bool, true, ◌&&◌, List, [], ◌∷◌, ◌++◌, length, refl, sym, ap, ◌∙◌, subst, Ok}
 use Rattle.rl_ranges.specs.declared.universe.Universe.{Universe}
 use Rattle.rl_syntax.specs.declared.pattern.Pattern.{Pattern}
@@ -116,6 +116,6 @@ module _ (u : Universe) where
         let b = branch (span (suc j) n) ps in
         subst (λ o. Goes (shape u (inner_of r (whole_body r (bs ++ b ∷ [])) o).body)) (sym (several_body r bs b (some_branch text w h))) (whole_goes r (bs ++ b ∷ []) (branches_go (next_branch h at_j may hs)))
 
--- a pattern as it was read
+-- A pattern as it was parsed.
 pub read_goes : (flags : Flags) (u : Universe) (w : List ℕ) (found : Pattern) → IsParsed flags u w (Ok found) → may_go (among []) (body_of found) ≡ true
 read_goes flags u w found (whole, sp) = ap (may_go (among [])) sp.pattern.body ∙ inner_goes u (is_text u) w flags whole sp.read.spelled

@@ -1,4 +1,4 @@
--- What single codes are to the grammar of patterns.
+-- What single characters mean in the grammar of patterns.
 use Prim.Native.Char.{Char}
 use Prim.Native.String.{String}
 use Rattle.std.specs.Prelude.{[], ℕ, ◌+◌, ◌-◌, ◌*◌, Bool, true, false, not, ◌&&◌, ◌||◌, if◌then◌else◌, nat_le, ◌==◌, List, ◌∷◌, Option, Some, None, min, codes}
@@ -15,25 +15,27 @@ pub use Rattle.rl_pattern.specs.declared.lex.GroupPrefix.{GroupPrefix}
 pub use Rattle.rl_pattern.specs.declared.lex.GroupPrefix.TheVariants.{Letter as letter, Colon as colon, Minus as minus, LetterP as letter_p, Sharps as sharps, Less as less, Greater as greater, Condition as condition, Looks as looks, NoHead as no_head}
 use Rattle.rl_pattern.specs.Tree.{Count, digits, spaces, words, caret, text_start, dollar, text_end, boundary, Escaped, code, too_large, kind, Kind, scoped, conditional, Branch}
 
--- c is the code of this character
+-- Whether `c` is the code of this character.
 abbrev pub is : Char → ℕ → Bool
 is character c = c == code_of character
 
--- c is the code of one of these characters
+-- Whether `c` is the code of one of these characters.
 abbrev pub is_in : String → ℕ → Bool
 is_in characters c = list_any (λ d. c == d) (codes characters)
 
--- c lies between the codes of these two characters, or is one of them
+-- Whether `c` lies between the codes of these two characters, both included.
 abbrev pub is_from : Char → Char → ℕ → Bool
 is_from first last c = nat_le (code_of first) c && nat_le c (code_of last)
 
--- space, and from tab to CR: tab, line feed, vertical tab, form feed and CR
+-- Whether the code is white space: a space, tab, line feed, vertical tab, form feed or carriage return.
 abbrev pub is_blank : ℕ → Bool
 is_blank c = is " " c || is_from "\t" "\r" c
 
+-- A repeat count with this minimum and maximum.
 abbrev pub count : ℕ → Option ℕ → Count
 count m n = record { least = m; most = n }
 
+-- The class of a character between items, which decides how the grammar goes on.
 unfoldable pub sign : ℕ → TokenClass
 sign c =
     if is "(" c then left
@@ -52,20 +54,23 @@ sign c =
     else (if is_blank c then blank
     else plain)))))))))))))
 
+-- The class of a character in an octal number: an octal digit with its value, 8 or 9, or no digit.
 unfoldable pub numeral : ℕ → Numeral
 numeral c =
     if is_from "0" "7" c then low_digit (c - code_of "0")
     else (if is_from "8" "9" c then high_digit
     else no_digit)
 
+-- Whether the class is that of a digit.
 abbrev pub is_some_digit : Numeral → Bool
 is_some_digit no_digit = false
 is_some_digit _ = true
 
+-- Whether the code is an ASCII digit.
 unfoldable pub is_digit : ℕ → Bool
 is_digit c = is_some_digit (numeral c)
 
--- the value of a hexadecimal digit
+-- The value of a hexadecimal digit, or `None` for any other code.
 unfoldable pub hex : ℕ → Option ℕ
 hex c =
     if is_from "0" "9" c then Some (c - code_of "0")
@@ -73,18 +78,20 @@ hex c =
     else (if is_from "A" "F" c then Some (10 + (c - code_of "A"))
     else None))
 
--- ASCII letters
+-- Whether the code is an ASCII letter.
 abbrev pub is_letter : ℕ → Bool
 is_letter c = is_from "a" "z" c || is_from "A" "Z" c
 
--- the codes of a name. The first argument says whether the universe is text
+-- Whether a name may begin with the code. The flag says whether the pattern is a `str`.
 unfoldable pub begins_name : Bool → ℕ → Bool
 begins_name text c = is_letter c || is "_" c || (text && nat_le 0x80 c)
 
+-- Whether the code may occur in a name after its start. The flag says whether the pattern is a `str`.
 unfoldable pub goes_in_name : Bool → ℕ → Bool
 goes_in_name text c = begins_name text c || is_digit c
 
--- a letter behind a backslash, in text or not, in a class or not. BEL is 7, backspace 8, vertical tab 11, form feed 12
+-- The escape that a letter after a backslash begins. The flags say whether the pattern is a `str` and whether the escape is
+-- in a class. BEL is 7, backspace 8, vertical tab 11 and form feed 12.
 abbrev pub slashed_letter : Bool → Bool → ℕ → EscapeClass
 slashed_letter text in_class c =
     if is "a" c then single 7
@@ -109,36 +116,40 @@ slashed_letter text in_class c =
     else (if not in_class && is "Z" c then edges text_end
     else no_escape)))))))))))))))))))
 
--- a digit behind a backslash
+-- The escape that a character other than a letter begins after a backslash. The flag says whether the escape is in a class.
 abbrev pub slashed_digit : Bool → Numeral → ℕ → EscapeClass
 slashed_digit in_class (low_digit d) c = if in_class || d == 0 then octal d else low d
 slashed_digit in_class high_digit c = if in_class then no_escape else high
 slashed_digit in_class no_digit c = single c
 
+-- The escape that a character after a backslash begins. The flags say whether the pattern is a `str` and whether the escape
+-- is in a class.
 unfoldable pub slashed : Bool → Bool → ℕ → EscapeClass
 slashed text in_class c =
     if is_letter c then slashed_letter text in_class c else slashed_digit in_class (numeral c) c
 
--- what an octal number is as a code, and one in hexadecimal digits
+-- The code that an octal escape denotes. A number greater than 255 is too large.
 abbrev pub octal_code : ℕ → Escaped
 octal_code n = if nat_le n 255 then code n else too_large
 
+-- The code that a hexadecimal escape denotes. A number greater than 0x10FFFF is too large.
 abbrev pub hex_code : ℕ → Escaped
 hex_code n = if nat_le n 0x10FFFF then code n else too_large
 
+-- Whether the escape is a named class.
 abbrev pub is_kind : Escaped → Bool
 is_kind (kind k n) = true
 is_kind _ = false
 
--- the letters of flags
+-- Whether the code is a flag letter, which may precede a `-`.
 unfoldable pub on_letter : ℕ → Bool
 on_letter c = is_in "aiLmsux" c
 
--- those that may stand after a -
+-- Whether the code is a flag letter that may follow a `-`.
 unfoldable pub off_letter : ℕ → Bool
 off_letter c = is_in "imsx" c
 
--- what a code is behind (?
+-- The class of a character after `(?`, which decides what kind of group begins.
 unfoldable pub headed : ℕ → GroupPrefix
 headed c =
     if on_letter c then letter
@@ -152,10 +163,11 @@ headed c =
     else (if is "(" c then condition
     else no_head))))))))
 
+-- Flags of which none is set.
 abbrev pub no_flags : Flags
 no_flags = record { ignore_case = false; multiline = false; dot_all = false; verbose = false; ascii = false; unicode = false; locale = false }
 
--- these letters and one more
+-- The flags with one more letter set.
 unfoldable pub with_letter : Flags → ℕ → Flags
 with_letter f c =
     record {
@@ -168,7 +180,7 @@ with_letter f c =
       locale = f.locale || is "L" c;
     }
 
--- the flags after a front flag group
+-- The flags in force after a flag group at the front of the pattern: a flag is set if either argument sets it.
 unfoldable pub joined : Flags → Flags → Flags
 joined f g =
     record {
@@ -181,8 +193,8 @@ joined f g =
       locale = f.locale || g.locale;
     }
 
--- the flags in a group with letters before and after its -. A letter on both sides is off, and ASCII and
--- UNICODE turn one another off
+-- The flags within a group that has letters before and after its `-`. A letter on both sides is off, and ASCII and UNICODE
+-- turn each other off.
 unfoldable pub scoped_flags : Flags → Flags → Flags → Flags
 scoped_flags on off f =
     record {
@@ -195,38 +207,42 @@ scoped_flags on off f =
       locale = on.locale || f.locale;
     }
 
--- the flags inside a group
+-- The flags inside a group of this kind.
 abbrev pub inside : Kind → Flags → Flags
 inside (scoped on off) f = scoped_flags on off f
 inside _ f = f
 
--- a conditional has at most two branches: whether a | may follow these
+-- Whether a `|` may follow these branches. Only a conditional is limited: it has at most two branches.
 abbrev pub splits : Kind → List Branch → Bool
 splits conditional (b ∷ c ∷ bs) = false
 splits _ _ = true
 
--- a number in a base, and one digit more. 4294967295 stands for all numbers from there on
+-- A number in base `b` with one more digit. Numbers from 4294967295 on are all represented by 4294967295.
 abbrev pub with_digit : ℕ → ℕ → ℕ → ℕ
 with_digit b n d = min (n * b + d) 4294967295
 
--- digits and commas, the text of a count
+-- Whether the code may occur in a repeat count: a digit or a comma.
 unfoldable pub counts : ℕ → Bool
 counts c = is_digit c || is "," c
 
--- the greatest number of copies: none is no bound, and a second comma spells no count
+-- The count with minimum `m` whose maximum begins with the digits of `n` and continues with the given codes. A second comma
+-- makes it no count.
 abbrev pub most_of : ℕ → ℕ → List ℕ → Option Count
 most_of m n [] = Some (count m (Some n))
 most_of m n (c ∷ cs) = if is "," c then None else most_of m (with_digit 10 n (c - code_of "0")) cs
 
+-- The count with minimum `m` whose comma is followed by the given codes. Without a maximum there is no bound.
 abbrev pub upper_of : ℕ → List ℕ → Option Count
 upper_of m [] = Some (count m None)
 upper_of m (c ∷ cs) = most_of m 0 (c ∷ cs)
 
+-- The count whose minimum begins with the digits of `m` and continues with the given codes.
 abbrev pub least_of : ℕ → List ℕ → Option Count
 least_of m [] = Some (count m (Some m))
 least_of m (c ∷ cs) = if is "," c then upper_of m cs else least_of (with_digit 10 m (c - code_of "0")) cs
 
--- the count that a text of digits and commas spells between braces: m or m, or ,n or m,n or a comma alone
+-- The count that a text of digits and commas spells between braces, or `None`. It has one of the forms `m`, `m,`, `,n`,
+-- `m,n` and `,`.
 unfoldable pub count_of : List ℕ → Option Count
 count_of [] = None
 count_of (c ∷ cs) = least_of 0 (c ∷ cs)

@@ -1,4 +1,4 @@
--- What is refused in a tree that was spelled, and what is left of it where nothing is.
+-- What is refused in a syntax tree, and what is left of the tree if nothing is refused.
 use Rattle.std.specs.Prelude.{ℕ, Bool, true, false, not, ◌&&◌, ◌||◌, if◌then◌else◌, nat_lt, nat_le, ◌==◌, List, [], ◌∷◌, ◌++◌, reverse, flat_map, Option, Some, None}
 use Rattle.std.specs.List.{list_any}
 use Rattle.std.specs.Str.{bytes_eq}
@@ -11,7 +11,7 @@ pub use Rattle.rl_pattern.specs.declared.faults.Fault.{Fault}
 use Rattle.rl_pattern.specs.Tree.{Span, Count, Greed, possessive, Escaped, code, too_large, by_name, reference, Member, one, range, Leaf, any, glyph, members, Assertion, caret, text_start, dollar, text_end, Kind, named, scoped, lookaround, atomic, conditional, SyntaxNode, leaf, mark, repeat, group, nothing, seq, choice, Nodes, no_nodes, more_nodes, Branches, no_branches, more_branches, branch_body, Front, Whole}
 use Rattle.rl_pattern.specs.Codes.{joined}
 
--- the features in the order that decides at one place
+-- The rank of a feature. Of two features at the same position, the one with the lower rank is reported.
 abbrev pub rank : Feature → ℕ
 rank is_locale = 0
 rank is_flag_clash = 1
@@ -28,73 +28,80 @@ rank is_atomic = 11
 rank is_named_escape = 12
 rank is_inner_anchor = 13
 
+-- The fault of this feature at this position.
 abbrev pub fault : ℕ → Feature → Fault
 fault i f = record { place = i; what = f }
 
+-- A list of the one fault if the flag is `true`, otherwise an empty list.
 abbrev pub fault_if : Bool → ℕ → Feature → List Fault
 fault_if true i f = fault i f ∷ []
 fault_if false i f = []
 
--- the first fault is at a lesser place, or at the same one and not later in the order of features
+-- Whether the first fault is reported before the second. It is if its position is less, or if the positions are equal and
+-- its rank isn't greater.
 abbrev pub comes_first : Fault → Fault → Bool
 comes_first a b = nat_lt a.place b.place || (a.place == b.place && nat_le (rank a.what) (rank b.what))
 
+-- The fault that is reported of two, either of which may be missing.
 abbrev pub earlier : Option Fault → Option Fault → Option Fault
 earlier None b = b
 earlier a None = a
 earlier (Some a) (Some b) = if comes_first a b then Some a else Some b
 
--- the fault that is answered
+-- The fault that is reported of a list.
 abbrev pub first_fault : List Fault → Option Fault
 first_fault [] = None
 first_fault (a ∷ faults) = earlier (Some a) (first_fault faults)
 
--- the faults of a code or escape at this place
+-- The faults of a character or escape at this position.
 abbrev pub escaped_faults : ℕ → Escaped → List Fault
 escaped_faults i too_large = fault i is_code_too_large ∷ []
 escaped_faults i by_name = fault i is_named_escape ∷ []
 escaped_faults i reference = fault i is_backreference ∷ []
 escaped_faults i _ = []
 
--- whether a range has its greater code first
+-- Whether the first code of a range is greater than its last.
 abbrev pub reversed : Escaped → Escaped → Bool
 reversed (code c) (code d) = nat_lt d c
 reversed _ _ = false
 
--- a fault in a class has the place of its member
+-- The faults of a class member. Their position is that of the member.
 abbrev pub member_faults : Member → List Fault
 member_faults (one s e) = escaped_faults s.from e
 member_faults (range s e d) = escaped_faults s.from e ++ (escaped_faults s.from d ++ fault_if (reversed e d) s.from is_reversed_range)
 
+-- The faults of a leaf: a character, an escape or a class.
 abbrev pub leaf_faults : Span → Leaf → List Fault
 leaf_faults s any = []
 leaf_faults s (glyph e) = escaped_faults s.from e
 leaf_faults s (members inverse ms) = flat_map member_faults ms
 
--- a $ without MULTILINE that is no outer anchor
+-- The faults of an anchor or word boundary: a `$` without MULTILINE that isn't an outer anchor is refused.
 abbrev pub mark_faults : Span → Flags → Assertion → List Fault
 mark_faults s f dollar = fault_if (not f.multiline) s.from is_inner_anchor
 mark_faults s f _ = []
 
--- whether there is a bound, and it passes a test
+-- Whether there is a maximum, and it satisfies the test.
 abbrev pub is_bound : (ℕ → Bool) → Option ℕ → Bool
 is_bound test None = false
 is_bound test (Some n) = test n
 
+-- Whether the quantifier is possessive.
 abbrev pub is_possessive : Greed → Bool
 is_possessive possessive = true
 is_possessive _ = false
 
--- the faults of a quantifier at this place
+-- The faults of a quantifier at this position: a bound that is too large, a maximum less than the minimum, or being
+-- possessive.
 abbrev pub count_faults : ℕ → Count → Greed → List Fault
 count_faults i n g =
     fault_if (n.least == 4294967295 || is_bound (λ m. m == 4294967295) n.most) i is_repeat_too_large ++ (fault_if (is_bound (λ m. nat_lt m n.least) n.most) i is_repeat_order ++ fault_if (is_possessive g) i is_possessive_count)
 
--- the letters of both sides of a -
+-- Whether some flag letter is on both sides of a `-`.
 abbrev pub overlap : Flags → Flags → Bool
 overlap f g = (f.ignore_case && g.ignore_case) || ((f.multiline && g.multiline) || ((f.dot_all && g.dot_all) || (f.verbose && g.verbose)))
 
--- the faults of a group's head at this place, apart from its name
+-- The faults of a group's head at this position, apart from its name. The flag says whether the pattern is a `str`.
 abbrev pub kind_faults : Bool → ℕ → Kind → List Fault
 kind_faults text i (scoped on off) = fault_if on.locale i is_locale ++ fault_if (on.unicode && (on.ascii || not text) || overlap on off) i is_flag_clash
 kind_faults text i lookaround = fault i is_lookaround ∷ []
@@ -102,7 +109,7 @@ kind_faults text i atomic = fault i is_atomic ∷ []
 kind_faults text i conditional = fault i is_conditional ∷ []
 kind_faults text i _ = []
 
--- the faults of a node, apart from names that stand twice
+-- The faults of a node, apart from duplicate group names. The flag says whether the pattern is a `str`.
 abbrev mutual
   pub node_faults : Bool → SyntaxNode → List Fault
   node_faults text (leaf s f x) = leaf_faults s x
@@ -113,24 +120,27 @@ abbrev mutual
   node_faults text (seq s ps) = nodes_faults text ps
   node_faults text (choice s bs) = branches_faults text bs
 
+  -- The faults of a sequence of nodes.
   pub nodes_faults : Bool → Nodes → List Fault
   nodes_faults text no_nodes = []
   nodes_faults text (more_nodes p ps) = node_faults text p ++ nodes_faults text ps
 
+  -- The faults of the branches of a choice.
   pub branches_faults : Bool → Branches → List Fault
   branches_faults text no_branches = []
   branches_faults text (more_branches s p bs) = node_faults text p ++ branches_faults text bs
 
--- a group's name, and the place of its parenthesis
+-- The name of a group, and the position of its parenthesis.
 pub record Called : Type 0 where
   pub place : ℕ
   pub name : List ℕ
 
+-- The name of a group of this kind at this position, as a list. The list is empty if the group has no name.
 abbrev pub kind_names : ℕ → Kind → List Called
 kind_names i (named n) = record { place = i; name = n } ∷ []
 kind_names i _ = []
 
--- the names of groups in the order of their parentheses
+-- The group names in a node, in the order of their parentheses.
 abbrev mutual
   pub node_names : SyntaxNode → List Called
   node_names (leaf s f x) = []
@@ -141,100 +151,109 @@ abbrev mutual
   node_names (seq s ps) = nodes_names ps
   node_names (choice s bs) = branches_names bs
 
+  -- The group names in a sequence of nodes.
   pub nodes_names : Nodes → List Called
   nodes_names no_nodes = []
   nodes_names (more_nodes p ps) = node_names p ++ nodes_names ps
 
+  -- The group names in the branches of a choice.
   pub branches_names : Branches → List Called
   branches_names no_branches = []
   branches_names (more_branches s p bs) = node_names p ++ branches_names bs
 
--- each name that stood before, after those of the first list
+-- The faults of group names: each name of the second list that occurs earlier in it or in the list `before`.
 abbrev pub name_faults : List Called → List Called → List Fault
 name_faults before [] = []
 name_faults before (c ∷ cs) = fault_if (list_any (λ d. bytes_eq c.name d.name) before) c.place is_duplicate_name ++ name_faults (before ++ c ∷ []) cs
 
--- the faults of one front flag group under the flags before it
+-- The faults of one flag group at the front, given the flags before it. The flag says whether the pattern is a `str`.
 abbrev pub front_own : Bool → Flags → Front → List Fault
 front_own text f g = fault_if g.letters.locale g.place.from is_locale ++ fault_if (g.letters.ascii && (f.unicode || g.letters.unicode) || g.letters.unicode && (f.ascii || not text)) g.place.from is_flag_clash
 
--- the faults of front flag groups, under the flags before them
+-- The faults of all flag groups at the front, given the flags before them.
 abbrev pub front_faults : Bool → Flags → List Front → List Fault
 front_faults text f [] = []
 front_faults text f (g ∷ gs) = front_own text f g ++ front_faults text (joined f g.letters) gs
 
--- the outer anchors
+-- Whether the node is an anchor that can be a leading one: `\A`, or `^` without MULTILINE.
 abbrev pub is_leading : SyntaxNode → Bool
 is_leading (mark s f text_start) = true
 is_leading (mark s f caret) = not f.multiline
 is_leading _ = false
 
+-- The trailing anchor that the node is, if it is one: `\Z`, or `$` without MULTILINE.
 abbrev pub trail_of : SyntaxNode → Trail
 trail_of (mark s f text_end) = end_trail
 trail_of (mark s f dollar) = if f.multiline then no_trail else dollar_trail
 trail_of _ = no_trail
 
--- a list without the longest run at its front of what passes a test
+-- The list without its longest prefix of items that satisfy the test.
 abbrev pub without_run : {X : Type 0} → (X → Bool) → List X → List X
 without_run test [] = []
 without_run test (x ∷ xs) = if test x then without_run test xs else x ∷ xs
 
+-- Whether the first item is an anchor that can be a leading one.
 abbrev pub begins_leading : List SyntaxNode → Bool
 begins_leading [] = false
 begins_leading (p ∷ ps) = is_leading p
 
--- the anchor of a run that begins with this one: \Z where one of them is it
+-- The trailing anchor that a run of them amounts to, given its first one and the rest of the run: `\Z` if one of them is
+-- `\Z`.
 abbrev pub run_of : Trail → Trail → Trail
 run_of dollar_trail end_trail = end_trail
 run_of t _ = t
 
--- the longest run of trailing anchors of items that are given from the end
+-- The trailing anchor that the longest run of them amounts to. The items are in reverse order.
 abbrev pub trailing_run : List SyntaxNode → Trail
 trailing_run [] = no_trail
 trailing_run (p ∷ ps) = run_of (trail_of p) (trailing_run ps)
 
+-- Whether the trailing anchor is one at all.
 abbrev pub drops : Trail → Bool
 drops no_trail = false
 drops _ = true
 
--- items without the longest runs of leading and of trailing anchors
+-- The items without the longest runs of leading and trailing anchors.
 abbrev pub inner_items : List SyntaxNode → List SyntaxNode
 inner_items ps = reverse (without_run (λ p. drops (trail_of p)) (reverse (without_run is_leading ps)))
 
+-- The nodes as a list.
 abbrev pub listed : Nodes → List SyntaxNode
 listed no_nodes = []
 listed (more_nodes p ps) = p ∷ listed ps
 
--- the items of a body of one branch, and nothing for one of several
+-- The items of a body of one branch, or `None` if the body has several branches.
 abbrev pub items_of : SyntaxNode → Option (List SyntaxNode)
 items_of (nothing s) = Some []
 items_of (seq s ps) = Some (listed ps)
 items_of (choice s bs) = None
 items_of p = Some (p ∷ [])
 
--- a pattern without its outer anchors
+-- A pattern without its outer anchors: the rest of its body, whether there was a leading anchor, and the trailing anchor.
 pub record Inner : Type 0 where
   pub body : SyntaxNode
   pub leading : Bool
   pub trail : Trail
 
+-- The body without its outer anchors, given its span and its items. If there are several branches, nothing is removed.
 abbrev pub inner_of : Span → SyntaxNode → Option (List SyntaxNode) → Inner
 inner_of s p None = record { body = p; leading = false; trail = no_trail }
 inner_of s p (Some ps) = record { body = branch_body s (inner_items ps); leading = begins_leading ps; trail = trailing_run (reverse ps) }
 
--- what is left of the whole pattern where its outer anchors are taken off
+-- The whole pattern without its outer anchors.
 abbrev pub inner : Whole → Inner
 inner p = inner_of p.place p.body (items_of p.body)
 
--- all that is refused: in front flag groups, in names, and in the nodes
+-- All faults of a whole pattern: in its flag groups, in its group names, and in the nodes that are left without the outer
+-- anchors.
 abbrev pub whole_faults : Flags → Bool → Whole → List Fault
 whole_faults call text p = front_faults text call p.fronts ++ (name_faults [] (node_names p.body) ++ node_faults text (inner p).body)
 
--- what is answered of it
+-- The fault that is reported of a whole pattern, or `None` if nothing is refused.
 abbrev pub refused : Flags → Bool → Whole → Option Fault
 refused call text p = first_fault (whole_faults call text p)
 
--- what the call's own flags are refused for
+-- The reason to refuse the flags of the call, or `None`: LOCALE, or UNICODE together with ASCII or in a `bytes` pattern.
 abbrev pub refused_flags : Flags → Bool → Option Feature
 refused_flags f text =
     if f.locale then Some is_locale else (if f.unicode && (f.ascii || not text) then Some is_flag_clash else None)

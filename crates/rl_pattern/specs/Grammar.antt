@@ -1,6 +1,6 @@
--- The grammar of patterns, in the notation of the Python manual. What a rule wants beside that, as that no "?" stands behind
--- the "(" of a capturing group, is said at its case below. Codes.antt says which codes are a literal, a blank, a digit or of a
--- name, and what a code is behind a backslash.
+-- The grammar of patterns, in the notation of the Python manual. Further conditions of a rule, for example that no "?"
+-- follows the "(" of a capturing group, are at its case below. `Codes.antt` says which codes are literals, blanks, digits
+-- or parts of a name, and what a code means after a backslash.
 --
 --     pattern:     [flag_group (passed* flag_group)*] branches
 --     flag_group:  "(?" flag+ ")"
@@ -13,82 +13,86 @@
 --     quantifier:  count | count "?" | count "+"
 --     count:       "*" | "+" | "?" | braces
 --     braces:      "{" digit+ "}" | "{" digit+ ",}" | "{," digit+ "}" | "{" digit+ "," digit+ "}" | "{,}"
---     passed:      blank | "#" (any code but LF)* (LF | end of the codes)        (these two under VERBOSE alone)
---                  | "(?#" (any code but ")")* ")"
+--     passed:      blank | "#" (any code except LF)* (LF | end of the codes)     (these two only under VERBOSE)
+--                  | "(?#" (any code except ")")* ")"
 --     class:       "[" ["^"] member+ "]"
 --     member:      side | side "-" side
---     side:        any code but "\" | escape
---     escape:      "\" (any code but an ASCII letter or digit) | "\" ("a" | "f" | "n" | "r" | "t" | "v")
+--     side:        any code except "\" | escape
+--     escape:      "\" (any code except an ASCII letter or digit) | "\" ("a" | "f" | "n" | "r" | "t" | "v")
 --                  | "\" ("d" | "D" | "s" | "S" | "w" | "W")
---                  | "\x" hex{2} | "\u" hex{4} | "\U" hex{8} | "\N{" (any code but "}")+ "}"
+--                  | "\x" hex{2} | "\u" hex{4} | "\U" hex{8} | "\N{" (any code except "}")+ "}"
 --                  | "\0" octal{0,2} | "\" (1 to 7) octal{2} | "\" (1 to 9) [digit]
 --                  (in a class "\b" too, and "\" octal{1,3} for the last three)
 --     name:        name_start name_code*
 --     flag:        "a" | "i" | "L" | "m" | "s" | "u" | "x"
 --     off_flag:    "i" | "m" | "s" | "x"
 --
--- What follows says the same as a relation over the places of one list of codes: `Atom fl i j p` says that the codes from i up
--- to j are an atom under the flags fl, and that it is p.
+-- The definitions below say the same as a relation over the positions of one list of codes. For example, `Atom fl i j p`
+-- says that the codes from `i` up to `j` are the atom `p` under the flags `fl`.
 use Prim.Native.String.{String}
 use Rattle.std.specs.Prelude.{◌≡◌, ◌≢◌, ◌⊎◌, ℕ, suc, ◌<◌, Bool, true, false, List, [], ◌∷◌, ◌++◌, length, Some, slice_get, codes}
 use Rattle.rl_pattern.specs.declared.flags.Flags.{Flags}
 use Rattle.rl_pattern.specs.Tree.{span, Named, Count, Greed, greedy, lazy, possessive, Escaped, code, by_name, kind, reference, Member, one, range, any, glyph, members, Kind, capturing, named, scoped, lookaround, atomic, conditional, Assertion, SyntaxNode, leaf, mark, repeat, group, Branch, branch, whole_body, Front, Whole}
 use Rattle.rl_pattern.specs.Codes.{code_of, sign, blank, sharp, plain, times, edge, numeral, low_digit, is_digit, hex, begins_name, goes_in_name, slashed, single, kinds, hexes, naming, octal, low, high, edges, EscapeClass, octal_code, hex_code, is_kind, headed, looks, on_letter, off_letter, no_flags, with_letter, joined, inside, splits, with_digit, counts, count_of}
 
--- what is a literal between items, by its sign
+-- The code is a literal between items. White space and `#` are literals only without VERBOSE.
 abbrev pub is_literal : Flags → ℕ → Type 0
 is_literal fl c = (sign c ≡ plain) ⊎ ((sign c ≡ blank) ⊎ (sign c ≡ sharp)) × (fl.verbose ≡ false)
 
--- the body of a whole pattern is that of a group without flags
+-- The kind of the outermost body, which is that of a group without flags.
 abbrev pub outermost : Kind
 outermost = scoped no_flags no_flags
 
--- behind a backslash, a digit from 1 to 9 begins a reference
+-- The code after a backslash begins a reference to a group: it is a digit from 1 to 9.
 abbrev pub Refers : EscapeClass → Type 0
 Refers s = ((d : ℕ) × (s ≡ low d)) ⊎ (s ≡ high)
 
--- the place behind texts that stand from i on
+-- The position after a list of codes that begins at `i`.
 abbrev pub places_on : ℕ → List ℕ → ℕ
 places_on i [] = i
 places_on i (c ∷ cs) = places_on (suc i) cs
 
+-- The position after a text that begins at `i`.
 abbrev pub behind : ℕ → String → ℕ
 behind i word = places_on i (codes word)
 
--- the codes w, of text or of bytes
+-- In a list of codes `w`, of `str` if `text` is `true` and of `bytes` otherwise.
 module _ (text : Bool) (w : List ℕ) where
-  -- at i stands this code
+  -- The code at position `i` is `c`.
   abbrev pub At : ℕ → ℕ → Type 0
   At i c = slice_get w i ≡ Some c
 
-  -- from i on stand these codes
+  -- These codes follow each other from position `i` on.
   abbrev pub AllAt : ℕ → List ℕ → Type 0
   AllAt i [] = Unit {0}
   AllAt i (c ∷ []) = At i c
   AllAt i (c ∷ d ∷ cs) = At i c × AllAt (suc i) (d ∷ cs)
 
-  -- from i on stand the characters of this text
+  -- The characters of this text follow each other from position `i` on.
   abbrev pub Stands : ℕ → String → Type 0
   Stands i word = AllAt i (codes word)
 
-  -- the codes from i up to j, none of which is this one
+  -- None of the codes from `i` up to `j` is `stop`.
   pub data Without (stop : ℕ) : ℕ → ℕ → Type 0 where
     no_code : {i : ℕ} → Without stop i i
     one_code : {i j c : ℕ} → Without stop i j → At j c → c ≢ stop → Without stop i (suc j)
 
-  -- hex{n}: from i up to j stand so many hexadecimal digits, of this value
+  -- hex{n}: the codes from `i` up to `j` are this many hexadecimal digits, with this value.
   pub data Hexes : ℕ → ℕ → ℕ → ℕ → Type 0 where
     no_hex : {i : ℕ} → Hexes i i 0 0
     one_hex : {i j n v c d : ℕ} → Hexes i j n v → At j c → hex c ≡ Some d → Hexes i (suc j) (suc n) (with_digit 16 v d)
 
-  -- octal{n}: from i up to j stand so many octal digits, which with a first digit or 0 have this value
+  -- octal{n}: the codes from `i` up to `j` are this many octal digits. Together with the digit `first` before them they
+  -- have this value.
   pub data Octals (first : ℕ) : ℕ → ℕ → ℕ → ℕ → Type 0 where
     no_octal : {i : ℕ} → Octals first i i 0 first
     one_octal : {i j n v c d : ℕ} → Octals first i j n v → At j c → numeral c ≡ low_digit d → Octals first i (suc j) (suc n) (with_digit 8 v d)
 
+  -- The code at position `j` is an octal digit.
   abbrev pub OctalAt : ℕ → Type 0
   OctalAt j = (c : ℕ) × (d : ℕ) × At j c × (numeral c ≡ low_digit d)
 
+  -- The code at position `j` is a digit.
   abbrev pub DigitAt : ℕ → Type 0
   DigitAt j = (c : ℕ) × At j c × (is_digit c ≡ true)
 
@@ -106,49 +110,49 @@ module _ (text : Bool) (w : List ℕ) where
     -- name_start name_code* name_code
     next_code : {i j c : ℕ} {n : List ℕ} → Name i j n → At j c → goes_in_name text c ≡ true → Name i (suc j) (n ++ c ∷ [])
 
-  -- a backslash at i, and what the code after it is
+  -- There is a backslash at `i`, and the code after it means this.
   abbrev pub Slash : Bool → ℕ → EscapeClass → Type 0
   Slash in_class i s = (c : ℕ) × Stands i "\\" × At (suc i) c × (slashed text in_class c ≡ s)
 
-  -- a backslash at i and three octal digits, the first from 1 to 7
+  -- There is a backslash at `i` and then three octal digits, of which the first isn't 0.
   abbrev pub Three : Bool → ℕ → Type 0
   Three in_class i = (d : ℕ) × (v : ℕ) × Slash in_class i (low d) × Octals d (suc (suc i)) (suc (suc (suc (suc i)))) 2 v
 
-  -- escape, in a class or not
+  -- escape. The flag says whether it is in a class.
   pub data Escape (in_class : Bool) : ℕ → ℕ → Escaped → Type 0 where
-    -- "\" (any code but an ASCII letter or digit), "\" ("a" | "f" | "n" | "r" | "t" | "v"), and in a class "\b"
+    -- "\" (any code except an ASCII letter or digit), "\" ("a" | "f" | "n" | "r" | "t" | "v"), and in a class "\b"
     escape_single : {i c : ℕ} → Slash in_class i (single c) → Escape in_class i (suc (suc i)) (code c)
     -- "\" ("d" | "D" | "s" | "S" | "w" | "W")
     escape_kind : {i : ℕ} {k : Named} {n : Bool} → Slash in_class i (kinds k n) → Escape in_class i (suc (suc i)) (kind k n)
     -- "\x" hex{2}, and in text "\u" hex{4} and "\U" hex{8}
     escape_hex : {i j n v : ℕ} → Slash in_class i (hexes n) → Hexes (suc (suc i)) j n v → Escape in_class i j (hex_code v)
-    -- in text "\N{" (any code but "}")+ "}"
+    -- in text "\N{" (any code except "}")+ "}"
     escape_name : {i j c : ℕ} → Slash in_class i naming → Stands (behind i "\\N") "{" → At (behind i "\\N{") c → c ≢ code_of "}" → Without (code_of "}") (suc (behind i "\\N{")) j → Stands j "}" → Escape in_class i (suc j) by_name
-    -- "\0" octal{0,2}, and in a class "\" octal{1,3}: as many octal digits as there are, up to three
+    -- "\0" octal{0,2}, and in a class "\" octal{1,3}: takes all octal digits there are, up to three
     escape_octal : {i j d n v : ℕ} → Slash in_class i (octal d) → Octals d (suc (suc i)) j n v → (n ≡ 2) ⊎ (n < 2) × ¬ OctalAt j → Escape in_class i j (octal_code v)
     -- "\" (1 to 7) octal{2}
     escape_three : {i j d v : ℕ} → Slash in_class i (low d) → Octals d (suc (suc i)) j 2 v → Escape in_class i j (octal_code v)
-    -- "\" (1 to 9), behind which no digit stands
+    -- "\" (1 to 9), if no digit follows
     reference_one : {i : ℕ} {s : EscapeClass} → Slash in_class i s → Refers s → ¬ DigitAt (suc (suc i)) → Escape in_class i (suc (suc i)) reference
     -- "\" (1 to 9) digit, unless these begin three octal digits
     reference_two : {i : ℕ} {s : EscapeClass} → Slash in_class i s → Refers s → DigitAt (suc (suc i)) → ¬ Three in_class i → Escape in_class i (suc (suc (suc i))) reference
 
-  -- side, of a member of a class
+  -- side: one side of a class member
   pub data Side : ℕ → ℕ → Escaped → Type 0 where
-    -- any code but "\"
+    -- any code except "\"
     plain_side : {i c : ℕ} → At i c → c ≢ code_of "\\" → Side i (suc i) (code c)
     -- escape
     escaped_side : {i j : ℕ} {e : Escaped} → Escape true i j e → Side i j e
 
-  -- a - here, which joins what stands before it with what follows: it doesn't stand directly before a ]
+  -- A "-" at position `j` joins the side before it with what follows. It doesn't if a "]" follows it directly.
   abbrev pub Joins : ℕ → Type 0
   Joins j = (c : ℕ) × Stands j "-" × At (suc j) c × (c ≢ code_of "]")
 
-  -- member. The flag says that it is the first, which alone may begin with a ]
+  -- member. The flag says whether it is the first one. Only the first one may begin with a "]".
   pub data IsMember (first : Bool) : ℕ → ℕ → Member → Type 0 where
-    -- side, which no - joins with what follows
+    -- side, if no "-" joins it with what follows
     is_one : {i j : ℕ} {e : Escaped} → Side i j e → (first ≡ false → ¬ Stands i "]") → ¬ Joins j → IsMember first i j (one (span i j) e)
-    -- side "-" side, no side of which is a named class
+    -- side "-" side, if neither side is a named class
     is_range : {i j k : ℕ} {e d : Escaped} → Side i j e → (first ≡ false → ¬ Stands i "]") → is_kind e ≡ false → Joins j → Side (suc j) k d → is_kind d ≡ false → IsMember first i k (range (span i k) e d)
 
   -- member+
@@ -158,23 +162,23 @@ module _ (text : Bool) (w : List ℕ) where
     -- member+ member
     next_member : {i j k : ℕ} {ms : List Member} {m : Member} → Members i j ms → IsMember false j k m → Members i k (ms ++ m ∷ [])
 
-  -- "[" ["^"], the head of a class, and whether it has a ^
+  -- "[" ["^"]: the head of a class. The flag says whether it has a "^".
   pub data SetHead : ℕ → ℕ → Bool → Type 0 where
-    -- "[", behind which no ^ stands
+    -- "[", if no "^" follows
     upright : {i : ℕ} → Stands i "[" → ¬ Stands (suc i) "^" → SetHead i (suc i) false
     -- "[^"
     inverted : {i : ℕ} → Stands i "[^" → SetHead i (behind i "[^") true
 
-  -- flag+ or off_flag+, by the test of such a letter
+  -- flag+ or off_flag+. The test says which codes are such letters.
   pub data Letters (test : ℕ → Bool) : ℕ → ℕ → Flags → Type 0 where
     -- flag
     first_letter : {i c : ℕ} → At i c → test c ≡ true → Letters test i (suc i) (with_letter no_flags c)
     -- flag+ flag
     next_letter : {i j c : ℕ} {f : Flags} → Letters test i j f → At j c → test c ≡ true → Letters test i (suc j) (with_letter f c)
 
-  -- opening: from a parenthesis up to its group's body
+  -- opening: from the parenthesis of a group up to its body
   pub data Opening : ℕ → ℕ → Kind → Type 0 where
-    -- "(", behind which no ? stands
+    -- "(", if no "?" follows
     captures : {i c : ℕ} → Stands i "(" → At (suc i) c → c ≢ code_of "?" → Opening i (suc i) capturing
     -- "(?P<" name ">"
     captures_named : {i j : ℕ} {n : List ℕ} → Stands i "(?P<" → Name (behind i "(?P<") j n → Stands j ">" → Opening i (suc j) (named n)
@@ -197,13 +201,14 @@ module _ (text : Bool) (w : List ℕ) where
     -- "(?(" name ")"
     asks_name : {i j : ℕ} {n : List ℕ} → Stands i "(?(" → Name (behind i "(?(") j n → Stands j ")" → Opening i (suc j) conditional
 
-  -- (digit | ",")*, from i up to j
+  -- (digit | ",")*: the text of a repeat count from `i` up to `j`
   pub data Text : ℕ → ℕ → List ℕ → Type 0 where
     no_text : {i : ℕ} → Text i i []
     one_text : {i j c : ℕ} {t : List ℕ} → Text i j t → At j c → counts c ≡ true → Text i (suc j) (t ++ c ∷ [])
 
+  -- braces: a repeat count in braces
   pub data Braces : ℕ → ℕ → Count → Type 0 where
-    -- braces: "{" digit+ "}" | "{" digit+ ",}" | "{," digit+ "}" | "{" digit+ "," digit+ "}" | "{,}"
+    -- "{" digit+ "}" | "{" digit+ ",}" | "{," digit+ "}" | "{" digit+ "," digit+ "}" | "{,}"
     braces : {i k : ℕ} {t : List ℕ} {n : Count} → Stands i "{" → Text (suc i) k t → Stands k "}" → count_of t ≡ Some n → Braces i (suc k) n
 
   -- count
@@ -215,22 +220,22 @@ module _ (text : Bool) (w : List ℕ) where
 
   -- quantifier
   pub data Quantifier : ℕ → ℕ → Count → Greed → Type 0 where
-    -- count, behind which no ? or + stands
+    -- count, if no "?" or "+" follows
     is_greedy : {i j : ℕ} {n : Count} → Counts i j n → ¬ Stands j "?" → ¬ Stands j "+" → Quantifier i j n greedy
     -- count "?"
     is_lazy : {i j : ℕ} {n : Count} → Counts i j n → Stands j "?" → Quantifier i (suc j) n lazy
     -- count "+"
     is_possessive : {i j : ℕ} {n : Count} → Counts i j n → Stands j "+" → Quantifier i (suc j) n possessive
 
-  -- passed: what is passed over between items
+  -- passed: white space and comments between items, which are ignored
   pub data Passed (fl : Flags) : ℕ → ℕ → Type 0 where
     -- blank, under VERBOSE
     pass_blank : {i c : ℕ} → fl.verbose ≡ true → At i c → sign c ≡ blank → Passed fl i (suc i)
-    -- "#" (any code but LF)* LF, under VERBOSE
+    -- "#" (any code except LF)* LF, under VERBOSE
     pass_line : {i k : ℕ} → fl.verbose ≡ true → Stands i "#" → Without (code_of "\n") (suc i) k → Stands k "\n" → Passed fl i (suc k)
-    -- "#" (any code but LF)* and the end of the codes, under VERBOSE
+    -- "#" (any code except LF)* and the end of the codes, under VERBOSE
     pass_last_line : {i : ℕ} → fl.verbose ≡ true → Stands i "#" → Without (code_of "\n") (suc i) (length w) → Passed fl i (length w)
-    -- "(?#" (any code but ")")* ")"
+    -- "(?#" (any code except ")")* ")"
     pass_comment : {i k : ℕ} → Stands i "(?#" → Without (code_of ")") (behind i "(?#") k → Stands k ")" → Passed fl i (suc k)
 
   -- passed*
@@ -282,20 +287,23 @@ module _ (text : Bool) (w : List ℕ) where
       -- branch ("|" branch)* "|" branch
       next_branch : {kd : Kind} {fl : Flags} {i j k : ℕ} {bs : List Branch} {ps : List SyntaxNode} → IsBranches kd fl i j bs → Stands j "|" → splits kd bs ≡ true → Items fl (suc j) k ps → IsBranches kd fl i k (bs ++ branch (span (suc j) k) ps ∷ [])
 
+  -- flag_group: a group that only sets flags
   pub data FlagGroup : ℕ → ℕ → Flags → Type 0 where
-    -- flag_group: "(?" flag+ ")", which opens no body
+    -- "(?" flag+ ")"
     flag_group : {i j : ℕ} {f : Flags} → Stands i "(?" → Letters on_letter (behind i "(?") j f → Stands j ")" → FlagGroup i (suc j) f
 
-  -- [flag_group (passed* flag_group)*], up to i, and the flags after them. Nothing stands before the first
+  -- [flag_group (passed* flag_group)*], up to position `i`, and the flags in force after them. Nothing precedes the first
+  -- one.
   pub data Fronts (call : Flags) : ℕ → Flags → List Front → Type 0 where
     no_fronts : Fronts call 0 call []
-    -- flag_group, or one more behind passed*
+    -- flag_group, or passed* and one more
     one_front : {i j k : ℕ} {fl f : Flags} {gs : List Front} → Fronts call i fl gs → Blanks fl i j → (gs ≡ [] → j ≡ 0) → FlagGroup j k f → Fronts call k (joined fl f) (gs ++ record { place = span j k; letters = f } ∷ [])
 
-  -- the codes spell this whole pattern under the call's flags
+  -- The codes spell this whole pattern under the flags of the call.
   pub data Spelled (call : Flags) : Whole → Type 0 where
     -- pattern: [flag_group (passed* flag_group)*] branches
     spelled : {i : ℕ} {fl : Flags} {gs : List Front} {bs : List Branch} → Fronts call i fl gs → IsBranches outermost fl i (length w) bs → Spelled call (record { fronts = gs; place = span i (length w); body = whole_body (span i (length w)) bs })
 
+-- The codes spell this whole pattern under the flags of the call. The flag says whether they are a `str`.
 abbrev pub Spells : Flags → Bool → List ℕ → Whole → Type 0
 Spells call text w p = Spelled text w call p

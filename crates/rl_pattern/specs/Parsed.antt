@@ -1,4 +1,4 @@
--- What is answered of a list of codes: the refusals in their order, or the pattern.
+-- The result of parsing a list of codes: the errors in their order, or the pattern.
 use Rattle.std.specs.Prelude.{◌≡◌, ◌⊎◌, ℕ, suc, ◌<◌, ◌≤◌, List, length, take, Some, None, Result, Ok, Err}
 use Rattle.rl_ranges.specs.declared.universe.Universe.{Universe}
 use Rattle.rl_syntax.specs.declared.feature.Feature.{Feature}
@@ -16,55 +16,59 @@ use Rattle.rl_pattern.specs.Answers.{Shallow}
 pub use Rattle.rl_pattern.specs.Shape.{is_text}
 use Rattle.rl_pattern.specs.Shape.{shape}
 
--- no more codes than are read, and flags that a call may have
+-- The reader gets to see the codes: they aren't too many, and the flags of the call aren't refused.
 pub record IsAsked (flags : Flags) (u : Universe) (w : List ℕ) : Type 0 where
   pub short : length w ≤ MOST_CODES
   pub allowed : refused_flags flags (is_text u) ≡ None
 
--- the pattern of a spelled tree that its outer anchors are taken off
+-- The pattern is made from a syntax tree without its outer anchors: it has the shape of the body, and the anchors and
+-- universe.
 pub record IsPatternOf (u : Universe) (left : Inner) (found : Pattern) : Type 0 where
   pub body : body_of found ≡ shape u left.body
   pub leading : is_anchored found ≡ left.leading
   pub trailing : trail_of found ≡ left.trail
   pub universe : universe_of found ≡ u
 
--- the tree that the codes spell, in which no group opens too deep
+-- The codes spell this syntax tree, and no group in it is nested too deep.
 pub record IsRead (flags : Flags) (u : Universe) (w : List ℕ) (whole : t.Whole) : Type 0 where
   pub asked : IsAsked flags u w
   pub spelled : Spells flags (is_text u) w whole
   pub shallow : Shallow flags (is_text u) w
 
--- a tree is spelled in which nothing is refused, and this is its pattern
+-- The codes spell this syntax tree, nothing in it is refused, and `found` is its pattern.
 pub record IsSpelled (flags : Flags) (u : Universe) (w : List ℕ) (found : Pattern) (whole : t.Whole) : Type 0 where
   pub read : IsRead flags u w whole
   pub allowed : refused flags (is_text u) whole ≡ None
   pub pattern : IsPatternOf u (inner whole) found
 
--- a tree is spelled, and what is refused first in it is this feature at `p`
+-- The codes spell this syntax tree, and the first thing to be refused in it is the feature `what` at position `p`.
 pub record IsOutside (flags : Flags) (u : Universe) (w : List ℕ) (p : ℕ) (what : Feature) (whole : t.Whole) : Type 0 where
   pub read : IsRead flags u w whole
   pub first : refused flags (is_text u) whole ≡ Some (fault p what)
 
--- no tree is spelled, and the longest prefix that begins one has `n` codes
+-- The codes spell no syntax tree, and the longest prefix that can be continued to a pattern has length `n`.
 pub record IsMisspelled (flags : Flags) (u : Universe) (w : List ℕ) (n : ℕ) : Type 0 where
   pub asked : IsAsked flags u w
   pub viable : Viable flags (is_text u) w n
   pub none : (whole : t.Whole) → Spells flags (is_text u) w whole → ⊥
   pub shallow : Shallow flags (is_text u) w
 
--- the first group that opens while MOST_OPEN_GROUPS are open stands at `p`, and the codes up to it begin a spelled pattern
+-- Position `p` is the first at which a group opens while MOST_OPEN_GROUPS groups are open, and the codes up to there can be
+-- continued to a pattern.
 pub record IsTooDeep (flags : Flags) (u : Universe) (w : List ℕ) (p : ℕ) : Type 0 where
   pub asked : IsAsked flags u w
   pub deep : TooDeepAt flags (is_text u) w p
   pub begins : Begins flags (is_text u) (take (suc p) w)
   pub first : (q : ℕ) → q < p → TooDeepAt flags (is_text u) w q → ⊥
 
--- the flags of the call are refused
+-- The flags of the call are refused because of the feature `what`. The position is 0.
 pub record IsRefused (flags : Flags) (u : Universe) (w : List ℕ) (p : ℕ) (what : Feature) : Type 0 where
   pub short : length w ≤ MOST_CODES
   pub place : p ≡ 0
   pub refused : refused_flags flags (is_text u) ≡ Some what
 
+-- The result of parsing is right for the codes: the pattern that they spell, or an error with its position. Running out of
+-- memory is always allowed.
 abbrev pub IsParsed : Flags → Universe → List ℕ → Result Pattern PatError → Type 0
 IsParsed flags u w (Ok found) = (whole : t.Whole) × IsSpelled flags u w found whole
 IsParsed flags u w (Err error.TooLong) = MOST_CODES < length w
@@ -73,7 +77,7 @@ IsParsed flags u w (Err (error.TooDeep p)) = IsTooDeep flags u w p
 IsParsed flags u w (Err (error.Syntax n)) = IsMisspelled flags u w n
 IsParsed flags u w (Err error.OutOfMemory) = Unit {0}
 
--- what is answered of a spelled tree
+-- The result is right for a syntax tree that the codes spell: its pattern if nothing is refused, otherwise the first fault.
 abbrev pub IsOutcome : Flags → Universe → t.Whole → Result Pattern PatError → Type 0
 IsOutcome flags u whole (Ok found) = (refused flags (is_text u) whole ≡ None) × IsPatternOf u (inner whole) found
 IsOutcome flags u whole (Err (error.Outside p what)) = refused flags (is_text u) whole ≡ Some (fault p what)

@@ -1,16 +1,17 @@
--- When two answers of the reader are the same. A pattern's sets count by the codes that they hold.
+-- When two results of parsing are the same. Sets are compared by the codes that they hold.
 use Rattle.std.specs.Prelude.{◌≡◌, Result, Ok, Err}
 use Rattle.rl_syntax.specs.declared.pattern.Pattern.{Pattern}
 use Rattle.rl_syntax.specs.Pattern.{body_of, is_anchored, trail_of, universe_of}
 use Rattle.rl_pattern.specs.declared.parsing.PatError.{PatError}
 
--- two patterns have the same body, outer anchors and universe
+-- The two patterns have the same body, outer anchors and universe.
 pub record IsSamePattern (p q : Pattern) : Type 0 where
   pub body : body_of p ≡ body_of q
   pub leading : is_anchored p ≡ is_anchored q
   pub trailing : trail_of p ≡ trail_of q
   pub universe : universe_of p ≡ universe_of q
 
+-- The two results are the same pattern or the same error.
 abbrev pub IsSameAnswer : Result Pattern PatError → Result Pattern PatError → Type 0
 IsSameAnswer (Ok p) (Ok q) = IsSamePattern p q
 IsSameAnswer (Ok p) (Err f) = ⊥

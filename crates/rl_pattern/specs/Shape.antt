@@ -1,4 +1,5 @@
--- What a spelled tree in which nothing is refused is as a pattern over a universe. A group that is refused is left as `outside`.
+-- Turning a syntax tree in which nothing is refused into a pattern over a universe. A group that is refused becomes
+-- `outside`.
 use Rattle.std.specs.Prelude.{ℕ, zero, suc, Bool, true, false, not, if◌then◌else◌, nat_lt, nat_le, ◌==◌, ◌&&◌, ◌||◌, List, [], ◌∷◌}
 use Rattle.std.specs.List.{list_any}
 use Rattle.rl_ranges.specs.Text.{code_count}
@@ -12,69 +13,74 @@ use Rattle.rl_pattern.specs.declared.flags.Flags.{Flags}
 use Rattle.rl_pattern.specs.Tree.{Span, Named, Greed, greedy, Escaped, code, kind, Member, one, range, Leaf, any, glyph, members, Assertion, caret, text_start, dollar, text_end, boundary, Kind, scoped, lookaround, atomic, conditional, SyntaxNode, leaf, mark, repeat, group, nothing, seq, choice, Nodes, no_nodes, more_nodes, Branches, no_branches, more_branches}
 use Rattle.rl_pattern.specs.Found.{is_lookaround, is_atomic, is_conditional}
 
--- whether the universe is text
+-- Whether the universe is that of `str`.
 abbrev pub is_text : Universe → Bool
 is_text Str = true
 is_text Bytes = false
 
--- whether some number below the first one passes the test
+-- Whether some number below `n` satisfies the test.
 unfoldable pub some_below : ℕ → (ℕ → Bool) → Bool
 some_below zero test = false
 some_below (suc n) test = test n || some_below n test
 
--- some code of the universe that is in the set is of one kind with the code
+-- Whether the set, closed under case, holds the code: some code of the universe in the set is case kin to it.
 abbrev pub closed_holds : Universe → Bool → (ℕ → Bool) → ℕ → Bool
 closed_holds u ascii set c = some_below (code_count u) (λ d. set d && is_case_kin ascii d c)
 
--- the codes of the universe that are in the set
+-- Whether the code is in the universe and in the set.
 abbrev pub within : Universe → (ℕ → Bool) → ℕ → Bool
 within u set c = nat_lt c (code_count u) && set c
 
--- which codes a leaf holds, over a universe and under flags
+-- Which codes a leaf matches, over a universe and under flags.
 module _ (u : Universe) (fl : Flags) where
-  -- whether ASCII decides
+  -- Whether named classes and letter case follow ASCII.
   abbrev pub narrow : Bool
   narrow = fl.ascii || not (is_text u)
 
-  -- a set, which is closed under case where that is ignored
+  -- The set, closed under case if the flags say IGNORECASE.
   abbrev pub closing : (ℕ → Bool) → ℕ → Bool
   closing set c = if fl.ignore_case then closed_holds u narrow set c else set c
 
-  -- a named class, or its complement
+  -- Whether a named class, or its complement if the flag is `true`, holds the code.
   abbrev pub kind_holds : Named → Bool → ℕ → Bool
   kind_holds k false c = is_named k narrow c
   kind_holds k true c = within u (λ d. not (is_named k narrow d)) c
 
+  -- Whether a character or escape matches the code.
   abbrev pub escaped_holds : Escaped → ℕ → Bool
   escaped_holds (code d) c = closing (λ x. x == d) c
   escaped_holds (kind k n) c = kind_holds k n c
   escaped_holds _ c = false
 
-  -- single codes and ranges of a class
+  -- Whether a class member that is a character or a range holds the code. Named classes don't count.
   abbrev pub code_member : Member → ℕ → Bool
   code_member (one s (code d)) c = c == d
   code_member (range s (code d) (code e)) c = nat_le d c && nat_le c e
   code_member _ c = false
 
+  -- Whether a class member that is a named class holds the code.
   abbrev pub kind_member : Member → ℕ → Bool
   kind_member (one s (kind k n)) c = kind_holds k n c
   kind_member _ c = false
 
-  -- a class is closed first and complemented then. Named classes are not closed
+  -- Whether some member of a class holds the code. Characters and ranges are closed under case, named classes aren't. A
+  -- class that begins with `^` is complemented afterwards.
   abbrev pub members_hold : List Member → ℕ → Bool
   members_hold ms c = closing (λ d. list_any (λ m. code_member m d) ms) c || list_any (λ m. kind_member m c) ms
 
+  -- Whether the leaf matches the code, apart from the limits of the universe.
   abbrev pub leaf_holds : Leaf → ℕ → Bool
   leaf_holds any c = fl.dot_all || not (c == 10)
   leaf_holds (glyph e) c = escaped_holds e c
   leaf_holds (members false ms) c = members_hold ms c
   leaf_holds (members true ms) c = not (members_hold ms c)
 
--- the codes that a leaf holds
+-- Whether the leaf matches the code, which must be in the universe.
 unfoldable pub leaf_codes : Universe → Flags → Leaf → ℕ → Bool
 leaf_codes u f x = within u (leaf_holds u f x)
 
--- an anchor with MULTILINE as it is in force, and a boundary, whose words are the ASCII ones under ASCII and in bytes
+-- The anchor with MULTILINE as it is in force, or the word boundary, whose words are ASCII words under ASCII and in
+-- `bytes`.
 abbrev pub mark_shape : Universe → Span → Flags → Assertion → s.PatTree
 mark_shape u place f caret = s.anchor place anchor.Caret f.multiline
 mark_shape u place f text_start = s.anchor place anchor.TextStart f.multiline
@@ -82,10 +88,12 @@ mark_shape u place f dollar = s.anchor place anchor.Dollar f.multiline
 mark_shape u place f text_end = s.anchor place anchor.TextEnd f.multiline
 mark_shape u place f (boundary negated) = s.boundary place negated (f.ascii || not (is_text u))
 
+-- Whether the quantifier tries more repetitions first.
 abbrev pub is_greedy : Greed → Bool
 is_greedy greedy = true
 is_greedy _ = false
 
+-- The group of this kind around a body: capturing or not, or `outside` if the kind is refused.
 abbrev pub group_shape : Span → Kind → s.PatTree → s.PatTree
 group_shape place (scoped on off) p = s.group place false p
 group_shape place lookaround p = s.outside place is_lookaround
@@ -94,6 +102,7 @@ group_shape place conditional p = s.outside place is_conditional
 group_shape place _ p = s.group place true p
 
 abbrev mutual
+  -- The pattern of a node of the syntax tree, over a universe.
   pub shape : Universe → SyntaxNode → s.PatTree
   shape u (leaf place f x) = s.class place (leaf_codes u f x)
   shape u (mark place f m) = mark_shape u place f m
@@ -103,10 +112,12 @@ abbrev mutual
   shape u (seq place ps) = s.seq place (s.items_of (shapes u ps))
   shape u (choice place bs) = s.choice place (s.branches_of (branch_shapes u bs))
 
+  -- The patterns of a sequence of nodes.
   pub shapes : Universe → Nodes → List s.PatTree
   shapes u no_nodes = []
   shapes u (more_nodes p ps) = shape u p ∷ shapes u ps
 
+  -- The patterns of the branches of a choice, with their spans.
   pub branch_shapes : Universe → Branches → List (Span × s.PatTree)
   branch_shapes u no_branches = []
   branch_shapes u (more_branches place p bs) = (place, shape u p) ∷ branch_shapes u bs

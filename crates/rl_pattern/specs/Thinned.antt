@@ -1,7 +1,7 @@
--- Codes from which some are taken out.
+-- Removing some codes from a list.
 use Rattle.std.specs.Prelude.{ℕ, suc, Bool, if◌then◌else◌, List, [], ◌∷◌}
 
--- the codes whose places are kept, where the first one has the place `k`
+-- The codes whose positions are kept, if the first code of the list has position `k`.
 abbrev pub kept_from : (ℕ → Bool) → ℕ → List ℕ → List ℕ
 kept_from kept k [] = []
 kept_from kept k (c ∷ w) = if kept k then c ∷ kept_from kept (suc k) w else kept_from kept (suc k) w

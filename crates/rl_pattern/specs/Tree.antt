@@ -1,5 +1,5 @@
--- The tree that a list of codes spells. It keeps what is refused afterwards: features, faults of quantifiers
--- and of members of classes, names that stand twice. Each node has its span and the flags in force.
+-- The syntax tree that a list of codes spells. It still contains what is refused later: features, faults in quantifiers and
+-- class members, and duplicate group names. Each node has its span, and the flags in force if they matter.
 use Rattle.std.specs.Prelude.{ℕ, List, [], ◌∷◌}
 use Rattle.rl_pattern.specs.declared.flags.Flags.{Flags}
 pub use Rattle.rl_syntax.specs.declared.span.Span.{Span}
@@ -20,57 +20,64 @@ pub use Rattle.rl_pattern.specs.declared.tree.Kind.{Kind}
 pub use Rattle.rl_pattern.specs.declared.tree.Kind.TheVariants.{Capturing as capturing, Named as named, Scoped as scoped, Lookaround as lookaround, Atomic as atomic, Conditional as conditional}
 pub use Rattle.rl_pattern.specs.declared.tree.Front.{Front}
 
+-- The span from position `i` up to, but not including, `j`.
 abbrev pub span : ℕ → ℕ → Span
 span i j = record { from = i; upto = j }
 
 mutual
+  -- A node of the syntax tree.
   pub data SyntaxNode : Type 0 where
     leaf : Span → Flags → Leaf → SyntaxNode
     mark : Span → Flags → Assertion → SyntaxNode
-    -- the second span is the quantifier's
+    -- The second span is the quantifier's.
     repeat : Span → Span → Count → Greed → SyntaxNode → SyntaxNode
     group : Span → Kind → SyntaxNode → SyntaxNode
     nothing : Span → SyntaxNode
     seq : Span → Nodes → SyntaxNode
     choice : Span → Branches → SyntaxNode
 
+  -- A sequence of nodes.
   pub data Nodes : Type 0 where
     no_nodes : Nodes
     more_nodes : SyntaxNode → Nodes → Nodes
 
+  -- The branches of a choice, each with its span.
   pub data Branches : Type 0 where
     no_branches : Branches
     more_branches : Span → SyntaxNode → Branches → Branches
 
--- a branch with the span of its codes, what is passed over included
+-- A branch, with a span that includes ignored white space and comments.
 pub record Branch : Type 0 where
   pub place : Span
   pub body : SyntaxNode
 
+-- Turns a list of nodes into a sequence.
 abbrev pub nodes : List SyntaxNode → Nodes
 nodes [] = no_nodes
 nodes (p ∷ ps) = more_nodes p (nodes ps)
 
+-- Turns a list of branches into the branches of a choice.
 abbrev pub branches : List Branch → Branches
 branches [] = no_branches
 branches (b ∷ bs) = more_branches b.place b.body (branches bs)
 
--- a branch of one item is that item
+-- The body of a branch with these items. A single item is the body itself.
 abbrev pub branch_body : Span → List SyntaxNode → SyntaxNode
 branch_body s [] = nothing s
 branch_body s (p ∷ []) = p
 branch_body s (p ∷ q ∷ ps) = seq s (nodes (p ∷ q ∷ ps))
 
+-- The branch with this span and these items.
 abbrev pub branch : Span → List SyntaxNode → Branch
 branch s ps = record { place = s; body = branch_body s ps }
 
--- a body of one branch is that branch
+-- The body with these branches. A single branch is the body itself.
 abbrev pub whole_body : Span → List Branch → SyntaxNode
 whole_body s [] = nothing s
 whole_body s (b ∷ []) = b.body
 whole_body s (b ∷ c ∷ bs) = choice s (branches (b ∷ c ∷ bs))
 
--- a whole pattern: its front flag groups, and its body, which begins behind them
+-- A whole pattern: the flag groups at its front, and its body after them.
 pub record Whole : Type 0 where
   pub fronts : List Front
   pub place : Span

@@ -1,4 +1,4 @@
--- Definitions for the contracts of private functions. No public contract reaches them.
+-- Definitions for the contracts of private functions. No public contract uses them.
 pub mod Judged
 pub mod LeafSets
 pub mod Machine

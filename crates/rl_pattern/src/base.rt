@@ -1,4 +1,4 @@
-//! What the reader has read, with one thing more.
+//! What the reader has read so far, and how to add to it.
 
 ghost use Rattle.std.specs.Prelude.{◌≡◌, ℕ, ◌+◌, ◌-◌, ◌<◌, ◌^◌, [], ◌∷◌, ◌++◌, length, map, reverse, IfOk, OnOk, suc};
 ghost use Rattle.rl_pattern.specs.internal.Views.{node_of, branch_of, last_of, frame_of, base_of, state_with};
@@ -14,7 +14,7 @@ use rl_syntax::Span;
 use std::alloc::Global;
 use std::mem;
 
-/// What a branch of these items is: one item is the branch.
+/// Builds the body of a branch from its items. A single item is the body itself.
 fn branch_body(place: Span, items: Items<SyntaxNode>) -> SyntaxNode
     ensures { node_of result ≡ t.branch_body place (map node_of items) }
 {
@@ -28,7 +28,7 @@ fn branch_body(place: Span, items: Items<SyntaxNode>) -> SyntaxNode
     }
 }
 
-/// A branch of these items.
+/// Builds a branch from its items.
 pub(crate) fn branch(place: Span, items: Items<SyntaxNode>) -> Branch
     ensures { branch_of result ≡ t.branch place (map node_of items) }
 {
@@ -38,7 +38,7 @@ pub(crate) fn branch(place: Span, items: Items<SyntaxNode>) -> Branch
     }
 }
 
-/// A body of these branches: one branch is the body.
+/// Builds a body from its branches. A single branch is the body itself.
 pub(crate) fn whole_body(place: Span, branches: Items<Branch>) -> SyntaxNode
     ensures { node_of result ≡ t.whole_body place (map branch_of branches) }
 {
@@ -52,7 +52,7 @@ pub(crate) fn whole_body(place: Span, branches: Items<Branch>) -> SyntaxNode
     }
 }
 
-/// The last atom among the items, and another one in its place.
+/// Moves the last atom, if there is one, to the items, and puts another one in its place.
 fn with_last(base: &mut Base, last: Last) -> Result<(), OutOfMemory>
     ensures { OnOk result (base_of base.new ≡ m.put_last (base_of base.old) (m.settled (base_of base.old).top.items (base_of base.old).last) (last_of last)) }
 {
@@ -62,7 +62,7 @@ fn with_last(base: &mut Base, last: Last) -> Result<(), OutOfMemory>
     }
 }
 
-/// An item that takes no quantifier.
+/// Adds an item that takes no quantifier.
 pub(crate) fn put_item(base: &mut Base, item: SyntaxNode) -> Result<(), OutOfMemory>
     ensures { OnOk result (base_of base.new ≡ m.put_item (base_of base.old) (node_of item)) }
 {
@@ -73,7 +73,7 @@ pub(crate) fn put_item(base: &mut Base, item: SyntaxNode) -> Result<(), OutOfMem
     base.top.items.push(item)
 }
 
-/// A node for one code, as an atom from a place up to here.
+/// Adds a leaf from `from` up to `upto`, as the last atom.
 pub(crate) fn put_leaf(base: &mut Base, from: u32, upto: u32, leaf: Leaf) -> Result<(), OutOfMemory>
     ensures { OnOk result (base_of base.new ≡ m.put_leaf (base_of base.old) from upto leaf) }
 {
@@ -82,7 +82,7 @@ pub(crate) fn put_leaf(base: &mut Base, from: u32, upto: u32, leaf: Leaf) -> Res
     with_last(base, Last::AnAtom(from, atom))
 }
 
-/// A literal.
+/// Adds a literal.
 pub(crate) fn put_code(base: &mut Base, i: u32, code: u32) -> Result<(), OutOfMemory>
     requires { i < 2 ^ 32 - 1 }
     ensures { OnOk result (base_of base.new ≡ m.put_code (base_of base.old) i code) }
@@ -90,7 +90,7 @@ pub(crate) fn put_code(base: &mut Base, i: u32, code: u32) -> Result<(), OutOfMe
     put_leaf(base, i, i + 1, Leaf::Glyph(Escaped::Code(code)))
 }
 
-/// Codes from `from` on, each a literal.
+/// Adds a literal for each character, beginning at `from`.
 fn put_codes(base: &mut Base, from: u32, codes: &[u32]) -> Result<(), OutOfMemory>
     requires { from + length codes.now < 2 ^ 32 }
     ensures { OnOk result (base_of base.new ≡ m.put_codes (base_of base.old) from codes.now) }
@@ -103,7 +103,7 @@ fn put_codes(base: &mut Base, from: u32, codes: &[u32]) -> Result<(), OutOfMemor
     Ok(())
 }
 
-/// A brace at `from` and the text after it, which are no count.
+/// Adds a brace at `from` and the text after it as literals, because they are no repeat count.
 pub(crate) fn no_count(base: &mut Base, from: u32, text: &[u32]) -> Result<(), OutOfMemory>
     requires { suc from + length text.now < 2 ^ 32 }
     ensures { OnOk result (base_of base.new ≡ m.no_count (base_of base.old) from text.now) }
@@ -112,7 +112,7 @@ pub(crate) fn no_count(base: &mut Base, from: u32, text: &[u32]) -> Result<(), O
     put_codes(base, from + 1, text)
 }
 
-/// The atom with a quantifier.
+/// Adds the atom with its quantifier.
 pub(crate) fn put_repeat(
     alloc: Global,
     base: &mut Base,
@@ -132,7 +132,7 @@ pub(crate) fn put_repeat(
     put_item(base, SyntaxNode::Repeat(span, mark, count, greed, body))
 }
 
-/// A quantifier from `from` for the last atom.
+/// Reads a quantifier that begins at `from`. Takes the last atom, or returns `None` if there is none.
 pub(crate) fn count_last(base: &mut Base, from: u32, count: Count) -> Option<Lex>
     ensures { state_with (base_of base.new) result ≡ m.count_last (base_of base.old) from count (base_of base.old).last }
 {
@@ -142,7 +142,7 @@ pub(crate) fn count_last(base: &mut Base, from: u32, count: Count) -> Option<Lex
     }
 }
 
-/// Whether a `|` may follow these branches.
+/// Whether a `|` may follow these branches. A conditional has at most two branches.
 fn splits(kind: &Kind, branches: &Items<Branch>) -> bool
     ensures { result ≡ splits kind.now (map branch_of branches.now) }
 {
@@ -153,7 +153,7 @@ fn splits(kind: &Kind, branches: &Items<Branch>) -> bool
     }
 }
 
-/// The open branch, up to `upto`, with its last atom, among those before it.
+/// Ends the open branch at `upto`. Adds it, together with its last atom, to the branches before it.
 pub(crate) fn end_branch(alloc: Global, base: &mut Base, upto: u32) -> Result<(), OutOfMemory>
     ensures { OnOk result (base_of base.new ≡ m.next_branch (base_of base.old) base.old.top.from (m.all_branches (base_of base.old) upto)) }
 {
@@ -163,7 +163,7 @@ pub(crate) fn end_branch(alloc: Global, base: &mut Base, upto: u32) -> Result<()
     base.top.branches.push(branch(Span { from, upto }, items))
 }
 
-/// A `|` at `i`.
+/// Reads a `|` at `i`. Returns `None` if the group can't have another branch.
 pub(crate) fn split(alloc: Global, base: &mut Base, i: u32) -> Result<Option<Lex>, OutOfMemory>
     requires { i < 2 ^ 32 - 1 }
     ensures { IfOk result (λ found. state_with (base_of base.new) found ≡ m.split (base_of base.old) i) }
@@ -177,7 +177,7 @@ pub(crate) fn split(alloc: Global, base: &mut Base, i: u32) -> Result<Option<Lex
     }
 }
 
-/// The flags inside a group.
+/// Returns the flags inside a group.
 fn inside(kind: &Kind, flags: Flags) -> Flags
     ensures { result ≡ inside kind.now flags }
 {
@@ -188,7 +188,7 @@ fn inside(kind: &Kind, flags: Flags) -> Flags
     }
 }
 
-/// A body in which nothing was read.
+/// Creates a body in which nothing has been read yet.
 pub(crate) fn empty_body(alloc: Global, flags: Flags, kind: Kind, opened: u32, start: u32) -> Frame
     ensures { frame_of result ≡ record { flags = flags; kind = kind; opened = opened; start = start; from = start; branches = []; items = [] } }
 {
@@ -203,7 +203,7 @@ pub(crate) fn empty_body(alloc: Global, flags: Flags, kind: Kind, opened: u32, s
     }
 }
 
-/// Open bodies, and one more.
+/// Adds a body to the open ones.
 fn put_below(below: &mut Vec<Frame>, body: Frame) -> Result<(), OutOfMemory>
     ensures { OnOk result (map frame_of (reverse below.new.items) ≡ frame_of body ∷ map frame_of (reverse below.old.items)) }
 {
@@ -211,7 +211,7 @@ fn put_below(below: &mut Vec<Frame>, body: Frame) -> Result<(), OutOfMemory>
     Ok(())
 }
 
-/// A group with its parenthesis at `opened` and its body from `start` on.
+/// Opens a group whose parenthesis is at `opened` and whose body begins at `start`.
 pub(crate) fn open_group(
     alloc: Global,
     base: &mut Base,
@@ -230,7 +230,8 @@ pub(crate) fn open_group(
     put_below(&mut base.below, mem::replace(&mut base.top, body))
 }
 
-/// The group of an open body, which the `)` at `i` closes, as the last atom. Its last branch is among its branches.
+/// Builds the group of a body that the `)` at `i` closes, as the last atom. The body's last branch must already be among
+/// its branches.
 fn closed(alloc: Global, body: Frame, i: u32) -> Result<Last, OutOfMemory>
     requires { i < 2 ^ 32 - 1 }
     ensures { IfOk result (λ atom. last_of atom ≡ m.an_atom body.opened (t.group (t.span body.opened (suc i)) body.kind (t.whole_body (t.span body.start i) (map branch_of body.branches)))) }
@@ -263,7 +264,7 @@ fn closed(alloc: Global, body: Frame, i: u32) -> Result<Last, OutOfMemory>
     Ok(Last::AnAtom(opened, SyntaxNode::Group(span, kind, whole)))
 }
 
-/// The `)` at `i`.
+/// Reads the `)` at `i`. Returns `None` if no group is open.
 pub(crate) fn close(alloc: Global, base: &mut Base, i: u32) -> Result<Option<Lex>, OutOfMemory>
     requires { i < 2 ^ 32 - 1 }
     ensures { IfOk result (λ found. state_with (base_of base.new) found ≡ m.close (base_of base.old) i (base_of base.old).below) }
@@ -282,7 +283,7 @@ pub(crate) fn close(alloc: Global, base: &mut Base, i: u32) -> Result<Option<Lex
     }
 }
 
-/// Whether a flag group from `from` may stand here.
+/// Whether a flag group that begins at `from` is at the front of the pattern.
 fn at_front(base: &Base, from: u32) -> bool
     ensures { result ≡ m.at_front (base_of base.now) from }
 {
@@ -297,7 +298,7 @@ fn at_front(base: &Base, from: u32) -> bool
         && (from == 0 || !base.fronts.is_empty())
 }
 
-/// A flag group.
+/// Reads a flag group. Returns `None` if it isn't at the front of the pattern.
 pub(crate) fn put_front(
     base: &mut Base,
     from: u32,

@@ -1,4 +1,4 @@
-//! What single codes are to the grammar of patterns.
+//! What single characters mean in the grammar of patterns.
 
 ghost use Rattle.std.specs.Prelude.{◌≡◌, ℕ};
 ghost use Rattle.rl_pattern.specs.Codes.{sign, numeral, is_digit, hex, begins_name, goes_in_name, slashed, slashed_letter, slashed_digit, is_letter, is_blank, headed, on_letter, off_letter, counts};
@@ -7,7 +7,7 @@ use crate::lex::{EscapeClass, GroupPrefix, Numeral, TokenClass};
 use crate::tree::{Assertion, Count};
 use rl_ranges::Named;
 
-/// What a code is between items.
+/// Classifies a character between items.
 #[tactic(auto, unfolding(crate::specs::Codes::sign))]
 pub(crate) fn sign(code: u32) -> TokenClass
     ensures { result ≡ sign code }
@@ -40,7 +40,7 @@ pub(crate) fn sign(code: u32) -> TokenClass
     }
 }
 
-/// What a digit is in an octal number.
+/// Classifies a character as a digit of an octal number.
 #[tactic(auto, unfolding(crate::specs::Codes::numeral))]
 pub(crate) fn numeral(code: u32) -> Numeral
     ensures { result ≡ numeral code }
@@ -52,7 +52,7 @@ pub(crate) fn numeral(code: u32) -> Numeral
     }
 }
 
-/// Whether the code is an ASCII digit.
+/// Whether the character is an ASCII digit.
 #[tactic(auto, unfolding(crate::specs::Codes::is_digit))]
 pub(crate) fn is_digit(code: u32) -> bool
     ensures { result ≡ is_digit code }
@@ -63,7 +63,7 @@ pub(crate) fn is_digit(code: u32) -> bool
     }
 }
 
-/// The value of a hexadecimal digit.
+/// Returns the value of a hexadecimal digit.
 #[tactic(auto, unfolding(crate::specs::Codes::hex))]
 pub(crate) fn hex(code: u32) -> Option<u32>
     ensures { result ≡ hex code }
@@ -76,14 +76,14 @@ pub(crate) fn hex(code: u32) -> Option<u32>
     }
 }
 
-/// Whether the code is an ASCII letter.
+/// Whether the character is an ASCII letter.
 pub(crate) fn is_letter(code: u32) -> bool
     ensures { result ≡ is_letter code }
 {
     matches!(char::from_u32(code), Some('a'..='z' | 'A'..='Z'))
 }
 
-/// Whether the code may begin a name, in text or not.
+/// Whether a name may begin with the character. `text` says whether the pattern is a `str`.
 #[tactic(auto, unfolding(crate::specs::Codes::begins_name))]
 pub(crate) fn begins_name(text: bool, code: u32) -> bool
     ensures { result ≡ begins_name text code }
@@ -91,7 +91,7 @@ pub(crate) fn begins_name(text: bool, code: u32) -> bool
     is_letter(code) || code == '_' as u32 || text && 0x80 <= code
 }
 
-/// Whether the code may stand in a name, in text or not.
+/// Whether the character may occur in a name. `text` says whether the pattern is a `str`.
 #[tactic(auto, unfolding(crate::specs::Codes::goes_in_name))]
 pub(crate) fn goes_in_name(text: bool, code: u32) -> bool
     ensures { result ≡ goes_in_name text code }
@@ -99,7 +99,8 @@ pub(crate) fn goes_in_name(text: bool, code: u32) -> bool
     begins_name(text, code) || is_digit(code)
 }
 
-/// What a letter is behind a backslash, in text or not, in a class or not.
+/// Classifies a letter after a backslash. `text` says whether the pattern is a `str`, `in_class` whether the escape is in a
+/// class.
 fn slashed_letter(text: bool, in_class: bool, code: u32) -> EscapeClass
     ensures { result ≡ slashed_letter text in_class code }
 {
@@ -129,7 +130,8 @@ fn slashed_letter(text: bool, in_class: bool, code: u32) -> EscapeClass
     }
 }
 
-/// What a code is behind a backslash, in text or not, in a class or not.
+/// Classifies a character after a backslash. `text` says whether the pattern is a `str`, `in_class` whether the escape is
+/// in a class.
 #[tactic(auto, unfolding(crate::specs::Codes::slashed))]
 pub(crate) fn slashed(text: bool, in_class: bool, code: u32) -> EscapeClass
     ensures { result ≡ slashed text in_class code }
@@ -156,7 +158,7 @@ pub(crate) fn slashed(text: bool, in_class: bool, code: u32) -> EscapeClass
     }
 }
 
-/// Whether the code is a flag's letter, which may stand before a `-`.
+/// Whether the character is a flag letter that may precede a `-`.
 #[tactic(auto, unfolding(crate::specs::Codes::on_letter))]
 pub(crate) fn on_letter(code: u32) -> bool
     ensures { result ≡ on_letter code }
@@ -167,7 +169,7 @@ pub(crate) fn on_letter(code: u32) -> bool
     )
 }
 
-/// Whether the code is a letter that may stand after a `-`.
+/// Whether the character is a flag letter that may follow a `-`.
 #[tactic(auto, unfolding(crate::specs::Codes::off_letter))]
 pub(crate) fn off_letter(code: u32) -> bool
     ensures { result ≡ off_letter code }
@@ -175,7 +177,7 @@ pub(crate) fn off_letter(code: u32) -> bool
     matches!(char::from_u32(code), Some('i' | 'm' | 's' | 'x'))
 }
 
-/// What a code is behind `(?`.
+/// Classifies a character after `(?`.
 #[tactic(auto, unfolding(crate::specs::Codes::headed))]
 pub(crate) fn headed(code: u32) -> GroupPrefix
     ensures { result ≡ headed code }
@@ -196,7 +198,7 @@ pub(crate) fn headed(code: u32) -> GroupPrefix
     }
 }
 
-/// Whether the code may stand in the text of a count.
+/// Whether the character may occur in a repeat count between braces.
 #[tactic(auto, unfolding(crate::specs::Codes::counts))]
 pub(crate) fn counts(code: u32) -> bool
     ensures { result ≡ counts code }

@@ -1,4 +1,4 @@
-//! Counts in braces.
+//! Repeat counts in braces.
 
 ghost use Rattle.std.specs.Prelude.{◌≡◌, [], Some};
 ghost use Rattle.rl_pattern.specs.Codes.{count_of};
@@ -8,7 +8,7 @@ use crate::escape::with_digit;
 use crate::lex::CountPart;
 use crate::tree::Count;
 
-/// The count with one code more, if it goes on.
+/// Adds a character to a count. Returns `None` if it can't continue the count.
 fn count_next(part: CountPart, code: u32) -> Option<CountPart>
     ensures { result ≡ part_next part code }
 {
@@ -38,7 +38,7 @@ fn count_next(part: CountPart, code: u32) -> Option<CountPart>
     }
 }
 
-/// The count that the text spells up to its end.
+/// Returns the count that has been read when its text ends here.
 fn count_at_end(part: CountPart) -> Count
     ensures { Some result ≡ part_rest part [] }
 {
@@ -55,7 +55,7 @@ fn count_at_end(part: CountPart) -> Count
     }
 }
 
-/// The count that a text of digits and commas spells between braces, if it does.
+/// Returns the count that a text of digits and commas between braces spells, or `None` if it spells none.
 #[tactic(auto, unfolding(crate::specs::Codes::count_of))]
 pub(crate) fn count_of(text: &[u32]) -> Option<Count>
     ensures { result ≡ count_of text.now }

@@ -1,4 +1,4 @@
-//! The reader before the first code, and at the end of the codes.
+//! The reader before the first character and at the end of the pattern.
 
 ghost use Rattle.std.specs.Prelude.{◌≡◌, ℕ, ◌-◌, ◌<◌, ◌^◌, IfOk, option_map, Some, None, if◌then◌else◌};
 ghost use Rattle.rl_pattern.specs.internal.Views.{base_of, lex_of, state_of, whole_of, FitsAt};
@@ -14,7 +14,7 @@ use rl_syntax::Span;
 use std::alloc::Global;
 use std::mem;
 
-/// The whole pattern where the codes end at `k` between items, if no group is open.
+/// Returns the whole pattern if it ends at `k` between items, or `None` if a group is open.
 fn whole(alloc: Global, base: &mut Base, k: u32) -> Result<Option<Whole>, OutOfMemory>
     ensures { IfOk result (λ found. option_map whole_of found ≡ m.finish k (base_of base.old)) }
 {
@@ -35,7 +35,7 @@ fn whole(alloc: Global, base: &mut Base, k: u32) -> Result<Option<Whole>, OutOfM
     }))
 }
 
-/// Whether the codes may end at `k` in the middle of this, which is put among what was read where they may.
+/// Whether the pattern may end at `k` in the middle of this construct. If so, the construct is added to what was read.
 fn may_end(alloc: Global, base: &mut Base, lex: Lex, k: u32) -> Result<bool, OutOfMemory>
     requires room { k < 2 ^ 32 - 1 }
     requires fits { FitsAt (lex_of lex) k }
@@ -75,7 +75,7 @@ fn may_end(alloc: Global, base: &mut Base, lex: Lex, k: u32) -> Result<bool, Out
     }
 }
 
-/// The whole pattern where the codes end at `k` in the middle of this.
+/// Returns the whole pattern if it ends at `k` in the middle of this construct, or `None` if it can't end there.
 pub(crate) fn finish_lex(
     alloc: Global,
     base: &mut Base,
@@ -93,7 +93,7 @@ pub(crate) fn finish_lex(
     }
 }
 
-/// The state before the first code.
+/// Returns the state before the first character.
 pub(crate) fn start(alloc: Global, flags: Flags) -> State
     ensures { state_of result ≡ m.start flags }
 {

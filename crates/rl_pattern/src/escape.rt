@@ -9,14 +9,14 @@ use crate::codes::{hex, numeral};
 use crate::lex::{Answer, EscapeClass, InEscape, Numeral};
 use crate::tree::Escaped;
 
-/// A number in a base, and one digit more.
+/// Appends a digit to a number in the given base.
 pub(crate) fn with_digit(base: u32, number: u32, digit: u32) -> u32
     ensures { result ≡ with_digit base number digit }
 {
     number.saturating_mul(base).saturating_add(digit)
 }
 
-/// A number as a code, which is at most the greatest.
+/// Returns a number as a code, or `TooLarge` if it is greater than `greatest`.
 fn code_up_to(greatest: u32, number: u32) -> Escaped
     ensures { result ≡ code_up_to greatest number }
 {
@@ -27,21 +27,21 @@ fn code_up_to(greatest: u32, number: u32) -> Escaped
     }
 }
 
-/// The code of an octal number.
+/// Returns the code that an octal number denotes.
 fn octal_code(number: u32) -> Escaped
     ensures { result ≡ octal_code number }
 {
     code_up_to(255, number)
 }
 
-/// The code of a number in hexadecimal digits.
+/// Returns the code that a hexadecimal number denotes.
 fn hex_code(number: u32) -> Escaped
     ensures { result ≡ hex_code number }
 {
     code_up_to(0x10FFFF, number)
 }
 
-/// Whether it is a named class.
+/// Whether the escape is a named class.
 pub(crate) fn is_kind(escaped: Escaped) -> bool
     ensures { result ≡ is_kind escaped }
 {
@@ -51,7 +51,7 @@ pub(crate) fn is_kind(escaped: Escaped) -> bool
     }
 }
 
-/// The code behind the backslash.
+/// Reads the character after the backslash.
 pub(crate) fn escape_first(slashed: EscapeClass) -> Answer<InEscape, Escaped>
     ensures { result ≡ escape_first slashed }
 {
@@ -67,7 +67,7 @@ pub(crate) fn escape_first(slashed: EscapeClass) -> Answer<InEscape, Escaped>
     }
 }
 
-/// A digit after hexadecimal digits, of which so many are still to come.
+/// Reads a hexadecimal digit. `still` digits remain to be read, including this one.
 fn hex_next(still: u32, value: u32, digit: Option<u32>) -> Answer<InEscape, Escaped>
     ensures { result ≡ hex_next still value digit }
 {
@@ -84,7 +84,7 @@ fn hex_next(still: u32, value: u32, digit: Option<u32>) -> Answer<InEscape, Esca
     }
 }
 
-/// A code after octal digits, of which so many may still come.
+/// Reads a character after octal digits. Up to `still` digits may follow, including this one.
 fn octal_next(still: u32, value: u32, next: Numeral) -> Answer<InEscape, Escaped>
     ensures { result ≡ octal_next still value next }
 {
@@ -101,7 +101,7 @@ fn octal_next(still: u32, value: u32, next: Numeral) -> Answer<InEscape, Escaped
     }
 }
 
-/// The next code of an escape.
+/// Reads the next character of an escape.
 pub(crate) fn escape_next(within: InEscape, code: u32) -> Answer<InEscape, Escaped>
     ensures { result ≡ escape_next within code }
 {
@@ -147,7 +147,7 @@ pub(crate) fn escape_next(within: InEscape, code: u32) -> Answer<InEscape, Escap
     }
 }
 
-/// What an escape is where the next code doesn't go on with it.
+/// Returns what the escape is if the next character doesn't continue it, or `None` if it is incomplete.
 pub(crate) fn escape_rest(within: InEscape) -> Option<Escaped>
     ensures { result ≡ escape_rest within }
 {

@@ -1,4 +1,4 @@
-//! What is refused in a tree: the first fault by its place, and of two at one place by the order of features.
+//! What is refused in a syntax tree: the first fault by position, and by the order of features at the same position.
 
 ghost use Rattle.std.specs.Prelude.{◌≡◌, ℕ, Bool, List, map, ◌||◌, ◌&&◌, ◌==◌, nat_lt, flat_map};
 ghost use Rattle.rl_pattern.specs.internal.Views.{node_of, branch_of};
@@ -11,16 +11,16 @@ use crate::tree::{
 };
 use rl_syntax::{Feature, Span};
 
-/// A feature at a place that is refused.
+/// A feature that is refused, with its position.
 #[derive(Clone, Copy)]
 pub(crate) struct Fault {
-    /// The place.
+    /// The position.
     pub(crate) place: u32,
     /// The feature.
     pub(crate) what: Feature,
 }
 
-/// The place of a feature in the order of features.
+/// Returns the rank of a feature, which decides between two faults at the same position.
 fn rank(what: Feature) -> u32
     ensures { result ≡ f.rank what }
 {
@@ -42,7 +42,7 @@ fn rank(what: Feature) -> u32
     }
 }
 
-/// Whether the first fault comes first.
+/// Whether the first fault comes before the second, or is equal to it.
 fn comes_first(first: Fault, second: Fault) -> bool
     ensures { result ≡ f.comes_first first second }
 {
@@ -50,7 +50,7 @@ fn comes_first(first: Fault, second: Fault) -> bool
         || first.place == second.place && rank(first.what) <= rank(second.what)
 }
 
-/// The first of two faults, if there is one.
+/// Returns the earlier of two faults, either of which may be missing.
 pub(crate) fn earlier(first: Option<Fault>, second: Option<Fault>) -> Option<Fault>
     ensures { result ≡ f.earlier first second }
 {
@@ -63,7 +63,7 @@ pub(crate) fn earlier(first: Option<Fault>, second: Option<Fault>) -> Option<Fau
     }
 }
 
-/// A fault where there is one.
+/// Returns a fault if `found` is set.
 pub(crate) fn fault_if(found: bool, place: u32, what: Feature) -> Option<Fault>
     ensures { result ≡ f.first_fault (f.fault_if found place what) }
 {
@@ -74,7 +74,7 @@ pub(crate) fn fault_if(found: bool, place: u32, what: Feature) -> Option<Fault>
     }
 }
 
-/// The fault of a code or escape at a place.
+/// Returns the fault of a character or escape at a position.
 fn escaped_fault(place: u32, escaped: Escaped) -> Option<Fault>
     ensures { result ≡ f.first_fault (f.escaped_faults place escaped) }
 {
@@ -95,7 +95,7 @@ fn escaped_fault(place: u32, escaped: Escaped) -> Option<Fault>
     }
 }
 
-/// Whether a range has its greater code first.
+/// Whether the first code of a range is greater than its last.
 fn reversed(first: Escaped, last: Escaped) -> bool
     ensures { result ≡ f.reversed first last }
 {
@@ -110,7 +110,7 @@ fn reversed(first: Escaped, last: Escaped) -> bool
     }
 }
 
-/// The first fault of a member of a class.
+/// Returns the first fault of a member of a class.
 #[tactic(auto, using(crate::proofs::FirstFault::first_of_joined))]
 fn member_fault(member: Member) -> Option<Fault>
     ensures { result ≡ f.first_fault (f.member_faults member) }
@@ -125,7 +125,7 @@ fn member_fault(member: Member) -> Option<Fault>
     }
 }
 
-/// The first fault of the members of a class.
+/// Returns the first fault among the members of a class.
 fn members_fault(members: &[Member]) -> Option<Fault>
     ensures { result ≡ f.first_fault (flat_map f.member_faults members.now) }
 {
@@ -136,7 +136,7 @@ fn members_fault(members: &[Member]) -> Option<Fault>
     best
 }
 
-/// The first fault of a node for one code.
+/// Returns the first fault of a leaf.
 fn leaf_fault(span: Span, leaf: &Leaf) -> Option<Fault>
     ensures { result ≡ f.first_fault (f.leaf_faults span leaf.now) }
 {
@@ -147,7 +147,7 @@ fn leaf_fault(span: Span, leaf: &Leaf) -> Option<Fault>
     }
 }
 
-/// The fault of an anchor or a boundary.
+/// Returns the fault of an anchor or word boundary.
 fn mark_fault(span: Span, flags: Flags, mark: Assertion) -> Option<Fault>
     ensures { result ≡ f.first_fault (f.mark_faults span flags mark) }
 {
@@ -158,7 +158,7 @@ fn mark_fault(span: Span, flags: Flags, mark: Assertion) -> Option<Fault>
     }
 }
 
-/// Whether a number of a count is as large as numbers get.
+/// Whether a bound of the count is the largest number that is stored, which also represents all larger numbers.
 fn is_too_large(count: Count) -> bool
     ensures { result ≡ (count.least == 4294967295 || f.is_bound (λ m. m == 4294967295) count.most) }
 {
@@ -168,7 +168,7 @@ fn is_too_large(count: Count) -> bool
     }
 }
 
-/// Whether there is a greatest number, and it is below the least.
+/// Whether there is a maximum that is less than the minimum.
 fn is_below(most: Option<u32>, least: u32) -> bool
     ensures { result ≡ f.is_bound (λ m. nat_lt m least) most }
 {
@@ -178,7 +178,7 @@ fn is_below(most: Option<u32>, least: u32) -> bool
     }
 }
 
-/// Whether a quantifier gives nothing back.
+/// Whether a quantifier is possessive.
 fn is_possessive(greed: Greed) -> bool
     ensures { result ≡ f.is_possessive greed }
 {
@@ -188,7 +188,7 @@ fn is_possessive(greed: Greed) -> bool
     }
 }
 
-/// The first fault of a quantifier at a place.
+/// Returns the first fault of a quantifier at a position.
 #[tactic(auto, using(crate::proofs::FirstFault::first_of_joined))]
 fn count_fault(place: u32, count: Count, greed: Greed) -> Option<Fault>
     ensures { result ≡ f.first_fault (f.count_faults place count greed) }
@@ -203,7 +203,7 @@ fn count_fault(place: u32, count: Count, greed: Greed) -> Option<Fault>
     earlier(too_large, earlier(order, kept))
 }
 
-/// Whether letters stand on both sides of a `-`.
+/// Whether the same letter is on both sides of a `-`.
 fn overlap(on: Flags, off: Flags) -> bool
     ensures { result ≡ f.overlap on off }
 {
@@ -213,7 +213,7 @@ fn overlap(on: Flags, off: Flags) -> bool
         || on.verbose && off.verbose
 }
 
-/// The first fault of a group's head at a place, in text or not, apart from its name.
+/// Returns the first fault of a group's head, apart from its name. `text` says whether the pattern is a `str`.
 #[tactic(auto, using(crate::proofs::FirstFault::first_of_joined))]
 fn kind_fault(text: bool, place: u32, kind: &Kind) -> Option<Fault>
     ensures { result ≡ f.first_fault (f.kind_faults text place kind.now) }
@@ -240,7 +240,7 @@ fn kind_fault(text: bool, place: u32, kind: &Kind) -> Option<Fault>
     }
 }
 
-/// The first fault of a node, in text or not, apart from names that stand twice.
+/// Returns the first fault of a node, apart from duplicate group names. `text` says whether the pattern is a `str`.
 #[cycle(node_fault)]
 #[tactic(auto, using(crate::proofs::FirstFault::first_of_joined))]
 pub(crate) fn node_fault(text: bool, node: &SyntaxNode) -> Option<Fault>
@@ -263,7 +263,7 @@ pub(crate) fn node_fault(text: bool, node: &SyntaxNode) -> Option<Fault>
     }
 }
 
-/// The first fault of nodes one after another.
+/// Returns the first fault in a sequence of nodes.
 #[cycle(node_fault)]
 fn nodes_fault(text: bool, nodes: &[SyntaxNode]) -> Option<Fault>
     ensures { result ≡ f.first_fault (f.nodes_faults text (t.nodes (map node_of nodes.now))) }
@@ -275,7 +275,7 @@ fn nodes_fault(text: bool, nodes: &[SyntaxNode]) -> Option<Fault>
     best
 }
 
-/// The first fault of branches.
+/// Returns the first fault in the branches of a choice.
 #[cycle(node_fault)]
 fn branches_fault(text: bool, branches: &[Branch]) -> Option<Fault>
     ensures { result ≡ f.first_fault (f.branches_faults text (t.branches (map branch_of branches.now))) }
@@ -287,7 +287,8 @@ fn branches_fault(text: bool, branches: &[Branch]) -> Option<Fault>
     best
 }
 
-/// The first fault of a front flag group under the flags before it, in text or not.
+/// Returns the first fault of a flag group at the front, given the flags before it. `text` says whether the pattern is a
+/// `str`.
 #[tactic(auto, using(crate::proofs::FirstFault::first_of_joined))]
 fn front_fault(text: bool, flags: Flags, front: Front) -> Option<Fault>
     ensures { result ≡ f.first_fault (f.front_own text flags front) }
@@ -302,7 +303,8 @@ fn front_fault(text: bool, flags: Flags, front: Front) -> Option<Fault>
     )
 }
 
-/// The first fault of front flag groups under the call's flags, in text or not.
+/// Returns the first fault of the flag groups at the front, given the flags of the call. `text` says whether the pattern is
+/// a `str`.
 pub(crate) fn fronts_fault(text: bool, call: Flags, fronts: &[Front]) -> Option<Fault>
     ensures { result ≡ f.first_fault (f.front_faults text call fronts.now) }
 {
@@ -315,7 +317,7 @@ pub(crate) fn fronts_fault(text: bool, call: Flags, fronts: &[Front]) -> Option<
     best
 }
 
-/// What the call's own flags are refused for, in text or not.
+/// Returns the reason to refuse the flags of the call, if there is one. `text` says whether the pattern is a `str`.
 pub(crate) fn refused_flags(flags: Flags, text: bool) -> Option<Feature>
     ensures { result ≡ f.refused_flags flags text }
 {

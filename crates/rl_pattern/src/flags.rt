@@ -3,26 +3,26 @@
 ghost use Rattle.std.specs.Prelude.{◌≡◌, ◌&&◌, ◌||◌, not};
 ghost use Rattle.rl_pattern.specs.Codes.{no_flags, with_letter, joined, scoped_flags};
 
-/// The flags of a pattern, each by its letter in the Python `re` manual: `i m s x a u L`.
+/// The flags of a pattern, by their letters in the manual of Python's `re`: `i m s x a u L`.
 #[derive(Clone, Copy, Debug, PartialEq, Eq)]
 pub struct Flags {
-    /// `i`: single codes and ranges hold every code of their kind.
+    /// `i`: characters and ranges also match their other cases.
     pub ignore_case: bool,
-    /// `m`: `^` and `$` hold at the lines' ends too.
+    /// `m`: `^` and `$` also match at the start and end of each line.
     pub multiline: bool,
-    /// `s`: `.` holds the line feed too.
+    /// `s`: `.` also matches a line feed.
     pub dot_all: bool,
-    /// `x`: white space and `#` comments between items are passed over.
+    /// `x`: white space and `#` comments between items are ignored.
     pub verbose: bool,
-    /// `a`: the named classes and the boundary are those of ASCII.
+    /// `a`: named classes and word boundaries follow ASCII.
     pub ascii: bool,
-    /// `u`: the named classes and the boundary are those of Unicode, as they are in text anyway.
+    /// `u`: named classes and word boundaries follow Unicode, which is the default for a `str`.
     pub unicode: bool,
-    /// `L`: the locale decides, which no pattern here allows.
+    /// `L`: they follow the locale. No pattern with this flag is judged.
     pub locale: bool,
 }
 
-/// No flag.
+/// Returns flags of which none is set.
 pub(crate) fn no_flags() -> Flags
     ensures { result ≡ no_flags }
 {
@@ -37,7 +37,7 @@ pub(crate) fn no_flags() -> Flags
     }
 }
 
-/// These letters and one more.
+/// Returns the flags with one more letter set.
 #[tactic(auto, unfolding(crate::specs::Codes::with_letter))]
 pub(crate) fn with_letter(letters: Flags, code: u32) -> Flags
     ensures { result ≡ with_letter letters code }
@@ -53,7 +53,7 @@ pub(crate) fn with_letter(letters: Flags, code: u32) -> Flags
     }
 }
 
-/// The flags after a front flag group.
+/// Returns the flags in force after a flag group at the front.
 #[tactic(auto, unfolding(crate::specs::Codes::joined))]
 pub(crate) fn joined(flags: Flags, letters: Flags) -> Flags
     ensures { result ≡ joined flags letters }
@@ -69,22 +69,22 @@ pub(crate) fn joined(flags: Flags, letters: Flags) -> Flags
     }
 }
 
-/// A flag in a group that may turn it on or off.
+/// Returns a flag within a group that may turn it on or off.
 fn turned(off: bool, on: bool, flag: bool) -> bool
     ensures { result ≡ (not off && (on || flag)) }
 {
     !off && (on || flag)
 }
 
-/// A flag in a group that may turn it on, or turn on another that excludes it.
+/// Returns a flag within a group that may turn it on, or may turn on another flag that excludes it.
 fn turned_by(on: bool, flag: bool, other: bool) -> bool
     ensures { result ≡ (on || (flag && not other)) }
 {
     on || flag && !other
 }
 
-/// The flags in a group with letters before and after its `-`. A letter on both sides is off, and ASCII and UNICODE turn one
-/// another off.
+/// Returns the flags within a group that has letters before and after its `-`. A letter on both sides is off, and ASCII and
+/// UNICODE turn each other off.
 #[tactic(auto, unfolding(crate::specs::Codes::scoped_flags))]
 pub(crate) fn scoped_flags(on: Flags, off: Flags, flags: Flags) -> Flags
     ensures { result ≡ scoped_flags on off flags }

@@ -13,7 +13,7 @@ use std::alloc::Global;
 
 type HeadAnswer = Answer<InHead, GroupStart>;
 
-/// Whether nothing of the head was read but its parenthesis.
+/// Whether only the parenthesis of the head has been read.
 pub(crate) fn behind_paren(head: &InHead) -> bool
     ensures { result ≡ behind_paren head.now }
 {
@@ -35,7 +35,7 @@ pub(crate) fn behind_paren(head: &InHead) -> bool
     }
 }
 
-/// The code behind `(?`.
+/// Reads the character after `(?`.
 fn quest_next(next: GroupPrefix, code: u32) -> HeadAnswer
     ensures { result ≡ quest_next next code }
 {
@@ -56,7 +56,7 @@ fn quest_next(next: GroupPrefix, code: u32) -> HeadAnswer
     }
 }
 
-/// The code behind `(?<`.
+/// Reads the character after `(?<`.
 fn behind_next(next: GroupPrefix) -> HeadAnswer
     ensures { result ≡ behind_next next }
 {
@@ -74,7 +74,7 @@ fn behind_next(next: GroupPrefix) -> HeadAnswer
     }
 }
 
-/// The code behind letters of flags.
+/// Reads a character after flag letters.
 fn letters_next(letters: Flags, code: u32) -> HeadAnswer
     ensures { (text : Bool) → result ≡ head_step text (InHead.LettersOn letters) code }
 {
@@ -94,7 +94,7 @@ fn letters_next(letters: Flags, code: u32) -> HeadAnswer
     }
 }
 
-/// One answer or the other.
+/// Continues with the head if `goes` is set, and stops otherwise.
 fn goes_if(goes: bool, head: InHead) -> HeadAnswer
     ensures { result ≡ (if goes then Answer.Goes head else Answer.Stops) }
 {
@@ -105,7 +105,7 @@ fn goes_if(goes: bool, head: InHead) -> HeadAnswer
     }
 }
 
-/// A group's name with one code more, if it goes on.
+/// Appends a character to a group's name if `goes` is set, and stops otherwise.
 fn name_goes(goes: bool, mut name: Items<u32>, code: u32) -> Result<HeadAnswer, OutOfMemory>
     ensures { IfOk result (λ answer. answer ≡ (if goes then Answer.Goes (InHead.GroupNameGoes (name ++ code ∷ [])) else Answer.Stops)) }
 {
@@ -120,7 +120,7 @@ fn name_goes(goes: bool, mut name: Items<u32>, code: u32) -> Result<HeadAnswer, 
     Ok(Answer::Goes(InHead::GroupNameGoes(name)))
 }
 
-/// A code within a group's name, in text or not.
+/// Reads a character within a group's name. `text` says whether the pattern is a `str`.
 fn group_name_next(text: bool, name: Items<u32>, code: u32) -> Result<HeadAnswer, OutOfMemory>
     ensures { IfOk result (λ answer. answer ≡ head_step text (InHead.GroupNameGoes name) code) }
 {
@@ -131,7 +131,7 @@ fn group_name_next(text: bool, name: Items<u32>, code: u32) -> Result<HeadAnswer
     }
 }
 
-/// A code within what a conditional asks for.
+/// Reads a character within the condition of a conditional group.
 fn asks_next(code: u32, goes: bool, head: InHead) -> HeadAnswer
     ensures { result ≡ (if is ")" code then Answer.Ends (GroupStart.BeginsGroup Kind.Conditional) else (if goes then Answer.Goes head else Answer.Stops)) }
 {
@@ -142,7 +142,7 @@ fn asks_next(code: u32, goes: bool, head: InHead) -> HeadAnswer
     }
 }
 
-/// The next code of a head, in text or not.
+/// Reads the next character of a head. `text` says whether the pattern is a `str`.
 pub(crate) fn head_step(
     alloc: Global,
     text: bool,

@@ -1,4 +1,4 @@
-//! Taking off the outer anchors of a pattern.
+//! Removing the outer anchors of a pattern.
 
 ghost use Rattle.std.specs.Prelude.{◌≡◌, List, [], ◌∷◌, map, reverse, Some, IfOk};
 ghost use Rattle.rl_pattern.specs.internal.Views.{node_of, branch_of, whole_of};
@@ -15,15 +15,15 @@ use std::alloc::Global;
 /// A pattern without its outer anchors.
 #[derive(Drop)]
 pub(crate) struct Inner {
-    /// What is left of the body. The spans are those that were spelled.
+    /// What is left of the body. Its spans are those of the pattern as written.
     pub(crate) body: SyntaxNode,
-    /// Whether there was an anchor at the beginning.
+    /// Whether there was an anchor at the start.
     pub(crate) leading: bool,
     /// The anchors at the end.
     pub(crate) trailing: Trail,
 }
 
-/// Whether a node is an anchor that may stand at the beginning.
+/// Whether the node is an anchor that can be a leading one.
 fn is_leading(node: &SyntaxNode) -> bool
     ensures { result ≡ f.is_leading (node_of node.now) }
 {
@@ -42,7 +42,7 @@ fn is_leading(node: &SyntaxNode) -> bool
     }
 }
 
-/// The anchor at the end that a node may be.
+/// Returns the trailing anchor that the node is, if it is one.
 fn trail_of(node: &SyntaxNode) -> Trail
     ensures { result ≡ f.trail_of (node_of node.now) }
 {
@@ -67,7 +67,7 @@ fn trail_of(node: &SyntaxNode) -> Trail
     }
 }
 
-/// The anchor of two: `\Z` where one of them is it.
+/// Returns the trailing anchor that two of them form: `\Z` if one of them is `\Z`.
 fn both_trails(first: Trail, second: Trail) -> Trail
     ensures { result ≡ anchor_of_both first second }
 {
@@ -81,7 +81,7 @@ fn both_trails(first: Trail, second: Trail) -> Trail
     }
 }
 
-/// Whether the first item is an anchor that may stand at the beginning.
+/// Whether the first item is an anchor that can be a leading one.
 fn begins_leading(items: &[SyntaxNode]) -> bool
     ensures { result ≡ f.begins_leading (map node_of items.now) }
 {
@@ -91,7 +91,7 @@ fn begins_leading(items: &[SyntaxNode]) -> bool
     }
 }
 
-/// Whether the last item is an anchor that may stand at the beginning.
+/// Whether the last item is an anchor that can be a leading one.
 fn ends_leading(items: &[SyntaxNode]) -> bool
     ensures { result ≡ f.begins_leading (reverse (map node_of items.now)) }
 {
@@ -101,7 +101,7 @@ fn ends_leading(items: &[SyntaxNode]) -> bool
     }
 }
 
-/// The anchor at the end that the last item may be.
+/// Returns the trailing anchor that the last item is, if it is one.
 fn last_trail(items: &[SyntaxNode]) -> Trail
     ensures { result ≡ trail_at (reverse (map node_of items.now)) }
 {
@@ -111,7 +111,7 @@ fn last_trail(items: &[SyntaxNode]) -> Trail
     }
 }
 
-/// Takes the longest run of anchors off the end of the items, which stand from the end.
+/// Removes the longest run of leading anchors from items in reverse order, where the run is at the end.
 fn take_from_back(items: &mut Vec<SyntaxNode>)
     ensures { reverse (map node_of items.new.items) ≡ without_leading (reverse (map node_of items.old.items)) }
 {
@@ -120,7 +120,7 @@ fn take_from_back(items: &mut Vec<SyntaxNode>)
     }
 }
 
-/// Takes the longest run of leading anchors off the items.
+/// Removes the longest run of leading anchors from the items.
 fn take_leading(items: &mut Vec<SyntaxNode>)
     ensures { map node_of items.new.items ≡ without_leading (map node_of items.old.items) }
 {
@@ -129,7 +129,7 @@ fn take_leading(items: &mut Vec<SyntaxNode>)
     items.reverse();
 }
 
-/// Takes the longest run of trailing anchors off the items, and answers which it was.
+/// Removes the longest run of trailing anchors from the items, and returns which anchor it was.
 fn take_trailing(items: &mut Vec<SyntaxNode>) -> Trail
     ensures rest { reverse (map node_of items.new.items) ≡ without_trailing (reverse (map node_of items.old.items)) }
     ensures run { result ≡ f.trailing_run (reverse (map node_of items.old.items)) }
@@ -144,7 +144,7 @@ fn take_trailing(items: &mut Vec<SyntaxNode>) -> Trail
     run
 }
 
-/// A branch of these items without its outer anchors.
+/// Removes the outer anchors from a branch with these items.
 fn inner_branch(place: Span, mut items: Vec<SyntaxNode>) -> Inner
     ensures { left_of result ≡ f.inner_of place (t.nothing place) (Some (map node_of items.items)) }
 {
@@ -159,53 +159,31 @@ fn inner_branch(place: Span, mut items: Vec<SyntaxNode>) -> Inner
     }
 }
 
-/// What is left of a whole pattern where its outer anchors are taken off.
+/// Removes the outer anchors from a whole pattern.
 ///
 /// # Errors
-/// [`OutOfMemory`] where there was no memory for a branch.
+/// [`OutOfMemory`] if there is no memory for a branch.
 pub(crate) fn without_anchors(alloc: Global, whole: Whole) -> Result<Inner, OutOfMemory>
     ensures { IfOk result (λ i. left_of i ≡ f.inner (whole_of whole)) }
 {
     let Whole {
-        fronts,
+        fronts: _,
         place,
         body,
     } = whole;
-    drop(fronts);
     match body {
-        SyntaxNode::Choice(span, branches) => Ok(Inner {
-            body: SyntaxNode::Choice(span, branches),
+        SyntaxNode::Choice(_, _) => Ok(Inner {
+            body,
             leading: false,
             trailing: Trail::None,
         }),
         SyntaxNode::Nothing(_) => Ok(inner_branch(place, Vec::new(alloc))),
         SyntaxNode::Seq(_, items) => Ok(inner_branch(place, items.into_vec())),
-        SyntaxNode::Leaf(span, flags, leaf) => one_inner(
-            alloc,
-            place,
-            SyntaxNode::Leaf(span, flags, leaf),
-        ),
-        SyntaxNode::Assertion(span, flags, mark) => one_inner(
-            alloc,
-            place,
-            SyntaxNode::Assertion(span, flags, mark),
-        ),
-        SyntaxNode::Repeat(span, mark, count, greed, body) => {
-            one_inner(
-                alloc,
-                place,
-                SyntaxNode::Repeat(span, mark, count, greed, body),
-            )
-        }
-        SyntaxNode::Group(span, kind, body) => one_inner(
-            alloc,
-            place,
-            SyntaxNode::Group(span, kind, body),
-        ),
+        item => one_inner(alloc, place, item),
     }
 }
 
-/// A branch of one item without its outer anchors.
+/// Removes the outer anchors from a branch of one item.
 fn one_inner(alloc: Global, place: Span, item: SyntaxNode) -> Result<Inner, OutOfMemory>
     ensures { IfOk result (λ i. left_of i ≡ f.inner_of place (node_of item) (Some (node_of item ∷ []))) }
 {

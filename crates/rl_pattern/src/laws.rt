@@ -1,4 +1,5 @@
-//! Laws of spelling and reading, for all codes. The functions do nothing: what they ensure is what is proved.
+//! Laws of spelling and parsing, which hold for all texts of patterns. The functions do nothing; their `ensures` clauses
+//! are the laws.
 
 ghost use Rattle.std.specs.Prelude.{◌≡◌, ◌⊎◌, ℕ, Bool, true, List, [], length, Result, Ok, Err};
 ghost use Rattle.rl_ranges.specs.declared.universe.Universe.{Universe};
@@ -21,19 +22,19 @@ ghost use Rattle.rl_pattern.specs.Reread.{IsLeft, IsReread};
 ghost use Rattle.rl_pattern.specs.Placed.{ArePlaced};
 ghost use Rattle.rl_pattern.specs.SameAnswer.{IsSameAnswer};
 
-/// Codes of a kind of text, under the flags of a call, spell one tree at most.
+/// States that the grammar is unambiguous: under the flags of a call, codes spell at most one syntax tree.
 pub fn codes_spell_one_tree()
     ensures { (call : Flags) (text : Bool) (w : List ℕ) (p q : Whole) → Spells call text w p → Spells call text w q → p ≡ q }
 {}
 
-/// Codes have one answer, beside out of memory.
+/// States that parsing has only one result, except that it may run out of memory.
 pub fn parsed_once()
     ensures { (flags : Flags) (u : Universe) (w : List ℕ) (r s : Result Pattern PatError) → IsParsed flags u w r → IsParsed flags u w s
         → (r ≡ Err error.OutOfMemory) ⊎ ((s ≡ Err error.OutOfMemory) ⊎ IsSameAnswer r s) }
 {}
 
-/// The branches of a pattern that was read, and the quantifiers that the rule takes out once some branches are dropped, lie in
-/// its codes and are listed by rising place.
+/// States that the spans listed for a suggestion lie in the pattern and are in ascending order: those of all branches, and
+/// those of the quantifiers that are removed once some branches are dropped.
 pub fn spans_lie_in_the_codes()
     ensures branches { (flags : Flags) (u : Universe) (w : List ℕ) (found : Pattern) → IsParsed flags u w (Ok found)
         → ArePlaced (length w) (branches_in (body_of found)) }
@@ -41,16 +42,16 @@ pub fn spans_lie_in_the_codes()
         → ArePlaced (length w) (merged_in (left (among dropped) no_span (body_of found))) }
 {}
 
-/// Locality of spelling: where codes are taken out of spelled ones so that what comes to stand side by side may do so, those
-/// that are kept spell what is left of the tree, under the same flags.
+/// States that spelling is local. If some codes of a pattern are removed, and the codes that become neighbors may be
+/// neighbors, then the remaining codes spell what is left of the syntax tree, under the same flags.
 pub(crate) fn left_is_spelled()
     ensures { (call : Flags) (text : Bool) (w v : List ℕ) (kept : ℕ → Bool) (g : ℕ → ℕ) (p : Whole) → Thinned w v kept g
         → LeftWhole text w kept g call p → Spells call text v p }
 {}
 
-/// The text of a suggestion is read as a pattern: the one without the branches that were dropped and the quantifiers that the
-/// rule takes out. Every answer of the reader is such a pattern, unless it is out of memory, and taking the quantifiers out
-/// changes no span.
+/// States that the text of a suggestion can be parsed. The result is the pattern without the dropped branches and the
+/// removed quantifiers, and parsing gives no other result unless it runs out of memory. Removing the quantifiers doesn't
+/// change what the pattern spans.
 pub fn right_texts_are_read()
     ensures pattern { (flags : Flags) (u : Universe) (w : List ℕ) (found : Pattern) (dropped : List Span) → IsParsed flags u w (Ok found)
         → may_go (among dropped) (body_of found) ≡ true → (holds_guard (body_of found) ≡ true → dropped ≡ [])

@@ -1,4 +1,4 @@
-//! The codes that a leaf of a spelled tree holds.
+//! The characters that a leaf of a syntax tree matches.
 
 ghost use Rattle.std.specs.Prelude.{◌≡◌, ℕ, Bool, ◌&&◌, ◌||◌, ◌==◌, not, IfOk, false};
 ghost use Rattle.rl_ranges.specs.Codes.{has, is_between, IsInside};
@@ -12,7 +12,7 @@ use rl_lists::OutOfMemory;
 use rl_ranges::{CodeSet, Named, Universe};
 use std::alloc::Global;
 
-/// No codes.
+/// Returns the empty set.
 fn no_codes(alloc: Global) -> CodeSet
     ensures members { (c : ℕ) → has result c ≡ false }
     ensures inside { (u : Universe) → IsInside u result }
@@ -20,7 +20,7 @@ fn no_codes(alloc: Global) -> CodeSet
     CodeSet::none(alloc)
 }
 
-/// The codes of the universe from the first to the last.
+/// Returns the codes of the universe from `first` to `last`.
 fn codes_between(
     alloc: Global,
     universe: Universe,
@@ -38,7 +38,7 @@ fn codes_between(
     }
 }
 
-/// A set, closed under case where the flags say so.
+/// Closes a set under case if the flags ask for it.
 fn closed(universe: Universe, flags: Flags, set: CodeSet) -> Result<CodeSet, OutOfMemory>
     requires { IsInside universe set }
     ensures members { IfOk result (λ s. (p : ℕ → Bool) → ((c : ℕ) → has set c ≡ within universe p c)
@@ -46,15 +46,13 @@ fn closed(universe: Universe, flags: Flags, set: CodeSet) -> Result<CodeSet, Out
     ensures inside { IfOk result (IsInside universe) }
 {
     if flags.ignore_case {
-        let closed = set.case_closed(flags.ascii, universe);
-        drop(set);
-        closed
+        set.case_closed(flags.ascii, universe)
     } else {
         Ok(set)
     }
 }
 
-/// A named class, or its complement.
+/// Returns a named class or its complement.
 fn kind_set(
     alloc: Global,
     universe: Universe,
@@ -67,15 +65,13 @@ fn kind_set(
 {
     let class = CodeSet::named(alloc, kind, flags.ascii, universe)?;
     if inverse {
-        let others = class.complement(universe);
-        drop(class);
-        others
+        class.complement(universe)
     } else {
         Ok(class)
     }
 }
 
-/// The codes of a code or an escape.
+/// Returns the set of a character or an escape.
 #[tactic(auto, unfolding(crate::specs::internal::LeafSets::escaped_in))]
 fn escaped_set(
     alloc: Global,
@@ -91,53 +87,27 @@ fn escaped_set(
             let set = codes_between(alloc, universe, code, code)?;
             closed(universe, flags, set)
         }
-        Escaped::Kind(kind, inverse) => { kind_set(alloc, universe, flags, kind, inverse) }
+        Escaped::Kind(kind, inverse) => kind_set(alloc, universe, flags, kind, inverse),
         Escaped::TooLarge | Escaped::ByName | Escaped::Reference => Ok(no_codes(alloc)),
     }
 }
 
-/// The code or the range of a class's member, where it is one.
+/// Returns the set of a class member that is a character or a range, or the empty set for any other member.
 #[tactic(auto, unfolding(crate::specs::internal::LeafSets::code_in))]
 fn member_codes(alloc: Global, universe: Universe, member: Member) -> Result<CodeSet, OutOfMemory>
     ensures members { IfOk result (λ s. (c : ℕ) → has s c ≡ code_in universe member c) }
     ensures inside { IfOk result (IsInside universe) }
 {
     match member {
-        Member::One(_, side) => match side {
-            Escaped::Code(code) => { codes_between(alloc, universe, code, code) }
-            Escaped::Kind(_, _) | Escaped::TooLarge | Escaped::ByName | Escaped::Reference => {
-                Ok(no_codes(alloc))
-            }
-        },
-        Member::Range(_, first, last) => { range_codes(alloc, universe, first, last) }
-    }
-}
-
-/// The codes of a range of a class.
-#[tactic(auto, unfolding(crate::specs::internal::LeafSets::code_in))]
-fn range_codes(
-    alloc: Global,
-    universe: Universe,
-    first: Escaped,
-    last: Escaped,
-) -> Result<CodeSet, OutOfMemory>
-    ensures members { IfOk result (λ s. (place : Span) (c : ℕ) → has s c ≡ code_in universe (range place first last) c) }
-    ensures inside { IfOk result (IsInside universe) }
-{
-    match first {
-        Escaped::Code(first) => match last {
-            Escaped::Code(last) => { codes_between(alloc, universe, first, last) }
-            Escaped::Kind(_, _) | Escaped::TooLarge | Escaped::ByName | Escaped::Reference => {
-                Ok(no_codes(alloc))
-            }
-        },
-        Escaped::Kind(_, _) | Escaped::TooLarge | Escaped::ByName | Escaped::Reference => {
-            Ok(no_codes(alloc))
+        Member::One(_, Escaped::Code(code)) => codes_between(alloc, universe, code, code),
+        Member::Range(_, Escaped::Code(first), Escaped::Code(last)) => {
+            codes_between(alloc, universe, first, last)
         }
+        _ => Ok(no_codes(alloc)),
     }
 }
 
-/// A set with the named class of a class's member, where the member is one.
+/// Adds a class member to the set if it is a named class.
 #[tactic(auto, using(crate::proofs::LeafLaws::or_none), unfolding(crate::specs::internal::LeafSets::class_in))]
 fn with_kind(
     alloc: Global,
@@ -151,43 +121,28 @@ fn with_kind(
     ensures inside { IfOk result (IsInside universe) }
 {
     match member {
-        Member::One(_, side) => match side {
-            Escaped::Kind(kind, inverse) => {
-                let Ok(more) = kind_set(alloc, universe, flags, kind, inverse) else {
-                    drop(set);
-                    return Err(OutOfMemory);
-                };
-                let both = set.union(&more);
-                drop(more);
-                drop(set);
-                both
-            }
-            Escaped::Code(_) | Escaped::TooLarge | Escaped::ByName | Escaped::Reference => Ok(set),
-        },
-        Member::Range(_, _, _) => Ok(set),
+        Member::One(_, Escaped::Kind(kind, inverse)) => {
+            let more = kind_set(alloc, universe, flags, kind, inverse)?;
+            set.union(&more)
+        }
+        _ => Ok(set),
     }
 }
 
-/// The codes and ranges of the members of a class.
+/// Returns the set of the characters and ranges among the members of a class.
 fn all_codes(alloc: Global, universe: Universe, members: &[Member]) -> Result<CodeSet, OutOfMemory>
     ensures members { IfOk result (λ s. (c : ℕ) → has s c ≡ codes_in universe members.now c) }
     ensures inside { IfOk result (IsInside universe) }
 {
     let mut set = no_codes(alloc);
     for member in members {
-        let Ok(more) = member_codes(alloc, universe, *member) else {
-            drop(set);
-            return Err(OutOfMemory);
-        };
-        let both = set.union(&more);
-        drop(more);
-        drop(set);
-        set = both?;
+        let more = member_codes(alloc, universe, *member)?;
+        set = set.union(&more)?;
     }
     Ok(set)
 }
 
-/// The named classes of the members of a class.
+/// Returns the set of the named classes among the members of a class.
 fn all_kinds(
     alloc: Global,
     universe: Universe,
@@ -204,7 +159,8 @@ fn all_kinds(
     Ok(set)
 }
 
-/// The codes of the members of a class: the single codes and ranges, closed where the flags say so, and the named classes.
+/// Returns the set of all members of a class: characters and ranges, closed under case if the flags ask for it, and named
+/// classes.
 fn members_set(
     alloc: Global,
     universe: Universe,
@@ -216,17 +172,11 @@ fn members_set(
 {
     let codes = all_codes(alloc, universe, members)?;
     let codes = closed(universe, flags, codes)?;
-    let Ok(kinds) = all_kinds(alloc, universe, flags, members) else {
-        drop(codes);
-        return Err(OutOfMemory);
-    };
-    let all = codes.union(&kinds);
-    drop(codes);
-    drop(kinds);
-    all
+    let kinds = all_kinds(alloc, universe, flags, members)?;
+    codes.union(&kinds)
 }
 
-/// The codes that `.` doesn't hold.
+/// Returns the characters that `.` doesn't match.
 fn left_out(alloc: Global, universe: Universe, flags: Flags) -> Result<CodeSet, OutOfMemory>
     ensures members { IfOk result (λ s. (c : ℕ) → has s c ≡ within universe (λ d. not flags.dot_all && d == 10) c) }
     ensures inside { IfOk result (IsInside universe) }
@@ -238,10 +188,10 @@ fn left_out(alloc: Global, universe: Universe, flags: Flags) -> Result<CodeSet, 
     }
 }
 
-/// The codes that a leaf holds under the flags in force.
+/// Returns the characters that a leaf matches under the flags in force.
 ///
 /// # Errors
-/// [`OutOfMemory`] where there was no memory for the set.
+/// [`OutOfMemory`] if there is no memory for the set.
 pub(crate) fn leaf_set(
     alloc: Global,
     universe: Universe,
@@ -253,17 +203,13 @@ pub(crate) fn leaf_set(
     match leaf {
         Leaf::Any => {
             let others = left_out(alloc, universe, flags)?;
-            let any = others.complement(universe);
-            drop(others);
-            any
+            others.complement(universe)
         }
-        Leaf::Glyph(escaped) => { escaped_set(alloc, universe, flags, *escaped) }
+        Leaf::Glyph(escaped) => escaped_set(alloc, universe, flags, *escaped),
         Leaf::Members(inverse, members) => {
             let set = members_set(alloc, universe, flags, members.as_slice())?;
             if *inverse {
-                let others = set.complement(universe);
-                drop(set);
-                others
+                set.complement(universe)
             } else {
                 Ok(set)
             }

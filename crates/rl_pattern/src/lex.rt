@@ -1,11 +1,11 @@
-//! What the reader of patterns is in the middle of.
+//! What the reader of patterns can be in the middle of.
 
 use crate::flags::Flags;
 use crate::tree::{Assertion, Count, Escaped, Kind, Member};
 use rl_lists::Items;
 use rl_ranges::Named;
 
-/// What a code is between items.
+/// The meaning of a character between items.
 #[derive(Clone, Copy)]
 pub(crate) enum TokenClass {
     /// `(`.
@@ -22,53 +22,53 @@ pub(crate) enum TokenClass {
     Dot,
     /// `[`.
     Bracket,
-    /// `*`, `+` and `?`.
+    /// `*`, `+` or `?`.
     Times(Count),
-    /// `^` and `$`.
+    /// `^` or `$`.
     Edge(Assertion),
     /// White space.
     Blank,
     /// `#`.
     Sharp,
-    /// Any other code.
+    /// Any other character.
     Plain,
 }
 
-/// Digits, as what they may be in an octal number.
+/// The meaning of a character in an octal number.
 #[derive(Clone, Copy)]
 pub(crate) enum Numeral {
-    /// A digit from 0 to 7, by its value.
+    /// A digit from 0 to 7, with its value.
     LowDigit(u32),
     /// 8 or 9.
     HighDigit,
-    /// No digit.
+    /// Not a digit.
     NoDigit,
 }
 
-/// What a code is behind a backslash.
+/// The meaning of a character after a backslash.
 #[derive(Clone, Copy)]
 pub(crate) enum EscapeClass {
-    /// The escape is this code.
+    /// The escape denotes this code.
     Single(u32),
-    /// A named class, or its complement.
+    /// A named class, or its complement if the flag is `true`.
     Kinds(Named, bool),
-    /// So many hexadecimal digits follow.
+    /// This many hexadecimal digits follow.
     Hexes(u32),
     /// A name in braces follows.
     Naming,
-    /// The digit with this value begins an octal number of up to three digits.
+    /// A digit with this value, which begins an octal number of up to three digits.
     Octal(u32),
-    /// The digit with this value, from 1 to 7, begins three octal digits or a reference.
+    /// A digit from 1 to 7 with this value, which begins three octal digits or a reference.
     Low(u32),
-    /// 8 or 9 begins a reference.
+    /// 8 or 9, which begins a reference.
     High,
-    /// An anchor or a boundary.
+    /// An anchor or a word boundary.
     Edges(Assertion),
-    /// No escape.
+    /// Not an escape.
     NoEscape,
 }
 
-/// What a code is behind `(?`.
+/// The meaning of a character after `(?`.
 #[derive(Clone, Copy)]
 pub(crate) enum GroupPrefix {
     /// A flag letter.
@@ -87,104 +87,104 @@ pub(crate) enum GroupPrefix {
     Greater,
     /// `(`.
     Condition,
-    /// `=` and `!`.
+    /// `=` or `!`.
     Looks,
-    /// Any other code.
+    /// Any other character.
     NoHead,
 }
 
-/// What a part of the reader answers to a code.
+/// The result of reading one character of a construct.
 #[derive(Drop)]
 pub(crate) enum Answer<S, A> {
-    /// The code doesn't go on with what was read.
+    /// The character can't continue the construct.
     Stops,
-    /// It does.
+    /// The construct continues in this state.
     Goes(S),
-    /// It ends it.
+    /// The construct is complete, with this result.
     Ends(A),
 }
 
-/// Within an escape, after the code behind its backslash.
+/// The state within an escape, after the character that follows its backslash.
 #[derive(Clone, Copy)]
 pub(crate) enum InEscape {
-    /// So many hexadecimal digits are still to come, after digits with this value.
+    /// This many hexadecimal digits are missing after digits with this value.
     InHex(u32, u32),
-    /// Behind `\N`.
+    /// After `\N`.
     NameBrace,
-    /// Behind its brace.
+    /// After `\N{`.
     NameBegins,
-    /// Behind a code of the name.
+    /// After a character of the name.
     NameGoes,
-    /// Up to so many octal digits may still come, after digits with this value.
+    /// Up to this many octal digits may follow digits with this value.
     InOctal(u32, u32),
-    /// A digit from 1 to 7.
+    /// After a digit from 1 to 7.
     AfterLow(u32),
-    /// 8 or 9.
+    /// After 8 or 9.
     AfterHigh,
-    /// Two octal digits, which may all be a reference.
+    /// After two octal digits, which are a reference unless a third one follows.
     AfterTwo(u32),
 }
 
-/// Within a class, after the members before.
+/// The state within a class, after the members before.
 #[derive(Clone, Copy)]
 pub(crate) enum InSet {
-    /// The first member.
+    /// Before the first member.
     SetFirst,
-    /// A further member or the end.
+    /// Before a further member or the end.
     SetNext,
-    /// A backslash at this place.
+    /// After a backslash at this position.
     SetSlash(u32),
-    /// An escape that began there.
+    /// Within an escape that began at this position.
     SetEscape(u32, InEscape),
-    /// A side from this place.
+    /// After one side of a member, which began at this position.
     SetSide(u32, Escaped),
-    /// A side from this place up to a `-` at the other.
+    /// After a side that began at the first position, and a `-` at the second.
     SetDash(u32, u32, Escaped),
-    /// The same with a backslash after the `-`.
+    /// After a side that began at this position, a `-` and a backslash.
     DashSlash(u32, Escaped),
-    /// The same with an escape that began there.
+    /// After a side that began at this position and a `-`, within an escape.
     DashEscape(u32, Escaped, InEscape),
 }
 
-/// The members before, and where in the class.
+/// The members of a class that have been read, and the state within the class.
 #[derive(Drop)]
 pub(crate) struct Set {
-    /// The members before.
+    /// The members that have been read.
     pub(crate) before: Items<Member>,
-    /// Where in the class.
+    /// The state within the class.
     pub(crate) part: InSet,
 }
 
-/// Within the head of a group, after its parenthesis.
+/// The state within the head of a group, after its parenthesis.
 #[derive(Drop)]
 pub(crate) enum InHead {
-    /// Behind `(`.
+    /// After `(`.
     Paren,
-    /// Behind `(?`.
+    /// After `(?`.
     Quest,
-    /// Behind `(?P`.
+    /// After `(?P`.
     AfterP,
-    /// Behind `(?<`.
+    /// After `(?<`.
     AfterLess,
-    /// Behind `(?P<`.
+    /// After `(?P<`.
     GroupName,
-    /// Within a group's name.
+    /// Within the name of a group.
     GroupNameGoes(Items<u32>),
-    /// Behind `(?P=`.
+    /// After `(?P=`.
     ReferenceName,
-    /// Within the name of a reference.
+    /// Within the name in a reference.
     ReferenceNameGoes,
-    /// Behind `(?(`.
+    /// After `(?(`.
     Asks,
-    /// Within the number that a conditional asks for.
+    /// Within the group number of a conditional.
     AsksDigits,
-    /// Within the name that a conditional asks for.
+    /// Within the group name of a conditional.
     AsksNameGoes,
-    /// Letters of flags.
+    /// After flag letters.
     LettersOn(Flags),
-    /// The `-` after them.
+    /// After flag letters and `-`.
     LettersDash(Flags),
-    /// Letters after that.
+    /// After flag letters, `-` and further letters.
     LettersOff(Flags, Flags),
 }
 
@@ -195,19 +195,19 @@ pub(crate) enum GroupStart {
     BeginsGroup(Kind),
     /// A comment.
     BeginsComment,
-    /// A reference to a name.
+    /// A reference to a named group.
     IsReference,
     /// A flag group.
     IsFront(Flags),
 }
 
-/// Within the text of a count.
+/// The state within a repeat count.
 #[derive(Clone, Copy)]
 pub(crate) enum CountPart {
-    /// Digits of the least number.
+    /// Within the digits of the minimum.
     Least(u32),
-    /// A comma after it.
+    /// After the minimum and a comma.
     Upper(u32),
-    /// Digits of the greatest number after that.
+    /// After the minimum and a comma, within the digits of the maximum.
     Most(u32, u32),
 }

@@ -1,4 +1,4 @@
-//! Names of groups that stand twice.
+//! Group names that occur twice.
 
 ghost use Rattle.std.specs.Prelude.{◌≡◌, ℕ, ◌+◌, ◌<◌, List, [], ◌++◌, map, IfOk};
 ghost use Rattle.rl_pattern.specs.internal.Views.{node_of, branch_of};
@@ -13,16 +13,16 @@ use rl_syntax::Feature;
 use std::alloc::Global;
 use std::collections::BTreeSet;
 
-/// A group's name, and the place of its parenthesis.
+/// The name of a group, and the position of its parenthesis.
 #[derive(Drop)]
 struct Called {
-    /// The place.
+    /// The position.
     place: u32,
-    /// The name's codes.
+    /// The name.
     name: Codes,
 }
 
-/// These names, and that of a group at a place if it has one.
+/// Adds the name of a group, if it has one, to the names.
 fn with_name(
     alloc: Global,
     place: u32,
@@ -51,7 +51,7 @@ fn with_name(
     }
 }
 
-/// These names, and those of a node in the order of their parentheses.
+/// Adds the group names in a node to the names, in the order of their parentheses.
 #[cycle(node_names)]
 fn node_names(
     alloc: Global,
@@ -74,7 +74,7 @@ fn node_names(
     }
 }
 
-/// These names, and those of nodes one after another.
+/// Adds the group names in a sequence of nodes to the names.
 #[cycle(node_names)]
 fn nodes_names(
     alloc: Global,
@@ -90,7 +90,7 @@ fn nodes_names(
     Ok(all)
 }
 
-/// These names, and those of branches.
+/// Adds the group names in the branches of a choice to the names.
 #[cycle(node_names)]
 fn branches_names(
     alloc: Global,
@@ -106,7 +106,7 @@ fn branches_names(
     Ok(all)
 }
 
-/// The first fault of names, each of which is one where it stood before.
+/// Returns the first fault among the names. A name is a fault if it occurred before.
 fn names_fault(alloc: Global, names: &[Called]) -> Result<Option<Fault>, OutOfMemory>
     ensures { IfOk result (λ o. o ≡ f.first_fault (f.name_faults [] (map called_of names.now))) }
 {
@@ -126,10 +126,10 @@ fn names_fault(alloc: Global, names: &[Called]) -> Result<Option<Fault>, OutOfMe
     Ok(best)
 }
 
-/// The first name of a group in a body that stood before, as a fault at its parenthesis.
+/// Returns the first duplicate group name in a body, as a fault at the group's parenthesis.
 ///
 /// # Errors
-/// [`OutOfMemory`] where there was no memory for the names.
+/// [`OutOfMemory`] if there is no memory for the names.
 pub(crate) fn name_fault(alloc: Global, body: &SyntaxNode) -> Result<Option<Fault>, OutOfMemory>
     ensures { IfOk result (λ o. o ≡ f.first_fault (f.name_faults [] (f.node_names (node_of body.now)))) }
 {

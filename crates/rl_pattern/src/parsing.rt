@@ -1,4 +1,4 @@
-//! Patterns from their codes.
+//! Parsing: from codes to patterns.
 
 ghost use Rattle.std.specs.Prelude.{◌≡◌, ℕ, ◌<◌, ◌≤◌, List, IfOk, length};
 ghost use Rattle.rl_ranges.specs.Text.{IsText};
@@ -22,18 +22,19 @@ use rl_ranges::{Codes, Universe};
 use rl_syntax::{Feature, Pattern};
 use std::alloc::Global;
 
-/// Why codes give no pattern. Places count codes from 0.
+/// Why codes couldn't be parsed. Positions count codes from 0.
 #[derive(Clone, Copy)]
 pub enum PatError {
-    /// No pattern is spelled; the place is the length of the longest prefix that begins one.
+    /// The codes aren't a pattern. The position is the length of the longest prefix that can be continued to a pattern.
     Syntax(u32),
-    /// A group opens at the place while [`MOST_OPEN_GROUPS`](crate::MOST_OPEN_GROUPS) are open.
+    /// A group opens at this position while [`MOST_OPEN_GROUPS`](crate::MOST_OPEN_GROUPS) are open.
     TooDeep(u32),
     /// There are more than 10,000 codes.
     TooLong,
-    /// The flags of the call are refused, at 0, or the first feature at its place that no pattern here may hold.
+    /// The pattern has a feature that excludes it from judgement. This is the first one, with its position. If the flags of
+    /// the call are refused, the position is 0.
     Outside(u32, Feature),
-    /// Out of memory.
+    /// There was not enough memory.
     OutOfMemory,
 }
 
@@ -48,7 +49,7 @@ impl From<OutOfMemory> for PatError {
     }
 }
 
-/// The pattern of a tree without its outer anchors.
+/// Builds the pattern of a syntax tree without outer anchors.
 fn pattern_of(alloc: Global, left: Inner, universe: Universe) -> Result<Pattern, OutOfMemory>
     requires { IsPattern universe (shape universe (left_of left).body) }
     ensures { IfOk result (IsPatternOf universe (left_of left)) }
@@ -59,7 +60,7 @@ fn pattern_of(alloc: Global, left: Inner, universe: Universe) -> Result<Pattern,
     Ok(Pattern::new(body?, leading, trailing, universe))
 }
 
-/// What is answered of the tree that the codes spell.
+/// Builds the result of parsing from the syntax tree that the codes spell.
 fn outcome(
     alloc: Global,
     whole: Whole,
@@ -75,12 +76,16 @@ fn outcome(
     }
 }
 
-/// The pattern that the codes spell under the flags, by the grammar of the Python `re` manual.
+/// Parses a pattern under the flags, by the grammar of Python's `re`.
 ///
 /// # Errors
-/// In this order: [`PatError::TooLong`] for more than 10,000 codes; [`PatError::Outside`] at 0 where the flags hold LOCALE or
-/// clash; [`PatError::TooDeep`]; [`PatError::Syntax`]; [`PatError::Outside`] where the tree that is spelled holds a feature that
-/// is refused. [`PatError::OutOfMemory`] when out of memory.
+/// [`PatError::OutOfMemory`] if there is not enough memory. Otherwise, the first of these that applies:
+/// - [`PatError::TooLong`] if there are more than 10,000 codes.
+/// - [`PatError::Outside`] at 0 if the flags contain LOCALE or exclude each other.
+/// - [`PatError::TooDeep`] if a group opens while the maximum number of groups are open, and the codes up to there can be
+///   continued to a pattern.
+/// - [`PatError::Syntax`] if the codes aren't a pattern.
+/// - [`PatError::Outside`] if the pattern has a feature that is refused.
 pub fn parse(
     alloc: Global,
     codes: &Codes,

@@ -17,14 +17,14 @@ use rl_lists::OutOfMemory;
 use std::alloc::Global;
 use std::mem;
 
-/// Why codes give no tree.
+/// Why codes give no syntax tree.
 #[derive(Clone, Copy)]
 pub(crate) enum ReadError {
-    /// No pattern is spelled. The number is the length of the longest prefix that begins one.
+    /// The codes aren't a pattern. The number is the length of the longest prefix that can be continued to a pattern.
     Syntax(u32),
-    /// The code at this place opens a group while [`MOST_OPEN_GROUPS`] are open.
+    /// The code at this position opens a group while [`MOST_OPEN_GROUPS`] are open.
     TooDeep(u32),
-    /// Out of memory.
+    /// There was not enough memory.
     OutOfMemory,
 }
 
@@ -38,7 +38,7 @@ impl From<OutOfMemory> for ReadError {
     }
 }
 
-/// Whether this character is at the place.
+/// Whether this character is at the given position.
 fn is_code(codes: &[u32], place: usize, character: char) -> bool
     ensures { result ≡ is_code (slice_get codes.now place) character }
 {
@@ -48,7 +48,7 @@ fn is_code(codes: &[u32], place: usize, character: char) -> bool
     }
 }
 
-/// Whether the codes behind a parenthesis at `place` begin no group: a comment, or a reference to a name.
+/// Whether the parenthesis at `place` opens no group, because a comment or a reference to a named group follows.
 fn opens_none(codes: &[u32], place: usize) -> bool
     requires { place < 2 ^ 32 }
     ensures { result ≡ opens_none codes.now place }
@@ -58,7 +58,7 @@ fn opens_none(codes: &[u32], place: usize) -> bool
             || is_code(codes, place + 2, 'P') && is_code(codes, place + 3, '='))
 }
 
-/// Whether the reader stands behind a parenthesis.
+/// Whether the reader has just read the parenthesis of a group's head.
 fn at_paren(lex: &Lex) -> bool
     ensures { result ≡ at_paren (lex_of lex.now) }
 {
@@ -76,7 +76,7 @@ fn at_paren(lex: &Lex) -> bool
     }
 }
 
-/// Whether a group opens at `place` while [`MOST_OPEN_GROUPS`] are open, by the state behind its parenthesis.
+/// Whether a group opens at `place` while [`MOST_OPEN_GROUPS`] are open, given the state after its parenthesis.
 fn is_too_deep(state: &State, codes: &[u32], place: u32) -> bool
     ensures { result ≡ is_too_deep (state_of state.now) codes.now place }
 {
@@ -85,7 +85,7 @@ fn is_too_deep(state: &State, codes: &[u32], place: u32) -> bool
         && !opens_none(codes, place as usize)
 }
 
-/// Takes the code at `place`, unless no pattern goes on so or a group opens too deep there.
+/// Reads the code at `place`. Fails if no pattern can continue with it, or if too many groups are open.
 fn one_code(
     alloc: Global,
     codes: &[u32],
@@ -112,7 +112,7 @@ fn one_code(
     }
 }
 
-/// The tree where the codes end at `place`.
+/// Returns the syntax tree if the codes end at `place`.
 fn at_end(alloc: Global, state: State, place: u32) -> Result<Whole, ReadError>
     requires room { place < 2 ^ 32 - 1 }
     requires fits { FitsAt (state_of state).lex place }
@@ -127,11 +127,13 @@ fn at_end(alloc: Global, state: State, place: u32) -> Result<Whole, ReadError>
     }
 }
 
-/// The tree that the codes spell under the flags, in text or in bytes.
+/// Reads the syntax tree that the codes spell under the flags. `text` says whether they are a `str`.
 ///
 /// # Errors
-/// [`ReadError::TooDeep`] with the first place at which a group opens while [`MOST_OPEN_GROUPS`] are open, [`ReadError::Syntax`] with the
-/// length of the longest prefix that begins a spelled pattern where none is spelled, and [`ReadError::OutOfMemory`].
+/// - [`ReadError::TooDeep`] with the first position at which a group opens while [`MOST_OPEN_GROUPS`] are open.
+/// - [`ReadError::Syntax`] if the codes aren't a pattern, with the length of the longest prefix that can be continued to
+///   one.
+/// - [`ReadError::OutOfMemory`] if there is not enough memory.
 pub(crate) fn read(
     alloc: Global,
     codes: &[u32],

@@ -1,4 +1,4 @@
-//! What a whole pattern is judged to be.
+//! The judgement on a whole pattern.
 
 ghost use Rattle.std.specs.Prelude.{◌≡◌, IfOk};
 ghost use Rattle.rl_pattern.specs.internal.Views.{whole_of};
@@ -12,19 +12,19 @@ use crate::tree::Whole;
 use rl_lists::OutOfMemory;
 use std::alloc::Global;
 
-/// What a whole pattern is judged to be.
+/// The judgement on a whole pattern.
 #[derive(Drop)]
 pub(crate) enum Judged {
-    /// It is refused for its first fault.
+    /// The pattern is refused because of this fault, its first one.
     Refused(Fault),
-    /// Nothing of it is refused. This is the pattern without its outer anchors.
+    /// Nothing is refused. This is the pattern without its outer anchors.
     Left(Inner),
 }
 
-/// Judges a whole pattern under the call's flags, in text or not.
+/// Judges a whole pattern under the flags of the call. `text` says whether the pattern is a `str`.
 ///
 /// # Errors
-/// [`OutOfMemory`] where there was no memory for the names of groups, or for a branch.
+/// [`OutOfMemory`] if there is no memory for the names of groups or for a branch.
 #[tactic(auto, using(crate::proofs::FirstFault::first_of_joined))]
 pub(crate) fn judge(
     alloc: Global,

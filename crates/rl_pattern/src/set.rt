@@ -14,7 +14,7 @@ use rl_syntax::Span;
 
 type SetAnswer = Answer<Set, Items<Member>>;
 
-/// The members with one more.
+/// Appends a member.
 fn with_member(mut before: Items<Member>, member: Member) -> Result<Items<Member>, OutOfMemory>
     ensures { IfOk result (λ members. members ≡ before ++ member ∷ []) }
 {
@@ -25,14 +25,14 @@ fn with_member(mut before: Items<Member>, member: Member) -> Result<Items<Member
     Ok(before)
 }
 
-/// The class goes on.
+/// Continues the class in the given state.
 fn in_set(before: Items<Member>, part: InSet) -> SetAnswer
     ensures { result ≡ in_set before part }
 {
     Answer::Goes(Set { before, part })
 }
 
-/// A code that begins a member.
+/// Reads the first character of a member.
 fn side_first(i: u32, before: Items<Member>, code: u32) -> SetAnswer
     ensures { result ≡ side_first i before code }
 {
@@ -43,7 +43,7 @@ fn side_first(i: u32, before: Items<Member>, code: u32) -> SetAnswer
     }
 }
 
-/// A code that begins a further member, or the end.
+/// Reads the first character of a further member, or the end of the class.
 fn member_first(i: u32, before: Items<Member>, code: u32) -> SetAnswer
     ensures { result ≡ member_first i before code }
 {
@@ -54,7 +54,7 @@ fn member_first(i: u32, before: Items<Member>, code: u32) -> SetAnswer
     }
 }
 
-/// A code after a side.
+/// Reads the character after a side of a member.
 fn side_next(
     i: u32,
     before: Items<Member>,
@@ -71,7 +71,7 @@ fn side_next(
     Ok(member_first(i, with_member(before, Member::One(span, side))?, code))
 }
 
-/// A range that ends at `upto`.
+/// Ends a range at `upto`.
 fn range_ends(
     upto: u32,
     before: Items<Member>,
@@ -88,7 +88,7 @@ fn range_ends(
     Ok(in_set(with_member(before, range)?, InSet::SetNext))
 }
 
-/// The code behind a backslash that begins a member.
+/// Reads the character after a backslash that begins a member.
 fn escape_in_set(before: Items<Member>, from: u32, answer: Answer<InEscape, Escaped>) -> SetAnswer
     ensures { result ≡ escape_in_set before from answer }
 {
@@ -99,7 +99,7 @@ fn escape_in_set(before: Items<Member>, from: u32, answer: Answer<InEscape, Esca
     }
 }
 
-/// A code within an escape that began a member.
+/// Reads a character within an escape that began a member.
 fn escape_set_next(
     i: u32,
     before: Items<Member>,
@@ -120,7 +120,7 @@ fn escape_set_next(
     }
 }
 
-/// The code behind a backslash after a `-`.
+/// Reads the character after a backslash that follows a `-`.
 fn escape_in_dash(
     i: u32,
     before: Items<Member>,
@@ -138,7 +138,7 @@ fn escape_in_dash(
     }
 }
 
-/// The code at `i` behind a range, which its last side may not end.
+/// Reads the character at `i` after a range. Stops if the last side of the range is a named class.
 fn behind_range(
     i: u32,
     before: Items<Member>,
@@ -156,7 +156,7 @@ fn behind_range(
     Ok(member_first(i, with_member(before, range)?, code))
 }
 
-/// A code within an escape after a `-`.
+/// Reads a character within an escape after a `-`.
 fn escape_dash_next(
     i: u32,
     before: Items<Member>,
@@ -179,7 +179,7 @@ fn escape_dash_next(
     }
 }
 
-/// The members of a class that ends behind a side and a `-` at `dash`, which are members by themselves.
+/// Ends the class after a side and a `-` at `dash`. Both are members of their own.
 fn ends_at_dash(
     i: u32,
     before: Items<Member>,
@@ -200,7 +200,7 @@ fn ends_at_dash(
     Ok(Answer::Ends(with_member(with_member(before, side)?, dash)?))
 }
 
-/// A code after a side and a `-` at `dash`.
+/// Reads the character after a side and a `-` at `dash`.
 fn dash_next(
     i: u32,
     before: Items<Member>,
@@ -224,7 +224,7 @@ fn dash_next(
     range_ends(i + 1, before, from, first, Escaped::Code(code))
 }
 
-/// The code at `i` of a class, in text or not.
+/// Reads the character at `i` of a class. `text` says whether the pattern is a `str`.
 pub(crate) fn set_step(
     text: bool,
     i: u32,

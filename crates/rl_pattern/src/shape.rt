@@ -1,4 +1,4 @@
-//! What a spelled tree is as a pattern.
+//! Turning a syntax tree into a pattern.
 
 ghost use Rattle.std.specs.Prelude.{◌≡◌, ℕ, ◌<◌, ◌≤◌, ◌++◌, List, map, IfOk};
 ghost use Rattle.rl_syntax.specs.PatTree as s;
@@ -16,7 +16,7 @@ use rl_ranges::{CodeSet, Universe};
 use rl_syntax::{AnchorKind, Branch, Branches, Feature, Pat, Pats, Span};
 use std::alloc::Global;
 
-/// Whether the universe is text.
+/// Whether the universe is that of `str`.
 pub(crate) fn is_text(universe: Universe) -> bool
     ensures { result ≡ p.is_text universe }
 {
@@ -26,7 +26,7 @@ pub(crate) fn is_text(universe: Universe) -> bool
     }
 }
 
-/// The class of a leaf.
+/// Returns the class of a leaf.
 fn leaf_pat(
     alloc: Global,
     universe: Universe,
@@ -40,7 +40,7 @@ fn leaf_pat(
     Ok(Pat::Class { span, set })
 }
 
-/// The anchor or boundary of a mark.
+/// Returns the anchor or word boundary of a mark.
 fn mark_pat(universe: Universe, span: Span, flags: Flags, mark: Assertion) -> Pat
     ensures { pat_of result ≡ p.mark_shape universe span flags mark }
 {
@@ -74,7 +74,7 @@ fn mark_pat(universe: Universe, span: Span, flags: Flags, mark: Assertion) -> Pa
     }
 }
 
-/// Whether a quantifier tries more copies first.
+/// Whether a quantifier tries more repetitions first.
 fn is_greedy(greed: Greed) -> bool
     ensures { result ≡ p.is_greedy greed }
 {
@@ -84,7 +84,7 @@ fn is_greedy(greed: Greed) -> bool
     }
 }
 
-/// Copies of a pattern.
+/// Builds a repeat.
 fn repeat_pat(
     alloc: Global,
     span: Span,
@@ -106,7 +106,7 @@ fn repeat_pat(
     })
 }
 
-/// A group of a pattern that is judged.
+/// Builds a group of a kind that is judged.
 fn group_of(alloc: Global, span: Span, captures: bool, body: Pat) -> Result<Pat, OutOfMemory>
     ensures { IfOk result (λ found. pat_of found ≡ s.group span captures (pat_of body)) }
 {
@@ -118,7 +118,7 @@ fn group_of(alloc: Global, span: Span, captures: bool, body: Pat) -> Result<Pat,
     })
 }
 
-/// The group of a pattern.
+/// Builds a group of any kind. A kind that is refused becomes [`Pat::Outside`].
 fn group_pat(alloc: Global, span: Span, kind: &Kind, body: Pat) -> Result<Pat, OutOfMemory>
     ensures { IfOk result (λ found. pat_of found ≡ p.group_shape span kind.now (pat_of body)) }
 {
@@ -149,17 +149,17 @@ fn group_pat(alloc: Global, span: Span, kind: &Kind, body: Pat) -> Result<Pat, O
     }
 }
 
-/// A branch with its span.
+/// Builds a branch with its span.
 fn branch_at(span: Span, body: Pat) -> Branch
     ensures { branch_tree result ≡ (span, pat_of body) }
 {
     Branch { span, body }
 }
 
-/// What a node is as a pattern over the universe. A group that is refused is left as [`Pat::Outside`].
+/// Turns a node into a part of a pattern over the universe. A group that is refused becomes [`Pat::Outside`].
 ///
 /// # Errors
-/// [`OutOfMemory`] where there was no memory for the pattern.
+/// [`OutOfMemory`] if there is no memory for the pattern.
 #[cycle(shape)]
 pub(crate) fn node_pat(
     alloc: Global,
@@ -194,7 +194,7 @@ pub(crate) fn node_pat(
     }
 }
 
-/// What nodes one after another are as patterns.
+/// Turns a sequence of nodes into parts of a pattern.
 #[cycle(shape)]
 fn item_pats(alloc: Global, universe: Universe, nodes: &[SyntaxNode]) -> Result<Pats, OutOfMemory>
     ensures { IfOk result (λ ps. map pat_of ps ≡ p.shapes universe (t.nodes (map node_of nodes.now))) }
@@ -213,7 +213,7 @@ fn item_pats(alloc: Global, universe: Universe, nodes: &[SyntaxNode]) -> Result<
     Ok(items)
 }
 
-/// What branches are as those of a pattern.
+/// Turns branches of the syntax tree into branches of a pattern.
 #[cycle(shape)]
 fn branch_pats(
     alloc: Global,

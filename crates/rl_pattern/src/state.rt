@@ -1,80 +1,80 @@
-//! What the reader has read, and what it is in the middle of.
+//! The state of the reader: what it has read, and what it is in the middle of.
 
 use crate::flags::Flags;
 use crate::lex::{InEscape, InHead, Set};
 use crate::tree::{Branch, Count, Front, Kind, SyntaxNode};
 use rl_lists::Items;
 
-/// An open body.
+/// A body that is still open.
 #[derive(Drop)]
 pub(crate) struct Frame {
     /// The flags in the body.
     pub(crate) flags: Flags,
-    /// Its group's kind.
+    /// The kind of its group.
     pub(crate) kind: Kind,
-    /// The place of its group's parenthesis.
+    /// The position of its group's parenthesis.
     pub(crate) opened: u32,
-    /// The place of its first code.
+    /// The position at which the body begins.
     pub(crate) start: u32,
-    /// The place where the open branch begins.
+    /// The position at which the open branch begins.
     pub(crate) from: u32,
-    /// The branches before that.
+    /// The branches before the open one.
     pub(crate) branches: Items<Branch>,
     /// The items of the open branch.
     pub(crate) items: Items<SyntaxNode>,
 }
 
-/// An atom that may still take a quantifier.
+/// The last atom, which may still take a quantifier.
 #[derive(Drop)]
 pub(crate) enum Last {
-    /// There is none.
+    /// There is no such atom.
     NothingYet,
-    /// An atom from a place.
+    /// An atom and the position at which it begins.
     AnAtom(u32, SyntaxNode),
 }
 
-/// What was read, apart from what the reader is in the middle of.
+/// What has been read, apart from what the reader is in the middle of.
 #[derive(Drop)]
 pub(crate) struct Base {
     /// The innermost open body.
     pub(crate) top: Frame,
     /// Its last atom.
     pub(crate) last: Last,
-    /// The bodies below, the innermost last.
+    /// The other open bodies, from the outermost to the innermost.
     pub(crate) below: Vec<Frame>,
-    /// The front flag groups.
+    /// The flag groups at the front.
     pub(crate) fronts: Items<Front>,
 }
 
-/// What the reader is in the middle of. The first place is that of the first code.
+/// What the reader is in the middle of. The first number is the position at which it began.
 #[derive(Drop)]
 pub(crate) enum Lex {
     /// Between items.
     Between,
-    /// A comment up to the end of its line.
+    /// In a comment that ends with its line.
     Line,
-    /// A comment in parentheses.
+    /// In a comment in parentheses.
     Comment,
-    /// A brace and the text after it.
+    /// After a brace and some text.
     InBraces(u32, Items<u32>),
-    /// An atom from a place, and a quantifier from another.
+    /// After an atom and a quantifier. The second position is the quantifier's.
     Counted(u32, SyntaxNode, u32, Count),
-    /// A backslash.
+    /// After a backslash.
     AtSlash(u32),
-    /// An escape.
+    /// In an escape.
     InEscape(u32, InEscape),
-    /// The head of a group.
+    /// In the head of a group.
     InHead(u32, InHead),
-    /// The bracket of a class.
+    /// After the bracket of a class.
     SetOpen(u32),
-    /// A class, and whether it begins with `^`.
+    /// In a class. The flag says whether it begins with `^`.
     InClass(u32, bool, Set),
 }
 
 /// The state of the reader.
 #[derive(Drop)]
 pub(crate) struct State {
-    /// What was read.
+    /// What has been read.
     pub(crate) base: Base,
     /// What the reader is in the middle of.
     pub(crate) lex: Lex,

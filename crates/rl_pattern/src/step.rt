@@ -1,4 +1,4 @@
-//! The reader of patterns, one code at a time.
+//! The reader of patterns, one character at a time.
 
 ghost use Rattle.std.specs.Prelude.{◌≡◌, ℕ, ◌<◌, ◌^◌, ◌-◌, ◌+◌, suc, length, IfOk, Some};
 ghost use Rattle.rl_pattern.specs.internal.Views.{node_of, base_of, lex_of, state_with, FitsAt};
@@ -21,7 +21,7 @@ use rl_lists::{Items, OutOfMemory};
 use rl_syntax::Span;
 use std::alloc::Global;
 
-/// A node for one code, and the reader is between items behind it.
+/// Adds a leaf. The reader is between items afterwards.
 fn leaf_between(
     base: &mut Base,
     from: u32,
@@ -34,7 +34,7 @@ fn leaf_between(
     Ok(Some(Lex::Between))
 }
 
-/// A mark from `from` up to `upto`.
+/// Adds an anchor or a word boundary from `from` up to `upto`.
 fn put_mark(
     base: &mut Base,
     from: u32,
@@ -51,7 +51,7 @@ fn put_mark(
     Ok(Some(Lex::Between))
 }
 
-/// The code at `i`, between items.
+/// Reads the character at `i` between items.
 #[tactic(auto, unfolding(crate::specs::internal::Machine::go_on))]
 fn go_on(alloc: Global, i: u32, base: &mut Base, code: u32) -> Result<Option<Lex>, OutOfMemory>
     requires { i < 2 ^ 32 - 1 }
@@ -75,7 +75,7 @@ fn go_on(alloc: Global, i: u32, base: &mut Base, code: u32) -> Result<Option<Lex
     }
 }
 
-/// The `}` at `i` of a brace at `from`.
+/// Reads the `}` at `i` of a brace at `from`.
 fn end_braces(
     i: u32,
     base: &mut Base,
@@ -96,7 +96,7 @@ fn end_braces(
     }
 }
 
-/// The code at `i` after a brace at `from` and text.
+/// Reads the character at `i` after a brace at `from` and some text.
 fn braces_step(
     alloc: Global,
     i: u32,
@@ -128,7 +128,7 @@ fn braces_step(
     go_on(alloc, i, base, code)
 }
 
-/// The atom from `from` with a quantifier, and the reader is between items behind it.
+/// Adds an atom with its quantifier. The reader is between items afterwards.
 fn repeat_between(
     alloc: Global,
     base: &mut Base,
@@ -144,7 +144,7 @@ fn repeat_between(
     Ok(Some(Lex::Between))
 }
 
-/// The code at `i` after the quantifier from `mark` for the atom from `from`.
+/// Reads the character at `i` after an atom that began at `from` and a quantifier that began at `mark`.
 fn counted_step(
     alloc: Global,
     i: u32,
@@ -176,7 +176,7 @@ fn counted_step(
     go_on(alloc, i, base, code)
 }
 
-/// The code at `i` behind a backslash at `from`, by what begins there.
+/// Reads the character at `i` after a backslash at `from`, given the escape that begins there.
 fn escape_begins(
     i: u32,
     base: &mut Base,
@@ -193,7 +193,7 @@ fn escape_begins(
     }
 }
 
-/// The code at `i` behind a backslash at `from`.
+/// Reads the character at `i` after a backslash at `from`.
 fn slash_step(
     i: u32,
     base: &mut Base,
@@ -216,7 +216,7 @@ fn slash_step(
     }
 }
 
-/// The code at `i` of an escape from `from`, which may have ended before it.
+/// Reads the character at `i` of an escape from `from`, which may have ended before it.
 fn escape_step(
     alloc: Global,
     i: u32,
@@ -241,7 +241,7 @@ fn escape_step(
     }
 }
 
-/// A head from `from` up to `upto`, by what it begins.
+/// Completes a head from `from` up to `upto`, given what it begins.
 fn begin(
     alloc: Global,
     base: &mut Base,
@@ -264,7 +264,8 @@ fn begin(
     }
 }
 
-/// The code at `i` that doesn't go on with a head from `from`.
+/// Reads the character at `i`, which doesn't continue a head from `from`. If `opens` is set, only the parenthesis was read,
+/// and it opens a capturing group.
 fn head_stops(
     alloc: Global,
     i: u32,
@@ -283,7 +284,7 @@ fn head_stops(
     go_on(alloc, i, base, code)
 }
 
-/// The code at `i` of a head from `from`.
+/// Reads the character at `i` of a head from `from`.
 fn in_head_step(
     alloc: Global,
     text: bool,
@@ -304,7 +305,7 @@ fn in_head_step(
     }
 }
 
-/// The code at `i` of a class from `from`.
+/// Reads the character at `i` of a class from `from`.
 fn class_step(
     text: bool,
     i: u32,
@@ -327,7 +328,7 @@ fn class_step(
     }
 }
 
-/// The code at `i` behind a bracket at `from`.
+/// Reads the character at `i` after a bracket at `from`.
 fn set_opens(
     alloc: Global,
     text: bool,
@@ -350,7 +351,8 @@ fn set_opens(
     }
 }
 
-/// What the reader is in the middle of with the code at `i`, in text or not, if a pattern goes on so.
+/// Reads the character at `i`, and returns what the reader is in the middle of then, or `None` if no pattern can continue
+/// with it. `text` says whether the pattern is a `str`.
 pub(crate) fn step(
     alloc: Global,
     text: bool,

@@ -1,67 +1,67 @@
-//! The tree that codes spell. It keeps what is refused afterwards: features, faults of quantifiers and of members of classes,
-//! and names that stand twice.
+//! The syntax tree that codes spell. It still contains what is refused later: features, faults in quantifiers and class
+//! members, and duplicate group names.
 
 use crate::flags::Flags;
 use rl_lists::Items;
 use rl_ranges::Named;
 use rl_syntax::Span;
 
-/// The least and the greatest number of copies. A number that is too large counts as 4,294,967,295.
+/// The minimum and maximum of a quantifier. Any number that is too large is stored as 4,294,967,295.
 #[derive(Clone, Copy)]
 pub(crate) struct Count {
-    /// The least number.
+    /// The minimum.
     pub(crate) least: u32,
-    /// The greatest number, where there is a bound.
+    /// The maximum, or `None` if there is no bound.
     pub(crate) most: Option<u32>,
 }
 
-/// How a quantifier tries its numbers of copies.
+/// The order in which a quantifier tries its repetitions.
 #[derive(Clone, Copy)]
 pub(crate) enum Greed {
-    /// More copies first.
+    /// More repetitions first.
     Greedy,
-    /// Fewer copies first.
+    /// Fewer repetitions first.
     Lazy,
-    /// As many as there are, and none given back.
+    /// As many repetitions as possible, without backtracking.
     Possessive,
 }
 
-/// What a code or an escape stands for, outside of a class or in it.
+/// The meaning of a character or an escape, in or outside a class.
 #[derive(Clone, Copy)]
 pub(crate) enum Escaped {
     /// One code.
     Code(u32),
-    /// A number that is no code.
+    /// A number that is too large to be a code.
     TooLarge,
     /// `\N{..}`.
     ByName,
-    /// `\d`, `\s` and `\w`, or where the flag is true their complements `\D`, `\S` and `\W`.
+    /// `\d`, `\s` or `\w`, or the complement `\D`, `\S` or `\W` if the flag is `true`.
     Kind(Named, bool),
-    /// A group's text again.
+    /// A reference to the text of a group.
     Reference,
 }
 
 /// A member of a class.
 #[derive(Clone, Copy)]
 pub(crate) enum Member {
-    /// A code or an escape.
+    /// A character or an escape.
     One(Span, Escaped),
-    /// The codes from one up to another.
+    /// A range of characters.
     Range(Span, Escaped, Escaped),
 }
 
-/// A node that stands for one code.
+/// A node that matches one character.
 #[derive(Drop)]
 pub(crate) enum Leaf {
     /// `.`.
     Any,
-    /// A code or an escape.
+    /// A character or an escape.
     Glyph(Escaped),
-    /// A class, and whether it begins with `^`.
+    /// A class. The flag says whether it begins with `^`.
     Members(bool, Items<Member>),
 }
 
-/// An anchor or a boundary.
+/// An anchor or a word boundary.
 #[derive(Clone, Copy)]
 pub(crate) enum Assertion {
     /// `^`.
@@ -72,20 +72,20 @@ pub(crate) enum Assertion {
     Dollar,
     /// `\Z`.
     TextEnd,
-    /// `\b`, or where the flag is true `\B`.
+    /// `\b`, or `\B` if the flag is `true`.
     Boundary(bool),
 }
 
-/// A group's kind. A set of flag letters is written as flags.
+/// The kind of a group. Flag letters are stored as flags.
 #[derive(Drop)]
 pub(crate) enum Kind {
     /// `(..)`.
     Capturing,
     /// `(?P<name>..)`.
     Named(Items<u32>),
-    /// A group that doesn't capture, with the letters before and after the `-`.
+    /// A group that doesn't capture, with the flag letters before and after its `-`.
     Scoped(Flags, Flags),
-    /// A group that looks ahead or behind.
+    /// A lookahead or lookbehind.
     Lookaround,
     /// `(?>..)`.
     Atomic,
@@ -97,47 +97,47 @@ pub(crate) enum Kind {
 #[cycle(node)]
 #[derive(Drop)]
 pub(crate) enum SyntaxNode {
-    /// One code.
+    /// A leaf, which matches one character.
     Leaf(Span, Flags, Leaf),
-    /// An anchor or a boundary.
+    /// An anchor or a word boundary.
     Assertion(Span, Flags, Assertion),
-    /// Copies of a body. The second span is the quantifier's.
+    /// A repeated body. The second span is the quantifier's.
     Repeat(Span, Span, Count, Greed, Box<SyntaxNode>),
     /// A group.
     Group(Span, Kind, Box<SyntaxNode>),
-    /// A branch without items.
+    /// An empty branch.
     Nothing(Span),
-    /// Items one after another.
+    /// A sequence of items.
     Seq(Span, Items<SyntaxNode>),
-    /// One of several branches.
+    /// A choice between branches.
     Choice(Span, Items<Branch>),
 }
 
-/// A branch with the span of its codes, what is passed over included.
+/// A branch, with a span that includes ignored white space and comments.
 #[cycle(node)]
 #[derive(Drop)]
 pub(crate) struct Branch {
-    /// The codes between the branch's delimiters.
+    /// The span of everything between the branch's delimiters.
     pub(crate) place: Span,
-    /// What the branch is.
+    /// What the branch consists of.
     pub(crate) body: SyntaxNode,
 }
 
-/// A front flag group with its letters.
+/// A flag group at the front of a pattern.
 #[derive(Clone, Copy)]
 pub(crate) struct Front {
-    /// The group's codes.
+    /// The span of the group.
     pub(crate) place: Span,
     /// Its letters.
     pub(crate) letters: Flags,
 }
 
-/// A whole pattern: its front flag groups, and its body, which begins behind them.
+/// A whole pattern: the flag groups at its front, and its body after them.
 #[derive(Drop)]
 pub(crate) struct Whole {
-    /// The front flag groups.
+    /// The flag groups at the front.
     pub(crate) fronts: Items<Front>,
-    /// The codes of the body.
+    /// The span of the body.
     pub(crate) place: Span,
     /// The body.
     pub(crate) body: SyntaxNode,

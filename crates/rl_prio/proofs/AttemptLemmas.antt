@@ -10,7 +10,7 @@ use Rattle.rl_prio.specs.internal.Attempts.{onward, ends_replaced, is_test, AreR
 use Rattle.rl_prio.specs.declared.build.attempts.Attempt.{Attempt}
 use Rattle.rl_prio.specs.declared.build.attempts.Attempt.TheVariants.{Test, End}
 
--- one attempt more
+-- One attempt more.
 pub onward_more : (l further list new : List Attempt) (i : ℕ) (d : Attempt) → i < length l → list ≡ ends_replaced (take i l) further
     → new ≡ list ++ onward further (get_or l i d) → new ≡ ends_replaced (take (i + 1) l) further
 onward_more l further list new i d lt so_far is =
@@ -19,19 +19,19 @@ onward_more l further list new i d lt so_far is =
     ∙ sym (flat_map-append (onward further) (take i l) (get_or l i d ∷ []))
     ∙ ap (flat_map (onward further)) (sym (take_more l i d lt))
 
--- too many up to one attempt are too many in all
+-- Too many up to one attempt are too many in all.
 pub onward_many : (l further list : List Attempt) (i : ℕ) (d : Attempt) → i < length l → list ≡ ends_replaced (take i l) further
     → MOST_MOVES < length list + length (onward further (get_or l i d)) → MOST_MOVES < length (ends_replaced l further)
 onward_many l further list i d lt is many =
     omega (arith, ap length is, length-flat_map-take (onward further) l i d lt)
 
--- tests stay as they are where each end is replaced
+-- Tests stay as they are when ends are replaced.
 pub tests_stay : (l further : List Attempt) → list_all is_test l ≡ true → ends_replaced l further ≡ l
 tests_stay [] further h = refl
 tests_stay (Test gs p ∷ l) further h = ap (λ x. Test gs p ∷ x) (tests_stay l further h)
 tests_stay (End gs ∷ l) further h = absurd (false≢true h)
 
--- a list that stays is replaced by itself
+-- A list that stays is replaced by itself.
 pub replaced_kept : (further : List Attempt) (place : ℕ) (lists : List (List Attempt)) → ends_replaced (get_or lists place []) further ≡ get_or lists place []
     → AreReplaced further place (place + 1) lists lists
 replaced_kept further place lists same = record {
@@ -42,7 +42,7 @@ replaced_kept further place lists same = record {
   outside = λ k out. refl;
 }
 
--- the lists up to a place, and then that of the place
+-- The lists up to a place, followed by the list of the place.
 pub replaced_more : (further : List Attempt) (from place : ℕ) (old mid new : List (List Attempt)) → AreReplaced further from place old mid
     → AreReplaced further place (place + 1) mid new → from ≤ place → AreReplaced further from (place + 1) old new
 replaced_more further from place old mid new h last le = record {
@@ -57,7 +57,7 @@ replaced_more further from place old mid new h last le = record {
   ];
 }
 
--- and these are short
+-- And these are short.
 pub short_more : (further : List Attempt) (from place : ℕ) (mid new : List (List Attempt)) → AreShort from place mid
     → AreReplaced further place (place + 1) mid new → AreShort place (place + 1) new → AreShort from (place + 1) new
 short_more further from place mid new h last short k after before = elim (cases_lt k place) [

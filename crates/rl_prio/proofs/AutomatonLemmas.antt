@@ -3,7 +3,7 @@ use Rattle.std.proofs.Common.{◌≡◌, ℕ, suc, ◌+◌, ◌*◌, ◌<◌, �
 use Rattle.std.proofs.lemmas.Bool.{lt-ltb, le-ltb, le-leb, lt-leb, and_from, and_left, and_right, cond-true, cond-false, cases_lt}
 use Rattle.rl_prio.specs.Automaton.{Automaton, IsAutomaton, letters_count, accepting_state, dead_state, moves_at}
 
--- within the states and the letters the moves are a row
+-- Within the states and the letters the moves are a row.
 pub moves_at-inside : (a : Automaton) (q letter : ℕ) → q < a.states → letter ≤ letters_count a
     → moves_at a q letter ≡ slice_index_or a.rows (q * suc (letters_count a) + letter) []
 unfolding moves_at
@@ -11,7 +11,7 @@ moves_at-inside a q letter lt le =
     cond-true (nat_lt q a.states && nat_le letter (letters_count a)) (slice_index_or a.rows (q * suc (letters_count a) + letter) []) []
     (and_from (nat_lt q a.states) (nat_le letter (letters_count a)) (lt-ltb q a.states lt) (le-leb letter (letters_count a) le))
 
--- a row that was read by its number is the moves
+-- A row that was read by its number is the moves.
 pub moves_of_row : (a now : Automaton) (count q letter : ℕ) (row : List ℕ) → a ≡ now → count ≡ letters_count a → q < now.states → letter ≤ letters_count now
     → row ≡ slice_index_or a.rows (q * (count + 1) + letter) [] → row ≡ moves_at now q letter
 moves_of_row a now count q letter row same counted lt le read =
@@ -19,14 +19,14 @@ moves_of_row a now count q letter row same counted lt le read =
     let width : count + 1 ≡ suc (letters_count a) = omega (arith, counted) in
     subst P same (λ l m. read ∙ ap (λ w. slice_index_or a.rows (q * w + letter) []) width ∙ sym (moves_at-inside a q letter l m)) lt le
 
--- and leads to states
+-- And leads to states.
 pub targets_of_row : (a now : Automaton) (q letter : ℕ) (row : List ℕ) → a ≡ now → IsAutomaton a → row ≡ moves_at now q letter
     → All (λ target. target < now.states) row
 targets_of_row a now q letter row same automaton read =
     let P : Automaton → Type 0 = λ b. row ≡ moves_at b q letter → All (λ target. target < b.states) row in
     subst P same (λ e. let Q : List ℕ → Type 0 = λ l. All (λ target. target < a.states) l in subst Q (sym e) (automaton.targets q letter)) read
 
--- beyond the states and the letters there is no move
+-- Beyond the states and the letters there is no move.
 pub moves_at-outside : (a : Automaton) (q letter : ℕ) → (a.states ≤ q) ⊎ (letters_count a < letter) → moves_at a q letter ≡ []
 unfolding moves_at
 moves_at-outside a q letter (inl beyond) =
@@ -47,7 +47,7 @@ stopped : (a : Automaton) (q letter : ℕ) → q < a.states
 stopped a q letter lt none =
     ⊎_elim (λ le. moves_at-inside a q letter lt le ∙ none letter le) (λ beyond. moves_at-outside a q letter (inr beyond)) (le_or_more letter (letters_count a))
 
--- what is to be shown of the rows of an automaton
+-- What is to be shown of the rows of an automaton.
 pub automaton_of : (a : Automaton) → 3 ≤ a.states → length a.rows ≡ a.states * suc (letters_count a)
     → ((q letter : ℕ) → q < a.states → letter ≤ letters_count a → All (λ target. target < a.states) (slice_index_or a.rows (q * suc (letters_count a) + letter) []))
     → ((letter : ℕ) → letter ≤ letters_count a → slice_index_or a.rows (accepting_state a * suc (letters_count a) + letter) [] ≡ [])

@@ -75,7 +75,7 @@ set_parts e f b k c d lt left right = elim (cases_lt k (places e)) [
       ∙ sym (cond-false (nat_lt (b + k) (b + places e)) (set_of e b (b + k) c) (set_of f (b + places e) (b + k) c) (le-ltb (b + k) (b + places e) (omega arith)))
 ]
 
--- the set at a place
+-- The set at a place.
 set_at : (t : Tree) (b k c : ℕ) (d : ℕ → Bool) → k < places t → get_or (sets_in t) k d c ≡ set_of t b (b + k) c
 set_at empty b k c d lt = absurd (omega arith)
 set_at (one s) b k c d lt = let at : k ≡ 0 = omega arith in ap (λ j. get_or (s ∷ []) j d c) at
@@ -96,7 +96,7 @@ sample-alike table sets n l h lt =
     class_of-only sets n (get_or table.samples l 0) (get_or (classes sets n) l 0) (sample-below table sets n l h lt) (classes-below sets n l known)
     ((h.same_sample l lt).in_it ∙ sym (class_of-first sets n l known))
 
--- the sample of a letter isn't told from its least code, and there is neither for the end letter
+-- The sample of a letter isn't distinguished from its least code, and there is neither for the end letter.
 sample-like : (table : LetterTable) (sets : List (ℕ → Bool)) (n l : ℕ) → IsLetters table sets n → Like sets (slice_get table.samples l) (slice_get (classes sets n) l)
 sample-like table sets n l h = elim (cases_lt l (length table.samples)) [
   | inl lt ↦
@@ -113,7 +113,7 @@ single_at : (x : Shown) (j : ℕ) → get_or (x ∷ []) j x ≡ x
 single_at x zero = refl
 single_at x (suc j) = refl
 
--- what codes show, the end letter behind them
+-- What codes show, the end letter behind them.
 shown_end : (codes : List ℕ) (l : ℕ) → get_or (map (λ c. shown (Some c)) codes ++ shown None ∷ []) l (shown None) ≡ shown (slice_get codes l)
 shown_end codes l =
     let f : ℕ → Shown = λ c. shown (Some c) in
@@ -321,7 +321,7 @@ module _ (p : Plan) (t : Tree) (sets : List (ℕ → Bool)) (n : ℕ) (lt kt : L
           ∙ ap (moves_of p (holding (shown (before_code q)) (shown (slice_get lt.samples l))) l) (attempts-items q)
           ∙ moves-same l (before_code q) (kind_before t n q) (slice_get lt.samples l) le (before-like q) (sample-like lt sets n l is_letters) (items_of t n q) (known-items q)
 
-      -- the moves lead to states
+      -- The moves lead to states.
       test-below : (place l : ℕ) → place < places t → test_target t n place (slice_get (classes sets n) l) < state_count t n
       test-below place l p_in = elim (cases_lt l (length (classes sets n))) [
         | inl l_in ↦
@@ -350,7 +350,7 @@ module _ (p : Plan) (t : Tree) (sets : List (ℕ → Bool)) (n : ℕ) (lt kt : L
           (λ _. All-cons P (pass_target t ending n o) [] (cond_both (ends_here ending o) (accepting t n) (dead t n) P (λ _. omega arith) (λ _. omega arith)) (All-nil P)) (λ _. All-nil P))
           (moves-below l before items known.1)
 
-      -- beyond the states of places there is no move
+      -- Beyond the states of places there is no move.
       stopped : (r l : ℕ) → place_states t n ≤ r → moves_over sets t ending n (suc r) l ≡ []
       stopped r l le =
           let o = slice_get (classes sets n) l in

@@ -85,7 +85,7 @@ replaced_parts further xs ys zs old new from to r is from_is to_is =
           ]
     ])
 
--- lists of no more items than a list may have
+-- Lists of no more items than a list may have.
 short_part : (ls : List (List Item)) (old zs new : List (List Attempt)) (to : ℕ) → new ≡ (old ++ map attempts ls) ++ zs → to ≡ length old + length ls
     → AreShort (length old) to new → widest ls ≤ MOST_MOVES
 short_part ls old zs new to is to_is short =
@@ -101,7 +101,7 @@ short_part ls old zs new to is to_is short =
     ∙ get_or-map attempts ls k [] [] lt in
     omega (arith, ap length at, length-attempts (get_or ls k []), short (length old + k) (omega arith) (omega arith)))
 
--- a list that would be longer
+-- A list that would be longer.
 wide_part : (ls : List (List Item)) (m : List Item) (old zs lists : List (List Attempt)) (k : ℕ) → lists ≡ (old ++ map attempts ls) ++ zs
     → length old ≤ k → k < length old + length ls → MOST_MOVES < length (ends_replaced (get_or lists k []) (attempts m)) → MOST_MOVES < widest (followed ls m)
 wide_part ls m old zs lists k is from to over =
@@ -123,7 +123,7 @@ wide_part ls m old zs lists k is from to over =
       widest-at (followed ls m) (k - length old) (omega (arith, length-followed ls m)),
     )
 
--- ---- the lists of a tree from those of its parts
+-- ---- the lists of a tree, made from the lists of its parts
 
 pub entered-short : (t : Tree) (old new : List (List Attempt)) (list : List Attempt) → AreEntered t old new list → length list ≤ MOST_MOVES
 entered-short t old new list h = omega (arith, h.short, ap length h.entering, length-attempts (first t (length old)))
@@ -210,7 +210,7 @@ module _ (e : Tree) (old mid : List (List Attempt)) (l1 : List Attempt) (h : Are
         ap₂ (λ x y. x ++ y) h.entering further_is ∙ sym (map-append attempt (first e b) (first f (b + places e))) in
         omega (arith, ap length all, length-attempts (first (either e f) b))
 
-    -- the same of what a call returns; its arguments are the lists and their numbers
+    -- The same of what a call returns; its arguments are the lists and their numbers.
     pub both-made : (new : List (List Attempt)) (s1 s2 : List Attempt) (i j : ℕ) (r : Result (List Attempt) ListError) → s1 ≡ l1 → s2 ≡ l2 → i ≡ length old → j ≡ length mid
         → IfOk r (λ l. l ≡ ends_replaced s1 s2) → IfOk r (λ l. length l ≤ MOST_MOVES) → OnOk r (AreReplaced s2 i j mid2 new) → OnOk r (AreShort i j new) → IfOk r (λ l. AreEntered (both e f) old new l)
     both-made new s1 s2 i j (Err x) p q ie je is short made shorts = tt

@@ -1,4 +1,4 @@
--- Lemmas on sets of guards: a set is met where each guard of its list holds.
+-- Lemmas on sets of guards: a set is met if each guard of its list holds.
 use Rattle.std.proofs.Common.{◌≡◌, ℕ, Bool, true, false, not, ◌&&◌, ◌||◌, List, [], ◌∷◌, ◌++◌, Option, None, Some, refl, sym, ap, ap₂, ◌∙◌}
 use Rattle.std.proofs.lemmas.Bool.{false≢true, and_parts, and_from}
 use Rattle.rl_ranges.proofs.SetLemmas.{or_assoc, and-true}
@@ -58,7 +58,7 @@ pairwise true false true v = refl
 pairwise true false false v = refl
 pairwise false y u v = refl
 
--- a test is two tests
+-- A test is two tests.
 record Splits (m x y : Bool) : Type 0 where
   same : m ≡ (x && y)
 
@@ -81,7 +81,7 @@ met-joined a b h =
     (split a.not_word b.not_word h.not_word))
     (split a.not_ascii_word b.not_ascii_word h.not_ascii_word)).same
 
--- a test that holds says that another one holds
+-- A test that holds says that another one holds.
 record Gives (m k : Bool) : Type 0 where
   true_too : m ≡ true → k ≡ true
 
@@ -94,7 +94,7 @@ both_unguarded {m = m} {k = k} {u = u} {v = v} p q = record {
   true_too = λ e. let parts = and_parts m k e in and_from u v (p.true_too parts.0) (q.true_too parts.1);
 }
 
--- no guard is always met
+-- No guard is always met.
 pub unguarded-met : (a h : Guards) → met a no_guards ≡ true → met a h ≡ true
 unfolding met no_guards
 unguarded-met a h =
@@ -156,7 +156,7 @@ flag-holds (NotWord true) None (Some d) = refl
 flag-holds (NotWord true) (Some c) None = refl
 flag-holds (NotWord true) (Some c) (Some d) = refl
 
--- each guard of a list holds where the set of the list is met
+-- Each guard of a list holds if the set of the list is met.
 pub met-all_hold : (gs : List Guard) (b n : Option ℕ) → met (guard_set gs) (holding (shown b) (shown n)) ≡ all_hold gs b n
 met-all_hold [] b n = none-met (holding (shown b) (shown n))
 met-all_hold (g ∷ gs) b n =

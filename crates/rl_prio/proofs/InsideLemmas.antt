@@ -1,4 +1,4 @@
--- The sets of a tree, and those that its guards name, lie in the universe.
+-- The sets of a tree, and the sets that its guards name, are subsets of the universe.
 use Rattle.std.proofs.Common.{◌≡◌, ℕ, Bool, List, [], ◌∷◌, ◌++◌, map, All, sym, subst}
 use Rattle.std.proofs.lemmas.List.Elements.{All-nil, All-cons, All-head, All-tail}
 use Rattle.rl_ranges.specs.Codes.{has, IsInside}
@@ -34,7 +34,7 @@ inside-lie : (u : Universe) (l : List (List (ℕ × ℕ))) → All (IsInside u) 
 inside-lie u [] h = tt
 inside-lie u (s ∷ l) h = (All-head (IsInside u) s l h, inside-lie u l (All-tail (IsInside u) s l h))
 
--- sets that are added to sets of the universe
+-- Sets that are added to sets of the universe.
 pub added-inside : (u : Universe) (old new : List (List (ℕ × ℕ))) (more : List (ℕ → Bool)) → map has new ≡ map has old ++ more → AllLieIn u more → All (IsInside u) old → All (IsInside u) new
 added-inside u old new more is h k = lie-inside u new (subst (AllLieIn u) (sym is) (lie-append u (map has old) more (inside-lie u old k) h))
 

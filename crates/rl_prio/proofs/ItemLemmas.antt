@@ -33,7 +33,7 @@ replaced-all_guarded gs (pass hs ∷ l) c =
     ap₂ (λ x y. x ++ y) (sym (all_guarded-twice gs hs c)) (replaced-all_guarded gs l c)
     ∙ sym (all_guarded-append gs (all_guarded hs c) (replaced l c))
 
--- ends can be replaced in any order
+-- Ends can be replaced in any order.
 pub replaced-twice : (l m c : List Item) → replaced (replaced l m) c ≡ replaced l (replaced m c)
 replaced-twice [] m c = refl
 replaced-twice (test_at gs p ∷ l) m c = ap (λ n. test_at gs p ∷ n) (replaced-twice l m c)
@@ -41,7 +41,7 @@ replaced-twice (pass gs ∷ l) m c =
     replaced-append (all_guarded gs m) (replaced l m) c
     ∙ ap₂ (λ x y. x ++ y) (replaced-all_guarded gs m c) (replaced-twice l m c)
 
--- where each end is kept, the items are the same
+-- If each end is kept, the items are the same.
 pub replaced-kept : (l : List Item) → replaced l (pass [] ∷ []) ≡ l
 replaced-kept [] = refl
 replaced-kept (test_at gs p ∷ l) = ap (λ n. test_at gs p ∷ n) (replaced-kept l)

@@ -13,13 +13,13 @@ use Rattle.rl_prio.specs.Letters.{kinds}
 use Rattle.rl_prio.specs.States.{state_count}
 use Rattle.rl_prio.proofs.WordLemmas.{ascii_words_are_words}
 
--- a number below `m` for each index, all different: there are at most `m`
+-- A number below `m` for each index, all different: there are at most `m`.
 pub pigeonholes : (m : ℕ) (f : ℕ → ℕ) (k : ℕ) → ((i : ℕ) → i < k → f i < m) → ((i j : ℕ) → i < j → j < k → f i ≡ f j → ⊥) → k ≤ m
 pigeonholes m f zero below apart = omega arith
 pigeonholes zero f (suc k) below apart = absurd (omega (arith, below 0 (omega arith)))
 pigeonholes (suc m) f (suc k) below apart =
     let v = f k in
-    -- the last number takes the place of `m`
+    -- The last number takes the place of `m`.
     let g = λ (i : ℕ). if f i == m then v else f i in
     let last : v < suc m = below k (omega arith) in
     let moved : (i : ℕ) → f i ≡ m → g i ≡ v = λ i e. cond-true (f i == m) v (f i) (eq-eqb (f i) m e) in
@@ -38,7 +38,7 @@ pigeonholes (suc m) f (suc k) below apart =
     ne_lt : (x y : ℕ) → x < suc y → (x ≡ y → ⊥) → x < y
     ne_lt x y le other = grind arith
 
--- codes of one value are one letter: there are no more letters than values
+-- Codes of one value are one letter: there are no more letters than values.
 pub few_classes : (sets : List (ℕ → Bool)) (n m : ℕ) (v : ℕ → ℕ) → ((c : ℕ) → v c < m) → ((c d : ℕ) → v c ≡ v d → alike sets c d ≡ true) → length (classes sets n) ≤ m
 few_classes sets n m v below same =
     let l = classes sets n in
@@ -50,7 +50,7 @@ few_classes sets n m v below same =
 
 -- ---- kinds
 
--- one number for each way in which the three sets may hold a code
+-- One number for each way in which the three sets may hold a code.
 value : Bool → Bool → Bool → ℕ
 value true a b = 0
 value false true b = 1
@@ -64,7 +64,7 @@ value_below false true b = omega arith
 value_below false false true = omega arith
 value_below false false false = omega arith
 
--- where the first set holds one code alone, and the second lies in the third
+-- If the first set holds only one code, and the second set is a subset of the third.
 value_tells : (l a b l' a' b' : Bool) → (l ≡ true → l' ≡ true → (a ≡ a') × (b ≡ b')) → (a ≡ true → b ≡ true) → (a' ≡ true → b' ≡ true)
     → value l a b ≡ value l' a' b' → (l ≡ l') × (a ≡ a') × (b ≡ b')
 unfolding value

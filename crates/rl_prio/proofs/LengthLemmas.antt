@@ -1,5 +1,5 @@
--- How long the item lists of a tree are at most: twice as long with each node for those on entering it, and by the square of
--- the size for those after a place.
+-- Bounds on the length of the item lists of a tree: the list of entering the tree doubles with each node at most, and the
+-- lists after a place are bounded by a power of two whose exponent is the square of the size.
 use Rattle.std.proofs.Common.{◌≡◌, ℕ, zero, suc, ◌+◌, ◌*◌, ◌^◌, ◌<◌, ◌≤◌, Bool, true, false, List, [], ◌∷◌, ◌++◌, length, Option, nat_lt, if◌then◌else◌, refl, ap, arith, length-append}
 use Rattle.std.proofs.Math.Nat.{pow-le-pow_right, two-pow-succ}
 use Rattle.std.proofs.lemmas.Bool.{cond_both}
@@ -28,7 +28,7 @@ length-one_more : (greedy : Bool) (x : Item) (l : List Item) → length (one_mor
 length-one_more true x l = omega (arith, length-append l (x ∷ []))
 length-one_more false x l = refl
 
--- a list with its ends replaced, by powers of two
+-- A list with its ends replaced, by powers of two.
 replaced-short : (l m : List Item) (i j k : ℕ) → length l ≤ 2 ^ i → length m ≤ 2 ^ j → i + j ≤ k → length (replaced l m) ≤ 2 ^ k
 replaced-short l m i j k p q le =
     omega (arith, length-replaced l m (2 ^ j) q (pow_pos j), mul-le (length l) (2 ^ j) (2 ^ i) (2 ^ j) p (omega arith), pow-add 2 i j, pow_mono (i + j) k le)
@@ -106,7 +106,7 @@ length-if : (b : Bool) (q : ℕ) (l : List ℕ) → length ((if b then q ∷ [] 
 length-if true q l = omega arith
 length-if false q l = omega arith
 
--- there are no more moves than items
+-- There are no more moves than items.
 pub length-moves_on : (t : Tree) (ending : Ending) (n : ℕ) (before next : Option ℕ) (l : List Item) → length (moves_on t ending n before next l) ≤ length l
 length-moves_on t ending n before next [] = omega arith
 length-moves_on t ending n before next (test_at gs p ∷ l) =

@@ -1,4 +1,4 @@
--- What sets tell apart: codes that they don't tell apart pass the same tests and the same guards, and so have the same moves.
+-- What sets distinguish: codes that they don't distinguish satisfy the same tests and guards, and so have the same moves.
 use Rattle.std.proofs.Common.{◌≡◌, ℕ, ◌+◌, ◌<◌, ◌≤◌, Bool, true, false, not, ◌&&◌, ◌||◌, List, [], ◌∷◌, ◌++◌, Option, None, Some, is_none, nat_lt, if◌then◌else◌, refl, sym, ap₂, ◌∙◌, arith}
 use Rattle.std.proofs.Math.Bool.{beq}
 use Rattle.std.proofs.lemmas.Bool.{and_from, and_parts, cond_both}
@@ -11,7 +11,7 @@ use Rattle.rl_syntax.specs.Tree.{Tree, empty, one, guard, both, either, many, pl
 use Rattle.rl_syntax.specs.Run.{one_more}
 use Rattle.rl_prio.specs.Items.{Item, test_at, pass, all_guarded, replaced, first, after, set_of, all_hold}
 
--- codes that the first sets don't tell apart aren't told apart by the other ones
+-- Codes that the first sets don't distinguish aren't distinguished by the other ones.
 abbrev pub Finer : List (ℕ → Bool) → List (ℕ → Bool) → Type 0
 Finer sets others = (c d : ℕ) → alike sets c d ≡ true → alike others c d ≡ true
 
@@ -30,14 +30,14 @@ Finer-right sets xs ys f c d h = (and_parts (alike xs c d) (alike ys c d) (sym (
 pub Finer-both : (sets xs ys : List (ℕ → Bool)) → Finer sets xs → Finer sets ys → Finer sets (xs ++ ys)
 Finer-both sets xs ys f g c d h = alike-append xs ys c d ∙ and_from (alike xs c d) (alike ys c d) (f c d h) (g c d h)
 
--- sets of two lists tell apart what those of either do
+-- The sets of two lists together distinguish what the sets of either list do.
 pub Finer-first : (xs ys : List (ℕ → Bool)) → Finer (xs ++ ys) xs
 Finer-first xs ys = Finer-left (xs ++ ys) xs ys (Finer-itself (xs ++ ys))
 
 pub Finer-second : (xs ys : List (ℕ → Bool)) → Finer (xs ++ ys) ys
 Finer-second xs ys = Finer-right (xs ++ ys) xs ys (Finer-itself (xs ++ ys))
 
--- both are no code, or codes that the sets don't tell apart
+-- Both are no code, or both are codes that the sets don't distinguish.
 abbrev pub Like : List (ℕ → Bool) → Option ℕ → Option ℕ → Type 0
 Like sets None None = Unit {0}
 Like sets None (Some d) = ⊥
@@ -63,7 +63,7 @@ in-like s None (Some d) h = absurd h
 in-like s (Some c) None h = absurd h
 in-like s (Some c) (Some d) h = beq-true (s c) (s d) (and_parts (beq (s c) (s d)) true h).0
 
--- a guard holds alike where the sets that it names tell nothing apart
+-- A guard holds alike for codes that the sets that it names don't distinguish.
 pub holds-like : (g : Guard) (b c n m : Option ℕ) → Like (sets_named g) b c → Like (sets_named g) n m → holds g b n ≡ holds g c m
 unfolding holds
 holds-like Start b c n m p q = none-like [] b c p
@@ -73,7 +73,7 @@ holds-like TextEnd b c n m p q = none-like [] n m q
 holds-like (Word ascii) b c n m p q = ap₂ (λ x y. not (beq x y)) (in-like (is_word ascii) b c p) (in-like (is_word ascii) n m q)
 holds-like (NotWord ascii) b c n m p q = ap₂ beq (in-like (is_word ascii) b c p) (in-like (is_word ascii) n m q)
 
--- the sets tell apart what the guards do
+-- The sets distinguish what the guards do.
 abbrev pub GuardsKnown : List (ℕ → Bool) → List Guard → Type 0
 GuardsKnown sets [] = Unit {0}
 GuardsKnown sets (g ∷ gs) = Finer sets (sets_named g) × GuardsKnown sets gs
@@ -90,7 +90,7 @@ all_hold-like sets (g ∷ gs) b c n m known p q =
     (holds-like g b c n m (Like-finer sets (sets_named g) b c known.0 p) (Like-finer sets (sets_named g) n m known.0 q))
     (all_hold-like sets gs b c n m known.1 p q)
 
--- the sets tell apart what the items' guards do, and the items' places are below `n`
+-- The sets distinguish what the items' guards do, and the items' places are below `n`.
 abbrev pub ItemsKnown : List (ℕ → Bool) → ℕ → List Item → Type 0
 ItemsKnown sets n [] = Unit {0}
 ItemsKnown sets n (test_at gs p ∷ l) = GuardsKnown sets gs × (p < n) × ItemsKnown sets n l
@@ -117,7 +117,7 @@ module _ (sets : List (ℕ → Bool)) (n : ℕ) where
   ItemsKnown-more true l p = ItemsKnown-append l (pass [] ∷ []) p (tt, tt)
   ItemsKnown-more false l p = (tt, p)
 
-  -- the items of a tree know its places, and no more than its guards
+  -- The items of a tree know its places, and no more than its guards.
   pub first-known : (e : Tree) (b : ℕ) → b + places e ≤ n → Finer sets (guard_sets e) → ItemsKnown sets n (first e b)
   first-known empty b le f = (tt, tt)
   first-known (one s) b le f = (tt, omega arith, tt)
@@ -149,7 +149,7 @@ module _ (sets : List (ℕ → Bool)) (n : ℕ) where
   after-known (many e greedy) b p le f =
       ItemsKnown-replaced (after e b p) (first (many e greedy) b) (after-known e b p le f) (first-known (many e greedy) b le f)
 
--- the set of a place holds both or neither of codes that the tree's sets don't tell apart
+-- The set of a place holds both or neither of two codes that the tree's sets don't distinguish.
 pub set_of-alike : (sets : List (ℕ → Bool)) (e : Tree) (b p c d : ℕ) → Finer sets (sets_in e) → alike sets c d ≡ true → set_of e b p c ≡ set_of e b p d
 set_of-alike sets empty b p c d f h = refl
 set_of-alike sets (one s) b p c d f h = beq-true (s c) (s d) (and_parts (beq (s c) (s d)) true (f c d h)).0

@@ -1,4 +1,4 @@
--- The match law: a text is matched exactly where the tree spans it, or spans a beginning of it.
+-- The match law: a text is matched if and only if the tree spans it, or spans a prefix of it.
 use Rattle.std.proofs.Common.{◌≡◌, ℕ, zero, suc, ◌+◌, ◌<◌, ◌≤◌, Bool, true, false, List, [], ◌∷◌, ◌++◌, length, slice_get, nat_lt, if◌then◌else◌, ◌⊎◌, inl, inr, ⊎_elim, ◌↔◌, IsTrue, refl, sym, ap, subst, ◌∙◌, arith}
 use Rattle.std.proofs.lemmas.Bool.{cond_both, ltb-true, ltb-false, lt-ltb, cond-true, or_cases, or_left, or_right, eqb-true, eq-eqb}
 use Rattle.rl_syntax.specs.declared.re.Ending.TheVariants.{AtEnd, Anywhere}
@@ -9,7 +9,7 @@ use Rattle.rl_syntax.specs.Run.{Step, test, end, onward, one_more, run}
 use Rattle.rl_syntax.specs.Cost.{tests, has_hit, is_hit, all_tests, matched}
 use Rattle.rl_syntax.proofs.RunLaws.{Ends, Goes, run_goes, run-many}
 
--- some end of the steps is at the place
+-- Some end of the steps is at the place.
 abbrev pub EndsAt : List Step → ℕ → Type 0
 EndsAt [] j = ⊥
 EndsAt (test ∷ l) j = EndsAt l j
@@ -55,7 +55,7 @@ EndsAt-fewer : (greedy : Bool) (i j : ℕ) (l : List Step) → EndsAt (one_more 
 EndsAt-fewer true i j l h = ⊎_elim (λ a. inr a) (λ b. ⊎_elim (λ e. inl e) (λ x. absurd x) b) (EndsAt-parts l (end i ∷ []) j h)
 EndsAt-fewer false i j l h = h
 
--- what holds of each end holds of this one
+-- What holds of each end holds of this one.
 pub at_end : (P : ℕ → Type 0) (l : List Step) (j : ℕ) → Ends P l → EndsAt l j → P j
 at_end P [] j all h = absurd h
 at_end P (test ∷ l) j all h = at_end P l j all h

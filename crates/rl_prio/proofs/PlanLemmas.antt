@@ -1,4 +1,4 @@
--- Lemmas on plans: the attempts of a state, what is shown before it, and where attempts go.
+-- Lemmas on plans: the attempts of a state, what is shown before it, and the targets of attempts.
 use Rattle.std.proofs.Common.{◌≡◌, ℕ, zero, suc, ◌+◌, ◌*◌, ◌^◌, ◌-◌, ◌/◌, ◌%◌, ◌<◌, ◌≤◌, Bool, true, false, ◌&&◌, nat_lt, List, [], ◌∷◌, ◌++◌, length, map, get_or, All, take, refl, sym, ap, ap₂, subst, ◌∙◌, append_assoc, length-append, inl, inr, arith, None}
 use Rattle.std.specs.List.{list_all, flat_map, range_with_len}
 use Rattle.std.proofs.lemmas.Bool.{cond-true, cond-false, lt-ltb, le-ltb, cases_lt}
@@ -74,7 +74,7 @@ pub end_goes-miss : (p : Plan) (letter : ℕ) → may_end p.ending letter (plan_
 unfolding end_goes
 end_goes-miss p letter miss = sym (cond-false (may_end p.ending letter (plan_letters p)) (plan_places p + 1) (plan_places p + 2) miss)
 
--- the state of a place and a kind is one of the places'
+-- The state of a place and a kind is one of the places'
 pub place_state : (places kinds place kind : ℕ) → place < places → kind < kinds → place * kinds + kind < places * kinds
 place_state places kinds place kind p_in k_in = omega (arith, mul-add-lt place kinds kind places p_in k_in)
 
@@ -113,7 +113,7 @@ unfolding holds_at
 holds_at-beyond p place letter le =
     le-ltb letter (plan_letters p) le ∙ ap (λ b. b && get_or (get_or p.members.items place []) letter false) (sym (le-ltb letter (plan_letters p) le))
 
--- the state of a place and a kind is small
+-- The state of a place and a kind is small.
 pub state_small : (p : Plan) (place kind : ℕ) → IsSound p → place < length p.after.items → kind < plan_kinds p → place * plan_kinds p + kind < MOST_NODES * MOST_LETTERS
 state_small p place kind sound p_in k_in =
     omega (arith, place_state (length p.after.items) (plan_kinds p) place kind p_in k_in, mul-le (length p.after.items) (plan_kinds p) MOST_NODES MOST_LETTERS sound.few_places sound.few_kinds)
@@ -179,7 +179,7 @@ closed r = record { rows = r.rows ++ r.open_row ∷ []; open_row = [] }
 abbrev only : List (List ℕ) → Rows
 only rows = record { rows = rows; open_row = [] }
 
--- where one attempt more goes
+-- The target of one more attempt.
 pub target_more : (f : Attempt → ℕ) (old now new : Rows) (l : List Attempt) (i : ℕ) (d : Attempt) (target : ℕ) → i < length l → now ≡ put (map f (take i l)) old → target ≡ f (get_or l i d)
     → new ≡ put (target ∷ []) now → new ≡ put (map f (take (i + 1) l)) old
 target_more f old now new l i d target lt so_far goes is =
@@ -187,7 +187,7 @@ target_more f old now new l i d target lt so_far goes is =
     ∙ ap (λ row. let r : Rows = record old { open_row = row } in r)
     (append_assoc old.open_row (map f (take i l)) (f (get_or l i d) ∷ []) ∙ ap (λ row. old.open_row ++ row) (sym (map_more f l i d lt)))
 
--- the moves of one attempt more
+-- The moves of one attempt more.
 pub moves_more : (f : Attempt → List ℕ) (old now new : Rows) (l : List Attempt) (i : ℕ) (d : Attempt) → i < length l → now ≡ put (flat_map f (take i l)) old → new ≡ put (f (get_or l i d)) now
     → new ≡ put (flat_map f (take (i + 1) l)) old
 moves_more f old now new l i d lt so_far is =
@@ -195,14 +195,14 @@ moves_more f old now new l i d lt so_far is =
     ∙ ap (λ row. let r : Rows = record old { open_row = row } in r)
     (flat_map_more f old.open_row (take i l) (get_or l i d) ∙ ap (λ m. old.open_row ++ flat_map f m) (sym (take_more l i d lt)))
 
--- the row of one letter more
+-- The row of one letter more.
 pub letter_more : (f : ℕ → List ℕ) (old now moved new : Rows) (n : ℕ) → now ≡ only (old.rows ++ map f (range_with_len 0 n)) → moved ≡ put (f n) now → new ≡ closed moved
     → new ≡ only (old.rows ++ map f (range_with_len 0 (n + 1)))
 letter_more f old now moved new n before goes ends =
     ends ∙ ap closed (goes ∙ ap (put (f n)) before)
     ∙ ap only (append_assoc old.rows (map f (range_with_len 0 n)) (f n ∷ []) ∙ ap (λ rows. old.rows ++ rows) (sym (map-range_with_len_more f 0 n n (omega arith))))
 
--- the same where the moves are those of attempts whose guards hold
+-- The same if the moves are the moves of attempts whose guards hold.
 pub guarded_more : (p : Plan) (before next d : Shown) (l : List Attempt) (held : Guards) (old now moved new : Rows) (n : ℕ) → n < length p.next.items → next ≡ get_or p.next.items n d → held ≡ holding before next
     → now ≡ only (old.rows ++ map (row_of p before l) (range_with_len 0 n)) → moved ≡ put (moves_of p held n l) now → new ≡ closed moved
     → new ≡ only (old.rows ++ map (row_of p before l) (range_with_len 0 (n + 1)))
@@ -211,7 +211,7 @@ guarded_more p before next d l held old now moved new n n_in read holds so_far g
     holds ∙ ap (holding before) (read ∙ get_or_default p.next.items n d (shown None) n_in) in
     letter_more (row_of p before l) old now moved new n so_far (goes ∙ ap (λ h. put (moves_of p h n l) now) same) ends
 
--- the rows of all letters
+-- The rows of all letters.
 pub letters_all : (p : Plan) (f : ℕ → List ℕ) (old now : Rows) (n : ℕ) → n ≡ suc (plan_letters p) → now ≡ only (old.rows ++ map f (range_with_len 0 n))
     → now ≡ only (old.rows ++ each_letter p f)
 letters_all p f old now n all so_far = so_far ∙ ap (λ m. only (old.rows ++ map f (range_with_len 0 m))) all
@@ -231,7 +231,7 @@ unguarded_rows : (p : Plan) (before : Shown) (l : List Attempt) (letters : List 
 unguarded_rows p before l letters bare =
     ap (λ (f : ℕ → List ℕ). map f letters) (λ i letter. unguarded_moves p (holding before (get_or p.next.items letter (shown None))) letter l bare i)
 
--- where they go makes the rows of their state
+-- Their targets make the rows of their state.
 pub unguarded_state : (p : Plan) (q : ℕ) (l : List Attempt) (old new : Rows) → l ≡ attempts_at p q → list_all is_unguarded l ≡ true
     → new ≡ only (old.rows ++ each_letter p (λ letter. map (target_of p letter) l)) → new ≡ only (old.rows ++ rows_of_state p q)
 unguarded_state p q l old new is bare goes =

@@ -65,13 +65,13 @@ row_within size start (end ∷ []) (suc i) r lt = absurd (omega arith)
 row_within size start (end ∷ next ∷ ends) (suc zero) r lt = row_within size end (next ∷ ends) zero r.1 (omega arith)
 row_within size start (end ∷ next ∷ ends) (suc (suc i)) r lt = row_within size end (next ∷ ends) (suc i) r.1 (omega arith)
 
--- a number more at the end of the open row
+-- A number more at the end of the open row.
 pub rows_of-put : (ends xs : List ℕ) (x : ℕ) → RiseTo (length xs) 0 ends
     → rows_of ends (xs ++ x ∷ []) ≡ record (rows_of ends xs) { open_row = (rows_of ends xs).open_row ++ x ∷ [] }
 rows_of-put ends xs x r =
     λ i. record { rows = rows_from-append 0 ends xs (x ∷ []) r i; open_row = drop-append-le (last_end 0 ends) xs (x ∷ []) (RiseTo-last (length xs) 0 ends r) i }
 
--- the open row closed
+-- The open row closed.
 pub rows_of-close : (ends xs : List ℕ) → RiseTo (length xs) 0 ends
     → rows_of (ends ++ length xs ∷ []) xs ≡ record { rows = (rows_of ends xs).rows ++ (rows_of ends xs).open_row ∷ []; open_row = [] }
 rows_of-close ends xs r =

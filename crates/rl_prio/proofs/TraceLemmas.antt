@@ -43,7 +43,7 @@ unfolding is_in
 is_in-same s t None f = refl
 is_in-same s t (Some c) f = f c
 
--- items that are tried at a place, where `next` is what follows once the test of a place has succeeded
+-- Items that are tried at a place; `next` is what follows once the test of a place has succeeded.
 abbrev pub tried : (ℕ → ℕ → Bool) → List ℕ → (ℕ → List Step) → List Item → ℕ → List Step
 tried sets w next [] i = []
 tried sets w next (test_at gs p ∷ l) i =
@@ -52,7 +52,7 @@ tried sets w next (test_at gs p ∷ l) i =
 tried sets w next (pass gs ∷ l) i =
     (if all_hold gs (code_before w i) (slice_get w i) then end i ∷ [] else []) ++ tried sets w next l i
 
--- the trace, by how many codes may be read at most
+-- The trace, by how many codes may be read at most.
 abbrev pub traced : (ℕ → ℕ → Bool) → (ℕ → List Item) → List ℕ → ℕ → List Item → ℕ → List Step
 traced sets nexts w zero l i = tried sets w (λ p. []) l i
 traced sets nexts w (suc n) l i = tried sets w (λ p. traced sets nexts w n (nexts p) (suc i)) l i
@@ -97,7 +97,7 @@ tried-all_guarded sets w next i gs (pass hs ∷ l) =
     ∙ guard_out (all_hold gs (code_before w i) (slice_get w i)) (all_hold hs (code_before w i) (slice_get w i)) x (tried sets w next l i)
 
 module _ (sets : ℕ → ℕ → Bool) (nexts : ℕ → List Item) (w : List ℕ) where
-  -- the rule of the trace needs no count
+  -- The rule of the trace needs no count.
   pub trace_goes : (l : List Item) (i : ℕ) → trace sets nexts w l i ≡ tried sets w (λ p. trace sets nexts w (nexts p) (suc i)) l i
   unfolding trace
   trace_goes l i = by_count (length w - i) refl
@@ -130,7 +130,7 @@ module _ (sets : ℕ → ℕ → Bool) (nexts : ℕ → List Item) (w : List ℕ
   trace-test : (b i : ℕ) → trace sets nexts w (test_at [] b ∷ []) i ≡ test ∷ (if is_in (sets b) (slice_get w i) then trace sets nexts w (nexts b) (suc i) else [])
   trace-test b i = trace_goes (test_at [] b ∷ []) i ∙ ap (λ x. test ∷ x) (append-nil (if is_in (sets b) (slice_get w i) then trace sets nexts w (nexts b) (suc i) else []))
 
-  -- what follows an end: `d` where no code was read since the place `i`, and `c` further on
+  -- What follows an end: `d` if no code was read since the place `i`, and `c` further on.
   abbrev follow : ℕ → List Item → List Item → ℕ → List Step
   follow i c d j = if nat_lt i j then trace sets nexts w c j else trace sets nexts w d j
 
@@ -140,13 +140,13 @@ module _ (sets : ℕ → ℕ → Bool) (nexts : ℕ → List Item) (w : List ℕ
   follow-here : (i j : ℕ) (c d : List Item) → j ≤ i → follow i c d j ≡ trace sets nexts w d j
   follow-here i j c d le = cond-false (nat_lt i j) (trace sets nexts w c j) (trace sets nexts w d j) (le-ltb i j le)
 
-  -- past a place further on the same follows from either place
+  -- Past a place further on the same follows from either place.
   follow-later : (i j k : ℕ) (c d : List Item) → i < j → j ≤ k → follow j c c k ≡ follow i c d k
   follow-later i j k c d lt le =
       cond_both (nat_lt j k) (trace sets nexts w c k) (trace sets nexts w c k) (λ x. x ≡ trace sets nexts w c k) (λ _. refl) (λ _. refl)
       ∙ sym (follow-on i k c d (omega arith))
 
-  -- a tree whose first place has the number `b` and that is followed by the items `c` stands in the tables
+  -- A tree whose first place has the number `b`, followed by the items `c`, is in the tables.
   abbrev pub Sits : Tree → ℕ → List Item → Type 0
   Sits empty b c = Unit {0}
   Sits (one s) b c = ((x : ℕ) → sets b x ≡ s x) × (nexts b ≡ c)
@@ -155,7 +155,7 @@ module _ (sets : ℕ → ℕ → Bool) (nexts : ℕ → List Item) (w : List ℕ
   Sits (either e f) b c = Sits e b c × Sits f (b + places e) c
   Sits (many e greedy) b c = Sits e b (replaced (first (many e greedy) b) c)
 
-  -- the claim on a tree
+  -- The claim on a tree.
   abbrev Expands : Tree → ℕ → List Item → Type 0
   Expands e b c = (d : List Item) (i : ℕ) → trace sets nexts w (replaced (first e b) d) i ≡ onward (run e w i) (follow i c d)
 
@@ -192,7 +192,7 @@ module _ (sets : ℕ → ℕ → Bool) (nexts : ℕ → List Item) (w : List ℕ
       ∙ ap₂ (λ x y. x ++ y) (at_e d i) (at_f d i)
       ∙ sym (onward-append (follow i c d) (run e w i) (run f w i))
 
-  -- one more end, in the items and in the steps
+  -- One more end, in the items and in the steps.
   more_end : (greedy : Bool) (l : List Item) (s : List Step) (c d : List Item) (i : ℕ)
       → trace sets nexts w (replaced l d) i ≡ onward s (follow i c d)
       → trace sets nexts w (replaced (one_more greedy (pass []) l) d) i ≡ onward (one_more greedy (end i) s) (follow i c d)
@@ -205,7 +205,7 @@ module _ (sets : ℕ → ℕ → Bool) (nexts : ℕ → List Item) (w : List ℕ
       trace-append (all_guarded [] d) (replaced l d) i
       ∙ ap₂ (λ x y. x ++ y) (ap (λ m. trace sets nexts w m i) (all_guarded-nil d) ∙ sym (follow-here i i c d (omega arith))) h
 
-  -- where what follows further on is already known
+  -- If it is already known what follows further on.
   many_step : (e : Tree) (greedy : Bool) (b : ℕ) (c : List Item) → Expands e b (replaced (first (many e greedy) b) c)
       → (d : List Item) (i : ℕ)
       → ((j : ℕ) → i < j → j ≤ length w → trace sets nexts w (replaced (first (many e greedy) b) c) j ≡ onward (run (many e greedy) w j) (follow j c c))
@@ -226,7 +226,7 @@ module _ (sets : ℕ → ℕ → Bool) (nexts : ℕ → List Item) (w : List ℕ
       ∙ sym (onward-onward further (follow i c d) (run e w i)))
       ∙ ap (λ s. onward s (follow i c d)) (sym (run-many e greedy w i))
 
-  -- by how many codes are left at most
+  -- By how many codes are left at most.
   expands-many : (e : Tree) (greedy : Bool) (b : ℕ) (c : List Item) → Expands e b (replaced (first (many e greedy) b) c)
       → (n : ℕ) (d : List Item) (i : ℕ) → length w ≤ n + i
       → trace sets nexts w (replaced (first (many e greedy) b) d) i ≡ onward (run (many e greedy) w i) (follow i c d)
@@ -252,7 +252,7 @@ module _ (sets : ℕ → ℕ → Bool) (nexts : ℕ → List Item) (w : List ℕ
   expands (either e f) b c sit d i = expands-either e f b c (expands e b c sit.0) (expands f (b + places e) c sit.1) d i
   expands (many e greedy) b c sit d i = expands-many e greedy b c (expands e b (replaced (first (many e greedy) b) c) sit) (length w) d i (omega arith)
 
-  -- a tree stands in tables that have its own sets and items at its places
+  -- A tree is in tables that have its own sets and items at its places.
   pub sits : (e : Tree) (b : ℕ) (c : List Item)
       → ((p : ℕ) → b ≤ p → p < b + places e → ((x : ℕ) → sets p x ≡ set_of e b p x) × (nexts p ≡ replaced (after e b p) c))
       → Sits e b c
@@ -297,7 +297,7 @@ module _ (sets : ℕ → ℕ → Bool) (nexts : ℕ → List Item) (w : List ℕ
       let row = rows p low high in
       (row.0, row.1 ∙ replaced-twice (after e b p) (first (many e greedy) b) c))
 
--- the trace of a tree's items is its run
+-- The trace of a tree's items is its run.
 pub trace-run : (t : Tree) (w : List ℕ) (i : ℕ) → trace (set_of t 0) (after t 0) w (first t 0) i ≡ run t w i
 trace-run t w i =
     let last = pass [] ∷ [] in

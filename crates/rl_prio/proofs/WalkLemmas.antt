@@ -1,4 +1,5 @@
--- The walk of an automaton that stands for a tree is the run of the tree: it has the same steps, hits and misses alike.
+-- The walk of an automaton that stands for a tree is the run of the tree: it has the same steps, with the same hits and
+-- misses.
 use Rattle.std.proofs.Common.{◌≡◌, ℕ, suc, ◌+◌, ◌*◌, ◌/◌, ◌%◌, ◌<◌, ◌≤◌, Bool, true, false, ◌==◌, List, [], ◌∷◌, ◌++◌, length, map, All, Option, None, Some, slice_get, nat_lt, if◌then◌else◌, ◌⊎◌, inl, inr, ⊎_elim, refl, sym, ap, ap₂, subst, ◌∙◌, arith, append_assoc}
 use Rattle.std.proofs.lemmas.Bool.{cond-true, cond-false, lt-ltb, le-ltb, eq-eqb, ne_eqb, cases_lt}
 use Rattle.std.proofs.lemmas.List.{append-nil}
@@ -34,20 +35,20 @@ stepped-append acc k (q ∷ l) m =
     let x : List Bool = if q == acc then true ∷ [] else false ∷ k q in
     ap (λ n. x ++ n) (stepped-append acc k l m) ∙ sym (append_assoc x (stepped acc k l) (stepped acc k m))
 
--- one move that is no hit, and one that is
+-- One move that is no hit, and one that is.
 pub stepped-miss : (acc : ℕ) (k : ℕ → List Bool) (q : ℕ) → (q ≡ acc → ⊥) → stepped acc k (q ∷ []) ≡ false ∷ k q
 stepped-miss acc k q other = append-nil (if q == acc then true ∷ [] else false ∷ k q) ∙ cond-false (q == acc) (true ∷ []) (false ∷ k q) (ne_eqb q acc other)
 
 pub stepped-hit : (acc : ℕ) (k : ℕ → List Bool) (q : ℕ) → q ≡ acc → stepped acc k (q ∷ []) ≡ true ∷ []
 stepped-hit acc k q same = append-nil (if q == acc then true ∷ [] else false ∷ k q) ∙ cond-true (q == acc) (true ∷ []) (false ∷ k q) (eq-eqb q acc same)
 
--- a move under guards, and the steps under the same guards
+-- A move under guards, and the steps under the same guards.
 under : (acc : ℕ) (k : ℕ → List Bool) (hit : ℕ → Bool) (b : Bool) (q : ℕ) (s : List Step) → stepped acc k (q ∷ []) ≡ tests hit s
     → stepped acc k (if b then q ∷ [] else []) ≡ tests hit (if b then s else [])
 under acc k hit true q s h = h
 under acc k hit false q s h = refl
 
--- a state with given items, after a code that its kind doesn't tell from the given one
+-- A state with given items, after a code that its kind doesn't distinguish from the given one.
 pub record StateAt (t : Tree) (n q : ℕ) (items : List Item) (before : Option ℕ) : Type 0 where
   pub in_states : q < state_count t n
   pub same_items : items_of t n q ≡ items
@@ -56,7 +57,7 @@ pub record StateAt (t : Tree) (n q : ℕ) (items : List Item) (before : Option �
 start_at : (t : Tree) (n : ℕ) → StateAt t n 0 (first t 0) None
 start_at t n = record { in_states = omega arith; same_items = refl; same_kind = tt }
 
--- the state of a place and the kind of a code
+-- The state of a place and the kind of a code.
 place_at : (t : Tree) (n p c : ℕ) → p < places t → c < n → StateAt t n (state_of t n p (kind_of t n c)) (after t 0 p) (Some c)
 place_at t n p c in_places in_codes =
     let g = length (kinds t n) in
@@ -71,15 +72,15 @@ place_at t n p c in_places in_codes =
       same_kind = subst (λ o. Like (guard_sets t) o (Some c)) (sym kind) (alike-back (guard_sets t) c found.0 found.2);
     }
 
--- a place's state is neither the accepting nor the dead one
+-- A place's state is neither the accepting nor the dead one.
 place_below : (t : Tree) (n p c : ℕ) → p < places t → c < n → state_of t n p (kind_of t n c) < accepting t n
 place_below t n p c in_places in_codes =
     let g = length (kinds t n) in
     let k = kind_of t n c in
     omega (arith, mul-add-lt p g k (places t) in_places (class_of-lt (guard_sets t) n c in_codes))
 
--- the moves of items at a place of a text are the steps of their trace; `k` is the walk from a state, and `follow` the trace
--- after the test of a place
+-- The moves of items at a place of a text are the steps of their trace; `k` is the walk from a state, and `follow` the trace
+-- after the test of a place.
 module _ (t : Tree) (ending : Ending) (sets : List (ℕ → Bool)) (n : ℕ) (finer : Finer sets (all_sets t)) (w : List ℕ) (i : ℕ) (k : ℕ → List Bool) (follow : ℕ → List Step) (hit : ℕ → Bool)
     (stops : k (dead t n) ≡ [])
     (goes : (p c : ℕ) → p < places t → slice_get w i ≡ Some c → (c < n) × (k (state_of t n p (kind_of t n c)) ≡ tests hit (follow p))) where
@@ -153,7 +154,7 @@ module _ (a : Automaton) (t : Tree) (ending : Ending) (sets : List (ℕ → Bool
   pub accepting_is : accepting_state a ≡ accepting t a.table.codes
   accepting_is = omega (arith, stands.same_states)
 
-  -- the moves of any state, on a letter or beyond the letters
+  -- The moves of any state, on a letter or beyond the letters.
   pub moves_is : (q letter : ℕ) → q < state_count t a.table.codes → (moves_at a q letter ≡ moves_over sets t ending a.table.codes q letter) ⊎ (moves_at a q letter ≡ [])
   moves_is q letter lt = ⊎_elim
       (λ le. inl (stands.same_moves q letter (omega (arith, stands.same_states)) (omega arith)))
@@ -179,7 +180,7 @@ module _ (a : Automaton) (t : Tree) (ending : Ending) (sets : List (ℕ → Bool
   walk-dead [] = refl
   walk-dead (letter ∷ word) = ap (stepped (accepting_state a) (λ r. walk a r word)) (dead_moves letter)
 
-  -- the walk from a state on what is left of a text is the trace of the state's items there
+  -- The walk from a state on what is left of a text is the trace of the state's items there.
   walk_goes : Finer sets (all_sets t) → (w r : List ℕ) (i : ℕ) → ((m : ℕ) → slice_get w (i + m) ≡ slice_get r m) → length w ≡ i + length r → All (λ c. c < a.table.codes) r
       → (q : ℕ) (l : List Item) → StateAt t a.table.codes q l (code_before w i) → ItemsKnown (guard_sets t) (places t) l
       → walk a q (map (letter_at a.table) r ++ letters_count a ∷ []) ≡ tests (is_hit ending (length w)) (trace (set_of t 0) (after t 0) w l i)
@@ -230,7 +231,7 @@ module _ (a : Automaton) (t : Tree) (ending : Ending) (sets : List (ℕ → Bool
       (hit_before ending (length w) i found.0 (omega (arith, size))) l known
       ∙ ap (tests hit) (sym (trace_goes (set_of t 0) (after t 0) w l i))
 
-  -- the walk on a text is the run, over any sets that tell apart what the tree's sets do
+  -- The walk on a text is the run, over any sets that distinguish what the tree's sets do.
   pub walk-run_over : Finer sets (all_sets t) → (w : List ℕ) → All (λ c. c < a.table.codes) w → walk a 0 (word_at a w) ≡ all_tests t ending w
   unfolding all_tests
   walk-run_over finer w codes =
@@ -244,7 +245,7 @@ module _ (a : Automaton) (t : Tree) (ending : Ending) (sets : List (ℕ → Bool
   pub walk-matched_over : Finer sets (all_sets t) → (w : List ℕ) → All (λ c. c < a.table.codes) w → walk_matched a (word_at a w) ≡ matched t ending w
   walk-matched_over finer w codes = ap has_hit (walk-run_over finer w codes)
 
--- the same over the tree's own sets
+-- The same over the tree's own sets.
 pub walk-run : (a : Automaton) (t : Tree) (ending : Ending) (w : List ℕ) → StandsFor a t ending → All (λ c. c < a.table.codes) w
     → walk a 0 (word_at a w) ≡ all_tests t ending w
 walk-run a t ending w stands codes = walk-run_over a t ending (all_sets t) stands (Finer-itself (all_sets t)) w codes

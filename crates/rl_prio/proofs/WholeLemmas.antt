@@ -1,4 +1,4 @@
--- What follows for an automaton that stands for a tree: its moves on the end letter, and how many moves and states it has.
+-- What follows for an automaton that stands for a tree: its moves on the end letter, and the numbers of its moves and states.
 use Rattle.std.proofs.Common.{◌≡◌, ℕ, suc, ◌+◌, ◌*◌, ◌^◌, ◌<◌, ◌≤◌, Bool, List, [], ◌∷◌, length, All, Option, None, slice_get, if◌then◌else◌, ◌⊎◌, inl, inr, ⊎_elim, refl, sym, ap, subst, ◌∙◌, arith}
 use Rattle.std.proofs.lemmas.Bool.{cond_both, cases_lt}
 use Rattle.std.proofs.lemmas.List.Elements.{All-nil, All-cons, All-append}
@@ -15,7 +15,7 @@ use Rattle.rl_prio.proofs.LengthLemmas.{items-short, length-moves_on}
 use Rattle.rl_prio.proofs.KindLemmas.{few_states}
 use Rattle.rl_prio.proofs.WalkLemmas.{accepting_is, accepting_moves, dead_moves}
 
--- where no code follows, a move leads to the accepting or the dead state
+-- If no code follows, a move leads to the accepting state or the dead state.
 end_targets : (t : Tree) (ending : Ending) (n : ℕ) (before : Option ℕ) (l : List Item) → All (λ q. (q ≡ accepting t n) ⊎ (q ≡ dead t n)) (moves_on t ending n before None l)
 end_targets t ending n before [] = All-nil (λ q. (q ≡ accepting t n) ⊎ (q ≡ dead t n))
 end_targets t ending n before (test_at gs p ∷ l) =

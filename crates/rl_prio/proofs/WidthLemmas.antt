@@ -1,4 +1,4 @@
--- The lengths of the item lists of a tree: those of a part are no longer than the longest of the whole.
+-- The lengths of the item lists of a tree: the lists of a part are no longer than the longest list of the whole.
 use Rattle.std.proofs.Common.{◌≡◌, ℕ, zero, suc, ◌+◌, ◌-◌, ◌<◌, ◌≤◌, ◌⊎◌, inl, inr, Bool, true, false, List, [], ◌∷◌, ◌++◌, length, get_or, nat_lt, refl, sym, ap, ◌∙◌, arith, length-append}
 use Rattle.std.proofs.lemmas.Bool.{cases_lt, cond-true, cond-false, lt-ltb, le-ltb}
 use Rattle.std.proofs.lemmas.List.{get_or-append-add, get_or_append_left}
@@ -200,7 +200,7 @@ get_or-followed [] m k lt = absurd (omega arith)
 get_or-followed (l ∷ ls) m zero lt = refl
 get_or-followed (l ∷ ls) m (suc k) lt = get_or-followed ls m k (omega arith)
 
--- a place of the second of two parts
+-- A place of the second of two parts.
 later : (xs ys : List (List Item)) (k n : ℕ) → length xs ≡ n → n ≤ k → get_or (xs ++ ys) k [] ≡ get_or ys (k - n) []
 later xs ys k n len le =
     let at : k ≡ length xs + (k - n) = omega arith in
@@ -254,7 +254,7 @@ lists_of-after (many e greedy) b k lt =
 pub lists-at : (t : Tree) (p : ℕ) → p < places t → get_or (lists_of t 0) p [] ≡ after t 0 p
 lists-at t p lt = let at : 0 + p ≡ p = omega arith in lists_of-after t 0 p lt ∙ ap (after t 0) at
 
--- neither the first list nor that after a place is longer
+-- Neither the first list nor that after a place is longer.
 pub longest-start : (t : Tree) (n : ℕ) → length (first t 0) ≤ longest_of t n
 longest-start t zero = omega arith
 longest-start t (suc n) = omega (arith, longest-start t n)

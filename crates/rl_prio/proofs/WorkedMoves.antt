@@ -10,15 +10,15 @@ use Rattle.rl_prio.specs.Items.{test_at, pass, first, after, longest}
 use Rattle.rl_prio.specs.Letters.{letters, kinds}
 use Rattle.rl_prio.specs.States.{moves, state_count}
 
--- `(a|a)*`
+-- `(a|a)*`.
 abbrev doubled_star : Tree
 doubled_star = many (either (one (λ c. c == 97)) (one (λ c. c == 97))) true
 
--- `a\b`
+-- `a\b`.
 abbrev word_end : Tree
 word_end = both (one (λ c. c == 97)) (guard (Word true))
 
--- the nested repetition of `a` and an empty branch, whose items repeat
+-- The nested repetition of `a` and an empty branch, whose items repeat.
 abbrev empty_branch : Tree
 empty_branch = many (both (one (λ c. c == 97)) (many (either (one (λ c. c == 98)) empty) true)) true
 
@@ -32,8 +32,8 @@ letters_and_kinds : (letters word_end 128 ≡ 0 ∷ 48 ∷ 97 ∷ []) × (kinds 
 unfolding classes is_word is_named is_between
 letters_and_kinds = (refl, refl, refl)
 
--- on an `a` the start goes to the state of the place and the second kind; there, between words, the end letter is accepted,
--- and a further `a` leaves no move
+-- On an `a` the start goes to the state of the place and the second kind; there, between words, the end letter is accepted,
+-- and a further `a` leaves no move.
 word_end_moves : (moves word_end AtEnd 128 0 2 ≡ 2 ∷ []) × (moves word_end AtEnd 128 2 3 ≡ 3 ∷ []) × (moves word_end AtEnd 128 2 2 ≡ []) × (moves word_end AtEnd 128 2 0 ≡ 4 ∷ [])
 unfolding classes class_of is_in is_word is_named is_between holds
 word_end_moves = (refl, refl, refl, refl)

@@ -1,32 +1,33 @@
--- Automata. What an ordered automaton is as data: the table of its letters, the number of its states and, state by state and
--- letter by letter, the end letter last, the list of the states that are moved to, in the order in which they are tried.
+-- The mathematical model of an ordered automaton: the table of its letters, the number of its states and, state by state and
+-- letter by letter with the end letter last, the list of targets in the order in which they are tried.
 use Rattle.std.specs.Prelude.{◌≡◌, ℕ, suc, ◌+◌, ◌*◌, ◌-◌, ◌<◌, ◌≤◌, ◌&&◌, nat_lt, nat_le, List, [], length, slice_index_or, All, if◌then◌else◌}
 use Rattle.rl_ranges.specs.Letters.{LetterTable}
 
+-- An ordered automaton: its letters, the number of its states, and one row of targets for each state and letter.
 pub record Automaton : Type 0 where
   pub table : LetterTable
   pub states : ℕ
   pub rows : List (List ℕ)
 
--- how many letters there are; the end letter has this number
+-- The number of letters. It is also the number of the end letter.
 abbrev pub letters_count : Automaton → ℕ
 letters_count a = length a.table.samples
 
--- the accepting state
+-- The accepting state, which is the second to last one.
 abbrev pub accepting_state : Automaton → ℕ
 accepting_state a = a.states - 2
 
--- the dead state
+-- The dead state, which is the last one.
 abbrev pub dead_state : Automaton → ℕ
 dead_state a = a.states - 1
 
--- the moves of a state on a letter or the end letter; there is none beyond these
+-- The targets of a state on a letter or the end letter, in order. States and letters out of range have no moves.
 unfoldable pub moves_at : Automaton → ℕ → ℕ → List ℕ
 moves_at a q letter =
     if nat_lt q a.states && nat_le letter (letters_count a) then slice_index_or a.rows (q * suc (letters_count a) + letter) [] else []
 
--- the start, the accepting and the dead state are there, each state has a row for each letter and the end letter, each move
--- leads to a state, and no move leads out of the accepting and the dead state
+-- The automaton is well formed: it has a start, an accepting state and a dead state; each state has a row for each letter and
+-- the end letter; each move leads to a state; and the accepting state and the dead state have no moves.
 pub record IsAutomaton (a : Automaton) : Type 0 where
   pub three_states : 3 ≤ a.states
   pub row_count : length a.rows ≡ a.states * suc (letters_count a)

@@ -1,21 +1,22 @@
--- Letters and kinds of a tree. Codes that each set of the tree, and each set that its guards name, holds both or neither of
--- are one letter. Those that each set that its guards name holds both or neither of are of one kind.
+-- Letters and kinds of a tree. Two codes belong to the same letter if each set of the tree, and each set that its guards
+-- name, holds both of them or neither. They are of the same kind if each set that the guards name holds both of them or
+-- neither.
 use Rattle.std.specs.Prelude.{ℕ, Bool, List, ◌++◌}
 use Rattle.rl_ranges.specs.Letters.{classes, class_of}
 use Rattle.rl_syntax.specs.Tree.{Tree, sets_in, guard_sets}
 
--- the sets that tell codes apart
+-- The sets that distinguish codes: the sets of the tree, and the sets that its guards name.
 abbrev pub all_sets : Tree → List (ℕ → Bool)
 all_sets t = sets_in t ++ guard_sets t
 
--- the least code of each letter, of the codes below `n`
+-- The least code of each letter, for the codes below `n`.
 abbrev pub letters : Tree → ℕ → List ℕ
 letters t n = classes (all_sets t) n
 
--- the least code of each kind, of the codes below `n`
+-- The least code of each kind, for the codes below `n`.
 abbrev pub kinds : Tree → ℕ → List ℕ
 kinds t n = classes (guard_sets t) n
 
--- the number of the kind of a code
+-- The number of the kind of a code.
 abbrev pub kind_of : Tree → ℕ → ℕ → ℕ
 kind_of t n code = class_of (guard_sets t) n code

@@ -1,29 +1,31 @@
--- Walks. The walk of an automaton on a list of letters tries, from the start and at each further state, the moves on the next
--- letter in order. Each try is one step, and one to the accepting state is a hit; one to the state of a place is followed by
--- the walk from there on the letters that are left.
+-- Walks. On a list of letters, the walk of an automaton tries the moves on the next letter in order, at the start and then at
+-- each further state. Each try is one step, and a step to the accepting state is a hit. A step to the state of a place is
+-- followed by the walk from that state on the remaining letters.
 use Rattle.std.specs.Prelude.{ℕ, suc, Bool, true, false, ◌==◌, List, [], ◌∷◌, ◌++◌, map, if◌then◌else◌}
 use Rattle.rl_ranges.specs.Letters.{letter_at}
 use Rattle.rl_syntax.specs.Cost.{up_to_hit, has_hit}
 use Rattle.rl_prio.specs.Automaton.{Automaton, letters_count, accepting_state, moves_at}
 
--- the steps of moves in order, each with whether it is a hit; `next` is the walk from a state
+-- The steps of a list of moves in order, as a flag for each step that says whether it is a hit. `next` gives the walk from a
+-- state.
 abbrev pub stepped : ℕ → (ℕ → List Bool) → List ℕ → List Bool
 stepped accepting next [] = []
 stepped accepting next (q ∷ l) = (if q == accepting then true ∷ [] else false ∷ next q) ++ stepped accepting next l
 
--- the steps of the walk from a state on letters
+-- The steps of the walk from the state `q` on a list of letters.
 abbrev pub walk : Automaton → ℕ → List ℕ → List Bool
 walk a q [] = []
 walk a q (letter ∷ rest) = stepped (accepting_state a) (λ r. walk a r rest) (moves_at a q letter)
 
--- the letters of a text, and the end letter
+-- The letters of a text, followed by the end letter.
 abbrev pub word_at : Automaton → List ℕ → List ℕ
 word_at a text = map (letter_at a.table) text ++ letters_count a ∷ []
 
--- one, and the steps on letters up to and with the first hit, or all of them where there is no hit
+-- The cost of a walk: one, plus the number of steps up to and including the first hit, or plus the number of all steps if
+-- there is no hit.
 abbrev pub walk_cost : Automaton → List ℕ → ℕ
 walk_cost a word = suc (up_to_hit (walk a 0 word))
 
--- whether there is a hit
+-- Whether the walk has a hit.
 abbrev pub walk_matched : Automaton → List ℕ → Bool
 walk_matched a word = has_hit (walk a 0 word)

@@ -1,4 +1,4 @@
-//! How the automaton of a tree is built.
+//! Building the ordered automaton of a tree.
 
 ghost use Rattle.std.specs.Prelude.{◌≡◌, ℕ, ◌<◌, ◌≤◌, ◌++◌, [], true, All, IfOk, IfErr, OnOk, length, map};
 ghost use Rattle.rl_ranges.specs.Codes.{has, IsInside};
@@ -56,10 +56,10 @@ impl From<ListError> for PrioError {
     }
 }
 
-/// Adds the sets that tell the codes of a tree apart: the tree's own, and those that its guards name.
+/// Adds the sets that distinguish the codes of a tree: the tree's own sets, and the sets that its guards name.
 ///
 /// # Errors
-/// [`OutOfMemory`] where there was no memory for them.
+/// [`OutOfMemory`] if there is not enough memory for them.
 pub fn add_letter_sets(alloc: Global, tree: &Re, sets: &mut Vec<CodeSet>) -> Result<(), OutOfMemory>
     ensures sets { OnOk result
         (map has sets.new.items ≡ map has sets.old.items ++ all_sets (tree_of tree.now)) }
@@ -71,10 +71,10 @@ pub fn add_letter_sets(alloc: Global, tree: &Re, sets: &mut Vec<CodeSet>) -> Res
     Ok(())
 }
 
-/// The kinds of a tree: the letters of the sets that its guards name. There are at most four.
+/// Computes the kinds of a tree, that is, the letters of the sets that its guards name. There are at most four.
 ///
 /// # Errors
-/// [`OutOfMemory`] where there was no memory for them.
+/// [`OutOfMemory`] if there is not enough memory for them.
 fn kinds(alloc: Global, tree: &Re, universe: Universe) -> Result<Letters, OutOfMemory>
     requires { IsOver universe (tree_of tree.now) }
     ensures { IfOk result
@@ -92,12 +92,13 @@ fn kinds(alloc: Global, tree: &Re, universe: Universe) -> Result<Letters, OutOfM
 impl Prio {
     ghost use Rattle.rl_prio.specs.StandsFor.{StandsFor, StandsOver};
 
-    /// The automaton of a tree and an ending, over the letters of the universe that the tree's sets tell apart.
+    /// Builds the automaton of a tree and an ending. Its letters are the classes of codes of the universe that the tree's
+    /// sets and the sets named by its guards distinguish.
     ///
     /// # Errors
-    /// [`PrioError::Letters`] exactly where there are more than [`MOST_LETTERS`], [`PrioError::Moves`] exactly where there
-    /// are no more and a list of items has more than [`MOST_MOVES`], [`PrioError::OutOfMemory`] where there was no memory for
-    /// the automaton.
+    /// [`PrioError::Letters`] if there are more than [`MOST_LETTERS`] letters; [`PrioError::Moves`] if there are no more
+    /// letters than that, but a list of items has more than [`MOST_MOVES`] items; [`PrioError::OutOfMemory`] if there is not
+    /// enough memory for the automaton.
     pub fn build(
         alloc: Global,
         tree: &Re,
@@ -120,13 +121,14 @@ impl Prio {
         Prio::build_over(alloc, tree, ending, universe, &sets)
     }
 
-    /// The automaton of a tree and an ending, over the letters of the universe that given sets tell apart. They tell apart at
-    /// least what the sets of the tree and those that its guards name do.
+    /// Builds the automaton of a tree and an ending over the letters that the given sets distinguish in the universe. Codes
+    /// that these sets don't distinguish must not be distinguished by the sets of the tree or the sets that its guards name
+    /// either.
     ///
     /// # Errors
-    /// [`PrioError::Letters`] exactly where there are more than [`MOST_LETTERS`], [`PrioError::Moves`] exactly where there
-    /// are no more and a list of items has more than [`MOST_MOVES`], [`PrioError::OutOfMemory`] where there was no memory for
-    /// the automaton.
+    /// [`PrioError::Letters`] if there are more than [`MOST_LETTERS`] letters; [`PrioError::Moves`] if there are no more
+    /// letters than that, but a list of items has more than [`MOST_MOVES`] items; [`PrioError::OutOfMemory`] if there is not
+    /// enough memory for the automaton.
     pub fn build_over(
         alloc: Global,
         tree: &Re,

@@ -1,15 +1,15 @@
-//! Why an automaton isn't built.
+//! The reasons why an automaton isn't built.
 
 ghost use Rattle.std.specs.Prelude.{◌≡◌};
 
 use rl_lists::OutOfMemory;
 
-/// Why an automaton isn't built.
+/// The reason why an automaton isn't built.
 #[derive(Clone, Copy, Debug, PartialEq, Eq)]
 pub enum PrioError {
-    /// There would be more than [`MOST_LETTERS`].
+    /// There would be more than [`MOST_LETTERS`] letters.
     Letters,
-    /// The letters are within their limit, and a list of items would have more than [`MOST_MOVES`].
+    /// There are no more than [`MOST_LETTERS`] letters, but a list of items would have more than [`MOST_MOVES`] items.
     Moves,
     /// Out of memory.
     OutOfMemory,

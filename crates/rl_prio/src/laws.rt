@@ -14,9 +14,10 @@ ghost use Rattle.rl_prio.specs.Automaton.{Automaton, letters_count, accepting_st
 ghost use Rattle.rl_prio.specs.Walk.{walk, word_at, walk_cost, walk_matched};
 ghost use Rattle.rl_prio.specs.StandsFor.{StandsOver, StandsFor};
 
-/// The walk of an automaton that stands for a tree is the run of the tree, on every text of the automaton's codes: the two
-/// have the same steps, hits and misses alike. So they have one cost, and match alike. The letters may be those of more sets
-/// than the tree's own, as long as codes that these sets don't tell apart aren't told apart by the tree's sets.
+/// The walk of an automaton that stands for a tree is the run of the tree, for every text of the automaton's codes: both have
+/// the same steps, with the same hits and misses. So they have the same cost, and match the same texts. The automaton's
+/// letters may come from other sets than the tree's own, as long as codes that those sets don't distinguish aren't
+/// distinguished by the tree's sets either.
 pub fn walk_is_run()
     ensures costs { (a : Automaton) (t : Tree) (ending : Ending) (w : List ℕ) → StandsFor a t ending → All (λ c. c < a.table.codes) w
         → walk_cost a (word_at a w) ≡ cost t ending w }
@@ -33,15 +34,15 @@ pub fn walk_is_run()
         → (w : List ℕ) → All (λ c. c < a.table.codes) w → walk_matched a (word_at a w) ≡ matched t ending w }
 {}
 
-/// The match law. A text is matched to its end exactly where the tree spans the whole of it, and anywhere exactly where the
-/// tree spans a beginning of it.
+/// A text is matched to its end if and only if the tree spans all of it, and matched anywhere if and only if the tree spans a
+/// prefix of it.
 pub fn matches_are_spans()
     ensures to_end { (t : Tree) (w : List ℕ) → IsTrue (matched t AtEnd w) ↔ Spans t w 0 (length w) }
     ensures to_some { (t : Tree) (w : List ℕ) → IsTrue (matched t Anywhere w) ↔ ((j : ℕ) × Spans t w 0 j) }
 {}
 
-/// After the end letter nothing is left to be read: a move on it leads to the accepting state or to the dead one, and neither
-/// of these has a move.
+/// After the end letter, nothing is left to read: a move on it leads to the accepting state or to the dead state, and neither
+/// of these has any moves.
 pub fn end_letter_ends()
     ensures ends { (a : Automaton) (t : Tree) (ending : Ending) (sets : List (ℕ → Bool)) → StandsOver a t ending sets
         → (q : ℕ) → All (λ target. (target ≡ accepting_state a) ⊎ (target ≡ dead_state a)) (moves_at a q (letters_count a)) }
@@ -51,8 +52,9 @@ pub fn end_letter_ends()
         → (letter : ℕ) → moves_at a (dead_state a) letter ≡ [] }
 {}
 
-/// Lists of items are bounded by the size `s` of the tree: those on entering a tree have at most `2^s` items, those after a
-/// place of it at most `2^(s s)`. So have the lists of moves of an automaton that stands for the tree.
+/// The length of item lists is bounded in terms of the size `s` of the tree: the list of entering a tree has at most `2^s`
+/// items, and the list after a place of the tree has at most `2^(s*s)`. The same bound of `2^(s*s)` holds for the lists of
+/// moves of an automaton that stands for the tree.
 pub fn item_lists_are_short()
     ensures entered { (t : Tree) (b : ℕ) → length (first t b) ≤ 2 ^ size t }
     ensures later { (t : Tree) (b p : ℕ) → length (after t b p) ≤ 2 ^ (size t * size t) }
@@ -61,8 +63,8 @@ pub fn item_lists_are_short()
         → (q letter : ℕ) → length (moves_at a q letter) ≤ 2 ^ (size t * size t) }
 {}
 
-/// There are at most four kinds of letters, since guards name three sets at most, of which one lies in another; and one kind
-/// where the tree has no guard. So a tree of size `s` has at most `4 s + 3` states.
+/// There are at most four kinds of letters, since guards name at most three sets and one of these is a subset of another. If
+/// the tree has no guards, there is one kind. So a tree of size `s` has at most `4*s + 3` states.
 pub fn states_are_few()
     ensures kinds { (t : Tree) (n : ℕ) → length (kinds t n) ≤ 4 }
     ensures one_kind { (t : Tree) (n : ℕ) → guards_in t ≡ [] → 0 < n → length (kinds t n) ≡ 1 }

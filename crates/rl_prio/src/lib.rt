@@ -1,17 +1,18 @@
-//! The automaton of a regular expression whose moves stand in the order in which a backtracking matcher tries them: the
-//! prioritized NFA of Weideman and others (2016), here "ordered automaton".
+//! The automaton of a regular expression whose moves are in the order in which a backtracking matcher tries them: the
+//! prioritized NFA of Weideman and others (2016), here called "ordered automaton".
 //!
-//! [`Prio::build`] makes it from a lowered tree. As in Glushkov's construction there is a state for each place of the tree
-//! that reads a character, and no move is empty. A place has one state for each kind of letter that anchors and word
-//! boundaries tell apart. [`Prio::moves`] lists the targets of a state on a letter in order, and keeps repeated ones, because
-//! the matcher tries these again. [`Prio::build_over`] and [`Prio::build_beside`] make automata over given letters, so that
-//! two of them can be read side by side.
+//! [`Prio::build`] builds it from a lowered tree. As in Glushkov's construction, there is a state for each place of the tree
+//! that reads a character, and there are no empty moves. More precisely, a place has one state for each kind of letter that
+//! anchors and word boundaries distinguish. [`Prio::moves`] lists the targets of a state on a letter in order, and keeps
+//! repeated targets, because a matcher tries them again. [`Prio::build_over`] and [`Prio::build_beside`] build automata over
+//! given letters, so that two automata can read the same word side by side.
 //!
 //! # What is proved
 //!
-//! The letters, states and ordered moves are those of the tree. By the law [`laws::walk_is_run`] the walk of the automaton on
-//! a text is the run of the tree, test by test, on every text; so both match alike and have one cost. [`PrioError::Letters`]
-//! comes exactly above 128 letters, and else [`PrioError::Moves`] exactly where a list of items would have more than 256.
+//! The letters, states and ordered moves are the ones that the tree defines. By the law [`laws::walk_is_run`], the walk of
+//! the automaton on a text is the run of the tree, test by test, for every text; so both match the same texts at the same
+//! cost. [`PrioError::Letters`] is returned only if there are more than 128 letters, and [`PrioError::Moves`] only if there
+//! are no more letters than that and a list of items would have more than 256 items; in both cases no automaton is built.
 //!
 //! # Example
 //!

@@ -9,9 +9,9 @@ use rl_ranges::Letters;
 use std::marker::Model;
 use std::rc::Rc;
 
-/// An ordered automaton, or prioritized NFA (Weideman and others 2016): for each state and letter the states that are moved
-/// to, in the order in which they are tried.
-/// State 0 is the start, the last but one is the accepting state, and the last one is the dead state.
+/// An ordered automaton, also known as a prioritized NFA (Weideman and others 2016): for each state and letter, the states to
+/// which a matcher moves, in the order in which it tries them. State 0 is the start, the second to last state is the accepting
+/// state, and the last state is the dead state.
 #[derive(Drop)]
 pub struct Prio {
     letters: Rc<Letters>,
@@ -30,7 +30,8 @@ impl Model for Prio {
 }
 
 impl Prio {
-    /// The automaton of its letters, its states and its closed rows, one for each state and letter, the end letter last.
+    /// Creates an automaton from its letters, its number of states and its closed rows, one for each state and letter. The
+    /// row of the end letter is the last one of each state.
     pub(crate) fn from_parts(letters: Rc<Letters>, states: u32, rows: RowTable) -> Prio
         requires { IsAutomaton (record { table = letters.value; states = states; rows = rows.rows }) }
         ensures { result ≡ record { table = letters.value; states = states; rows = rows.rows } }
@@ -42,7 +43,7 @@ impl Prio {
         }
     }
 
-    /// How many states there are.
+    /// Returns the number of states.
     pub fn states(&self) -> u32
         ensures count { result ≡ self.now.states }
         ensures automaton { IsAutomaton self.now }
@@ -50,7 +51,7 @@ impl Prio {
         self.states
     }
 
-    /// The accepting state, where a match has ended. It is the last but one, and moves to none.
+    /// Returns the accepting state, in which a match has ended. It is the second to last state and has no moves.
     pub fn accepting(&self) -> u32
         ensures state { result ≡ accepting_state self.now }
         ensures within { result < self.now.states }
@@ -59,7 +60,7 @@ impl Prio {
         self.states - 2
     }
 
-    /// The dead state, where a try has failed. It is the last one, and moves to none.
+    /// Returns the dead state, in which an attempt has failed. It is the last state and has no moves.
     pub fn dead(&self) -> u32
         ensures state { result ≡ dead_state self.now }
         ensures within { result < self.now.states }
@@ -68,17 +69,17 @@ impl Prio {
         self.states - 1
     }
 
-    /// The letters. The end letter has the number after theirs.
+    /// Returns the letters. The end letter has the number that follows theirs.
     pub fn letters(&self) -> &Letters
         ensures { result.now ≡ self.now.table }
     {
         &self.letters
     }
 
-    /// The letters, for one more automaton over them.
+    /// Returns a shared handle to the letters, for another automaton over them.
     ///
     /// # Errors
-    /// [`OutOfMemory`] where there are too many automata over them.
+    /// [`OutOfMemory`] if too many automata share the letters.
     pub(crate) fn shared_letters(&self) -> Result<Rc<Letters>, OutOfMemory>
         ensures { IfOk result (λ letters. letters.value ≡ self.now.table) }
     {
@@ -86,8 +87,8 @@ impl Prio {
         Ok(letters)
     }
 
-    /// The states that a state moves to on a letter, in the order in which they are tried. The letter after the last one is
-    /// the end letter.
+    /// Returns the targets of a state on a letter, in the order in which a matcher tries them. The end letter is the number
+    /// after the last letter.
     pub fn moves(&self, state: u32, letter: u32) -> &[u32]
         requires state_in { state < self.now.states }
         requires letter_in { letter ≤ letters_count self.now }

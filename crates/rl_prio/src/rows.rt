@@ -1,4 +1,4 @@
-//! Rows of numbers in one vector.
+//! Rows of numbers, stored in one vector.
 
 ghost use Rattle.std.specs.Prelude.{◌≡◌, ◌<◌, ◌≤◌, [], ◌∷◌, ◌++◌, length, slice_index, slice_index_or, IfOk, OnOk, OnErr};
 ghost use Rattle.rl_prio.specs.internal.Rows.{rows_from, start_at, RiseTo};
@@ -7,7 +7,7 @@ use rl_lists::OutOfMemory;
 use std::alloc::Global;
 use std::marker::Model;
 
-/// Rows of numbers, one behind another. The last one is still open; the others are closed.
+/// Rows of numbers, stored one after another. The last row is still open; all others are closed.
 #[derive(Drop)]
 pub(crate) struct RowTable {
     targets: Vec<u32>,
@@ -26,10 +26,10 @@ impl Model for RowTable {
 }
 
 impl RowTable {
-    /// No row, and an open one without a number, with room for so many rows and as many numbers.
+    /// Creates a table with no closed row and an empty open row, and with capacity for `count` rows and `count` numbers.
     ///
     /// # Errors
-    /// [`OutOfMemory`] where there was no memory for it.
+    /// [`OutOfMemory`] if there is not enough memory for it.
     pub(crate) fn with_room(alloc: Global, count: usize) -> Result<RowTable, OutOfMemory>
         ensures { IfOk result (λ r. r ≡ record { rows = []; open_row = [] }) }
     {
@@ -41,7 +41,7 @@ impl RowTable {
     /// Appends a number to the open row.
     ///
     /// # Errors
-    /// [`OutOfMemory`] where there was no memory for it; nothing is changed then.
+    /// [`OutOfMemory`] if there is not enough memory for it; nothing has changed then.
     pub(crate) fn put(&mut self, target: u32) -> Result<(), OutOfMemory>
         ensures put { OnOk result (self.new ≡ record self.old { open_row = self.old.open_row ++ target ∷ [] }) }
         ensures unchanged { OnErr result (self.new ≡ self.old) }
@@ -50,10 +50,10 @@ impl RowTable {
         Ok(())
     }
 
-    /// Closes the open row, and opens another without a number.
+    /// Closes the open row and opens an empty one.
     ///
     /// # Errors
-    /// [`OutOfMemory`] where there was no memory for it; nothing is changed then.
+    /// [`OutOfMemory`] if there is not enough memory for it; nothing has changed then.
     pub(crate) fn close(&mut self) -> Result<(), OutOfMemory>
         ensures closed { OnOk result (self.new ≡ record { rows = self.old.rows ++ self.old.open_row ∷ []; open_row = [] }) }
         ensures unchanged { OnErr result (self.new ≡ self.old) }
@@ -63,7 +63,7 @@ impl RowTable {
         Ok(())
     }
 
-    /// A closed row.
+    /// Returns the closed row with the index `i`.
     pub(crate) fn row(&self, i: usize) -> &[u32]
         requires { i < length self.now.rows }
         ensures { result.now ≡ slice_index_or self.now.rows i [] }
@@ -72,7 +72,7 @@ impl RowTable {
     }
 }
 
-/// The part of the numbers that ends at the place with the number `i`, and begins at the place before it.
+/// Returns the numbers of the row with the index `i`: they end at `ends[i]` and begin where the row before ends.
 fn part<'a>(targets: &'a [u32], ends: &[usize], i: usize) -> &'a [u32]
     requires in_ends { i < length ends.now }
     requires rise { RiseTo (length targets.now) 0 ends.now }
@@ -82,7 +82,7 @@ fn part<'a>(targets: &'a [u32], ends: &[usize], i: usize) -> &'a [u32]
     &targets[start..end]
 }
 
-/// Where the part that ends at the place with the number `i` begins and ends, of a list of the given size.
+/// Returns where the row with the index `i` begins and ends in a list of `size` numbers.
 fn range_of(ends: &[usize], i: usize, size: usize) -> (usize, usize)
     requires in_ends { i < length ends.now }
     requires rise { RiseTo size 0 ends.now }
@@ -94,7 +94,7 @@ fn range_of(ends: &[usize], i: usize, size: usize) -> (usize, usize)
     (start_of(ends, i), ends[i])
 }
 
-/// Where the part that ends at the place with the number `i` begins.
+/// Returns where the row with the index `i` begins.
 fn start_of(ends: &[usize], i: usize) -> usize
     requires { i < length ends.now }
     ensures { result ≡ start_at 0 ends.now i }

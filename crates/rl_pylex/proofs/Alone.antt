@@ -1,4 +1,4 @@
--- A literal by itself is a source of one token.
+-- A literal by itself is a source with one token.
 use Rattle.std.proofs.Common.{◌≡◌, ℕ, suc, ◌+◌, ◌≤◌, Bool, true, false, cond, not, List, [], ◌∷◌, length, drop, take, refl, ap, sym, ◌∙◌, arith, Some, None, subst}
 use Rattle.std.specs.Prelude.{nat_eq, ◌==◌, IsUtf8}
 use Rattle.std.specs.List.{prefix_len}
@@ -42,7 +42,7 @@ is_no_hash x e = grind (arith, nat_tests)
 is_no_mark : (x : ℕ) → starts_literal x ≡ true → nat_eq 239 x ≡ false
 is_no_mark x e = grind (arith, nat_tests)
 
--- a literal is read as one token, at any depth
+-- A literal is read as one token, at any depth.
 pub literal_first : (depth x : ℕ) (xs : List ℕ) (m : ℕ) → literal (x ∷ xs) ≡ Takes m → reading depth (x ∷ xs) ≡ Piece (Some kind.Literal) m
 unfolding reading
 literal_first depth x xs m e =
@@ -81,7 +81,7 @@ no_coding x xs e =
     let bare : is_bare (line_of (x ∷ xs)) ≡ false = ap is_bare line ∙ not_bare x (take (prefix_len in_line xs) xs) (is_no_blank x e) (is_no_hash x e) in
     rw (none, bare) refl
 
--- a literal as a whole is taken by the rule of literals
+-- The rule of literals takes a literal as a whole.
 pub IsLiteral-takes : (text : List ℕ) → IsLiteral text → literal text ≡ Takes (length text)
 unfolding literal
 IsLiteral-takes text l = ap (λ o. fit_after o text) l.starts ∙ ap fit_of_size l.closes
@@ -104,7 +104,7 @@ one_token text readable start read =
       };
     }
 
--- a literal by itself, of at most 4,194,304 bytes of UTF-8, is a source of one token
+-- A literal by itself of at most 4,194,304 bytes of UTF-8 is a source with one token.
 pub literal_alone : (text : List ℕ) → IsLiteral text → length text ≤ MOST_BYTES → IsUtf8 text → IsTokenList text (record { kind = kind.Literal; from = 0; upto = length text } ∷ [])
 literal_alone [] l short utf8 = absurd (nothing_is_no_literal 0 (IsLiteral-takes [] l))
 literal_alone (x ∷ xs) l short utf8 =

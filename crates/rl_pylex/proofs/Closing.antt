@@ -20,7 +20,7 @@ option_map-zero : (o : Option ℕ) → option_map (λ n. 0 + n) o ≡ o
 option_map-zero None = refl
 option_map-zero (Some x) = ap Some (omega arith)
 
--- what is passed is counted
+-- Skipped bytes count towards the size.
 skipped : (count quote k : ℕ) (xs : List ℕ)
     → close_from count quote k xs ≡ option_map (λ n. k + n) (close_from count quote 0 (drop k xs))
 skipped count quote zero xs = sym (option_map-zero (close_from count quote 0 xs))
@@ -53,7 +53,7 @@ unit_size-some xs = grind (arith, nat_tests)
 opened : (A : Type 0) (b c : Bool) (x y z : A) → b ≡ false → c ≡ false → cond b x (cond c y z) ≡ z
 opened A b c x y z e f = rw (e, f) refl
 
--- a unit that is no closing quotes and no fault is passed
+-- A unit that is neither closing quotes nor a fault is skipped.
 pub Skips-unit : (count quote : ℕ) (xs : List ℕ) → 0 < length xs → quotes_at count quote xs ≡ false → (count == 1 && has_at ends_line 0 xs) ≡ false → Skips count quote (unit_size xs) xs
 Skips-unit count quote [] some other line = absurd (omega arith)
 Skips-unit count quote (x ∷ xs) some other line =
@@ -88,7 +88,7 @@ plain_first count quote x k xs true e some q rest =
     (Skips-unit count quote (x ∷ xs) (omega arith) (quotes_at-other count quote x xs some (plain_is_other quote x q e)) (and-false (count == 1) (ends_line x) (plain_in_line x e))))
     rest
 
--- a run of plain bytes is passed
+-- A run of plain bytes is skipped.
 pub Skips-plain : (count quote : ℕ) (xs : List ℕ) → 0 < count → is_quote quote ≡ true → Skips count quote (prefix_len is_plain xs) xs
 Skips-plain count quote [] some q = refl
 Skips-plain count quote (x ∷ xs) some q =
@@ -109,7 +109,7 @@ long_first quote x k xs true e rest =
     (Skips-unit 3 quote (x ∷ xs) (omega arith) (quotes_at-other 3 quote x xs (omega arith) (long_is_other quote x e)) refl))
     rest
 
--- between triple quotes a run of bytes that are neither the quote nor a backslash is passed
+-- Between triple quotes, a run of bytes that are neither the quote nor a backslash is skipped.
 Skips-long : (quote : ℕ) (xs : List ℕ) → Skips 3 quote (prefix_len (is_long_plain quote) xs) xs
 Skips-long quote [] = refl
 Skips-long quote (x ∷ xs) =
@@ -132,25 +132,25 @@ pub some-count : (n : ℕ) → (n ≡ 1) ⊎ (n ≡ 3) → 0 < n
 some-count n (inl e) = omega (arith, e)
 some-count n (inr e) = omega (arith, e)
 
--- closing quotes stand at the front
+-- The text begins with the closing quotes.
 pub close-here : (count quote : ℕ) (xs : List ℕ) → 0 < length xs → true ≡ quotes_at count quote xs → close_from count quote 0 xs ≡ Some count
 close-here count quote [] some here = absurd (omega arith)
 close-here count quote (x ∷ xs) some here =
     chosen (Option ℕ) (quotes_at count quote (x ∷ xs)) (Some count) (cond (count == 1 && ends_line x) None (option_map suc (close_from count quote (unit_size (x ∷ xs) - 1) xs))) (sym here)
 
--- a line ends there that may not
+-- The text begins with a line end, which the literal may not contain.
 pub close-none : (count quote : ℕ) (xs : List ℕ) → 0 < length xs → false ≡ quotes_at count quote xs → true ≡ (count == 1 && has_at ends_line 0 xs) → close_from count quote 0 xs ≡ None
 close-none count quote [] some other breaks = absurd (omega arith)
 close-none count quote (x ∷ xs) some other breaks =
     middle (Option ℕ) (quotes_at count quote (x ∷ xs)) (count == 1 && ends_line x) (Some count) None (option_map suc (close_from count quote (unit_size (x ∷ xs) - 1) xs)) (sym other) (sym breaks)
 
--- the search from a place on, of which what stands before is passed
+-- The search from a place on, if everything before the place is skipped.
 pub close-on : (count quote at : ℕ) (body rest : List ℕ) (o : Option ℕ) → Skips count quote at body → rest ≡ drop at body → close_from count quote 0 rest ≡ o
     → option_map (λ m. at + m) o ≡ close_from count quote 0 body
 close-on count quote at body rest o skips here closes =
     sym (skips ∙ ap (λ ys. option_map (λ m. at + m) (close_from count quote 0 ys)) (sym here) ∙ ap (option_map (λ m. at + m)) closes)
 
--- one step more
+-- One more step.
 pub skips-on : (count quote at n : ℕ) (body rest : List ℕ) → Skips count quote at body → rest ≡ drop at body → Skips count quote n rest → Skips count quote (at + n) body
 skips-on count quote at n body rest skips here more =
     Skips-then count quote at n body skips (subst (λ (ys : List ℕ). Skips count quote n ys) here more)

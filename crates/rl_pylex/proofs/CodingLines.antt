@@ -1,4 +1,4 @@
--- The coding of the second line, by what is read of both lines.
+-- The coding in the second line, given what is read in both lines.
 use Rattle.std.proofs.Common.{◌≡◌, ℕ, zero, suc, ◌+◌, ◌≤◌, arith, subst, Bool, true, false, cond, not, ◌&&◌, ◌||◌, List, length, drop, refl, ap, sym, ◌∙◌, Some, None, Option}
 use Rattle.std.specs.Prelude.{◌==◌, IfSome}
 use Rattle.std.specs.List.{prefix_len}
@@ -19,7 +19,7 @@ turned A true true x y e = refl
 turned A true false x y e = refl
 turned A false c x y e = absurd (false≢true (sym e))
 
--- no `coding` begins the text
+-- The text doesn't begin with `coding`.
 pub named-none : (text : List ℕ) → false ≡ (begins "coding:" text || begins "coding=" text) → None ≡ named_here text
 unfolding named_here
 named-none text e =
@@ -27,7 +27,7 @@ named-none text e =
     let size = prefix_len in_coding (drop from text) in
     ap (λ b. cond (b && not (size == 0)) (Some (record { from = from; size = size })) None) e
 
--- one does
+-- The text begins with `coding`.
 pub named-is : (text rest behind : List ℕ) (gap size : ℕ) → true ≡ (begins "coding:" text || begins "coding=" text) → rest ≡ drop 7 text → gap ≡ prefix_len is_gap rest
     → behind ≡ drop (7 + gap) text → size ≡ prefix_len in_coding behind → cond (size == 0) None (Some (record { from = 7 + gap; size = size })) ≡ named_here text
 unfolding named_here
@@ -46,14 +46,14 @@ pub named-some : (text rest behind : List ℕ) (gap size : ℕ) → true ≡ (be
 named-some text rest behind gap size e after gaps next sizes some =
     other (Option Named) (size == 0) None (Some (record { from = 7 + gap; size = size })) (not-zero size some) ∙ named-is text rest behind gap size e after gaps next sizes
 
--- the first line has text
+-- The first line isn't bare.
 pub second-none : (text first : List ℕ) → first ≡ line_of text → false ≡ is_bare first → None ≡ second_coding text
 unfolding second_coding
 second-none text first here bare =
     let next = length (line_of text) + line_end (drop (length (line_of text)) text) in
     other (Option Named) (is_bare (line_of text)) (from_place next (coding_of_line (line_of (drop next text)))) None (ap is_bare (sym here) ∙ sym bare)
 
--- the first line is bare
+-- The first line is bare.
 pub second-is : (text first rest behind line : List ℕ) (n : ℕ) (o r : Option Named) → first ≡ line_of text → true ≡ is_bare first → rest ≡ drop (length first) text → n ≡ line_end rest
     → behind ≡ drop (length first + n) text → line ≡ line_of behind → o ≡ coding_of_line line → r ≡ from_place (length first + n) o → r ≡ second_coding text
 unfolding second_coding
@@ -64,7 +64,7 @@ second-is text first rest behind line n o r here bare after ends next second nam
     ∙ ap (λ xs. from_place (length xs + line_end (drop (length xs) text)) (coding_of_line (line_of (drop (length xs + line_end (drop (length xs) text)) text)))) here
     ∙ chosen (Option Named) (is_bare (line_of text)) (from_place at (coding_of_line (line_of (drop at text)))) None (ap is_bare (sym here) ∙ sym bare)
 
--- a name that lies in a line lies in the text
+-- A name that lies within a line lies within the text.
 pub place-within : (o r : Option Named) (n len all : ℕ) → r ≡ from_place n o → IfSome o (λ m. m.from + m.size ≤ len) → n + len ≤ all → IfSome r (λ m. m.from + m.size ≤ all)
 place-within None r n len all e inside fits = subst (λ (q : Option Named). IfSome q (λ m. m.from + m.size ≤ all)) (sym e) tt
 place-within (Some m) r n len all e inside fits =

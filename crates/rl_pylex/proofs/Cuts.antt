@@ -1,4 +1,4 @@
--- The cut of a source into pieces: one piece more at its end, and that there is one cut.
+-- The cut of a source into pieces: one more piece at its end, and the fact that there is only one cut.
 use Rattle.std.proofs.Common.{◌≡◌, ℕ, ◌+◌, ◌<◌, ◌≤◌, Bool, true, false, cond, List, [], ◌∷◌, ◌++◌, length, drop, refl, ap, sym, ◌∙◌, arith, Some, None, Option, subst}
 use Rattle.std.proofs.Common.{add-zero, add_assoc}
 use Rattle.std.specs.Prelude.{filter_map, option_to_list}
@@ -59,7 +59,7 @@ Reaches-step s text at depth next ts more kind n r here found deeper e =
 pub next_rest : (s xs : List ℕ) (x at : ℕ) → drop at s ≡ x ∷ xs → drop (at + 1) s ≡ xs
 next_rest s xs x at e = sym (drop-drop 1 at s) ∙ ap (drop 1) e
 
--- each blank of a run is a piece without a token
+-- Each blank of a run is a piece without a token.
 blank_first : (s xs : List ℕ) (x at depth : ℕ) (ts : List Token) (b : Bool) → is_blank x ≡ b → drop at s ≡ x ∷ xs → Reaches s at depth ts
     → (Reaches s (at + 1) depth ts → Reaches s (at + 1 + prefix_len is_blank xs) depth ts)
     → Reaches s (at + cond b (1 + prefix_len is_blank xs) 0) depth ts
@@ -79,6 +79,6 @@ Reaches-blanks s at depth ts r = blanks-from s (drop at s) at depth ts refl r
 
 pub ruleset pieces = (Reaches-start, Reaches-step)
 
--- what lies in the rest lies in the whole
+-- What lies within the rest lies within the whole.
 pub fits_in_rest : (s rest : List ℕ) (at n : ℕ) → rest ≡ drop at s → at < length s → n ≤ length rest → at + n ≤ length s
 fits_in_rest s rest at n e inside h = omega (arith, ap length e, length-drop at s)

@@ -1,4 +1,4 @@
--- The definitions at small texts, computed.
+-- The definitions for small texts, by computation.
 use Rattle.std.proofs.Common.{◌≡◌, refl, Some, None}
 use Rattle.std.specs.Prelude.{codes}
 use Rattle.rl_pylex.specs.declared.token_list.TokenKind.TheVariants as kind
@@ -12,17 +12,17 @@ a_prefix : prefix_size (codes "Rb'x'") ≡ Some 2
 unfolding prefix_size opens_after
 a_prefix = refl
 
--- a quote behind a backslash closes nothing, raw or not
+-- A quote after a backslash closes nothing, whether the literal is raw or not.
 escaped_quote : size_after 1 (codes "r'\\'' + 1") ≡ Some 5
 unfolding size_after quote_count unit_size
 escaped_quote = refl
 
--- a quote, a line end and a shorter run of quotes in a triple literal
+-- A quote, a line end and a shorter run of quotes in a triple-quoted literal.
 triple : size_after 0 (codes "'''a'\n''b''' ''") ≡ Some 12
 unfolding size_after quote_count unit_size
 triple = refl
 
--- a CR LF behind a backslash is passed, and a line end that isn't passed so is a fault
+-- A CR LF after a backslash is skipped; any other line end is a fault.
 joined : size_after 0 (codes "'a\\\r\nb'") ≡ Some 7
 unfolding size_after quote_count unit_size
 joined = refl
@@ -39,7 +39,7 @@ in_brackets : (reading 1 (codes "\r\nx") ≡ Piece None 2) × (reading 0 (codes 
 unfolding reading blank joined_line new_line line_end
 in_brackets = (refl, refl)
 
--- a prefix is one where a quote follows directly, and else a name
+-- Letters are a prefix only if a quote directly follows them; otherwise they are a name.
 names : (reading 0 (codes "rbx'a'") ≡ Piece (Some kind.Name) 3) × (reading 0 (codes "rb'a'") ≡ Piece (Some kind.Literal) 5)
 unfolding reading blank joined_line new_line line_end comment literal prefix_size opens_after size_after quote_count unit_size name
 names = (refl, refl)
@@ -52,12 +52,12 @@ strays : (reading 0 (codes "$") ≡ Stray) × (reading 0 (codes "\\ \n") ≡ Str
 unfolding reading blank joined_line new_line line_end comment literal prefix_size opens_after size_after quote_count unit_size name number operator
 strays = (refl, refl, refl)
 
--- a closing bracket lowers no depth below 0
+-- A closing bracket doesn't lower the depth below 0.
 depths : (depth_after 1 (codes "(") ≡ 2) × (depth_after 1 (codes "]") ≡ 0) × (depth_after 0 (codes "}") ≡ 0)
 unfolding depth_after
 depths = (refl, refl, refl)
 
--- the first `coding` with a name counts, on the first line or on the second behind a bare line
+-- The first `coding` with a name counts, in the first line, or in the second line after a bare one.
 first_line : wrong_coding (codes "# coding: coding=utf-16 coding:utf8\n") ≡ Some 10
 unfolding wrong_coding coding_of second_coding line_end is_bare coding_of_line named_here
 first_line = refl

@@ -1,4 +1,4 @@
--- What is read where the first byte leaves few rules.
+-- What is read if the first byte leaves few rules.
 use Rattle.std.proofs.Common.{◌≡◌, ℕ, ◌<◌, true, false, not, List, [], ◌∷◌, length, get_or, refl, ap, sym, ◌∙◌, arith, Some, None, Option, subst}
 use Rattle.std.specs.Prelude.{◌==◌, nat_eq}
 use Rattle.std.specs.List.{prefix_len}
@@ -14,7 +14,7 @@ use Rattle.rl_pylex.specs.internal.Rows.{line_end_kind, starts_number, number_ro
 use Rattle.rl_pylex.proofs.Firsts.{passed, taken, blank-not, joined_line-not, new_line-not, comment-not, literal-not}
 use Rattle.rl_pylex.proofs.Alone.{is_no_blank, is_no_backslash, is_no_line_end, is_no_hash}
 
--- the rules up to that of comments pass
+-- The rules up to the rule of comments don't fit.
 pub literal_rows_left : (depth x : ℕ) (xs : List ℕ) → is_blank x ≡ false → is_backslash x ≡ false → ends_line x ≡ false → nat_eq 35 x ≡ false
     → reading depth (x ∷ xs) ≡ first_of_rows literal_rows (x ∷ xs)
 unfolding reading
@@ -89,7 +89,7 @@ comment_read depth xs =
     ∙ passed (new_line (35 ∷ xs)) (line_end_kind depth) _ (new_line-not 35 xs refl)
     ∙ taken (comment (35 ∷ xs)) (Some kind.Comment) (prefix_len in_line (35 ∷ xs)) _ (comment-fits xs)
 
--- the same at a text that isn't taken apart
+-- The same for a text that isn't split into its first byte and the rest.
 pub literal_rows_at : (depth : ℕ) (found : Reading) (text : List ℕ) → 0 < length text → true ≡ starts_literal (get_or text 0 0)
     → found ≡ first_of_rows literal_rows text → found ≡ reading depth text
 literal_rows_at depth found [] some e same = absurd (omega arith)

@@ -1,4 +1,4 @@
--- The search for the first `coding` that has a name, place by place.
+-- The search for the first `coding` that is followed by a name, place by place.
 use Rattle.std.proofs.Common.{◌≡◌, ℕ, suc, ◌+◌, ◌<◌, List, ◌∷◌, length, get_or, drop, refl, ap, sym, ◌∙◌, arith, Some, None, Option}
 use Rattle.std.proofs.Math.Seq.{drop-cons}
 use Rattle.std.proofs.lemmas.List.{drop_all}
@@ -19,12 +19,12 @@ first_named-drop text at h =
     let e : drop at text ≡ get_or text at 0 ∷ drop (suc at) text = drop-cons text at 0 h in
     ap first_named e ∙ ap (λ xs. option_or (named_here xs) (from_place 1 (first_named (drop (suc at) text)))) (sym e)
 
--- a `coding` with a name stands here
+-- There is a `coding` with a name here.
 pub first_named-here : (text : List ℕ) (at : ℕ) (named : Named) → at < length text → Some named ≡ named_here (drop at text) → first_named (drop at text) ≡ Some named
 first_named-here text at named h e =
     first_named-drop text at h ∙ ap (λ o. option_or o (from_place 1 (first_named (drop (suc at) text)))) (sym e)
 
--- none stands here
+-- There is none here.
 pub first_named-on : (text : List ℕ) (at : ℕ) → at < length text → None ≡ named_here (drop at text) → from_place at (first_named (drop at text)) ≡ from_place (at + 1) (first_named (drop (at + 1) text))
 first_named-on text at h e =
     let next : suc at ≡ at + 1 = omega arith in

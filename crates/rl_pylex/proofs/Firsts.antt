@@ -1,4 +1,4 @@
--- A rule fits only where the first byte is one of its own.
+-- A rule fits only if the first byte is one of its own.
 use Rattle.std.proofs.Common.{◌≡◌, ℕ, ◌+◌, ◌<◌, Bool, true, false, not, ◌&&◌, ◌||◌, List, [], ◌∷◌, length, get_or, refl, ap, sym, ◌∙◌, arith, Some, None, Option, subst}
 use Rattle.std.specs.Prelude.{unwrap_or, ◌==◌, nat_eq, codes}
 use Rattle.std.specs.List.{prefix_len, list_any}
@@ -74,7 +74,7 @@ pub name-fits : (x : ℕ) (xs : List ℕ) → starts_name x ≡ true → name (x
 unfolding name
 name-fits x xs e = ap (λ b. takes_if b (prefix_len in_name (x ∷ xs))) e
 
--- a row that passes
+-- A row that doesn't fit.
 pub passed : (f : Fit) (kind : Option TokenKind) (others : Reading) → f ≡ Passes → unwrap_or (reading_by f kind) others ≡ others
 passed f kind others e = rw e refl
 
@@ -93,7 +93,7 @@ name_is_no_line_end x e = grind (arith, nat_tests)
 pub name_is_no_hash : (x : ℕ) → starts_name x ≡ true → nat_eq 35 x ≡ false
 name_is_no_hash x e = grind (arith, nat_tests)
 
--- a name whose first byte begins no literal
+-- A name whose first byte can't begin a literal.
 pub name_read : (depth x : ℕ) (xs : List ℕ) → starts_name x ≡ true → starts_literal x ≡ false → reading depth (x ∷ xs) ≡ Piece (Some kind.Name) (prefix_len in_name (x ∷ xs))
 unfolding reading
 name_read depth x xs e f =
@@ -119,7 +119,7 @@ pub depth_after_blank : (depth x : ℕ) (xs : List ℕ) → is_blank x ≡ true 
 unfolding depth_after
 depth_after_blank depth x xs e = rw ((blank_is_no_bracket x e).0, (blank_is_no_bracket x e).1) refl
 
--- what holds of each of some characters holds of a byte that is one of them
+-- What holds for each of some characters holds for a byte that is one of them.
 abbrev Each : (ℕ → Type 0) → List ℕ → Type 0
 Each P [] = Unit {0}
 Each P (c ∷ cs) = P c × Each P cs
@@ -140,7 +140,7 @@ operator-read depth [] =
 operator-read depth (y ∷ ys) =
     (refl, (refl, (refl, (refl, (refl, (refl, (refl, (refl, (refl, (refl, (refl, (refl, (refl, (refl, (refl, (refl, (refl, (refl, (refl, (refl, (refl, (refl, (refl, tt)))))))))))))))))))))))
 
--- an operator's character that begins no number
+-- An operator character that can't begin a number.
 pub operator_read : (depth x : ℕ) (xs : List ℕ) → is_plain_operator x ≡ true → reading depth (x ∷ xs) ≡ Piece (Some kind.Op) 1
 operator_read depth x xs e =
     from_each (λ y. reading depth (y ∷ xs) ≡ Piece (Some kind.Op) 1) (codes "()[]{},:;=+-*/%&|^~<>@!") x e (operator-read depth xs)
@@ -150,7 +150,7 @@ and-parts true true e = absurd (false≢true (sym e))
 and-parts true false e = (refl, refl)
 and-parts false c e = absurd (false≢true (sym e))
 
--- the same at a text that isn't taken apart
+-- The same for a text that isn't split into its first byte and the rest.
 pub operator_at : (depth : ℕ) (text : List ℕ) → 0 < length text → true ≡ is_plain_operator (get_or text 0 0) → Piece (Some kind.Op) 1 ≡ reading depth text
 operator_at depth [] some e = absurd (omega arith)
 operator_at depth (x ∷ xs) some e = sym (operator_read depth x xs (sym e))

@@ -1,4 +1,4 @@
--- What the rule of literals takes, by the size of a prefix and by that of the literal.
+-- What the rule of literals takes, given the size of a prefix and the size of the literal.
 use Rattle.std.proofs.Common.{ℕ, List, Option}
 use Rattle.std.specs.Option.{option_map_or}
 use Rattle.rl_pylex.specs.declared.rules.Fit.{Fit}

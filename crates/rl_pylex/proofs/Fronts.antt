@@ -1,4 +1,4 @@
--- Facts on the front of a text that a test of one byte gives.
+-- Facts about the beginning of a text that follow from a test of one byte.
 use Rattle.std.proofs.Common.{◌≡◌, ℕ, zero, suc, ◌<◌, ◌≤◌, Bool, true, false, cond, ◌&&◌, List, [], ◌∷◌, length, get_or, take, drop, ◌+◌, Option, refl, sym, ap, ◌∙◌, arith, subst, Some, None}
 use Rattle.std.specs.Prelude.{option_map}
 use Rattle.std.specs.Str.{str_to_ascii_lowercase}
@@ -16,19 +16,19 @@ has_at-within p n [] h = absurd (false≢true h)
 has_at-within p zero (x ∷ xs) h = omega arith
 has_at-within p (suc n) (x ∷ xs) h = omega (arith, has_at-within p n xs h)
 
--- a test of a byte of the text
+-- A test of a byte of the text.
 pub has_at-here : (p : ℕ → Bool) (n : ℕ) (xs : List ℕ) → n < length xs → has_at p n xs ≡ p (get_or xs n 0)
 has_at-here p n [] h = absurd (omega arith)
 has_at-here p zero (x ∷ xs) h = refl
 has_at-here p (suc n) (x ∷ xs) h = has_at-here p n xs (omega arith)
 
--- and of none
+-- A test at a place past the end of the text.
 pub has_at-beyond : (p : ℕ → Bool) (n : ℕ) (xs : List ℕ) → length xs ≤ n → has_at p n xs ≡ false
 has_at-beyond p n [] h = refl
 has_at-beyond p zero (x ∷ xs) h = absurd (omega arith)
 has_at-beyond p (suc n) (x ∷ xs) h = has_at-beyond p n xs (omega arith)
 
--- where a test says that a quote stands, the byte there is a quote
+-- If a test says that there is a quote, the byte there is a quote.
 pub quote_at : (n : ℕ) (xs : List ℕ) → has_at is_quote n xs ≡ true → is_quote (get_or xs n 0) ≡ true
 quote_at n xs h = has_at-read is_quote n xs h
 
@@ -48,20 +48,20 @@ opens-quote : (text : List ℕ) (n : ℕ) → opens_after text n ≡ true → ha
 unfolding opens_after
 opens-quote text n e = right-true (is_prefix (str_to_ascii_lowercase (take n text))) (has_at is_quote n text) e
 
--- whether a prefix of no letter stands at the front
+-- Whether the text begins with a quote and so with a literal without a prefix.
 pub opens-bare : (text : List ℕ) (b : Bool) → 0 < length text → b ≡ is_quote (get_or text 0 0) → opens_after text 0 ≡ b
 unfolding opens_after
 opens-bare [] b some e = absurd (omega arith)
 opens-bare (x ∷ xs) b some e = sym e
 
--- whether one of one letter does
+-- Whether the text begins with a prefix of one letter.
 pub opens-one : (text : List ℕ) (b : Bool) → 1 < length text → true ≡ is_quote (get_or text 1 0) → b ≡ is_prefix (str_to_ascii_lowercase (get_or text 0 0 ∷ [])) → opens_after text 1 ≡ b
 unfolding opens_after
 opens-one [] b some q e = absurd (omega arith)
 opens-one (x ∷ []) b some q e = absurd (omega arith)
 opens-one (x ∷ y ∷ xs) b some q e = both (is_prefix (str_to_ascii_lowercase (x ∷ []))) (is_quote y) (sym e) (sym q)
 
--- whether one of two letters does
+-- Whether the text begins with a prefix of two letters.
 pub opens-two : (text : List ℕ) (b : Bool) → 2 < length text → true ≡ is_quote (get_or text 2 0) → b ≡ is_prefix (str_to_ascii_lowercase (get_or text 0 0 ∷ get_or text 1 0 ∷ [])) → opens_after text 2 ≡ b
 unfolding opens_after
 opens-two [] b some q e = absurd (omega arith)
@@ -69,7 +69,7 @@ opens-two (x ∷ []) b some q e = absurd (omega arith)
 opens-two (x ∷ y ∷ []) b some q e = absurd (omega arith)
 opens-two (x ∷ y ∷ z ∷ xs) b some q e = both (is_prefix (str_to_ascii_lowercase (x ∷ y ∷ []))) (is_quote z) (sym e) (sym q)
 
--- no prefix stands where no quote is behind it
+-- Letters aren't a prefix if no quote follows them.
 pub opens-none : (text : List ℕ) (n : ℕ) → n < length text → false ≡ is_quote (get_or text n 0) → opens_after text n ≡ false
 unfolding opens_after
 opens-none text n some e =
@@ -80,7 +80,7 @@ unfolding opens_after
 opens-short text n few =
     none (is_prefix (str_to_ascii_lowercase (take n text))) (has_at is_quote n text) (has_at-beyond is_quote n text few)
 
--- the prefix is the first that stands
+-- The prefix is the first one that fits.
 pub prefix_is : (text : List ℕ) (a b c : Bool) → opens_after text 0 ≡ a → opens_after text 1 ≡ b → opens_after text 2 ≡ c → cond a (Some 0) (cond b (Some 1) (cond c (Some 2) None)) ≡ prefix_size text
 unfolding prefix_size
 prefix_is text a b c bare one two =
@@ -88,7 +88,7 @@ prefix_is text a b c bare one two =
     ∙ ap (λ x. cond (opens_after text 0) (Some 0) (cond x (Some 1) (cond c (Some 2) None))) (sym one)
     ∙ ap (λ x. cond (opens_after text 0) (Some 0) (cond (opens_after text 1) (Some 1) (cond x (Some 2) None))) (sym two)
 
--- behind the prefix of a literal a quote stands
+-- A quote follows the prefix of a literal.
 pub prefix-quote : (text : List ℕ) (n : ℕ) → prefix_size text ≡ Some n → has_at is_quote n text ≡ true
 unfolding prefix_size
 prefix-quote text n e = by-tests (opens_after text 0) (opens_after text 1) (opens_after text 2) refl refl refl e
@@ -112,7 +112,7 @@ prefix-quote text n e = by-tests (opens_after text 0) (opens_after text 1) (open
 pub prefix-within : (text : List ℕ) (n : ℕ) → prefix_size text ≡ Some n → n < length text
 prefix-within text n e = has_at-within is_quote n text (prefix-quote text n e)
 
--- the size of a literal by the search for its closing quotes
+-- The size of a literal, given the search for its closing quotes.
 pub size_is : (n quotes quote : ℕ) (text rest behind : List ℕ) (o : Option ℕ) → rest ≡ drop n text → quotes ≡ quote_count rest → behind ≡ drop (n + quotes) text
     → quote ≡ get_or text n 0 → o ≡ close_from quotes quote 0 behind → option_map (λ m. n + quotes + m) o ≡ size_after n text
 unfolding size_after

@@ -1,4 +1,4 @@
--- What the lanes of a block of bytes hold, and the mask of those that pass a test.
+-- The content of the lanes of a block of bytes, and the mask of the lanes that satisfy a test.
 use Rattle.std.proofs.Common.{◌≡◌, ℕ, zero, suc, ◌+◌, ◌-◌, ◌*◌, ◌/◌, ◌%◌, ◌^◌, ◌<◌, ◌≤◌, Bool, true, false, cond, not, ◌&&◌, ◌||◌, eqb, leb, List, [], ◌∷◌, length, get_or, drop, map, replicate, refl, subst, ap, ap₂, sym, ◌∙◌, arith, w8, Fits, bit_and, bit_or}
 use Rattle.std.specs.Prelude.{◌==◌}
 use Rattle.std.specs.Char.{is_ascii_lowercase}
@@ -21,14 +21,14 @@ use Rattle.rl_pylex.specs.internal.Blocks.{is_stop, stops_at}
 use Rattle.rl_pylex.proofs.ClassTables.{table_from, read_each}
 use Rattle.rl_pylex.proofs.Runs.{prefix_len-not-not}
 
--- a lane of `simd_eq` and of `simd_ne`
+-- A lane of `simd_eq` and of `simd_ne`.
 abbrev pub hit : ℕ → ℕ → ℕ
 hit a b = cond (eqb a b) 255 0
 
 abbrev pub miss : ℕ → ℕ → ℕ
 miss a b = cond (not (eqb a b)) 255 0
 
--- a lane of `simd_ge`, with its sides changed
+-- A lane of `simd_ge`, with its sides swapped.
 abbrev pub at_most : ℕ → ℕ → ℕ
 at_most a b = cond (leb a b) 255 0
 
@@ -37,12 +37,12 @@ zip2-same : (h : ℕ → ℕ → ℕ) (f g : ℕ → ℕ) (xs : List ℕ) → zi
 zip2-same h f g [] = refl
 zip2-same h f g (x ∷ xs) = ap (λ r. h (f x) (g x) ∷ r) (zip2-same h f g xs)
 
--- bytes at which two functions agree
+-- Bytes for which two functions agree.
 map-bytes : {B : Type 0} (f g : ℕ → B) → ((x : ℕ) → x < 256 → f x ≡ g x) → (xs : List ℕ) → Each1 (Fits w8) xs → map f xs ≡ map g xs
 map-bytes f g same [] fits = refl
 map-bytes f g same (x ∷ xs) fits = ap₂ (λ b r. b ∷ r) (same x fits.0.fits) (map-bytes f g same xs fits.1)
 
--- ---- a table of 16 bytes, read at a half of each lane
+-- ---- a table of 16 bytes, looked up with a half of each lane
 small-lanes : (f : ℕ → ℕ) → ((x : ℕ) → x < 256 → f x < 16) → (v : List ℕ) → Each1 (Fits w8) v → Each1 (λ j. j < 16) (map f v)
 small-lanes f small [] fits = fits
 small-lanes f small (x ∷ xs) fits = (small x fits.0.fits, small-lanes f small xs fits.1)
@@ -91,7 +91,7 @@ module _ (v : List ℕ) (fits : (length v ≡ 16) × Each1 (Fits w8) v) where
       (ap (swz_l w8 16 high 0) highs ∙ read-lanes high (λ x. x / 2 ^ 4) high-small 0 v (omega (arith, fits.0)) fits.1)
       ∙ zip2-same bit_and (λ x. get_or low (bit_and x 15) 0) (λ x. get_or high (x / 2 ^ 4) 0) v
 
-  -- two tables read at the halves of each byte tell the bytes of a class
+  -- two tables that are looked up with the halves of each byte decide whether it belongs to a class
   pub halves_tell : (low high : List ℕ) (class : ℕ → Bool) → table_from (λ x. bit_and (get_or low (bit_and x 15) 0) (get_or high (x / 2 ^ 4) 0) == 0) 0 256 ≡ table_from class 0 256
       → map (λ k. k == 0) (zip2 bit_and (swz_l w8 16 low 0 (zip2 bit_and v (replicate 16 15))) (swz_l w8 16 high 0 (zip2 (λ a b. a / 2 ^ b) v (replicate 16 4)))) ≡ map class v
   halves_tell low high class same =
@@ -103,7 +103,7 @@ module _ (v : List ℕ) (fits : (length v ≡ 16) × Each1 (Fits w8) v) where
 pub mask_is : (bits ms : List Bool) → bits ≡ ms → length ms ≡ 16 → mask_l bits % 2 ^ 64 ≡ mask_l ms
 mask_is bits ms e long = ap (λ l. mask_l l % 2 ^ 64) e ∙ mask_l-mod ms 64 (omega (arith, long))
 
--- v has 16 lanes, and lane k holds f k
+-- v has 16 lanes, and lane k holds f k.
 record Holds (v : List ℕ) (f : ℕ → ℕ) : Type 0 where
   long : length v ≡ 16
   each : (k : ℕ) → k < 16 → get_or v k 0 ≡ f k
@@ -132,7 +132,7 @@ odd-lane : (b : Bool) → cond {A = ℕ} (not b) 255 0 ≡ cond b 0 255
 odd-lane true = refl
 odd-lane false = refl
 
--- the lane of a byte's class
+-- The lane of a byte's class.
 odd-lanes : (kinds v : List ℕ) (class : ℕ → Bool) → length v ≡ 16 → map (λ k. k == 0) kinds ≡ map class v → Holds (zip2 miss kinds (replicate 16 0)) (λ k. cond (class (get_or v k 0)) 0 255)
 odd-lanes kinds v class long e =
     let long_kinds : length kinds ≡ 16 = sym (length-map kinds (λ k. k == 0)) ∙ ap length e ∙ length-map v class ∙ long in
@@ -145,12 +145,12 @@ odd-lanes kinds v class long e =
           h.each k l ∙ odd-lane (get_or kinds k 0 == 0) ∙ ap (λ b. cond b 0 255) same;
     }
 
--- whether a byte is no small letter, by a subtraction that wraps
+-- Whether a byte isn't a lower-case letter, by a subtraction that wraps around.
 no-small : (x : ℕ) → x < 256 → leb 26 ((x + (256 - 97)) % 256) ≡ not (is_ascii_lowercase x)
 unfolding table_from
 no-small x h = read_each (λ c. leb 26 ((c + (256 - 97)) % 256)) (λ c. not (is_ascii_lowercase c)) x refl h
 
--- the bit of a byte, of the test of its class, those of the pair, and that of the byte after it
+-- The bit of a byte, computed from the tests of its class, of the pair, and of the byte after it.
 stop-bit : (b c d e : Bool) → top 7 (bit_or (bit_and (bit_and (cond c 255 0) (cond d 255 0)) (cond e 255 0)) (cond b 0 255)) ≡ (not b || (c && d && e))
 stop-bit true true true true = refl
 stop-bit true true true false = refl
@@ -191,7 +191,7 @@ not-true : (b : Bool) → not b ≡ true → b ≡ false
 not-true true e = sym e
 not-true false e = refl
 
--- the lanes before the first that is set: those of three blocks of the text
+-- The lanes before the first one that is set, for three blocks of the text.
 pub clear_lanes : (name text : List ℕ) (at n m : ℕ) → at + 16 + length name ≤ length text → 2 ≤ length name
     → m ≡ mask_l (map (λ k. is_stop (get_or name 0 0) (get_or name 1 0) (get_or (chunk at 16 text) k 0) (get_or (chunk (at + 1) 16 text) k 0) (get_or (chunk (at + length name) 16 text) k 0)) (range_with_len 0 16))
     → n ≡ cond (eqb m 0) 16 (count_trailing_zeros 64 m) → (n ≤ 16) × ((k : ℕ) → at ≤ k → k < at + n → stops_at name text k ≡ false)
@@ -222,7 +222,7 @@ either f g v xs ys p q = ap₂ (zip2 bit_or) p q ∙ zip2-same bit_or f g v
 line-vector : (v : List ℕ) → length v ≡ 16 → zip2 bit_or (zip2 hit v (replicate 16 10)) (zip2 hit v (replicate 16 13)) ≡ map (λ x. bit_or (hit x 10) (hit x 13)) v
 line-vector v long = either (λ x. hit x 10) (λ x. hit x 13) v _ _ (zip2_splat hit v 16 10 long) (zip2_splat hit v 16 13 long)
 
--- the bits of a vector that was computed lane by lane
+-- The bits of a vector that was computed lane by lane.
 bits-of : (f : ℕ → ℕ) (p : ℕ → Bool) (v xs : List ℕ) → Each1 (Fits w8) v → xs ≡ map f v → table_from (λ x. top 7 (f x)) 0 256 ≡ table_from p 0 256 → map (top 7) xs ≡ map p v
 bits-of f p v xs fits e same =
     ap (map (top 7)) e ∙ map-map (top 7) f v ∙ map-bytes (λ x. top 7 (f x)) p (λ x h. read_each (λ y. top 7 (f y)) p x same h) v fits
@@ -243,7 +243,7 @@ plain_lanes v fits =
     let all = either (λ x. bit_or (bit_or (hit x 34) (hit x 39)) (bit_or (hit x 10) (hit x 13))) (λ x. hit x 92) v _ _ both (is 92) in
     bits-of (λ x. bit_or (bit_or (bit_or (hit x 34) (hit x 39)) (bit_or (hit x 10) (hit x 13))) (hit x 92)) (λ c. not (is_plain c)) v _ fits.1 all refl
 
--- the count of the lanes before the first that isn't of a class
+-- The number of lanes before the first one that isn't of a class.
 pub front : (p : ℕ → Bool) (at n m : ℕ) (text : List ℕ) → at + 16 ≤ length text → m ≡ mask_l (map (λ c. not (p c)) (chunk at 16 text)) → n ≡ cond (eqb m 0) 16 (count_trailing_zeros 64 m)
     → n ≡ prefix_len p (chunk at 16 text)
 front p at n m text room e en =
@@ -255,7 +255,7 @@ block-split : (p : ℕ → Bool) (at : ℕ) (text : List ℕ) → prefix_len p (
     ≡ cond (eqb (prefix_len p (chunk at 16 text)) (length (chunk at 16 text))) (length (chunk at 16 text) + prefix_len p (drop (at + 16) text)) (prefix_len p (chunk at 16 text))
 block-split p at text = ap (prefix_len p) (chunk-drop at 16 text) ∙ prefix_len-append p (chunk at 16 text) (drop (at + 16) text)
 
--- a run that ends in a block, and one that goes on behind it
+-- A run that ends in a block, and one that goes on after it.
 pub run_ends : (p : ℕ → Bool) (at n : ℕ) (text : List ℕ) → at + 16 ≤ length text → n ≡ prefix_len p (chunk at 16 text) → n < 16 → prefix_len p (drop at text) ≡ n
 run_ends p at n text room e short =
     let other : eqb (prefix_len p (chunk at 16 text)) (length (chunk at 16 text)) ≡ false = ne_eqb _ _ (λ same. omega (arith, same, e, short, length-chunk at 16 text room)) in

@@ -23,7 +23,7 @@ use Rattle.rl_pylex.proofs.Fits.{fit_of_size, fit_after}
 use Rattle.rl_pylex.specs.Source.{text_of, IsReadAt}
 use Rattle.rl_pylex.proofs.Sizes.{IsCloseOf, close_from-within, quote_count-some}
 
--- the front of a front
+-- A prefix of a prefix of a list.
 take-shorter : (k m : ℕ) (xs : List ℕ) → k ≤ m → take k (take m xs) ≡ take k xs
 take-shorter zero m xs h = refl
 take-shorter (suc k) zero xs h = absurd (omega arith)
@@ -46,7 +46,7 @@ drop-of-take (suc n) k (x ∷ xs) =
 starts-take : (needle xs : List ℕ) (m : ℕ) → length needle ≤ m → starts_with nat_eq (take m xs) needle ≡ starts_with nat_eq xs needle
 starts-take needle xs m h = ap (pointwise nat_eq needle) (take-shorter (length needle) m xs h)
 
--- a text begins with what its front begins with
+-- If the first m bytes of a text begin with something, so does the text.
 starts-of_take : (needle xs : List ℕ) (m : ℕ) → starts_with nat_eq (take m xs) needle ≡ true → starts_with nat_eq xs needle ≡ true
 starts-of_take needle xs m h =
     let inside : length needle ≤ m = omega (arith, pointwise_long nat_eq needle (take (length needle) (take m xs)) h, length-take (length needle) (take m xs), length-take m xs) in
@@ -74,7 +74,7 @@ get_or-of-take k (suc m) [] h = refl
 get_or-of-take zero (suc m) (x ∷ xs) h = refl
 get_or-of-take (suc k) (suc m) (x ∷ xs) h = get_or-of-take k m xs (omega arith)
 
--- a unit that lies in a front is the same there
+-- The size of a unit, which is the same in the first bytes of a text if it lies within them.
 escaped_size : Bool → ℕ
 escaped_size b = cond b 3 2
 
@@ -106,7 +106,7 @@ suc_of (Some k) m e = (k, refl, sym (one_value (suc k) m e))
 cond-same : (b b' c c' : Bool) (x z z' : Option ℕ) → b ≡ b' → c ≡ c' → z ≡ z' → cond b x (cond c None z) ≡ cond b' x (cond c' None z')
 cond-same b b' c c' x z z' e f g = cc
 
--- at the front of a body: the cases of the search
+-- The cases of the search at the beginning of a body.
 CloseCases : ℕ → ℕ → ℕ → List ℕ → ℕ → Type 0
 CloseCases count quote x xs m =
     ((quotes_at count quote (x ∷ xs) ≡ true) × (count ≡ m))
@@ -158,7 +158,7 @@ at_front count quote m x xs some (inr on) later =
     subst (λ (n : ℕ). close_from count quote 0 (take n (x ∷ xs)) ≡ Some n) (sym next.2)
     (goes_on_in count quote x next.0 xs on.0 on.1 (omega (arith, bound.0, unit_size-some (x ∷ xs))) (later next.0 next.1))
 
--- the closing quotes are found in the front that they end
+-- The closing quotes are also found in the part of the text that they end.
 close_from-take : (count quote skip m : ℕ) (xs : List ℕ) → 0 < count → close_from count quote skip xs ≡ Some m → close_from count quote skip (take m xs) ≡ Some m
 close_from-take count quote skip m [] some e = absurd (none_is_no None m refl e)
 close_from-take count quote (suc skip) m (x ∷ xs) some e =
@@ -191,7 +191,7 @@ map_of : (f : ℕ → ℕ) (o : Option ℕ) (m : ℕ) → option_map f o ≡ Som
 map_of f None m e = absurd (none_is_no None m refl e)
 map_of f (Some k) m e = (k, refl, sym (one_value (f k) m e))
 
--- the parts of a size: the quotes, and what there is up to the end of the closing quotes
+-- The parts of a size: the quotes, and the bytes up to the end of the closing quotes.
 pub record Sized (n : ℕ) (text : List ℕ) (m : ℕ) : Type 0 where
   pub close : ℕ
   pub found : close_from (quote_count (drop n text)) (get_or text n 0) 0 (drop (n + quote_count (drop n text)) text) ≡ Some close
@@ -284,12 +284,12 @@ fit_after-takes : (o : Option ℕ) (text : List ℕ) (m : ℕ) → fit_after o t
 fit_after-takes None text m e = absurd (passes_is_no Passes m refl e)
 fit_after-takes (Some n) text m e = (n, refl, fit_of_size-takes (size_after n text) m e)
 
--- a literal has a prefix and a size
+-- A literal has a prefix and a size.
 pub literal-takes : (text : List ℕ) (m : ℕ) → literal text ≡ Takes m → (n : ℕ) × (prefix_size text ≡ Some n) × (size_after n text ≡ Some m)
 unfolding literal
 literal-takes text m e = fit_after-takes (prefix_size text) text m e
 
--- the bytes that a literal takes are a literal by themselves
+-- The bytes that a literal takes are a literal by themselves.
 pub IsLiteral-take : (text : List ℕ) (m : ℕ) → literal text ≡ Takes m → m ≤ length text → IsLiteral (take m text)
 IsLiteral-take text m e h =
     let parts = literal-takes text m e in
@@ -301,7 +301,7 @@ IsLiteral-take text m e h =
       closes = size_after-take parts.0 m text parts.2 ∙ ap Some long;
     }
 
--- A literal's prefix, its quotes twice and its body have room in it.
+-- The prefix of a literal, its quotes at both ends and its body fit in it.
 pub IsLiteral-room : (text : List ℕ) (l : IsLiteral text) → l.prefix + quote_count (drop l.prefix text) + quote_count (drop l.prefix text) ≤ length text
 IsLiteral-room text l =
     let z = Sized-from l.prefix text (length text) l.closes in omega (arith, z.size, z.room)
@@ -353,7 +353,7 @@ number_kind e = cc
 operator_kind : Some kind.Op ≡ Some kind.Literal → ⊥
 operator_kind e = cc
 
--- where a literal token is read, the rule of literals gave it
+-- If a literal token is read, the rule of literals read it.
 pub literal-read : (depth : ℕ) (text : List ℕ) (m : ℕ) → reading depth text ≡ Piece (Some kind.Literal) m → literal text ≡ Takes m
 unfolding reading
 literal-read depth text m e =
@@ -367,7 +367,7 @@ literal-read depth text m e =
     (other_kind None (joined_line text) _ m none_kind
     (other_kind None (blank text) _ m none_kind e))))
 
--- the text of a literal token of a source is a literal by itself
+-- The text of a literal token of a source is a literal by itself.
 pub IsLiteral-token : (s : List ℕ) (t : Token) → IsReadAt s t → t.kind ≡ kind.Literal → IsLiteral (text_of s t)
 IsLiteral-token s t r e =
     IsLiteral-take (drop t.from s) (t.upto - t.from)

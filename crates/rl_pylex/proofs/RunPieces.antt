@@ -1,4 +1,4 @@
--- The piece with which a run of ordinary bytes begins: it ends in the run, or it is a literal whose prefix ends the run.
+-- The first piece of a run of ordinary bytes: it ends within the run, or it is a literal whose prefix ends the run.
 use Rattle.std.proofs.Common.{◌≡◌, ℕ, suc, ◌+◌, ◌<◌, ◌≤◌, ◌⊎◌, inl, inr, Bool, true, false, cond, not, ◌&&◌, ◌||◌, List, [], ◌∷◌, length, drop, take, refl, ap, sym, ◌∙◌, arith, Some, None, Option}
 use Rattle.std.specs.Prelude.{nat_eq, ◌==◌, ◌≢◌}
 use Rattle.std.specs.List.{prefix_len, starts_with}
@@ -21,7 +21,7 @@ use Rattle.rl_pylex.proofs.Firsts.{passed, taken, name-fits, blank_read, operato
 use Rattle.rl_pylex.proofs.FirstBytes.{literal_rows_left, new_line_read, number_rows_read}
 use Rattle.rl_pylex.proofs.Words.{word_at-other, lacks_word-step}
 
--- what each class says of a byte
+-- What each class says about a byte.
 blank_is : (x : ℕ) → is_blank x ≡ true → (is_ordinary x ≡ true) × (in_name x ≡ false)
 unfolding is_ordinary
 blank_is x e = (grind (arith, nat_tests), grind (arith, nat_tests))
@@ -52,7 +52,7 @@ letter_in_name x e = grind (arith, nat_tests)
 letter_in_number : (x : ℕ) → is_ascii_alphabetic x ≡ true → in_number x ≡ true
 letter_in_number x e = grind (arith, nat_tests)
 
--- an ordinary byte is of one of the classes with which a piece begins
+-- An ordinary byte belongs to one of the classes of bytes that begin a piece.
 IsOfClass : ℕ → Type 0
 IsOfClass x = (is_blank x ≡ true) ⊎ (ends_line x ≡ true) ⊎ (is_plain_operator x ≡ true) ⊎ (starts_number x ≡ true) ⊎ (starts_name x ≡ true)
 
@@ -72,7 +72,7 @@ class_of x e = by-tests (is_blank x) (ends_line x) (is_plain_operator x) (starts
     by-tests false false false false true be le oe ne se = inr (inr (inr (inr se)))
     by-tests false false false false false be le oe ne se = absurd (none be le oe ne se)
 
--- the name begins with a letter
+-- The name begins with a letter.
 abbrev pub HasLetter : List ℕ → Type 0
 HasLetter name = has_at is_ascii_alphabetic 0 name ≡ true
 
@@ -80,7 +80,7 @@ and-split : (b c : Bool) → (b && c) ≡ true → (b ≡ true) × (c ≡ true)
 and-split true c e = (refl, e)
 and-split false c e = absurd (false≢true e)
 
--- where a byte that is no letter stands, the name doesn't
+-- The name doesn't begin at a byte that isn't a letter.
 no_letter-no_word : (name xs : List ℕ) (x : ℕ) → HasLetter name → is_ascii_alphabetic x ≡ false → word_at name (x ∷ xs) ≡ false
 no_letter-no_word [] xs x h e = absurd (false≢true h)
 no_letter-no_word (y ∷ ys) xs x h e = word_at-other y x (y ∷ ys) xs (omega arith) refl (by-test (nat_eq y x) refl)
@@ -96,7 +96,7 @@ and-right-false : (b c : Bool) → c ≡ false → (b && c) ≡ false
 and-right-false true c e = e
 and-right-false false c e = refl
 
--- what stands before a byte that is no letter is no matter
+-- It doesn't matter what comes before a byte that isn't a letter.
 no_letter-outside : (name xs : List ℕ) (x : ℕ) (inside : Bool) → HasLetter name → is_ascii_alphabetic x ≡ false
     → lacks_word name inside (x ∷ xs) ≡ true → lacks_word name false (x ∷ xs) ≡ true
 no_letter-outside name xs x inside h e lacks = by-test (is_ordinary x) refl
@@ -109,7 +109,7 @@ no_letter-outside name xs x inside h e lacks = by-test (is_ordinary x) refl
         lacks_word-step name xs x false o (word true) ∙ sym (lacks_word-step name xs x inside o (word (not inside))) ∙ lacks
     by-test false o = rw o refl
 
--- A class of ordinary bytes, all letters among them.
+-- A class of ordinary bytes that includes all letters.
 pub record IsLetterClass (q : ℕ → Bool) : Type 0 where
   pub ordinary : (x : ℕ) → q x ≡ true → is_ordinary x ≡ true
   pub letters : (x : ℕ) → is_ascii_alphabetic x ≡ true → q x ≡ true
@@ -128,7 +128,7 @@ step_parts name xs x inside o lacks =
     by-test true e parts = absurd (false≢true parts.0)
     by-test false e parts = (refl, parts.1)
 
--- behind the longest run of such a class
+-- The text after the longest run of such a class.
 pub after_class : (q : ℕ → Bool) (name text : List ℕ) (inside : Bool) → IsLetterClass q → HasLetter name → lacks_word name inside text ≡ true
     → lacks_word name false (drop (prefix_len q text) text) ≡ true
 after_class q name [] inside k h lacks = refl
@@ -149,7 +149,7 @@ after_class q name (x ∷ xs) inside k h lacks =
         ∙ later (in_name x) (step_parts name xs x inside (k.ordinary x e) lacks).1
     by-test false e later = no_letter-outside name xs x inside h (no_letter (is_ascii_alphabetic x) e refl) lacks
 
--- a run of a smaller class is no longer
+-- A run of a smaller class is no longer than one of a larger class.
 shorter_run : (q : ℕ → Bool) (xs : List ℕ) → ((x : ℕ) → q x ≡ true → is_ordinary x ≡ true) → prefix_len q xs ≤ prefix_len is_ordinary xs
 shorter_run q [] f = omega arith
 shorter_run q (x ∷ xs) f = by-test (q x) refl (shorter_run q xs f)
@@ -158,7 +158,7 @@ shorter_run q (x ∷ xs) f = by-test (q x) refl (shorter_run q xs f)
     by-test true e later = rw (f x e) (omega (arith, later))
     by-test false e later = omega arith
 
--- A piece of ordinary bytes at the front of the text, which is no name with this text. Behind it the text begins anew.
+-- A piece of ordinary bytes that the text begins with, which isn't a name with this text. After it the text begins anew.
 pub record OrdinaryPiece (name text : List ℕ) (depth : ℕ) : Type 0 where
   pub kind : Option TokenKind
   pub size : ℕ
@@ -171,7 +171,7 @@ pub record OrdinaryPiece (name text : List ℕ) (depth : ℕ) : Type 0 where
 some_run : (x : ℕ) (xs : List ℕ) → is_ordinary x ≡ true → 1 ≤ prefix_len is_ordinary (x ∷ xs)
 some_run x xs o = rw o (omega arith)
 
--- a piece of one byte that is none of a name
+-- A piece of one byte that can't belong to a name.
 one_byte : (name xs : List ℕ) (x depth : ℕ) (k : Option TokenKind) → reading depth (x ∷ xs) ≡ Piece k 1 → is_ordinary x ≡ true → in_name x ≡ false → k ≢ Some kinds.Name
     → lacks_word name false (x ∷ xs) ≡ true → OrdinaryPiece name (x ∷ xs) depth
 one_byte name xs x depth k e o n never lacks =
@@ -185,7 +185,7 @@ one_byte name xs x depth k e o n never lacks =
       later = ap (λ (b : Bool). lacks_word name b xs) (sym n) ∙ (step_parts name xs x false o lacks).1;
     }
 
--- a piece of the longest run of a class
+-- A piece that is the longest run of a class.
 class_run : (q : ℕ → Bool) (name text : List ℕ) (depth : ℕ) (k : Option TokenKind) → reading depth text ≡ Piece k (prefix_len q text) → has_at q 0 text ≡ true
     → IsLetterClass q → HasLetter name → (k ≡ Some kinds.Name → take (prefix_len q text) text ≢ name) → lacks_word name false text ≡ true → OrdinaryPiece name text depth
 class_run q name text depth k e begins class h other lacks =
@@ -227,7 +227,7 @@ operator_piece : (name xs : List ℕ) (x depth : ℕ) → is_plain_operator x �
 operator_piece name xs x depth e lacks =
     one_byte name xs x depth (Some kinds.Op) (operator_read depth x xs e) (operator_is x e).0 (operator_is x e).1 operator_is_no_name lacks
 
--- the first line end of two bytes, or of one
+-- The text begins with a line end of two bytes, or of one.
 LineEndCases : ℕ → List ℕ → Type 0
 LineEndCases x xs = (line_end (x ∷ xs) ≡ 1) ⊎ ((line_end (x ∷ xs) ≡ 2) × (has_at ends_line 0 xs ≡ true))
 
@@ -277,7 +277,7 @@ name_class = record { ordinary = name_is; letters = letter_in_name }
 number_starts : (x : ℕ) → starts_number x ≡ true → in_number x ≡ true
 number_starts x e = grind (arith, nat_tests)
 
--- a `.` that begins no number
+-- A `.` that doesn't begin a number.
 point_is : (x : ℕ) (b : Bool) → starts_number x ≡ true → (is_ascii_digit x || b) ≡ false → (is_operator x ≡ true) × (in_name x ≡ false)
 point_is x b e f = (grind (arith, nat_tests), grind (arith, nat_tests))
 
@@ -310,7 +310,7 @@ number_piece name xs x depth h e lacks = by-test (is_number (x ∷ xs)) refl
         ∙ taken (operator (x ∷ xs)) (Some kinds.Op) 1 _ (operator-fits x xs (point b).0))
         (number_is x (number_starts x e)) (point b).1 operator_is_no_name lacks
 
--- a name token's text is a word
+-- The text of a name token is a word.
 run_stops : (q : ℕ → Bool) (xs : List ℕ) → has_at q (prefix_len q xs) xs ≡ false
 run_stops q [] = refl
 run_stops q (x ∷ xs) = by-test (q x) refl (run_stops q xs)
@@ -349,7 +349,7 @@ name_piece word xs x depth h e none lacks =
     class_run in_name word (x ∷ xs) depth (Some kinds.Name) (name_read_at depth x xs e none) (name_starts x e) name_class h
     (λ _ same. false≢true (sym (step_parts word xs x false (name_is x (name_starts x e)) lacks).0 ∙ word-of word (x ∷ xs) same)) lacks
 
--- A literal with a prefix: its quote stands directly behind the run of ordinary bytes.
+-- A literal with a prefix: its quote directly follows the run of ordinary bytes.
 pub record Prefixed (text : List ℕ) : Type 0 where
   pub size : ℕ
   pub prefix : prefix_size text ≡ Some size
@@ -385,7 +385,7 @@ opens_third x (y ∷ z ∷ zs) e o =
     let letter : is_ordinary y ≡ true = name_is y (lower_in_name y (second_letter (to_ascii_lowercase x) (to_ascii_lowercase y) parts.0)) in
     (rw (name_is x (name_starts x e), letter, quote_is z parts.1) refl, parts.1)
 
--- the prefix before a quote is none, or it ends the run of ordinary bytes
+-- The prefix before a quote is empty, or it ends the run of ordinary bytes.
 PrefixCases : List ℕ → Type 0
 PrefixCases text = (prefix_size text ≡ None) ⊎ Prefixed text
 
@@ -403,7 +403,7 @@ prefix_cases x xs e = by-tests (opens_after (x ∷ xs) 0) (opens_after (x ∷ xs
         inr (record { size = 2; prefix = rw (ea, eb, ec) refl; whole = parts.0; quote = parts.1 })
     by-tests false false false ea eb ec = inl (rw (ea, eb, ec) refl)
 
--- the piece with which the run begins
+-- The first piece of the run.
 pub first_piece : (name xs : List ℕ) (x depth : ℕ) → HasLetter name → is_ordinary x ≡ true → lacks_word name false (x ∷ xs) ≡ true → OrdinaryPiece name (x ∷ xs) depth ⊎ Prefixed (x ∷ xs)
 unfolding PrefixCases IsOfClass
 first_piece name xs x depth h o lacks = by-class (class_of x o)

@@ -1,4 +1,4 @@
--- A run of bytes of a class ends at the first byte that isn't of it, or at the end of the text.
+-- A run of bytes of a class ends at the first byte that isn't of the class, or at the end of the text.
 use Rattle.std.proofs.Common.{◌≡◌, ℕ, ◌+◌, ◌≤◌, Bool, true, false, cond, not, List, [], ◌∷◌, length, refl, ◌∙◌, arith, ltb, Some, None}
 use Rattle.std.specs.Prelude.{position, unwrap_or}
 use Rattle.std.specs.List.{prefix_len}
@@ -17,7 +17,7 @@ prefix_len-within p [] = omega arith
 prefix_len-within p (x ∷ xs) =
     elim (p x) as (λ b. cond b (1 + prefix_len p xs) 0 ≤ length (x ∷ xs)) [ true ↦ omega (arith, prefix_len-within p xs) | false ↦ omega arith ]
 
--- a place, or the end where there is none
+-- A place, or the end if there is none.
 pub place-or-end : (n m : ℕ) → n ≤ m → unwrap_or (cond (ltb n m) (Some n) None) m ≡ n
 place-or-end n m h = grind (arith, nat_tests)
 

@@ -1,4 +1,4 @@
--- A search for the first byte that passes a test, as the place of the byte.
+-- A search for the first byte that satisfies a test, which returns the place of the byte.
 use Rattle.std.proofs.Common.{◌≡◌, ℕ, ◌<◌, Bool, true, false, cond, not, List, length, get_or, refl, ap, sym, ◌∙◌, arith, ltb, Some, None, Option, subst}
 use Rattle.std.specs.Prelude.{position}
 use Rattle.std.specs.List.{prefix_len}
@@ -8,7 +8,7 @@ use Rattle.memchr.specs.Find.{IsFirstByte, is_byte2}
 use Rattle.rl_pylex.specs.Bytes.{in_line}
 use Rattle.rl_pylex.specs.internal.Bodies.{is_long_plain}
 
--- a byte that the search passed over
+-- A byte that the search skipped.
 passed_over : (test q : ℕ → Bool) (c : ℕ) → test c ≡ q c → (test c ≡ true → ⊥) → not (q c) ≡ true
 passed_over test q c same never = by-test (q c) refl
   where
@@ -16,7 +16,7 @@ passed_over test q c same never = by-test (q c) refl
     by-test true e = absurd (never (same ∙ e))
     by-test false e = refl
 
--- the byte that the search found
+-- The byte that the search found.
 found : (test q : ℕ → Bool) (c : ℕ) → test c ≡ q c → test c ≡ true → not (q c) ≡ false
 found test q c same passes = ap not (sym same ∙ passes)
 
@@ -26,7 +26,7 @@ some_place n m h = grind (arith, nat_tests)
 no_place : (m : ℕ) → None ≡ cond (ltb m m) (Some m) None
 no_place m = grind (arith, nat_tests)
 
--- the answer of a search is the place of the first byte that passes a test of the same meaning
+-- The answer of a search is the place of the first byte that satisfies an equivalent test.
 pub first_place : (test q : ℕ → Bool) (xs : List ℕ) (r : Option ℕ) → ((c : ℕ) → test c ≡ q c) → IsFirstByte test xs r → r ≡ position q xs
 first_place test q xs None same h =
     let run : prefix_len (λ x. not (q x)) xs ≡ length xs =

@@ -1,4 +1,4 @@
--- A piece has a byte at least, and lies in the text.
+-- A piece has at least one byte and lies within the text.
 use Rattle.std.proofs.Common.{◌≡◌, ℕ, zero, suc, ◌+◌, ◌-◌, ◌<◌, ◌≤◌, Bool, true, false, cond, not, ◌&&◌, ◌||◌, List, [], ◌∷◌, length, get_or, drop, take, refl, sym, arith, Some, None, Option, subst, replicate}
 use Rattle.std.specs.Prelude.{option_map, unwrap_or, ◌==◌, nat_eq, IfSome, ⊤}
 use Rattle.std.specs.List.{prefix_len}

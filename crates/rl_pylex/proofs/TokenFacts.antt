@@ -1,4 +1,4 @@
--- What a token list says of its tokens: their places, and the texts of literals.
+-- What a token list says about its tokens: their places, and the texts of literals.
 use Rattle.std.proofs.Common.{◌≡◌, ℕ, zero, suc, ◌+◌, ◌-◌, ◌<◌, ◌≤◌, List, [], ◌∷◌, length, drop, ap, sym, ◌∙◌, arith, Some, None, Option, subst}
 use Rattle.std.specs.Prelude.{filter_map, All, AllPairs}
 use Rattle.std.proofs.lemmas.List.Kept.{AllPairs-cons}
@@ -25,13 +25,13 @@ piece_some : (depth : ℕ) (text : List ℕ) (k : Option TokenKind) (n : ℕ) �
 piece_some depth text k n e =
     (subst (λ (r : Reading). IsBoundedReading r (length text)) e (reading-bounded depth text)).0
 
--- places only grow
+-- Places only increase.
 Cut-grows : (s : List ℕ) (at depth : ℕ) (ps : List Piece) (end end_depth : ℕ) → Cut s at depth ps end end_depth → at ≤ end
 Cut-grows s at depth [] end end_depth c = omega (arith, c.0)
 Cut-grows s at depth (p ∷ ps) end end_depth c =
     omega (arith, Cut-grows s (at + p.size) (depth_after depth (drop at s)) ps end end_depth c.2)
 
--- the tokens of a cut from the place `at` on
+-- The tokens of a cut from the place `at` on.
 record Lie (s : List ℕ) (at : ℕ) (ts : List Token) : Type 0 where
   each : All (IsReadAt s) ts
   later : All (λ t. at ≤ t.from) ts
@@ -79,7 +79,7 @@ Cut-lies s at depth (p ∷ ps) end end_depth c inside =
     Lie-piece s at depth p.from p.size p.kind ps c.0 c.1 (omega arith)
     (Cut-lies s (at + p.size) (depth_after depth (drop at s)) ps end end_depth c.2 inside)
 
--- the tokens of a source are what is read at their places, in order
+-- The tokens of a source are what is read at their places, and they are in order.
 pub IsInOrder-tokens : (s : List ℕ) (ts : List Token) → IsTokenList s ts → IsInOrder s ts
 IsInOrder-tokens s ts t =
     let r = t.reaches in

@@ -1,4 +1,4 @@
--- A source is cut in one way, up to its end or its first fault.
+-- There is only one cut of a source, up to its end or its first fault.
 use Rattle.std.proofs.Common.{◌≡◌, ℕ, ◌+◌, List, [], ◌∷◌, length, drop, refl, ap, sym, ◌∙◌, arith, Some, None, Option, subst}
 use Rattle.std.specs.Prelude.{filter_map, IsUtf8}
 use Rattle.std.specs.Str.{IsValidUpTo}
@@ -17,12 +17,12 @@ use Rattle.rl_pylex.specs.Rules.{blank, joined_line, new_line, comment, literal,
 use Rattle.rl_pylex.specs.Source.{Piece, token_of, Cut, Reaches, Meets, IsTokenList}
 use Rattle.rl_pylex.specs.Laws.{HasOneTokenList, HasNoFaultBeside, HasOneFault}
 
--- nothing is read at the end of a source
+-- Nothing is read at the end of a source.
 nothing_at_end : (depth : ℕ) → reading depth [] ≡ reads.Stray
 unfolding reading blank joined_line new_line comment literal prefix_size opens_after name number operator line_end
 nothing_at_end depth = refl
 
--- no piece: a fault
+-- The reading isn't a piece, so it is a fault.
 abbrev IsStop : Reading → Type 0
 IsStop (reads.Piece kind size) = ⊥
 IsStop _ = Unit {0}
@@ -34,7 +34,7 @@ stops_at_end s depth =
 no_piece : (r : Reading) (kind : Option TokenKind) (n : ℕ) → IsStop r → r ≡ reads.Piece kind n → ⊥
 no_piece r kind n stop e = subst (λ (x : Reading). IsStop x) e stop
 
--- two cuts with the same pieces, end and depth
+-- Two cuts with the same pieces, end and depth.
 record AreOne (ps qs : List Piece) (end depth end' depth' : ℕ) : Type 0 where
   pieces : ps ≡ qs
   ends : end ≡ end'

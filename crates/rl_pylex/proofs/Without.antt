@@ -1,4 +1,4 @@
--- A cut of the front of a source whose tokens aren't the name, taken on behind a run of ordinary bytes.
+-- A cut of the beginning of a source, without the name among its tokens, extended past a run of ordinary bytes.
 use Rattle.std.proofs.Common.{◌≡◌, ℕ, zero, suc, ◌+◌, ◌-◌, ◌<◌, ◌≤◌, ◌⊎◌, inl, inr, Bool, true, false, cond, List, [], ◌∷◌, ◌++◌, length, get_or, drop, take, refl, ap, sym, ◌∙◌, arith, Some, None, Option, subst}
 use Rattle.std.proofs.Common.{add-zero}
 use Rattle.std.specs.Prelude.{nat_eq, ◌==◌, ◌≢◌, All, option_to_list}
@@ -30,7 +30,7 @@ use Rattle.rl_pylex.proofs.Cuts.{Reaches-start, Reaches-push}
 use Rattle.rl_pylex.proofs.RunPieces.{HasLetter, OrdinaryPiece, Prefixed, none_is_no_name, first_piece}
 use Rattle.rl_pylex.proofs.Words.{has_at-drop}
 
--- a token isn't a name with this text
+-- A token isn't a name with this text.
 IsOther : List ℕ → List ℕ → Token → Type 0
 IsOther s name t = t.kind ≡ kinds.Name → text_of s t ≢ name
 
@@ -49,7 +49,7 @@ one_other s name at size (Some k) other = only
     only zero d below = here
     only (suc j) d below = absurd (omega arith)
 
--- one piece more
+-- One more piece.
 pub without-piece : (s name text : List ℕ) (at size : ℕ) (k : Option TokenKind) (r : ReachesWithout s name at) → drop at s ≡ text
     → reading r.depth text ≡ reads.Piece k size → (k ≡ Some kinds.Name → take size text ≢ name) → ReachesWithout s name (at + size)
 unfolding IsOther
@@ -67,7 +67,7 @@ unfolding IsOther
 without-start s name =
     record { depth = 0; tokens = []; reaches = Reaches-start s; none = All-nil (IsOther s name) }
 
--- A piece between runs of ordinary bytes: it is read so at any bracket depth, and it is no name.
+-- A piece between runs of ordinary bytes: it is read the same at any bracket depth, and it isn't a name.
 record Between (text : List ℕ) (size : ℕ) : Type 0 where
   kind : Option TokenKind
   read : (depth : ℕ) → reading depth text ≡ reads.Piece kind size
@@ -164,7 +164,7 @@ nothing_between : (m : ℕ) → size_between [] ≡ Some m → 0 ≡ m
 unfolding size_between
 nothing_between m e = some_value 0 m e
 
--- the size of what stands between runs is bounded by the text
+-- The size of what is between runs is bounded by the length of the text.
 pub size_between-bounded : (text : List ℕ) (m : ℕ) → size_between text ≡ Some m → (m ≤ length text) × (0 < length text → 0 < m)
 size_between-bounded [] m e = (omega (arith, nothing_between m e), λ some. absurd (omega arith))
 size_between-bounded (x ∷ xs) m e =
@@ -173,7 +173,7 @@ size_between-bounded (x ∷ xs) m e =
     subst (λ (r : Reading). IsBoundedReading r (length (x ∷ xs))) (b.read 0) (reading-bounded 0 (x ∷ xs)) in
     (bounds.1, λ some. bounds.0)
 
--- past what stands between runs
+-- Past what is between runs.
 without-between : (s name text : List ℕ) (at m : ℕ) → ReachesWithout s name at → drop at s ≡ text → size_between text ≡ Some m → ReachesWithout s name (at + m)
 without-between s name [] at m r here e =
     subst (λ (n : ℕ). ReachesWithout s name n) (sym (add-zero at) ∙ ap (λ n. at + n) (nothing_between m e)) r
@@ -181,7 +181,7 @@ without-between s name (x ∷ xs) at m r here e =
     let b = between x m xs e in
     without-piece s name (x ∷ xs) at m b.kind r here (b.read r.depth) (λ is _. b.other is)
 
--- the size of a literal with a prefix is that of the prefix and of the literal behind it
+-- The size of a literal with a prefix is the sum of the sizes of the prefix and of the literal after it.
 prefixed_size : (n m : ℕ) (text : List ℕ) → size_after 0 (drop n text) ≡ Some m → size_after n text ≡ Some (n + m)
 prefixed_size n m text e =
     let z = Sized-from 0 (drop n text) m e in
@@ -198,7 +198,7 @@ prefixed_size n m text e =
     whole : (q close : ℕ) → m ≡ 0 + q + close → n + q + close ≡ n + m
     whole q close size = omega (arith, size)
 
--- behind a run a quote stands: what is passed there is its literal
+-- If a quote follows a run, what is skipped there is its literal.
 quote_between : (rest : List ℕ) (m : ℕ) → has_at is_quote 0 rest ≡ true → size_between rest ≡ Some m → size_after 0 rest ≡ Some m
 unfolding size_between
 quote_between [] m quote e = absurd (false≢true quote)
@@ -216,7 +216,7 @@ without-prefixed s name xs x at m r here p e =
     without-piece s name text at (p.size + m) (Some kinds.Literal) r here
     (literal_first r.depth x xs (p.size + m) (takes_literal text p.size (p.size + m) p.prefix size)) (λ is _. literal_is_no_name is)
 
--- behind a piece of ordinary bytes the run goes on
+-- After a piece of ordinary bytes the run goes on.
 run_left : (n : ℕ) (xs : List ℕ) → n ≤ prefix_len is_ordinary xs → prefix_len is_ordinary xs ≡ n + prefix_len is_ordinary (drop n xs)
 run_left zero xs h = omega arith
 run_left (suc n) [] h = absurd (omega arith)
@@ -228,7 +228,7 @@ run_left (suc n) (x ∷ xs) h = by-test (is_ordinary x) refl h (run_left n xs)
     by-test true o within later = rw o (omega (arith, later (omega (arith, within))))
     by-test false o within later = absurd (omega (arith, within))
 
--- how a run is passed behind a piece of it
+-- How a run is skipped after a piece of it.
 IsPassedBehind : List ℕ → List ℕ → List ℕ → ℕ → ℕ → ℕ → ℕ → Type 0
 IsPassedBehind s name text fuel at m size =
     prefix_len is_ordinary (drop size text) ≤ fuel → drop (at + size) s ≡ drop size text → lacks_word name false (drop size text) ≡ true
@@ -272,7 +272,7 @@ walk-first s name xs x fuel at m true o short h here lacks r e later =
     by-piece (inl p) = walk-piece s name (x ∷ xs) fuel at m r p short here e (later p.size)
     by-piece (inr p) = walk-prefixed s name xs x at m r here p e
 
--- From a boundary of pieces past a run of ordinary bytes without the name, and past what stands behind it.
+-- From a boundary of pieces past a run of ordinary bytes without the name, and past what follows it.
 without-walk : (s name text : List ℕ) (fuel at m : ℕ) → prefix_len is_ordinary text ≤ fuel → HasLetter name → drop at s ≡ text → lacks_word name false text ≡ true
     → ReachesWithout s name at → size_between (drop (prefix_len is_ordinary text) text) ≡ Some m → ReachesWithout s name (at + (prefix_len is_ordinary text + m))
 unfolding IsPassedBehind
@@ -292,7 +292,7 @@ without-run s name text rest at n m h here free r there e =
     subst (λ (k : ℕ). ReachesWithout s name k) end
     (without-walk s name text (prefix_len is_ordinary text) at m (omega arith) h (sym here) free.free r (ap size_between behind ∙ sym e))
 
--- a source that can be read and is cut up to its end
+-- A source that passes the checks and is cut up to its end.
 pub lacks_name-end : (s name : List ℕ) → IsReadable s → ReachesWithout s name (length s) → LacksName s name
 lacks_name-end s name readable r =
     record {

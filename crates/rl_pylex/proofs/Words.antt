@@ -1,4 +1,4 @@
--- A run of ordinary bytes, passed step by step, with no word that is the name.
+-- A run of ordinary bytes, skipped step by step, in which no word is the name.
 use Rattle.std.proofs.Common.{◌≡◌, ℕ, zero, suc, ◌+◌, ◌<◌, ◌≤◌, Bool, true, false, not, ◌&&◌, ◌||◌, List, [], ◌∷◌, length, get_or, drop, refl, ap, sym, ◌∙◌, arith, subst}
 use Rattle.std.proofs.Common.{add-zero, add_assoc, add-one}
 use Rattle.std.specs.Prelude.{nat_eq, ◌==◌}
@@ -20,7 +20,7 @@ and-right : (b c : Bool) → c ≡ false → (b && c) ≡ false
 and-right true c e = e
 and-right false c e = refl
 
--- a text that begins with another byte than the name
+-- A text that begins with another byte than the name.
 pub word_at-other : (first x : ℕ) (name xs : List ℕ) → 0 < length name → get_or name 0 0 ≡ first → nat_eq first x ≡ false → word_at name (x ∷ xs) ≡ false
 unfolding word_at
 word_at-other first x [] xs some same other = absurd (omega arith)
@@ -30,7 +30,7 @@ word_at-other first x (y ∷ ys) xs some same other =
 both_same : (a b x y : ℕ) → nat_eq a x ≡ true → nat_eq b y ≡ true → (x == a && y == b) ≡ false → ⊥
 both_same a b x y first second apart = grind (arith, nat_tests)
 
--- a text that doesn't begin with the first two bytes of the name
+-- A text that doesn't begin with the first two bytes of the name.
 word_at-pair : (name text : List ℕ) → 2 ≤ length name → (get_or text 0 0 == get_or name 0 0 && get_or text 1 0 == get_or name 1 0) ≡ false → word_at name text ≡ false
 unfolding word_at
 word_at-pair [] text long apart = absurd (omega arith)
@@ -56,7 +56,7 @@ has_small n [] e = absurd (false≢true e)
 has_small zero (x ∷ text) e = small_in_name x e
 has_small (suc n) (x ∷ text) e = has_small n text e
 
--- a text with a small letter where the name would end
+-- A text with a lower-case letter where the name would end.
 word_at-inside : (name text : List ℕ) → is_ascii_lowercase (get_or text (length name) 0) ≡ true → word_at name text ≡ false
 unfolding word_at
 word_at-inside name text e = and-right (starts_with nat_eq text name) _ (ap not (has_small (length name) text e))
@@ -81,7 +81,7 @@ word_at-unless name text long apart = by-test (is_ascii_lowercase (get_or text (
     by-test true e = word_at-inside name text e
     by-test false e = word_at-pair name text long (no_pair (get_or text 0 0 == get_or name 0 0) (get_or text 1 0 == get_or name 1 0) (ap pair (sym e) ∙ apart))
 
--- bytes that are no stops
+-- Bytes at which the search doesn't stop.
 pub free-run : (name text : List ℕ) (n : ℕ) → 2 ≤ length name → ((k : ℕ) → k < n → stops_at name text k ≡ false) → IsFree name text n
 free-run name text n long clear k below =
     let parts = stop_parts (is_ordinary (get_or text k 0)) _ (clear k below) in
@@ -153,7 +153,7 @@ passed-on name text at n p o w within free =
     (ap (λ ys. not (is_inside at text) && word_at name ys) (sym here) ∙ sym w) p in
     subst (λ (k : ℕ). IsPassed name text k) (add_assoc at 1 n) (free-on name text (at + 1) n within free one)
 
--- a run ends at a byte that isn't ordinary, and at the end of the text
+-- A run ends at a byte that isn't ordinary, or at the end of the text.
 ended : (name rest : List ℕ) (inside : Bool) → has_at is_ordinary 0 rest ≡ false → (prefix_len is_ordinary rest ≡ 0) × (lacks_word name inside rest ≡ true)
 ended name [] inside o = (refl, refl)
 ended name (x ∷ xs) inside o = (rw o refl, rw o refl)

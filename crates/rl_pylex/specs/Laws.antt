@@ -1,4 +1,5 @@
--- Laws of sources and their tokens: a source has one answer, one list of tokens or one fault; tokens stand in order; a literal's text is a literal by itself.
+-- Laws on sources and their tokens: a source has one answer, either one token list or one fault; tokens are in order; the text
+-- of a literal token is a literal by itself.
 use Rattle.std.specs.Prelude.{◌≡◌, ◌≢◌, ◌≤◌, ℕ, List, [], ◌∷◌, length, IsUtf8}
 use Rattle.rl_lists.specs.declared.limits.TheConstants.{MOST_BYTES}
 use Rattle.rl_pylex.specs.declared.token_list.Token.{Token}
@@ -8,31 +9,31 @@ use Rattle.rl_pylex.specs.declared.token_list.TokenKind.TheVariants as kind
 use Rattle.rl_pylex.specs.Literals.{IsLiteral}
 use Rattle.rl_pylex.specs.Source.{text_of, IsReadAt, IsInOrder, IsTokenList, IsFault}
 
--- two token lists of a source are the same
+-- Two token lists of a source are the same.
 abbrev pub HasOneTokenList : Type 0
 HasOneTokenList = (source : List ℕ) (ts us : List Token) → IsTokenList source ts → IsTokenList source us → ts ≡ us
 
--- a source with a token list has no fault
+-- A source with a token list has no fault.
 abbrev pub HasNoFaultBeside : Type 0
 HasNoFaultBeside =
     (source : List ℕ) (ts : List Token) (e : LexError) → IsTokenList source ts → IsFault source e → e ≡ error.OutOfMemory
 
--- two faults of a source are the same, but for refused memory, which is none of the source
+-- Two faults of a source are the same. Running out of memory isn't a fault of the source.
 abbrev pub HasOneFault : Type 0
 HasOneFault =
     (source : List ℕ) (e f : LexError) → IsFault source e → IsFault source f
     → e ≢ error.OutOfMemory → f ≢ error.OutOfMemory → e ≡ f
 
--- each token is what is read at its place, and the tokens stand in order and don't overlap
+-- Each token of a source is what is read at its place, and the tokens are in order and don't overlap.
 abbrev pub HasTokensInOrder : Type 0
 HasTokensInOrder = (source : List ℕ) (tokens : List Token) → IsTokenList source tokens → IsInOrder source tokens
 
--- the text of a literal token is a literal by itself
+-- The text of a literal token is a literal by itself.
 abbrev pub HasLiteralTexts : Type 0
 HasLiteralTexts =
     (source : List ℕ) (token : Token) → IsReadAt source token → token.kind ≡ kind.Literal → IsLiteral (text_of source token)
 
--- a literal by itself, of UTF-8 and no more bytes than a source may have, is a source of one token
+-- A literal by itself that is UTF-8 and isn't too long is a source with one token.
 abbrev pub HasLiteralsAlone : Type 0
 HasLiteralsAlone =
     (text : List ℕ) → IsLiteral text → length text ≤ MOST_BYTES → IsUtf8 text

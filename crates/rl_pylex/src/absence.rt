@@ -1,4 +1,4 @@
-// A quick look at a source: whether it has tokens, none of them a certain name.
+//! A quick look at a source: whether it can be cut into tokens and none of them is a certain name.
 ghost use Rattle.std.specs.Prelude.{◌≡◌, ℕ, ◌+◌, ◌<◌, ◌≤◌, length, drop, true, not, ◌&&◌, IsTrue, IfSome};
 ghost use Rattle.std.specs.Char.{is_ascii_alphabetic};
 ghost use Rattle.rl_pylex.specs.Bytes.{has_at, in_name, text_start};
@@ -11,7 +11,7 @@ use crate::lex::check_source;
 use crate::literals::size_after;
 use crate::rules::{Fit, joined_line};
 
-/// A number of ordinary bytes at the front of the text, at none of which the name stands as a whole word.
+/// Returns a number of ordinary bytes at the beginning of the text. At none of them does the name begin as a whole word.
 fn free_size(text: &[u8], name: &[u8]) -> usize
     ensures within { result ≤ length text.now }
     ensures free { IsFree name.now text.now result }
@@ -30,7 +30,7 @@ fn has_name_byte(text: &[u8], at: usize) -> bool
     at < text.len() && in_name(text[at])
 }
 
-/// Whether a byte of a name stands before the place.
+/// Whether the byte before the place belongs to a name.
 fn is_inside(text: &[u8], at: usize) -> bool
     ensures { result ≡ is_inside at text.now }
 {
@@ -45,7 +45,7 @@ fn word_at(text: &[u8], name: &[u8]) -> bool
     text.starts_with(name) && !has_name_byte(text, name.len())
 }
 
-/// Whether the name stands at the place as a whole word.
+/// Whether the name begins at the place as a whole word.
 fn is_word(text: &[u8], at: usize, name: &[u8]) -> bool
     requires { at ≤ length text.now }
     ensures { result ≡ (not (is_inside at text.now) && word_at name.now (drop at text.now)) }
@@ -61,7 +61,7 @@ fn has_ordinary(text: &[u8], at: usize) -> bool
     at < text.len() && is_ordinary(text[at])
 }
 
-/// How many ordinary bytes stand at the front of the text, if no word there is the name.
+/// Returns the number of ordinary bytes that the text begins with, or `None` if a word among them is the name.
 fn run_without(text: &[u8], name: &[u8]) -> Option<usize>
     requires { has_at is_ascii_alphabetic 0 name.now ≡ true }
     ensures free { IfSome result (IsFreeRun name.now text.now) }
@@ -86,7 +86,7 @@ fn size_of_fit(fit: Fit) -> Option<usize>
     }
 }
 
-/// How many bytes the literal, the comment or the joined line behind a run of ordinary bytes has.
+/// Returns the number of bytes in the literal, comment or joined line that follows a run of ordinary bytes.
 #[tactic(auto, unfolding(crate::specs::internal::Absence::size_between))]
 fn size_found(text: &[u8]) -> Option<usize>
     ensures { result ≡ size_between text.now }
@@ -99,7 +99,7 @@ fn size_found(text: &[u8]) -> Option<usize>
     }
 }
 
-/// The same. It is within the text, and some bytes where there are any.
+/// Returns what [`size_found`] returns. The number is at most the length of the text, and it isn't 0 unless the text is empty.
 #[tactic(auto, using(crate::proofs::Without::bounds))]
 fn size_between(text: &[u8]) -> Option<usize>
     ensures value { result ≡ size_between text.now }
@@ -109,7 +109,7 @@ fn size_between(text: &[u8]) -> Option<usize>
     size_found(text)
 }
 
-/// Whether the source is cut into pieces from the place `first` on where its text begins, none of them the name.
+/// Whether the source is cut into pieces from the place `first`, where its text begins, and none of them is the name.
 fn passes_without(source: &[u8], first: usize, name: &[u8]) -> bool
     requires word { has_at is_ascii_alphabetic 0 name.now ≡ true }
     requires begins { first ≡ text_start source.now }
@@ -130,8 +130,8 @@ fn passes_without(source: &[u8], first: usize, name: &[u8]) -> bool
     true
 }
 
-/// Whether a quick look tells that the source has tokens, none of them a name with this text. Where it doesn't,
-/// nothing is said.
+/// Whether a quick look shows that the source can be cut into tokens and none of them is a name with this text. If the result
+/// is false, nothing is claimed.
 pub fn lacks_name(source: &[u8], name: &[u8]) -> bool
     requires { has_at is_ascii_alphabetic 0 name.now ≡ true }
     ensures { IsTrue result → LacksName source.now name.now }

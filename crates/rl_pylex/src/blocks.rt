@@ -1,4 +1,4 @@
-// Blocks of 16 bytes, each looked at as a whole.
+//! Blocks of 16 bytes, each examined as a whole.
 ghost use Rattle.std.specs.Prelude.{◌≡◌, ℕ, ◌+◌, ◌<◌, ◌≤◌, ◌==◌, false, not, length, map, slice_index, if◌then◌else◌};
 ghost use Rattle.std.specs.Int.Count.{count_trailing_zeros};
 ghost use Rattle.std.specs.List.{prefix_len, range_with_len};
@@ -10,16 +10,16 @@ ghost use Rattle.rl_pylex.specs.internal.Blocks.{is_stop, stops_at};
 
 use std::simd::prelude::*;
 
-/// How many bytes a block has.
+/// The number of bytes in a block.
 pub const BLOCK: usize = 16;
 
-/// The kinds of bytes that aren't ordinary, by the low four bits: a bit for each kind that has such a byte.
+/// For each value of the low four bits, a mask of the kinds of non-ordinary bytes that have a byte with these bits.
 const LOW_KINDS: [u8; 16] = [35, 3, 7, 7, 7, 3, 3, 7, 3, 2, 2, 3, 18, 2, 3, 11];
 
-/// The same by the high four bits.
+/// The same for the high four bits.
 const HIGH_KINDS: [u8; 16] = [1, 2, 4, 8, 0, 16, 32, 8, 0, 0, 0, 0, 0, 0, 0, 0];
 
-/// The kinds of bytes that aren't ordinary, of each byte of a block: 0 where it is ordinary.
+/// Returns, for each byte of a block, a mask of the kinds of non-ordinary bytes that it belongs to: 0 if it is ordinary.
 #[inline(always)]
 fn odd_kinds(block: u8x16) -> u8x16
     ensures { map (λ kinds. kinds == 0) result ≡ map is_ordinary block }
@@ -29,7 +29,7 @@ fn odd_kinds(block: u8x16) -> u8x16
     low & high
 }
 
-/// The place of the lowest bit of a mask, or 16 where it has none.
+/// Returns the position of the lowest bit that is set in a mask, or 16 if there is none.
 #[inline(always)]
 fn lowest(found: u64) -> usize
     ensures { result ≡ (if found == 0 then 16 else count_trailing_zeros 64 found) }
@@ -41,8 +41,9 @@ fn lowest(found: u64) -> usize
     }
 }
 
-/// A bit for each byte of a block that isn't ordinary, or is `first` with `second` behind it and no small letter
-/// after both. `behind` is the block one place further, `after` the one further by the length of the name.
+/// Returns a mask with a bit for each byte of a block at which a search must stop: the byte isn't ordinary, or it is `first`,
+/// is followed by `second`, and no lower-case letter is where the name would end. `behind` is the block one byte further, and
+/// `after` is the block further by the length of the name.
 #[inline(always)]
 fn stops(block: u8x16, behind: u8x16, after: u8x16, first: u8, second: u8) -> u64
     ensures { result ≡ mask_l (map (λ k. is_stop first second (slice_index block k) (slice_index behind k) (slice_index after k)) (range_with_len 0 16)) }
@@ -52,7 +53,7 @@ fn stops(block: u8x16, behind: u8x16, after: u8x16, first: u8, second: u8) -> u6
     (pairs & ends | odd_kinds(block).simd_ne(u8x16::splat(0))).to_bitmask()
 }
 
-/// How many bytes of the block at a place come before the first that isn't ordinary, or at which the name may stand.
+/// Returns the number of bytes in the block at a place before the first one that isn't ordinary or at which the name may begin.
 #[inline(always)]
 fn free_in_block(text: &[u8], at: usize, name: &[u8]) -> usize
     requires long { 2 ≤ length name.now }
@@ -66,9 +67,9 @@ fn free_in_block(text: &[u8], at: usize, name: &[u8]) -> usize
     lowest(stops(block, behind, after, name[0], name[1]))
 }
 
-/// A number of bytes at the front of the text, each of them ordinary, and at none of them the name as a whole word. It
-/// reaches up to the first byte that isn't ordinary or at which the name may stand, but ends earlier where fewer bytes
-/// than a block and the name are left.
+/// Returns a number of bytes at the beginning of the text, each of them ordinary. At none of them does the name begin as a
+/// whole word. The number reaches up to the first byte that isn't ordinary or at which the name may begin, but is smaller if
+/// fewer bytes than a block and the name are left.
 pub fn size_before_stop(text: &[u8], name: &[u8]) -> usize
     requires { 2 ≤ length name.now }
     ensures within { result ≤ length text.now }
@@ -86,7 +87,7 @@ pub fn size_before_stop(text: &[u8], name: &[u8]) -> usize
     at
 }
 
-/// A bit for each byte of a block that ends a run of plain bytes.
+/// Returns a mask with a bit for each byte of a block that ends a run of plain bytes.
 #[inline(always)]
 fn plain_stops(block: u8x16) -> u64
     ensures { result ≡ mask_l (map (λ c. not (is_plain c)) block) }
@@ -96,7 +97,7 @@ fn plain_stops(block: u8x16) -> u64
     (quotes | ends | block.simd_eq(u8x16::splat(b'\\'))).to_bitmask()
 }
 
-/// How many plain bytes stand at the front of the block at a place.
+/// Returns the number of plain bytes that the block at a place begins with.
 #[inline(always)]
 pub fn plain_in_block(text: &[u8], at: usize) -> usize
     requires { at + 16 ≤ length text.now }
@@ -105,7 +106,7 @@ pub fn plain_in_block(text: &[u8], at: usize) -> usize
     lowest(plain_stops(u8x16::from_slice(&text[at..])))
 }
 
-/// A bit for each byte of a block that ends a line.
+/// Returns a mask with a bit for each byte of a block that ends a line.
 #[inline(always)]
 fn line_stops(block: u8x16) -> u64
     ensures { result ≡ mask_l (map (λ c. not (in_line c)) block) }
@@ -113,7 +114,7 @@ fn line_stops(block: u8x16) -> u64
     (block.simd_eq(u8x16::splat(b'\n')) | block.simd_eq(u8x16::splat(b'\r'))).to_bitmask()
 }
 
-/// How many bytes of a line stand at the front of the block at a place.
+/// Returns the number of bytes in the block at a place before the first line end.
 #[inline(always)]
 pub fn line_in_block(text: &[u8], at: usize) -> usize
     requires { at + 16 ≤ length text.now }

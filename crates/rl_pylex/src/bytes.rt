@@ -1,4 +1,4 @@
-// Classes of bytes, line ends, and the front of a text.
+//! Classes of bytes, line ends, and the beginning of a text.
 ghost use Rattle.std.specs.Prelude.{◌≡◌, ℕ, ◌+◌, ◌≤◌, ◌||◌, drop, length};
 ghost use Rattle.std.specs.List.{prefix_len};
 ghost use Rattle.rl_pylex.specs.Bytes.{has_at, is_blank, is_backslash, is_quote, ends_line, in_line, starts_name, in_name, in_number, is_operator, opens_bracket, closes_bracket, line_end, text_start};
@@ -11,75 +11,84 @@ use crate::tables::{
 };
 use memchr::memchr2;
 
+/// Whether the byte is a space, a tab or a form feed.
 pub fn is_blank(byte: u8) -> bool
     ensures { result ≡ is_blank byte }
 {
     BLANKS[byte as usize]
 }
 
+/// Whether the byte is a quote, single or double.
 pub fn is_quote(byte: u8) -> bool
     ensures { result ≡ is_quote byte }
 {
     matches!(byte, b'"' | b'\'')
 }
 
+/// Whether the byte is a CR or an LF.
 pub fn ends_line(byte: u8) -> bool
     ensures { result ≡ ends_line byte }
 {
     matches!(byte, b'\n' | b'\r')
 }
 
+/// Whether the byte can begin a name.
 pub fn starts_name(byte: u8) -> bool
     ensures { result ≡ starts_name byte }
 {
     byte.is_ascii_alphabetic() || byte == b'_' || byte > 127
 }
 
+/// Whether the byte can continue a name.
 pub fn in_name(byte: u8) -> bool
     ensures { result ≡ in_name byte }
 {
     NAME_BYTES[byte as usize]
 }
 
+/// Whether the byte can continue a number.
 pub fn in_number(byte: u8) -> bool
     ensures { result ≡ in_number byte }
 {
     byte.is_ascii_alphanumeric() || byte == b'_' || byte == b'.'
 }
 
+/// Whether the byte is an operator character or a bracket.
 pub fn is_operator(byte: u8) -> bool
     ensures { result ≡ is_operator byte }
 {
     is_plain_operator(byte) || byte == b'.'
 }
 
-/// Whether the byte is an operator's character that begins no number.
+/// Whether the byte is an operator character that can't begin a number.
 pub fn is_plain_operator(byte: u8) -> bool
     ensures { result ≡ is_plain_operator byte }
 {
     PLAIN_OPERATORS[byte as usize]
 }
 
-/// Whether the byte begins no literal without a prefix, no comment, no joined line and no fault.
+/// Whether the byte is an ordinary one, which can't begin a literal without a prefix, a comment, a joined line or a fault.
 pub fn is_ordinary(byte: u8) -> bool
     ensures { result ≡ is_ordinary byte }
 {
     ORDINARY_BYTES[byte as usize]
 }
 
+/// Whether the byte is an opening bracket.
 pub fn opens_bracket(byte: u8) -> bool
     ensures { result ≡ opens_bracket byte }
 {
     OPENING_BRACKETS[byte as usize]
 }
 
+/// Whether the byte is a closing bracket.
 pub fn closes_bracket(byte: u8) -> bool
     ensures { result ≡ closes_bracket byte }
 {
     CLOSING_BRACKETS[byte as usize]
 }
 
-/// The text from a place on.
+/// Returns the text from a place to the end.
 pub fn rest_from(text: &[u8], at: usize) -> &[u8]
     requires { at ≤ length text.now }
     ensures { result.now ≡ drop at text.now }
@@ -87,7 +96,7 @@ pub fn rest_from(text: &[u8], at: usize) -> &[u8]
     &text[at..]
 }
 
-/// How many bytes the line end at the front of the text has.
+/// Returns the number of bytes in the line end that the text begins with, or 0 if it doesn't begin with one.
 #[tactic(auto, unfolding(crate::specs::Bytes::line_end))]
 pub fn line_end(text: &[u8]) -> usize
     ensures value { result ≡ line_end text.now }
@@ -100,7 +109,7 @@ pub fn line_end(text: &[u8]) -> usize
     }
 }
 
-/// Where the text of a source begins, behind its byte order mark.
+/// Returns the place where the text of a source begins, which is after its byte order mark if it has one.
 #[tactic(auto, unfolding(crate::specs::Bytes::text_start))]
 pub fn text_start(source: &[u8]) -> usize
     ensures value { result ≡ text_start source.now }
@@ -121,7 +130,7 @@ fn line_size_slowly(text: &[u8]) -> usize
     memchr2(b'\n', b'\r', text).unwrap_or(text.len())
 }
 
-/// How many bytes there are up to the next line end or the end of the text.
+/// Returns the number of bytes before the next line end or, if there is none, before the end of the text.
 pub fn line_size(text: &[u8]) -> usize
     ensures value { result ≡ prefix_len in_line text.now }
     ensures within { result ≤ length text.now }
@@ -137,7 +146,7 @@ pub fn line_size(text: &[u8]) -> usize
     at + line_size_slowly(rest_from(text, at))
 }
 
-/// How many spaces, tabs and form feeds stand at the front of the text.
+/// Returns the number of spaces, tabs and form feeds that the text begins with.
 #[tactic(auto, using(crate::proofs::Runs::runs))]
 pub fn blank_size(text: &[u8]) -> usize
     ensures value { result ≡ prefix_len is_blank text.now }

@@ -1,4 +1,4 @@
-// The coding line of a source: the name of its coding, and whether the source is then read as UTF-8.
+//! The coding line of a source: the name of its coding, and whether relint reads the source as UTF-8.
 ghost use Rattle.std.specs.Prelude.{◌≡◌, ℕ, ◌+◌, ◌^◌, ◌<◌, ◌≤◌, length, drop, take, take_while, Option, Some, IfSome, IsTrue, ◌==◌, ◌||◌, ◌&&◌};
 ghost use Rattle.std.specs.Option.{ForSome};
 ghost use Rattle.std.specs.List.{prefix_len};
@@ -7,7 +7,7 @@ ghost use Rattle.rl_pylex.specs.Coding.{is_gap, in_coding, named_here, from_plac
 
 use crate::bytes::{blank_size, line_end, line_size, rest_from};
 
-/// A coding's name in a text: where it begins, and how many bytes it has.
+/// The name of a coding in a text: the place where it begins and its number of bytes.
 #[derive(Clone, Copy)]
 pub struct Named {
     pub from: usize,
@@ -53,7 +53,7 @@ fn begins_coding(text: &[u8]) -> bool
     text.starts_with(b"coding:") || text.starts_with(b"coding=")
 }
 
-/// The name of the `coding` with which the text begins.
+/// Returns the name that follows the `coding` that the text begins with, if there is one.
 #[tactic(auto, unfolding(crate::specs::Coding::named_here))]
 fn named_here(text: &[u8]) -> Option<Named>
     ensures value { result ≡ named_here text.now }
@@ -71,7 +71,7 @@ fn named_here(text: &[u8]) -> Option<Named>
     }
 }
 
-/// The same name in a text with `n` more bytes in front.
+/// Returns the same name for a text with `n` more bytes in front.
 fn from_place(n: usize, named: Option<Named>) -> Option<Named>
     requires { ForSome named (λ m. n + m.from < 2 ^ 64) }
     ensures { result ≡ from_place n named }
@@ -85,7 +85,7 @@ fn from_place(n: usize, named: Option<Named>) -> Option<Named>
     }
 }
 
-/// The name of the first `coding` that has one.
+/// Returns the name that follows the first `coding` that is followed by one.
 #[tactic(auto, using(crate::proofs::FirstNamed::first_names))]
 fn first_named(text: &[u8]) -> Option<Named>
     ensures value { result ≡ first_named text.now }
@@ -116,7 +116,7 @@ fn coding_of_line(line: &[u8]) -> Option<Named>
     }
 }
 
-/// Whether the line holds nothing but spaces, tabs, form feeds and perhaps a comment.
+/// Whether the line is empty except for spaces, tabs, form feeds and possibly a comment.
 #[tactic(auto, unfolding(crate::specs::Coding::is_bare))]
 fn is_bare(line: &[u8]) -> bool
     ensures { result ≡ is_bare line.now }
@@ -145,7 +145,7 @@ fn second_coding(text: &[u8]) -> Option<Named>
     from_place(second, coding_of_line(line_of(rest_from(text, second))))
 }
 
-/// The name of the coding line of the text.
+/// Returns the name in the coding line of the text, if there is one.
 #[tactic(auto, unfolding(crate::specs::Coding::coding_of))]
 fn coding_of(text: &[u8]) -> Option<Named>
     ensures value { result ≡ coding_of text.now }
@@ -168,7 +168,7 @@ fn is_accepted(name: &[u8]) -> bool
         || name.eq_ignore_ascii_case(b"us-ascii")
 }
 
-/// The place of the name of the text's coding line, if it names a coding that isn't accepted.
+/// Returns the place of the name in the coding line of the text if that coding isn't accepted.
 #[tactic(auto, unfolding(crate::specs::Coding::wrong_coding))]
 pub fn wrong_coding(text: &[u8]) -> Option<usize>
     ensures value { result ≡ wrong_coding text.now }

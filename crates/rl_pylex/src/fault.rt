@@ -1,23 +1,23 @@
-// Why a source has no tokens.
+//! The faults that keep a source from being cut into tokens.
 ghost use Rattle.std.specs.Prelude.{◌≡◌};
 ghost use Rattle.rl_pylex.specs.declared.fault.LexError.TheVariants as error;
 
 use rl_lists::OutOfMemory;
 
-/// Why a source has no tokens. Each number is a byte place in the source, a byte order mark counted.
+/// Why a source can't be cut into tokens. Each number is a byte place in the source; a byte order mark counts.
 #[derive(Clone, Copy, Debug, PartialEq, Eq)]
 pub enum LexError {
-    /// The source isn't UTF-8: the length of its longest front that is.
+    /// The source isn't UTF-8. The number is the length of its longest prefix that is UTF-8.
     NotUtf8(u32),
-    /// The coding line names another coding: the place of that name.
+    /// The coding line names another coding. The number is the place of that name.
     Coding(u32),
-    /// A literal has no end: the place where it begins.
+    /// A literal has no end. The number is the place where the literal begins.
     Unterminated(u32),
     /// The source has more than 4,194,304 bytes.
     FileTooLong,
-    /// No token begins with the code at this place.
+    /// No token begins with the code point at this place.
     StrayCode(u32),
-    /// Out of memory.
+    /// Memory ran out.
     OutOfMemory,
 }
 

@@ -1,4 +1,4 @@
-// The tokens of a source: the checks on the whole of it, then its pieces one by one.
+//! The tokens of a source: first the checks on the source as a whole, then its pieces one by one.
 ghost use Rattle.std.specs.Prelude.{◌≡◌, ℕ, ◌+◌, ◌<◌, ◌≤◌, ◌++◌, length, drop, IfOk, IfErr, OnOk, IsOkUnless, option_to_list, IsUtf8, MatchResult};
 ghost use Rattle.std.specs.List.{prefix_len};
 ghost use Rattle.std.specs.Str.{IsValidUpTo};
@@ -34,7 +34,7 @@ fn push_piece(
     Ok(())
 }
 
-/// The place behind the spaces, tabs and form feeds that stand at a place.
+/// Returns the place after the spaces, tabs and form feeds at a place.
 fn after_blanks(source: &[u8], at: usize) -> usize
     requires { at ≤ length source.now }
     ensures value { result ≡ at + prefix_len is_blank (drop at source.now) }
@@ -43,7 +43,7 @@ fn after_blanks(source: &[u8], at: usize) -> usize
     at + blank_size(rest_from(source, at))
 }
 
-/// The tokens of a source that can be read, from the place `first` on where its text begins.
+/// Returns the tokens of a source that has passed the checks. `first` is the place where its text begins.
 #[tactic(auto, using(crate::proofs::Cuts::pieces))]
 fn read_pieces(alloc: Global, source: &[u8], first: usize) -> Result<TokenList, LexError>
     requires readable { IsReadable source.now }
@@ -70,7 +70,8 @@ fn read_pieces(alloc: Global, source: &[u8], first: usize) -> Result<TokenList, 
     Ok(tokens)
 }
 
-/// Refuses a source that isn't at most [`MOST_BYTES`] of UTF-8, or whose coding line names another coding.
+/// Checks a source as a whole. It is refused if it has more than [`MOST_BYTES`] bytes, isn't UTF-8, or has a coding line that
+/// names another coding.
 pub fn check_source(source: &[u8]) -> Result<(), LexError>
     ensures ok { IfOk result (λ _. IsReadable source.now) }
     ensures err { IfErr result (IsFault source.now) }
@@ -88,18 +89,16 @@ pub fn check_source(source: &[u8]) -> Result<(), LexError>
     }
 }
 
-/// The tokens of a source in order. They don't overlap, and each one's text is its slice of the source.
+/// Returns the tokens of a source in order. They don't overlap, and the text of each is its slice of the source.
 ///
 /// # Errors
-/// The first of these that holds. Each but `FileTooLong` and `OutOfMemory` has a byte place, a byte order mark
-/// counted.
-/// - [`LexError::FileTooLong`] exactly where the source has more than 4,194,304 bytes
-/// - [`LexError::NotUtf8`] exactly where it isn't UTF-8, with the length of its longest front that is
-/// - [`LexError::Coding`] exactly where its coding line names another coding than UTF-8 or ASCII, with the place of
-///   that name
-/// - [`LexError::Unterminated`], with the place where it begins, or [`LexError::StrayCode`], with its place, exactly
-///   where a literal without an end or a stray code is the first fault by place
-/// - [`LexError::OutOfMemory`] when out of memory
+/// The first of these that holds. Each except `FileTooLong` and `OutOfMemory` has a byte place, which counts a byte order mark.
+/// - [`LexError::FileTooLong`] if and only if the source has more than 4,194,304 bytes
+/// - [`LexError::NotUtf8`] if and only if it isn't UTF-8, with the length of its longest prefix that is UTF-8
+/// - [`LexError::Coding`] if and only if its coding line names another coding than UTF-8 or ASCII, with the place of that name
+/// - [`LexError::Unterminated`] or [`LexError::StrayCode`] if and only if the first fault by place is a literal without an end
+///   or a stray code, with the place where the literal begins or the place of the code
+/// - [`LexError::OutOfMemory`] if memory runs out
 pub fn tokens(alloc: Global, source: &[u8]) -> Result<TokenList, LexError>
     ensures ok { IfOk result (IsTokenList source.now) }
     ensures err { IfErr result (IsFault source.now) }

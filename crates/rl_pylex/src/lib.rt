@@ -1,28 +1,30 @@
 //! The tokens of Python sources, read from bytes by a table of ten rules.
 //!
-//! A source is at most [`MOST_BYTES`](rl_lists::MOST_BYTES) of UTF-8, with or without a byte order mark, whose coding line, if it
-//! has one, names UTF-8 or ASCII. [`tokens`] cuts it into pieces; at each place the first rule that fits is taken:
+//! A source is at most [`MOST_BYTES`](rl_lists::MOST_BYTES) bytes of UTF-8, with or without a byte order mark. If it has a
+//! coding line, that line must name UTF-8 or ASCII. [`tokens`] cuts the source into pieces. At each place the first rule that
+//! fits is used:
 //!
 //! 1. a space, a tab or a form feed: no token
 //! 2. a backslash and a line end: no token
 //! 3. a line end outside brackets: `LineEnd`
 //! 4. a line end inside brackets: no token
 //! 5. `#` up to the next line end or the end of the file: `Comment`
-//! 6. a literal, which is a prefix or none, directly followed by a quote: `Literal`
-//! 7. a letter, `_` or a code of at least 0x80, and the longest run of these and digits: `Name`
+//! 6. a literal, which is an optional prefix directly followed by a quote: `Literal`
+//! 7. a letter, `_` or a code point of at least 0x80, and the longest run of these and digits: `Name`
 //! 8. a digit, or `.` directly before one, and the longest run of letters, digits, `_` and `.`: `Number`
 //! 9. one of ``( ) [ ] { } . , : ; = + - * / % & | ^ ~ < > @ !``: `Op`
 //! 10. anything else is a stray code
 //!
-//! These are simpler and more lenient than Python's own rules: brackets needn't agree, an f-string is one literal with its
-//! fields included, and an operator of two characters is two tokens. [`lacks_name`] is a prefilter: it tells without a list
-//! that a source has tokens, none of them a certain name.
+//! These rules are simpler and more lenient than Python's own: a closing bracket needn't match the opening one, an f-string is
+//! one literal that includes its fields, and an operator of two characters is two tokens. [`lacks_name`] is a prefilter:
+//! without a token list, it tells that a source can be cut into tokens and that none of them is a certain name.
 //!
 //! # What is proved
 //!
-//! [`tokens`] returns the token list that the table gives, or the first fault with its place, each exactly. By the law
-//! [`one_answer`] a source has one list or one fault. Tokens stand in order, and by [`token_texts`] the text of a literal
-//! token is a literal by itself. Where [`lacks_name`] returns true, the source has tokens and lacks the name.
+//! [`tokens`] returns exactly the token list that the table gives, or exactly the first fault with its place. By the law
+//! [`one_answer`] a source has either one list or one fault. Tokens are in order, and by [`token_texts`] the text of a literal
+//! token is a literal by itself. If [`lacks_name`] returns true, the source can be cut into tokens, and the name isn't among
+//! them.
 //!
 //! # Example
 //!

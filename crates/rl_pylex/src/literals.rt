@@ -1,4 +1,4 @@
-// A literal: its prefix, its quotes, and the search for the quotes that close it.
+//! A literal: its prefix, its quotes, and the search for the quotes that close it.
 ghost use Rattle.std.specs.Prelude.{◌≡◌, ℕ, ◌+◌, ◌<◌, ◌≤◌, ◌⊎◌, IsTrue, [], ◌∷◌, length, drop, IfSome, option_map, false, true, ◌&&◌, ◌==◌};
 ghost use Rattle.std.specs.List.{prefix_len};
 ghost use Rattle.std.specs.Str.{str_to_ascii_lowercase};
@@ -34,7 +34,7 @@ fn are_prefix_letters(first: u8, second: u8) -> bool
     )
 }
 
-/// How long the prefix of the literal at the front of the text is, if a literal is there.
+/// Returns the length of the prefix of the literal that the text begins with, if it begins with one.
 #[tactic(auto, unfolding(crate::specs::Literals::prefix_size, crate::specs::Literals::opens_after))]
 fn find_prefix(text: &[u8]) -> Option<usize>
     ensures { result ≡ prefix_size text.now }
@@ -47,7 +47,7 @@ fn find_prefix(text: &[u8]) -> Option<usize>
     }
 }
 
-/// The same. A quote stands behind the prefix.
+/// Returns what [`find_prefix`] returns, and promises that a quote follows the prefix.
 #[tactic(auto, using(crate::proofs::Fronts::prefixes))]
 pub fn prefix_size(text: &[u8]) -> Option<usize>
     ensures value { result ≡ prefix_size text.now }
@@ -57,7 +57,7 @@ pub fn prefix_size(text: &[u8]) -> Option<usize>
     find_prefix(text)
 }
 
-/// How many quotes open the literal whose first quote is at the front of the text.
+/// Returns the number of quotes that open the literal whose first quote the text begins with.
 #[tactic(auto, unfolding(crate::specs::Literals::quote_count))]
 pub fn quote_count(text: &[u8]) -> usize
     requires { 0 < length text.now }
@@ -99,7 +99,7 @@ fn plain_size_slowly(text: &[u8]) -> usize
         .unwrap_or(text.len())
 }
 
-/// How many bytes at the front of a literal's body are passed one by one.
+/// Returns the number of bytes of a literal's body, from its beginning, that can be skipped one by one.
 fn plain_size(text: &[u8]) -> usize
     ensures value { result ≡ prefix_len is_plain text.now }
     ensures within { result ≤ length text.now }
@@ -115,7 +115,7 @@ fn plain_size(text: &[u8]) -> usize
     at + plain_size_slowly(rest_from(text, at))
 }
 
-/// How many bytes at the front of a body between triple quotes are passed one by one.
+/// Returns the number of bytes of a body between triple quotes, from its beginning, that can be skipped one by one.
 #[tactic(auto, using(crate::proofs::Runs::runs))]
 fn long_plain_size(text: &[u8], quote: u8) -> usize
     ensures value { result ≡ prefix_len (is_long_plain quote) text.now }
@@ -124,7 +124,7 @@ fn long_plain_size(text: &[u8], quote: u8) -> usize
     memchr2(quote, b'\\', text).unwrap_or(text.len())
 }
 
-/// How many bytes at the front of a body, each of them a unit, to pass.
+/// Returns the number of bytes of a body, from its beginning, that can be skipped one by one.
 #[tactic(auto, using(crate::proofs::Closing::runs))]
 fn run_size(body: &[u8], count: usize, quote: u8) -> usize
     requires counts { 0 < count }
@@ -139,7 +139,7 @@ fn run_size(body: &[u8], count: usize, quote: u8) -> usize
     }
 }
 
-/// How many bytes at the front of a literal's body pass together.
+/// Returns the number of bytes of a literal's body, from its beginning, that belong together.
 #[tactic(auto, unfolding(crate::specs::Literals::unit_size))]
 fn unit_size(text: &[u8]) -> usize
     ensures value { result ≡ unit_size text.now }
@@ -153,7 +153,7 @@ fn unit_size(text: &[u8]) -> usize
     }
 }
 
-/// How many bytes at the front of a body to pass, where no closing quotes and no fault stand there.
+/// Returns the number of bytes of a body to skip, if it doesn't begin with the closing quotes or a fault.
 #[tactic(auto, using(crate::proofs::Closing::skips))]
 fn skip(body: &[u8], count: usize, quote: u8) -> usize
     requires some { 0 < length body.now }
@@ -179,7 +179,7 @@ fn breaks_line(body: &[u8], count: usize) -> bool
     count == 1 && ends_line(body[0])
 }
 
-/// How many bytes there are up to the end of the closing quotes, `count` of `quote`, if there are any.
+/// Returns the number of bytes up to the end of the closing quotes, which are `count` of `quote`, if there are any.
 fn close_from(body: &[u8], count: usize, quote: u8) -> Option<usize>
     requires counts { (count ≡ 1) ⊎ (count ≡ 3) }
     requires quotes { is_quote quote ≡ true }
@@ -200,7 +200,7 @@ fn close_from(body: &[u8], count: usize, quote: u8) -> Option<usize>
     None
 }
 
-/// The size of the literal at the front of the text, where its prefix has `n` bytes.
+/// Returns the size of the literal that the text begins with, if it has an end. Its prefix has `n` bytes.
 #[tactic(auto, using(crate::proofs::Fronts::quote_at), unfolding(crate::specs::Literals::size_after))]
 pub fn size_after(text: &[u8], n: usize) -> Option<usize>
     requires within { n < length text.now }

@@ -1,4 +1,4 @@
-// The rules of tokens, each on the text that is left.
+//! The rules of tokens, each applied to the rest of the text.
 ghost use Rattle.std.specs.Prelude.{◌≡◌, ℕ, ◌+◌, ◌^◌, ◌<◌, ◌≤◌, length, drop, not, ◌&&◌, ◌||◌, Option};
 ghost use Rattle.std.specs.List.{prefix_len};
 ghost use Rattle.rl_pylex.specs.Bytes.{has_at, is_backslash, starts_name, in_name, in_number};
@@ -13,25 +13,25 @@ use crate::bytes::{
 use crate::literals::{prefix_size, size_after, starts_literal};
 use crate::tables::PLAIN_NAME_STARTS;
 
-/// What a rule takes at the front of a text.
+/// What a rule does at the beginning of a text.
 #[derive(Clone, Copy)]
 pub enum Fit {
     /// The rule doesn't fit.
     Passes,
-    /// The rule fits and takes so many bytes.
+    /// The rule fits and takes this number of bytes.
     Takes(usize),
-    /// The rule fits, and the text has no end for it.
+    /// The rule fits, but what it reads has no end.
     Breaks,
 }
 
-/// What is read at the front of a text.
+/// What is read at the beginning of a text.
 #[derive(Clone, Copy)]
 pub enum Reading {
-    /// So many bytes, a token of this kind or none.
+    /// A piece of this many bytes, with the kind of its token if it has one.
     Piece(Option<TokenKind>, usize),
     /// A literal without an end.
     Unterminated,
-    /// A code that begins no token.
+    /// A code point that begins no token.
     Stray,
 }
 
@@ -51,6 +51,7 @@ fn blank(text: &[u8]) -> Fit
     }
 }
 
+/// Applies the rule of a backslash and a line end.
 #[tactic(auto, unfolding(crate::specs::Rules::joined_line))]
 pub fn joined_line(text: &[u8]) -> Fit
     ensures { result ≡ joined_line text.now }
@@ -175,7 +176,7 @@ fn line_end_kind(depth: u32) -> Option<TokenKind>
     }
 }
 
-/// What the rules from that of numbers on give.
+/// Applies the rules from the rule of numbers on.
 fn try_number_on(text: &[u8]) -> Reading
     ensures { result ≡ first_of_rows number_rows text.now }
 {
@@ -185,7 +186,7 @@ fn try_number_on(text: &[u8]) -> Reading
     reading_by(operator(text), Some(TokenKind::Op)).unwrap_or(Reading::Stray)
 }
 
-/// What the rules from that of literals on give.
+/// Applies the rules from the rule of literals on.
 fn try_literal_on(text: &[u8]) -> Reading
     ensures { result ≡ first_of_rows literal_rows text.now }
 {
@@ -198,7 +199,7 @@ fn try_literal_on(text: &[u8]) -> Reading
     try_number_on(text)
 }
 
-/// What the first rule that fits takes at the front of the text, at a bracket depth: each rule is tried in turn.
+/// Applies the first rule that fits at the beginning of the text, at a bracket depth. Each rule is tried in turn.
 #[tactic(auto, unfolding(crate::specs::Rules::reading))]
 fn try_rules(text: &[u8], depth: u32) -> Reading
     ensures { result ≡ reading depth text.now }
@@ -218,7 +219,7 @@ fn try_rules(text: &[u8], depth: u32) -> Reading
     try_literal_on(text)
 }
 
-/// The same. The first byte tells most pieces at once, or which rules are left.
+/// Does the same as [`try_rules`]. The first byte decides most pieces at once, or rules out some of the rules.
 fn first_fit(text: &[u8], depth: u32) -> Reading
     ensures { result ≡ reading depth text.now }
 {
@@ -235,7 +236,7 @@ fn first_fit(text: &[u8], depth: u32) -> Reading
     }
 }
 
-/// What is read at the front of the text, at a bracket depth.
+/// Reads what the text begins with, at a bracket depth.
 #[tactic(auto, using(crate::proofs::Sizes::bounded))]
 pub fn read_front(text: &[u8], depth: u32) -> Reading
     ensures value { result ≡ reading depth text.now }
@@ -244,7 +245,7 @@ pub fn read_front(text: &[u8], depth: u32) -> Reading
     first_fit(text, depth)
 }
 
-/// The bracket depth after the piece at the front of the text.
+/// Returns the bracket depth after the piece that the text begins with.
 #[tactic(auto, unfolding(crate::specs::Rules::depth_after))]
 pub fn depth_after(text: &[u8], depth: u32) -> u32
     requires { depth + 1 < 2 ^ 32 }

@@ -1,6 +1,6 @@
-// Classes of bytes, each a table that says of each byte whether it is of the class.
+//! Classes of bytes. Each is a table that says for each byte whether it belongs to the class.
 
-/// A name goes on with it.
+/// Bytes that can continue a name.
 pub const NAME_BYTES: [bool; 256] = [
     false, false, false, false, false, false, false, false, false, false, false, false, false,
     false, false, false, false, false, false, false, false, false, false, false, false, false,
@@ -21,7 +21,7 @@ pub const NAME_BYTES: [bool; 256] = [
     true, true, true, true, true, true, true, true, true, true, true, true, true, true, true,
 ];
 
-/// A name begins with it, and no literal does.
+/// Bytes that can begin a name and can't begin a literal.
 pub const PLAIN_NAME_STARTS: [bool; 256] = [
     false, false, false, false, false, false, false, false, false, false, false, false, false,
     false, false, false, false, false, false, false, false, false, false, false, false, false,
@@ -43,7 +43,7 @@ pub const PLAIN_NAME_STARTS: [bool; 256] = [
     true, true, true, true,
 ];
 
-/// It is a quote or a letter of a prefix.
+/// Quotes and letters of prefixes.
 pub const LITERAL_STARTS: [bool; 256] = [
     false, false, false, false, false, false, false, false, false, false, false, false, false,
     false, false, false, false, false, false, false, false, false, false, false, false, false,
@@ -67,7 +67,7 @@ pub const LITERAL_STARTS: [bool; 256] = [
     false, false, false, false,
 ];
 
-/// It is an operator's character that begins no number.
+/// Operator characters that can't begin a number.
 pub const PLAIN_OPERATORS: [bool; 256] = [
     false, false, false, false, false, false, false, false, false, false, false, false, false,
     false, false, false, false, false, false, false, false, false, false, false, false, false,
@@ -91,7 +91,7 @@ pub const PLAIN_OPERATORS: [bool; 256] = [
     false, false, false, false,
 ];
 
-/// It is a space, a tab or a form feed.
+/// The space, the tab and the form feed.
 pub const BLANKS: [bool; 256] = [
     false, false, false, false, false, false, false, false, false, true, false, false, true, false,
     false, false, false, false, false, false, false, false, false, false, false, false, false,
@@ -115,7 +115,7 @@ pub const BLANKS: [bool; 256] = [
     false, false, false, false, false, false, false, false,
 ];
 
-/// It opens a bracket.
+/// Bytes that open a bracket.
 pub const OPENING_BRACKETS: [bool; 256] = [
     false, false, false, false, false, false, false, false, false, false, false, false, false,
     false, false, false, false, false, false, false, false, false, false, false, false, false,
@@ -139,7 +139,7 @@ pub const OPENING_BRACKETS: [bool; 256] = [
     false, false, false, false, false, false, false, false, false,
 ];
 
-/// It closes a bracket.
+/// Bytes that close a bracket.
 pub const CLOSING_BRACKETS: [bool; 256] = [
     false, false, false, false, false, false, false, false, false, false, false, false, false,
     false, false, false, false, false, false, false, false, false, false, false, false, false,
@@ -163,7 +163,7 @@ pub const CLOSING_BRACKETS: [bool; 256] = [
     false, false, false, false, false, false, false, false, false,
 ];
 
-/// It begins no literal without a prefix, no comment, no joined line and no fault.
+/// Ordinary bytes, which can't begin a literal without a prefix, a comment, a joined line or a fault.
 pub const ORDINARY_BYTES: [bool; 256] = [
     false, false, false, false, false, false, false, false, false, true, true, false, true, true,
     false, false, false, false, false, false, false, false, false, false, false, false, false,

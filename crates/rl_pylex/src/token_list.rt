@@ -1,19 +1,19 @@
-// Tokens and their texts.
+//! Tokens and their texts.
 ghost use Rattle.std.specs.Prelude.{◌≡◌, ◌-◌, take, drop};
 ghost use Rattle.rl_pylex.specs.Source.{text_of};
 
 use rl_lists::Items;
 
-/// What a token is.
+/// The kind of a token.
 #[derive(Clone, Copy, Debug, PartialEq, Eq)]
 pub enum TokenKind {
-    /// Letters, `_`, digits and codes of at least 0x80. A keyword is a name like any other.
+    /// Letters, `_`, digits and code points of at least 0x80. A keyword is a name like any other.
     Name,
-    /// A number, and what stands directly behind it.
+    /// A number, including any letters, digits, `_` and `.` that directly follow it.
     Number,
     /// One literal, with its prefix and its quotes.
     Literal,
-    /// One character of an operator, or one bracket.
+    /// One operator character, or one bracket.
     Op,
     /// A line end outside brackets.
     LineEnd,
@@ -21,7 +21,7 @@ pub enum TokenKind {
     Comment,
 }
 
-/// A token: the bytes of its source from the place `from` up to, and without, the place `upto`.
+/// A token: the bytes of its source from the place `from` up to, but not including, the place `upto`.
 #[derive(Clone, Copy, Debug, PartialEq, Eq)]
 pub struct Token {
     pub kind: TokenKind,
@@ -32,7 +32,8 @@ pub struct Token {
 /// The tokens of a source in order.
 pub type TokenList = Items<Token>;
 
-/// The bytes of a token of this source. Of a token that reaches past the end of the source, the bytes that are there.
+/// Returns the bytes of a token in this source. If the token reaches beyond the end of the source, only the bytes that exist
+/// are returned.
 pub fn text_of(source: &[u8], token: Token) -> &[u8]
     ensures { result.now ≡ text_of source.now token }
 {

@@ -1,4 +1,4 @@
--- Values one behind the other, and the first refusal.
+-- Values joined together, and the first refusal.
 use Rattle.std.proofs.Common.{◌≡◌, ℕ, zero, suc, ◌+◌, ◌-◌, ◌<◌, ◌≤◌, Bool, List, [], ◌∷◌, length, get_or, drop, take, refl, ap, ap₂, sym, ◌∙◌, arith, append_assoc, subst}
 use Rattle.std.specs.Prelude.{Result, Ok, Err, All}
 use Rattle.rl_pylex.specs.declared.token_list.Token.{Token}
@@ -53,11 +53,11 @@ IsRefused-memory r e h = subst (λ x. IsRefused r x) (sym h) tt
 
 pub ruleset refusals = (IsRefused-refusal, IsRefused-memory, before-empty)
 
--- what stands behind the first
+-- Everything after the first item.
 pub behind_first : {A : Type 0} (xs : List A) → take (length xs - 1) (drop 1 xs) ≡ drop 1 xs
 behind_first xs = take_all (length xs - 1) (drop 1 xs) (omega (arith, length-drop 1 xs))
 
--- a code that is passed
+-- A code point that is skipped.
 pub value-skip : (raw bytes : Bool) (place skip : ℕ) (text : List ℕ) → 0 < skip → 0 < length text
     → value_from raw bytes place skip text ≡ value_from raw bytes (place + len_utf8 (get_or text 0 0)) (skip - 1) (drop 1 text)
 value-skip raw bytes place zero text h k = absurd (omega arith)
@@ -65,7 +65,7 @@ value-skip raw bytes place (suc skip) [] h k = absurd (omega arith)
 value-skip raw bytes place (suc skip) (c ∷ text) h k =
     ap (λ n. value_from raw bytes (place + len_utf8 c) n text) (omega arith)
 
--- a unit at the front
+-- A unit that the text begins with.
 pub value-unit : (raw bytes : Bool) (place : ℕ) (text : List ℕ) → 0 < length text
     → value_from raw bytes place 0 text
     ≡ before (given (unit raw bytes text) place) (value_from raw bytes (place + len_utf8 (get_or text 0 0)) (size_of (unit raw bytes text) - 1) (drop 1 text))
@@ -94,7 +94,7 @@ pub step_skips : (raw bytes : Bool) (place skip : ℕ) (text : List ℕ) (old : 
     → before (Ok old) (value_from raw bytes place skip text) ≡ before (Ok old) (value_from raw bytes (place + len_utf8 (get_or text 0 0)) (skip - 1) (drop 1 text))
 step_skips raw bytes place skip text old h k = ap (before (Ok old)) (value-skip raw bytes place skip text h k)
 
--- a unit is read at the front, and what it gives is appended
+-- The first unit is read, and what it gives is appended.
 pub step_done : (raw bytes : Bool) (place skip next : ℕ) (text : List ℕ) (old new : Placed) (gives : Gives) → skip ≤ 0 → 0 < length text
     → gives ≡ unit raw bytes text → Ok new ≡ before (Ok old) (given gives place) → next ≡ size_of gives - 1
     → before (Ok old) (value_from raw bytes place skip text) ≡ before (Ok new) (value_from raw bytes (place + len_utf8 (get_or text 0 0)) next (drop 1 text))
@@ -105,7 +105,7 @@ step_done raw bytes place skip next text old new gives none some u e size =
 
 pub ruleset steps = (step_more, step_refused, step_skips)
 
--- one token more
+-- One more token.
 pub token_done : (p q : Result Placed StrError) (old new : Placed) → Ok new ≡ before (Ok old) p → before (Ok old) (before p q) ≡ before (Ok new) q
 token_done p q old new e = sym (before_assoc (Ok old) p q) ∙ ap (λ r. before r q) (sym e)
 

@@ -1,4 +1,4 @@
--- The body of a quoted text, raw or not: it is ASCII, its value is the codes, and nothing in it closes it.
+-- The body of a quoted text, raw or not: it is ASCII, its value is the quoted text, and nothing in it closes it.
 use Rattle.std.proofs.Common.{◌≡◌, ℕ, zero, suc, ◌+◌, ◌-◌, ◌<◌, ◌≤◌, Bool, true, false, ◌&&◌, List, [], ◌∷◌, ◌++◌, length, refl, ap, sym, ◌∙◌, arith, Some, append_assoc}
 use Rattle.std.specs.Prelude.{◌==◌, nat_eq, option_map, Ok, All, slice_get}
 use Rattle.std.specs.Option.{option_map_or}
@@ -143,7 +143,7 @@ raw_ascii [] h = refl
 raw_ascii (c ∷ cs) h =
     both-of (is_ascii c) (list_all is_ascii cs) (plain_ascii c (left-of (is_plain c) (list_all is_plain cs) h)) (raw_ascii cs (right-of (is_plain c) (list_all is_plain cs) h))
 
--- behind a backslash that isn't the last code another code is passed
+-- After a backslash that isn't the last code point, another code point is skipped.
 raw_two : (c d : ℕ) (ds : List ℕ) → 92 ≡ c → is_plain d ≡ true → close_from 1 34 0 (ds ++ 34 ∷ []) ≡ Some (length ds + 1)
     → close_from 1 34 0 (c ∷ d ∷ (ds ++ 34 ∷ [])) ≡ Some (suc (suc (length ds)) + 1)
 raw_two c d ds e h later =
@@ -161,7 +161,7 @@ raw_step : (b : Bool) (c d : ℕ) (ds : List ℕ) → (c == 92) ≡ b → is_pla
 raw_step true c d ds e hc hd one two = raw_two c d ds (is_back c e) hd two
 raw_step false c d ds e hc hd one two = raw_one c (d ∷ ds) hc e one
 
--- after a first backslash the rest may itself end so, so both ways on are carried
+-- After a first backslash the rest may itself end in one, so both cases are carried along.
 raw_closes : (n : ℕ) (cs : List ℕ) → length cs ≤ n → list_all is_plain cs ≡ true → ends_in_backslash cs ≡ false → close_from 1 34 0 (cs ++ 34 ∷ []) ≡ Some (length cs + 1)
 raw_closes n [] l h ends = end_closes
 raw_closes zero (c ∷ cs) l h ends = absurd (omega arith)

@@ -1,4 +1,4 @@
--- Where the parts of a literal lie in it: its prefix and its quotes have room, and its body is UTF-8.
+-- The places of the parts of a literal: its prefix and its quotes fit in it, and its body is UTF-8.
 use Rattle.std.proofs.Common.{◌≡◌, ℕ, zero, suc, ◌+◌, ◌-◌, ◌<◌, ◌≤◌, Bool, true, false, cond, ◌&&◌, List, [], ◌∷◌, length, get_or, drop, take, refl, ap, sym, ◌∙◌, arith, Some, None, Option, subst}
 use Rattle.std.specs.Prelude.{unwrap_or, option_map, nat_eq, ◌==◌, IsUtf8, find}
 use Rattle.std.specs.Str.{IsCharBoundary}
@@ -26,7 +26,7 @@ pub quotes-some : (text : List ℕ) → IsLiteral text → 0 < quotes_of text
 quotes-some text l =
     omega (arith, (Sized-from l.prefix text (length text) l.closes).some, quotes-is text l)
 
--- a literal's prefix and its quotes twice have room in it
+-- The prefix of a literal and its quotes at both ends fit in it.
 pub quotes_room : (text : List ℕ) → IsLiteral text → letter_count text + quotes_of text + quotes_of text ≤ length text
 quotes_room text l = omega (arith, IsLiteral-room text l, prefix-is text l, quotes-is text l)
 
@@ -63,14 +63,14 @@ quote_after text n e = quote_at n text (right-of _ (has_at is_quote n text) (fou
 quote_is_ascii : (c : ℕ) → is_quote c ≡ true → c < 128
 quote_is_ascii c h = grind (arith, nat_tests)
 
--- three equal quotes
+-- Three equal quotes.
 thrice : (quote : ℕ) (d : List ℕ) → quotes_at 3 quote d ≡ true → get_or d 2 0 ≡ quote
 thrice quote [] h = absurd (false≢true h)
 thrice quote (a ∷ []) h = grind (arith, nat_tests)
 thrice quote (a ∷ b ∷ []) h = grind (arith, nat_tests)
 thrice quote (a ∷ b ∷ c ∷ d) h = grind (arith, nat_tests)
 
--- the last of the opening quotes
+-- The last of the opening quotes.
 last_quote : (d : List ℕ) → get_or d (quote_count d - 1) 0 ≡ get_or d 0 0
 unfolding quote_count
 last_quote d = by-test (quotes_at 3 (get_or d 0 0) d) refl
@@ -103,7 +103,7 @@ closed_here (suc k) quote x xs some h =
     nothing : (j : ℕ) → suc j - suc j ≡ 0
     nothing j = omega arith
 
--- the closing quotes stand at the end of what is found
+-- The closing quotes are at the end of what is found.
 closed : (count quote skip m : ℕ) (xs : List ℕ) → 0 < count → close_from count quote skip xs ≡ Some m → IsClosed count quote m xs
 closed count quote skip m [] some e = absurd (none_is_no m e)
 closed count quote (suc skip) m (x ∷ xs) some e =
@@ -119,7 +119,7 @@ closed count quote zero m (x ∷ xs) some e =
     by-tests false false q h later =
         closed_later count quote x m xs (close_from count quote (unit_size (x ∷ xs) - 1) xs) h later
 
--- the byte before a literal's body is a quote, and so is the byte behind it
+-- The byte before a literal's body is a quote, and so is the byte after it.
 pub before_body : (text : List ℕ) → IsLiteral text → get_or text (body_start text - 1) 0 < 128
 unfolding body_start
 before_body text l =
@@ -180,7 +180,7 @@ utf8_in s from k utf8 within long l =
     subst IsUtf8 (sym (body-in s from k long l))
     (IsUtf8-between s (from + b) (from + (k - q)) utf8 (omega (arith, room.1, long)) (subst (IsCharBoundary s) next opens) closes)
 
--- the body of a literal token of a source of UTF-8
+-- The body of a literal token in a source of UTF-8.
 pub body_utf8 : (s : List ℕ) (t : Token) → IsUtf8 s → IsReadAt s t → IsLiteral (text_of s t) → IsUtf8 (body_of (text_of s t))
 body_utf8 s t utf8 read l =
     let some = read.some in

@@ -16,7 +16,7 @@ get_or-drop-take n m ts k d h =
     let inside : k < n = omega (arith, length-take n (drop m ts)) in
     (omega (arith, length-take n (drop m ts), length-drop m ts), get_or-take n (drop m ts) k d inside ∙ get_or-drop m ts k d)
 
--- each token of a run is what is read at its place
+-- Each token of a run is what is read at its place.
 pub run_read : (s : List ℕ) (ts : List Token) (n m : ℕ) → IsTokenList s ts → All (IsReadAt s) (take n (drop m ts))
 run_read s ts n m h = λ k d l.
     let same = get_or-drop-take n m ts k d l in

@@ -1,4 +1,4 @@
--- The digits of a number spell it again.
+-- The digits of a number spell that number.
 use Rattle.std.proofs.Common.{◌≡◌, ℕ, zero, suc, ◌+◌, ◌*◌, ◌/◌, ◌%◌, ◌^◌, ◌<◌, ◌≤◌, Bool, true, false, cond, ◌&&◌, ◌||◌, not, List, [], ◌∷◌, ◌++◌, length, refl, ap, ap₂, sym, ◌∙◌, arith}
 use Rattle.std.specs.Prelude.{◌==◌, nat_lt}
 use Rattle.std.specs.List.{list_all}
@@ -19,7 +19,7 @@ use Rattle.rl_pystr.specs.Quoting.{hex}
 glyph_value : (d : ℕ) → d < 16 → digit_value (digit_glyph false d) ≡ d
 glyph_value d h = grind (arith, nat_tests)
 
--- a digit is no quote, backslash, CR or LF
+-- Whether a byte isn't a quote, a backslash, a CR or an LF, as holds for every digit.
 abbrev pub passes : ℕ → Bool
 passes c = nat_lt c 128 && not (c == 34) && not (c == 92) && not (c == 10) && not (c == 13)
 

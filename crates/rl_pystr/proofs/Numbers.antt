@@ -1,11 +1,11 @@
--- The number of a few digits is small, and few of them are counted.
+-- The number that a few digits spell is small, and only a few digits are counted.
 use Rattle.std.proofs.Common.{◌≡◌, ℕ, zero, suc, ◌+◌, ◌*◌, ◌^◌, ◌<◌, ◌≤◌, ◌-◌, true, false, cond, List, [], ◌∷◌, length, get_or, drop, arith, ap, le_refl, le_of_eq}
 use Rattle.std.specs.Prelude.{min}
 use Rattle.std.specs.List.{prefix_len}
 use Rattle.std.proofs.lemmas.Nat.{mul-le, pow-add}
 use Rattle.rl_pystr.specs.Escapes.{is_octal}
 
--- a number of so many digits in a base of at most 16, of which each counts at most 36
+-- A number that `count` digits spell, in a base of at most 16 and with digit values of at most 36, is small.
 abbrev pub IsSmall : ℕ → ℕ → Type 0
 IsSmall count number = number + 3 ≤ 3 * 16 ^ count
 
@@ -25,7 +25,7 @@ small_bound number count few h =
     let e : count + (8 - count) ≡ 8 = omega arith in
     omega (arith, grows count (8 - count), ap (λ k. 16 ^ k) e)
 
--- one octal digit more
+-- One more octal digit.
 pub octal_more : (most n : ℕ) (text : List ℕ) → 0 < most → 0 < length text → is_octal (get_or text 0 0) ≡ true → n ≡ min (most - 1) (prefix_len is_octal (drop 1 text))
     → 1 + n ≡ min most (prefix_len is_octal text)
 octal_more most n [] some one h e = absurd (omega arith)

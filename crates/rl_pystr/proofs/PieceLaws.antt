@@ -1,4 +1,4 @@
--- Each code of a quoted text is one unit again, and holds no closing quote.
+-- Each code point of a quoted text is one unit again, and contains no closing quote.
 use Rattle.std.proofs.Common.{◌≡◌, ℕ, suc, ◌+◌, ◌-◌, ◌<◌, Bool, true, false, cond, ◌&&◌, ◌||◌, not, List, [], ◌∷◌, ◌++◌, length, refl, ap, sym, ◌∙◌, arith, Some, None, Option, subst}
 use Rattle.std.specs.Prelude.{◌==◌, nat_lt, nat_eq, option_map, Ok}
 use Rattle.std.specs.List.{list_all}
@@ -20,7 +20,8 @@ use Rattle.rl_pystr.proofs.HexLaws.{passes, length-hex, all_passing, hexadecimal
 abbrev pub is_ascii : ℕ → Bool
 is_ascii c = nat_lt c 128
 
--- how a code stands in a text: its first byte and the others, which are ASCII, are one unit that gives the code and holds no closing quote
+-- The spelling of a code point in a quoted text: its first byte and the others, which are ASCII, are one unit, which gives the
+-- code point and contains no closing quote.
 pub record IsPiece (bytes : Bool) (c : ℕ) (text : List ℕ) : Type 0 where
   pub head : ℕ
   pub tail : List ℕ
@@ -69,7 +70,7 @@ tab_piece : (bytes : Bool) → IsPiece bytes 9 (92 ∷ 116 ∷ [])
 unfolding line_end unit_size named_code
 tab_piece bytes = short_piece bytes 9 116 refl (λ rest. refl) (λ rest. refl)
 
--- a code that passes is a unit by itself
+-- A code point that needs no escape is a unit by itself.
 pub no_line_end : (c : ℕ) (rest : List ℕ) → passes c ≡ true → line_end (c ∷ rest) ≡ 0
 unfolding line_end
 no_line_end c rest h = grind (arith, nat_tests)
@@ -244,7 +245,7 @@ piece_of bytes c h = by-tests (c == 92) (c == 34) (c == 10) (c == 13) (c == 9) (
     by-tests false false false false false true ea eb ed ee ef ep = plain_piece bytes c (printed_passes c ep ea eb)
     by-tests false false false false false false ea eb ed ee ef ep = hex_escape_piece bytes c h
 
--- the rest of a unit is passed
+-- The rest of a unit is skipped.
 skips : (raw bytes : Bool) (place : ℕ) (xs rest : List ℕ) → list_all is_ascii xs ≡ true → value_from raw bytes place (length xs) (xs ++ rest) ≡ value_from raw bytes (place + length xs) 0 rest
 skips raw bytes place [] rest h = ap (λ k. value_from raw bytes k 0 rest) (omega arith)
 skips raw bytes place (x ∷ xs) rest h =
@@ -252,11 +253,11 @@ skips raw bytes place (x ∷ xs) rest h =
     ∙ skips raw bytes (place + 1) xs rest (right-of (is_ascii x) (list_all is_ascii xs) h)
     ∙ ap (λ k. value_from raw bytes k 0 rest) (omega arith)
 
--- one code at a place
+-- One code point at a place.
 abbrev pub one : ℕ → ℕ → Placed
 one code place = record { codes = code ∷ []; places = place ∷ [] }
 
--- a unit that gives one code is that code in front of the rest
+-- A unit that gives one code point puts it before the value of the rest.
 pub unit_back : (raw bytes : Bool) (place c x : ℕ) (xs rest : List ℕ) → is_ascii x ≡ true → list_all is_ascii xs ≡ true → unit raw bytes (x ∷ (xs ++ rest)) ≡ One c (1 + length xs)
     → value_from raw bytes place 0 (x ∷ (xs ++ rest)) ≡ before (Ok (one c place)) (value_from raw bytes (place + 1 + length xs) 0 rest)
 unit_back raw bytes place c x xs rest a all e =

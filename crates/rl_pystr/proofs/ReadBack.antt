@@ -1,4 +1,4 @@
--- A quoted text is one literal whose value is the codes.
+-- A quoted text is one literal, and its value is that text.
 use Rattle.std.proofs.Common.{◌≡◌, ℕ, zero, suc, ◌+◌, ◌-◌, ◌≤◌, Bool, true, false, cond, ◌&&◌, ◌||◌, not, List, [], ◌∷◌, ◌++◌, length, get_or, take, drop, refl, ap, ap₂, sym, ◌∙◌, arith, Some, Option, subst}
 use Rattle.std.specs.Prelude.{unwrap_or, option_map, Result, Ok, Err}
 use Rattle.std.specs.List.{list_all, flat_map}
@@ -24,7 +24,7 @@ use Rattle.rl_pystr.proofs.Bodies.{before-empty}
 use Rattle.rl_pystr.proofs.PieceLaws.{is_ascii}
 use Rattle.rl_pystr.proofs.BodyLaws.{IsBody, escaped_body, raw_body}
 
--- a prefix and an opening quote in front of a text
+-- A prefix and an opening quote before a text.
 abbrev front : Bool → Bool → List ℕ → List ℕ
 front true true text = 98 ∷ 114 ∷ 34 ∷ text
 front true false text = 98 ∷ 34 ∷ text
@@ -82,7 +82,7 @@ ascii_at (x ∷ xs) h (suc i) = ascii_at xs (right-of (is_ascii x) (list_all is_
 closed_ascii : (body : List ℕ) → list_all is_ascii body ≡ true → list_all is_ascii (body ++ 34 ∷ []) ≡ true
 closed_ascii body h = list_all-append is_ascii body (34 ∷ []) ∙ ap (λ b. b && true) h
 
--- the parts of a quoted text
+-- The parts of a quoted text.
 record IsLaid (bytes raw : Bool) (cs text : List ℕ) : Type 0 where
   pub literal : IsLiteral text
   pub ascii : IsAscii text
@@ -182,7 +182,7 @@ read_by u raw cs text l short =
       universe = ap universe_by (bytes_is (is_bytes u) text l.b) ∙ by_bytes u;
     }
 
--- what a quoted text is, by whether it is raw
+-- The form of a quoted text that is raw, and of one that isn't.
 quoted_raw : (bytes : Bool) (cs : List ℕ) → bytes_prefix bytes ++ quoted_body true bytes cs ++ 34 ∷ [] ≡ front bytes true (cs ++ 34 ∷ [])
 quoted_raw true cs = refl
 quoted_raw false cs = refl

@@ -1,4 +1,4 @@
--- The value of a run of tokens, literals and comments: the values of its literals one behind the other.
+-- The value of a run of tokens, which are literals and comments: the values of its literals joined together.
 use Rattle.std.specs.Prelude.{◌≡◌, IsTrue, ℕ, ◌+◌, ◌-◌, Bool, false, not, ◌&&◌, ◌||◌, ◌==◌, List, [], ◌∷◌, length, take, drop, slice_get, Some, option_map, unwrap_or, Result, Ok, Err, if◌then◌else◌}
 use Rattle.std.specs.List.{list_any, list_all}
 use Rattle.std.specs.Option.{option_map_or}
@@ -17,85 +17,92 @@ use Rattle.rl_pystr.specs.declared.placed.Placed.{Placed}
 use Rattle.rl_pystr.specs.declared.literal.Literal.{Literal}
 use Rattle.rl_pystr.specs.Values.{empty, before, value_from}
 
+-- Whether the token is a literal.
 abbrev pub is_literal : Token → Bool
 is_literal token = same_kind kind.Literal token.kind
 
--- how many letters a literal's prefix has
+-- The number of letters in a literal's prefix.
 abbrev pub letter_count : List ℕ → ℕ
 letter_count text = unwrap_or (prefix_size text) 0
 
--- the prefix of a literal has this letter, in any case
+-- Whether the prefix of a literal has this letter, in upper or lower case.
 unfoldable pub has_letter : ℕ → List ℕ → Bool
 has_letter letter text = list_any (λ c. to_ascii_lowercase c == letter) (take (letter_count text) text)
 
--- how many quotes stand at each end of a literal
+-- The number of quotes at each end of a literal.
 abbrev pub quotes_of : List ℕ → ℕ
 quotes_of text = quote_count (drop (letter_count text) text)
 
--- where the body of a literal begins in it, behind its prefix and its opening quotes
+-- The place in a literal where its body begins, after its prefix and its opening quotes.
 unfoldable pub body_start : List ℕ → ℕ
 body_start text = letter_count text + quotes_of text
 
--- the bytes between the quotes
+-- The bytes between the quotes of a literal.
 unfoldable pub body_of : List ℕ → List ℕ
 body_of text = take (length text - quotes_of text - body_start text) (drop (body_start text) text)
 
--- the value of a literal whose text begins at a place, of bytes or of text
+-- The value of a literal whose text begins at a place. `bytes` says whether it is a literal of bytes.
 unfoldable pub literal_value : Bool → ℕ → List ℕ → Result Placed StrError
 literal_value bytes place text =
     value_from (has_letter 114 text) bytes (place + body_start text) 0 (chars (body_of text))
 
--- a literal token whose prefix has the letter
+-- Whether the token is a literal whose prefix has the letter.
 abbrev pub is_lettered : ℕ → List ℕ → Token → Bool
 is_lettered letter source token = is_literal token && has_letter letter (text_of source token)
 
--- a literal token whose prefix doesn't have the letter
+-- Whether the token is a literal whose prefix doesn't have the letter.
 abbrev pub is_unlettered : ℕ → List ℕ → Token → Bool
 is_unlettered letter source token = is_literal token && not (has_letter letter (text_of source token))
 
--- a token that is no literal gives nothing
+-- The value of a token. A token that isn't a literal has an empty value.
 abbrev pub token_value : Bool → List ℕ → Token → Result Placed StrError
 token_value bytes source token =
     if is_literal token then literal_value bytes token.from (text_of source token) else Ok empty
 
+-- The values of the tokens joined together, or the first refusal.
 abbrev pub values : Bool → List ℕ → List Token → Result Placed StrError
 values bytes source [] = Ok empty
 values bytes source (token ∷ tokens) = before (token_value bytes source token) (values bytes source tokens)
 
--- some literal of the run is one of bytes
+-- Whether the run has a literal of bytes.
 unfoldable pub has_bytes : List ℕ → List Token → Bool
 has_bytes source run = list_any (is_lettered 98 source) run
 
--- the value of a run, or its refusal: an f-string, bytes beside text, or the first fault by place in a body
+-- The value of a run, or its refusal: an f-string, bytes mixed with text, or the first fault by place in a body.
 unfoldable pub value_of_run : List ℕ → List Token → Result Placed StrError
 value_of_run source run =
     if list_any (is_lettered 102 source) run then Err error.FString
     else (if has_bytes source run && list_any (is_unlettered 98 source) run then Err error.Mixed
     else values (has_bytes source run) source run)
 
+-- The universe of a value: bytes or text.
 abbrev pub universe_by : Bool → Universe
 universe_by bytes = if bytes then universe.Bytes else universe.Str
 
--- where the closing quotes of a literal token begin
+-- The place where the closing quotes of a literal token begin.
 unfoldable pub close_of : List ℕ → Token → ℕ
 close_of source token = token.upto - quotes_of (text_of source token)
 
--- The literal is the value of the run: its codes and their places, its universe, and where the last literal's closing quotes begin.
+-- The literal is the value of the run: it has its code points and their places, its universe, and the place where the closing
+-- quotes of its last literal begin.
 pub record IsValue (source : List ℕ) (run : List Token) (literal : Literal) : Type 0 where
   pub value : value_of_run source run ≡ Ok (record { codes = literal.codes; places = literal.places })
   pub universe : literal.universe ≡ universe_by (has_bytes source run)
   pub end : option_map (close_of source) (slice_get run (length run - 1)) ≡ Some literal.end
 
+-- Whether the run begins with a literal.
 abbrev pub begins_literal : List Token → Bool
 begins_literal run = option_map_or is_literal (slice_get run 0) false
 
+-- Whether the run ends with a literal.
 abbrev pub ends_literal : List Token → Bool
 ends_literal run = option_map_or is_literal (slice_get run (length run - 1)) false
 
+-- Whether tokens of this kind are comments.
 abbrev pub is_comment_kind : TokenKind → Bool
 is_comment_kind k = same_kind kind.Comment k
 
--- a run of literals and comments that begins and ends with a literal
+-- The run consists of literals and comments, and it begins and ends with a literal.
 pub record IsLiteralRun (run : List Token) : Type 0 where
   pub kinds : IsTrue (list_all (λ token. is_literal token || is_comment_kind token.kind) run)
   pub begins : IsTrue (begins_literal run)

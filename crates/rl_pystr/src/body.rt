@@ -1,4 +1,4 @@
-// The value of a body: its units one behind the other.
+//! The value of a literal's body: the values of its units in order.
 ghost use Rattle.std.specs.Prelude.{◌≡◌, ℕ, ◌+◌, ◌*◌, ◌^◌, ◌<◌, ◌≤◌, ◌-◌, drop, length, slice_index, IfOk, IfErr, OnOk, Ok, IsUtf8};
 ghost use Rattle.std.specs.Str.{chars};
 ghost use Rattle.std.specs.Char.{len_utf8};
@@ -30,7 +30,7 @@ fn size_of(gives: Gives) -> usize
     }
 }
 
-/// Appends what is given at a place.
+/// Appends what a unit at a place gives.
 #[tactic(auto, using(crate::proofs::Bodies::refusals))]
 fn push_given(out: &mut Placed, gives: Gives, place: u32) -> Result<(), StrError>
     requires { place + 256 < 2 ^ 32 }
@@ -48,8 +48,8 @@ fn push_given(out: &mut Placed, gives: Gives, place: u32) -> Result<(), StrError
     }
 }
 
-/// Passes the code at the front of a body, or begins a unit there and appends what it gives. It answers
-/// how many of the codes behind it are still to be passed.
+/// Skips the first code point of a body, or reads the unit that begins there and appends what it gives. Returns the number of
+/// code points after the first that are still to be skipped.
 #[tactic(auto, using(crate::proofs::Bodies::steps))]
 fn step(
     out: &mut Placed,
@@ -96,7 +96,7 @@ pub fn push_body(
     Ok(())
 }
 
-/// The codes of bytes of UTF-8.
+/// Returns the code points of UTF-8 bytes.
 pub fn decoded(alloc: Global, bytes: &[u8]) -> Result<Vec<char>, StrError>
     requires { IsUtf8 bytes.now }
     ensures value { IfOk result (λ codes. codes.items ≡ chars bytes.now) }

@@ -1,11 +1,11 @@
-// Digits at the front of a text.
+//! Line ends and digits at the beginning of a text.
 ghost use Rattle.std.specs.Prelude.{◌≡◌, ℕ, ◌+◌, ◌<◌, ◌≤◌, ◌^◌, min, length, not, ◌==◌, true};
 ghost use Rattle.std.specs.List.{prefix_len, list_all};
 ghost use Rattle.std.specs.Char.{digit_value};
 ghost use Rattle.rl_pylex.specs.Bytes.{line_end};
 ghost use Rattle.rl_pystr.specs.Escapes.{is_octal, is_hex, number_of, has_hex};
 
-/// How many codes the line end at the front of the text has.
+/// Returns the number of code points in the line end that the text begins with, or 0 if it doesn't begin with one.
 #[tactic(auto, unfolding(rl_pylex::specs::Bytes::line_end))]
 pub fn line_end(text: &[char]) -> usize
     ensures value { result ≡ line_end text.now }
@@ -18,6 +18,7 @@ pub fn line_end(text: &[char]) -> usize
     }
 }
 
+/// Whether the code point is an octal digit.
 pub fn is_octal(code: char) -> bool
     ensures { result ≡ is_octal code }
 {
@@ -30,7 +31,7 @@ fn is_hex(code: char) -> bool
     code.is_digit(16)
 }
 
-/// How many octal digits, at most `most`, stand at the front of the text.
+/// Returns the number of octal digits that the text begins with, but at most `most`.
 #[tactic(auto, using(crate::proofs::Numbers::octals))]
 pub fn octal_size(most: usize, text: &[char]) -> usize
     ensures value { result ≡ min most (prefix_len is_octal text.now) }
@@ -58,7 +59,7 @@ pub fn has_hex(count: usize, text: &[char]) -> bool
     count <= text.len() && are_hex(&text[..count])
 }
 
-/// The value of a digit or a letter, and 36 for any other code.
+/// Returns the value of a digit or a letter, and 36 for any other code point.
 fn digit_value(code: char) -> u64
     ensures value { result ≡ digit_value code }
     ensures within { result ≤ 36 }
@@ -69,7 +70,7 @@ fn digit_value(code: char) -> u64
     }
 }
 
-/// The number that at most eight digits spell in a base.
+/// Returns the number that at most eight digits spell in a base.
 pub fn number_of(base: u64, digits: &[char]) -> u64
     requires base { base ≤ 16 }
     requires few { length digits.now ≤ 8 }

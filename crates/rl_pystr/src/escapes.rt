@@ -1,11 +1,11 @@
-// What stands at the front of a body: one code, a line end, or an escape.
+//! The units of a literal's body: a single code point, a line end, or an escape.
 ghost use Rattle.std.specs.Prelude.{◌≡◌, ℕ, ◌+◌, ◌<◌, ◌≤◌, ◌∷◌, length, not, ◌==◌, if◌then◌else◌};
 ghost use Rattle.rl_pylex.specs.Bytes.{begins};
 ghost use Rattle.rl_pystr.specs.Escapes.{octal, hexadecimal, named_code, byte_escape, text_escape, named_or, escape, unit, size_of, is_octal};
 
 use crate::digits::{has_hex, is_octal, line_end, number_of, octal_size};
 
-/// Why an escape or a code has no value.
+/// Why an escape or a code point has no value.
 #[derive(Clone, Copy)]
 pub enum Cause {
     BadEscape,
@@ -16,17 +16,17 @@ pub enum Cause {
 /// What a unit of a body gives.
 #[derive(Clone, Copy)]
 pub enum Gives {
-    /// No code; the unit has so many codes.
+    /// No code point. The number is the unit's length.
     Nothing(usize),
-    /// One code; the unit has so many codes.
+    /// One code point, the first number. The second number is the unit's length.
     One(u32, usize),
-    /// A backslash and this code, which stands behind it.
+    /// A backslash and this code point, which follows it.
     Both(u32),
-    /// A refusal so many codes behind the unit's first.
+    /// A refusal. Its place is this many bytes after the place of the unit.
     Refuses(Cause, u8),
 }
 
-/// The number of one to three octal digits, as many as there are.
+/// Reads an escape of one to three octal digits. It takes as many digits as there are.
 #[tactic(auto, unfolding(crate::specs::Escapes::octal))]
 fn octal(text: &[char]) -> Gives
     ensures { result ≡ octal text.now }
@@ -40,7 +40,7 @@ fn octal(text: &[char]) -> Gives
     }
 }
 
-/// The number of `count` hexadecimal digits.
+/// Reads an escape of `count` hexadecimal digits.
 #[tactic(auto, unfolding(crate::specs::Escapes::hexadecimal))]
 fn hexadecimal(count: usize, text: &[char]) -> Gives
     requires { count ≤ 8 }
@@ -57,7 +57,7 @@ fn hexadecimal(count: usize, text: &[char]) -> Gives
     }
 }
 
-/// The code of an escape by a letter.
+/// Returns the code point of an escape by one letter, such as `\n`, if there is one.
 #[tactic(auto, unfolding(crate::specs::Escapes::named_code))]
 fn named_code(letter: char) -> Option<u32>
     ensures { result ≡ named_code letter }
@@ -74,7 +74,7 @@ fn named_code(letter: char) -> Option<u32>
     }
 }
 
-/// Any other code behind a backslash, in bytes.
+/// Reads any other code point after a backslash, in bytes.
 #[tactic(auto, unfolding(crate::specs::Escapes::byte_escape))]
 fn byte_escape(code: char) -> Gives
     ensures { result ≡ byte_escape code }
@@ -95,7 +95,7 @@ fn by_name(rest: &[char]) -> Cause
     }
 }
 
-/// An escape of four or eight digits or by a name, or any other code behind a backslash, in text.
+/// Reads an escape of four or eight digits or by name, or any other code point after a backslash, in text.
 #[tactic(auto, unfolding(crate::specs::Escapes::text_escape))]
 fn text_escape(code: char, rest: &[char]) -> Gives
     ensures { result ≡ text_escape code rest.now }
@@ -118,7 +118,7 @@ fn letter_escape(bytes: bool, code: char, rest: &[char]) -> Gives
     }
 }
 
-/// The escape of a backslash and this text behind it.
+/// Reads the escape that consists of a backslash and the beginning of this text.
 fn escape(bytes: bool, text: &[char]) -> Gives
     ensures { result ≡ escape bytes text.now }
 {
@@ -139,7 +139,7 @@ fn escape(bytes: bool, text: &[char]) -> Gives
     }
 }
 
-/// What stands at the front of a text in a body, raw or not, of bytes or of text.
+/// Reads the unit that a text in a body begins with. `raw` and `bytes` say what kind of literal it is.
 pub fn unit(raw: bool, bytes: bool, text: &[char]) -> Gives
     requires { 0 < length text.now }
     ensures { result ≡ unit raw bytes text.now }

@@ -1,24 +1,24 @@
-// Why a run of literals has no value.
+//! The reasons why a run of literals has no value.
 ghost use Rattle.std.specs.Prelude.{◌≡◌};
 ghost use Rattle.rl_pystr.specs.declared.fault.StrError.TheVariants as error;
 
 use rl_lists::OutOfMemory;
 use std::alloc::AllocError;
 
-/// Why a run of literals has no value. The places are byte places in the source.
+/// Why a run of literals has no value. Each number is a byte place in the source.
 #[derive(Clone, Copy)]
 pub enum StrError {
     /// A literal is an f-string.
     FString,
-    /// Literals of bytes stand beside literals of text.
+    /// The run mixes literals of bytes and literals of text.
     Mixed,
-    /// An escape that has no value: the place of its backslash.
+    /// An escape has no value. The number is the place of its backslash.
     BadEscape(u32),
-    /// A character by its name: the place of its backslash.
+    /// An escape gives a character by its name, which relint doesn't look up. The number is the place of its backslash.
     NamedEscape(u32),
-    /// A code from 0x80 in a literal of bytes: its place.
+    /// A literal of bytes contains a code point of at least 0x80. The number is its place.
     NotAscii(u32),
-    /// Out of memory.
+    /// Memory ran out.
     OutOfMemory,
 }
 

@@ -1,14 +1,14 @@
-//! What Python's string and bytes literals say, and literals that say a given text.
+//! The values of Python's string and bytes literals, and literals that have a given value.
 //!
 //! [`value`] takes a run of literal tokens, such as `"ab" r'c'`, and returns a [`Literal`]: the code points of the joined
 //! value, the byte place in the source that each of them comes from, and whether it is text or bytes. So a fault in a pattern
-//! can be shown at its place in the source. [`quote`] goes the other way: it writes a text as a literal, for reports.
+//! can be shown at its place in the source. [`quote`] does the reverse: it writes a text as a literal, for reports.
 //!
 //! # What is proved
 //!
-//! [`value`] gives the value that the definition gives, or the first refusal in its order, each exactly and with its place.
-//! [`quote`] is exact byte for byte. By the law [`read_back`] a quoted text of at most 4,194,304 bytes is one literal token,
-//! whose value is the text again.
+//! [`value`] returns exactly the value of the definition, or exactly the first refusal in its order, with its place. [`quote`]
+//! is exact byte for byte. By the law [`read_back`], a quoted text of at most 4,194,304 bytes is one literal token, and its
+//! value is the original text.
 //!
 //! # Example
 //!
@@ -18,8 +18,8 @@
 //! quote(alloc, &codes, Universe::Str)?; // for the code points 97, 34 and 233: "a\"\u00e9"
 //! ```
 //!
-//! Read `specs/Escapes.antt`, `specs/Values.antt` and `specs/Runs.antt` in this order for values, and `specs/Quoting.antt`
-//! for quoting.
+//! For values, read `specs/Escapes.antt`, `specs/Values.antt` and `specs/Runs.antt` in this order; for quoting, read
+//! `specs/Quoting.antt`.
 #![tactic(auto)]
 
 mod body;

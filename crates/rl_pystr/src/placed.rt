@@ -1,4 +1,4 @@
-// Codes with their places.
+//! Code points with their places.
 ghost use Rattle.std.specs.Prelude.{◌≡◌, [], ◌∷◌, OnOk, IfErr, Result, Ok, IsOkUnless};
 ghost use Rattle.rl_pystr.specs.Values.{empty, joined};
 
@@ -6,14 +6,14 @@ use crate::StrError;
 use rl_lists::{Codes, Places};
 use std::alloc::Global;
 
-/// Codes, each with its byte place.
+/// Code points, each with its byte place.
 #[derive(Drop)]
 pub struct Placed {
     pub codes: Codes,
     pub places: Places,
 }
 
-/// No codes.
+/// Returns empty lists.
 pub fn no_codes(alloc: Global) -> Placed
     ensures { result ≡ empty }
 {
@@ -23,7 +23,7 @@ pub fn no_codes(alloc: Global) -> Placed
     }
 }
 
-/// Appends a code and its place.
+/// Appends a code point and its place.
 pub fn push_code(out: &mut Placed, code: u32, place: u32) -> Result<(), StrError>
     ensures pushed { OnOk result (out.new ≡ joined out.old (record { codes = code ∷ []; places = place ∷ [] })) }
     ensures memory { IsOkUnless result StrError.OutOfMemory }

@@ -1,4 +1,4 @@
-// Literals for given texts.
+//! Writing texts as literals.
 ghost use Rattle.std.specs.Prelude.{◌≡◌, ℕ, ◌+◌, ◌<◌, ◌≤◌, ◌/◌, ◌%◌, ◌∷◌, [], ◌++◌, length, IfOk, OnOk, IsTrue, false, true};
 ghost use Rattle.std.specs.List.{list_all, flat_map};
 ghost use Rattle.std.specs.Fmt.{digit_glyph};
@@ -15,7 +15,7 @@ fn is_bytes(universe: Universe) -> bool
     matches!(universe, Universe::Bytes)
 }
 
-/// A hexadecimal digit in lower case.
+/// Returns a hexadecimal digit in lower case.
 fn digit(value: u32) -> u8
     requires { value < 16 }
     ensures { result ≡ digit_glyph false value }
@@ -48,7 +48,7 @@ fn push_escape(out: &mut Vec<u8>, letter: u8, count: u32, number: u32) -> Result
     push_hex(out, count, number)
 }
 
-/// The escape by one character, or nothing.
+/// Returns the escape by one character, or nothing if there is none.
 #[tactic(auto, unfolding(crate::specs::Quoting::short_escape))]
 fn short_escape(code: u32) -> &'static [u8]
     ensures { result.now ≡ short_escape code }
@@ -82,7 +82,7 @@ fn is_printed(code: u32) -> bool
     32 <= code && code < 127
 }
 
-/// Appends a code as it stands between quotes.
+/// Appends a code point the way it is written between quotes.
 #[tactic(auto, unfolding(crate::specs::Quoting::escaped))]
 fn push_escaped(out: &mut Vec<u8>, bytes: bool, code: u32) -> Result<(), OutOfMemory>
     ensures { OnOk result (out.new.items ≡ out.old.items ++ escaped bytes code) }
@@ -98,7 +98,7 @@ fn push_escaped(out: &mut Vec<u8>, bytes: bool, code: u32) -> Result<(), OutOfMe
     Ok(())
 }
 
-/// Appends the codes with escapes.
+/// Appends the code points, escaped where necessary.
 fn push_all_escaped(out: &mut Vec<u8>, bytes: bool, codes: &[u32]) -> Result<(), OutOfMemory>
     ensures { OnOk result (out.new.items ≡ out.old.items ++ flat_map (escaped bytes) codes.now) }
 {
@@ -108,7 +108,7 @@ fn push_all_escaped(out: &mut Vec<u8>, bytes: bool, codes: &[u32]) -> Result<(),
     Ok(())
 }
 
-/// Appends the codes themselves.
+/// Appends the code points without escapes.
 fn push_all_plain(out: &mut Vec<u8>, codes: &[u32]) -> Result<(), OutOfMemory>
     requires { IsTrue (list_all is_plain codes.now) }
     ensures { OnOk result (out.new.items ≡ out.old.items ++ codes.now) }
@@ -141,7 +141,7 @@ fn ends_in_backslash(codes: &[u32]) -> bool
     }
 }
 
-/// Whether the codes can stand in a raw literal.
+/// Whether the code points can be written as a raw literal.
 #[tactic(auto, using(crate::proofs::Quotes::plains), unfolding(crate::specs::Quoting::is_raw))]
 fn is_raw(codes: &[u32]) -> bool
     ensures value { result ≡ is_raw codes.now }
@@ -159,7 +159,7 @@ fn push_prefix(out: &mut Vec<u8>, bytes: bool) -> Result<(), OutOfMemory>
     Ok(())
 }
 
-/// Appends the opening quote and what stands behind it, up to the closing one.
+/// Appends the opening quote and everything up to the closing one.
 fn push_quoted_body(out: &mut Vec<u8>, bytes: bool, codes: &[u32]) -> Result<(), OutOfMemory>
     ensures { OnOk result (out.new.items ≡ out.old.items ++ quoted_body (is_raw codes.now) bytes codes.now) }
 {
@@ -172,12 +172,12 @@ fn push_quoted_body(out: &mut Vec<u8>, bytes: bool, codes: &[u32]) -> Result<(),
     }
 }
 
-/// The literal for a text of a universe. It is raw where each code is from 0x20 to 0x7E and none is `"`, and the last
-/// is no backslash; else it has escapes. Where it has at most 4,194,304 bytes, [`read_back`](crate::read_back) says
-/// that its value is the text again.
+/// Returns the literal for a text of a universe. It is raw if each code point is from 0x20 to 0x7E, none is `"`, and the last
+/// isn't a backslash; otherwise it has escapes. If it has at most 4,194,304 bytes, its value is the original text, by the law
+/// [`read_back`](crate::read_back).
 ///
 /// # Errors
-/// [`OutOfMemory`] when out of memory.
+/// [`OutOfMemory`] if memory runs out.
 #[tactic(auto, unfolding(crate::specs::Quoting::quoted))]
 pub fn quote(alloc: Global, codes: &Codes, universe: Universe) -> Result<Bytes, OutOfMemory>
     requires { IsText universe codes.now }

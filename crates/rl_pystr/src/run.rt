@@ -1,4 +1,4 @@
-// The value of a run of literals.
+//! The value of a run of literals.
 ghost use Rattle.std.specs.Prelude.{◌≡◌, ℕ, ◌+◌, ◌<◌, ◌≤◌, ◌-◌, ◌∷◌, List, All, take, drop, length, slice_get, option_map, Some, not, IfOk, IfErr, OnOk, Ok, IsUtf8, IsTrue, true};
 ghost use Rattle.std.specs.List.{list_any};
 ghost use Rattle.rl_pylex.specs.Literals.{IsLiteral};
@@ -13,7 +13,7 @@ use rl_pylex::{Token, TokenKind, TokenList, prefix_size, quote_count, text_of};
 use rl_ranges::universe::Universe;
 use std::alloc::Global;
 
-/// The text from a place on.
+/// Returns the text from a place to the end.
 fn rest_from(text: &[u8], at: usize) -> &[u8]
     requires { at ≤ length text.now }
     ensures { result.now ≡ drop at text.now }
@@ -27,7 +27,7 @@ fn is_literal(token: Token) -> bool
     matches!(token.kind, TokenKind::Literal)
 }
 
-/// How many letters the prefix of a literal has.
+/// Returns the number of letters in the prefix of a literal.
 fn letter_count(text: &[u8]) -> usize
     ensures value { result ≡ letter_count text.now }
     ensures within { result ≤ length text.now }
@@ -35,7 +35,7 @@ fn letter_count(text: &[u8]) -> usize
     prefix_size(text).unwrap_or(0)
 }
 
-/// Whether the prefix of a literal has this letter, in any case.
+/// Whether the prefix of a literal has this letter, in upper or lower case.
 #[tactic(auto, unfolding(crate::specs::Runs::has_letter))]
 fn has_letter(letter: u8, text: &[u8]) -> bool
     ensures { result ≡ has_letter letter text.now }
@@ -45,7 +45,7 @@ fn has_letter(letter: u8, text: &[u8]) -> bool
         .any(|byte| byte.to_ascii_lowercase() == letter)
 }
 
-/// How many quotes stand at each end of a literal.
+/// Returns the number of quotes at each end of a literal.
 #[tactic(auto, using(crate::proofs::Bounds::bounds))]
 fn quotes_of(text: &[u8]) -> usize
     requires { IsLiteral text.now }
@@ -55,7 +55,7 @@ fn quotes_of(text: &[u8]) -> usize
     quote_count(rest_from(text, letter_count(text)))
 }
 
-/// Where the body of a literal begins in it.
+/// Returns the place in a literal where its body begins.
 #[tactic(auto, unfolding(crate::specs::Runs::body_start))]
 fn body_start(text: &[u8]) -> usize
     requires { IsLiteral text.now }
@@ -65,7 +65,7 @@ fn body_start(text: &[u8]) -> usize
     letter_count(text) + quotes_of(text)
 }
 
-/// The bytes between the quotes of a literal.
+/// Returns the bytes between the quotes of a literal.
 #[tactic(auto, unfolding(crate::specs::Runs::body_of))]
 fn body_of(text: &[u8]) -> &[u8]
     requires { IsLiteral text.now }
@@ -98,7 +98,7 @@ fn push_literal(
     push_body(out, raw, bytes, first, body.as_slice())
 }
 
-/// Appends the value of a token.
+/// Appends the value of a token, if it is a literal.
 #[tactic(auto, using(crate::proofs::Bodies::refusals, crate::proofs::Bounds::bounds))]
 fn push_token(
     alloc: Global,
@@ -177,7 +177,7 @@ fn universe_by(bytes: bool) -> Universe
     }
 }
 
-/// The codes of a run, with their places.
+/// Returns the code points of a run, with their places.
 #[tactic(auto, using(crate::proofs::Bodies::runs), unfolding(crate::specs::Runs::value_of_run, crate::specs::Runs::has_bytes))]
 fn value_of_run(alloc: Global, source: &[u8], run: &[Token]) -> Result<Placed, StrError>
     requires read { All (IsReadAt source.now) run.now }
@@ -198,7 +198,7 @@ fn value_of_run(alloc: Global, source: &[u8], run: &[Token]) -> Result<Placed, S
     Ok(out)
 }
 
-/// The last token of a run that ends with a literal.
+/// Returns the last token of a run that ends with a literal.
 #[tactic(auto, using(crate::proofs::Ends::ends))]
 fn last_literal(run: &[Token]) -> Token
     requires { IsTrue (ends_literal run.now) }
@@ -211,7 +211,7 @@ fn last_literal(run: &[Token]) -> Token
     }
 }
 
-/// The place where the closing quotes of a literal token begin.
+/// Returns the place where the closing quotes of a literal token begin.
 #[tactic(auto, using(crate::proofs::Ends::ends), unfolding(crate::specs::Runs::close_of))]
 fn close_of(source: &[u8], token: Token) -> u32
     requires { IsLiteral (text_of source.now token) }
@@ -246,17 +246,18 @@ fn run_of(tokens: &TokenList, first: u32, count: u32) -> &[Token]
     &tokens.as_slice()[first..first + count as usize]
 }
 
-/// The value of a run of literals, which may have comments between them: the values of the literals one behind the
-/// other. The `count` tokens of the source from `first` on are literals and comments, and the first and the last of
-/// them are literals.
+/// Returns the value of a run of literals, which is the values of its literals joined together. The run consists of `count`
+/// tokens of the source, beginning with `first`. They must be literals and comments, and the first and the last must be
+/// literals.
 ///
 /// # Errors
-/// The first of these that holds.
-/// - [`StrError::FString`] exactly where a literal has an `f` in its prefix
-/// - [`StrError::Mixed`] exactly where one has a `b` in its prefix and another has none
-/// - [`StrError::BadEscape`] or [`StrError::NamedEscape`], with the place of its backslash, or [`StrError::NotAscii`],
-///   with its own place, exactly where such an escape, or a code from 0x80 in bytes, is the first of these by place
-/// - [`StrError::OutOfMemory`] when out of memory
+/// The first of these that holds:
+/// - [`StrError::FString`] if and only if a literal has an `f` in its prefix
+/// - [`StrError::Mixed`] if and only if one literal has a `b` in its prefix and another doesn't
+/// - [`StrError::BadEscape`] or [`StrError::NamedEscape`], with the place of the backslash, or [`StrError::NotAscii`], with the
+///   place of the code point, if and only if the first fault by place is such an escape, or a code point of at least 0x80 in
+///   bytes
+/// - [`StrError::OutOfMemory`] if memory runs out
 #[tactic(auto, using(crate::proofs::Ends::ends))]
 pub fn value(
     alloc: Global,

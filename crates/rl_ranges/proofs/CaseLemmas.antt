@@ -1,4 +1,4 @@
--- Images of a set under pairs of codes, and what the tables of pairs say of case.
+-- Images of sets under pairs of codes, and what the tables of pairs say about case.
 -- ---- lists of pairs
 use Rattle.std.proofs.Common.{Bool, Contains, List, [], ap, ap₂, arith, drop, false, get_or, inl, inr, le_of_suc-le-suc, le_refl, le_trans, leb-true, length, nat_le, nat_lt, not-suc-le-zero, refl, subst, suc, suc-le-suc, sym, take, true, zero, zero-lt-suc, ℕ, ◌&&◌, ◌++◌, ◌+◌, ◌<◌, ◌==◌, ◌||◌, ◌∙◌, ◌∷◌, ◌≡◌, ◌≤◌}
 use Rattle.std.proofs.lemmas.Bool.{agree_below, agree_below_at, and_from, and_left, and_parts, cases_eq, eq-eqb, eqb-true, ltb-true, or_cases, or_from, or_left, or_right}
@@ -48,7 +48,7 @@ any-weaker p q (x ∷ xs) h found = elim (or_cases (p x) (list_any p xs) found) 
   | inr later ↦ or_right _ _ (any-weaker p q xs h later)
 ]
 
--- what follows of an item that passes, where all items pass another test
+-- What follows from an item that satisfies a test, if all items satisfy another test.
 pub any-then : {X : Type 0} {P : Type 0} (p all : X → Bool) (xs : List X) → list_all all xs ≡ true → ((x : X) → p x ≡ true → all x ≡ true → P) → list_any p xs ≡ true → P
 any-then p all [] every h found = cc
 any-then p all (x ∷ xs) every h found =
@@ -97,7 +97,7 @@ in_image-more pairs ranges i c lt =
     (λ p. ap (λ b. b && p.1 == c) (has-more ranges i p.0 lt) ∙ and_or (has (take i ranges) p.0) (is_between (range_at ranges i).0 (range_at ranges i).1 p.0) (p.1 == c))
     ∙ any-or (λ p. has (take i ranges) p.0 && p.1 == c) (λ p. is_between (range_at ranges i).0 (range_at ranges i).1 p.0 && p.1 == c) pairs
 
--- the pairs up to a lower bound lead from no code of the range
+-- The pairs before a lower bound lead from no code of the range.
 pub in_range_image-before : (pairs : List (ℕ × ℕ)) (first last place c : ℕ) → IsLowerBound pairs first place → in_range_image (take place pairs) first last c ≡ false
 unfolding in_range_image
 in_range_image-before pairs first last place c h =
@@ -162,7 +162,7 @@ pub KeysRise-I_PAIRS : KeysRise I_PAIRS
 unfolding keys_rise_from
 KeysRise-I_PAIRS = KeysRise-from_test 0 I_PAIRS refl
 
--- the pairs lead to codes below a number
+-- The pairs lead to codes below `n`.
 leads_below : ℕ → ℕ × ℕ → Bool
 leads_below n p = nat_lt p.1 n
 
@@ -181,7 +181,7 @@ kin_inside false Str ranges c h = elim (or_cases (in_image fold_pairs ranges c) 
   | inr is_i ↦ image_inside 1114112 I_PAIRS ranges c refl is_i
 ]
 
--- ---- a code has a kin in the ranges
+-- ---- a code in the ranges is case kin to the code
 
 abbrev pub HasKin : Bool → List (ℕ × ℕ) → ℕ → Type 0
 HasKin ascii ranges c = (d : ℕ) × (has ranges d ≡ true) × (is_case_kin ascii d c ≡ true)
@@ -191,7 +191,7 @@ unfolding is_case_kin
 kin_itself true c = or_left _ _ (or_left _ _ (eq-eqb c c refl))
 kin_itself false c = or_left _ _ (eq-eqb (simple_fold c) (simple_fold c) refl)
 
--- where every pair of a table is kin, an image has kin
+-- If all pairs of a table are case kin, every code of an image is case kin to a code of the ranges.
 image_kin : (ascii : Bool) (pairs ranges : List (ℕ × ℕ)) (c : ℕ) → list_all (λ p. is_case_kin ascii p.0 p.1) pairs ≡ true → in_image pairs ranges c ≡ true → HasKin ascii ranges c
 unfolding in_image
 image_kin ascii pairs ranges c every found =
@@ -200,7 +200,7 @@ image_kin ascii pairs ranges c every found =
     let parts = and_parts (has ranges p.0) (p.1 == c) hit in
     (p.0, parts.0, subst (λ x. is_case_kin ascii p.0 x ≡ true) (eqb-true p.1 c parts.1) kin)) found
 
--- where a table has the pair, its image holds the code
+-- If the table contains the pair, the image contains its second code.
 leads : ℕ → ℕ → ℕ × ℕ → Bool
 leads d c p = p.0 == d && p.1 == c
 
@@ -219,7 +219,7 @@ ascii_pairs_kin = refl
 i_pairs_kin : list_all (λ p. is_letter_i p.0 && is_letter_i p.1) I_PAIRS ≡ true
 i_pairs_kin = refl
 
--- each letter leads to its other case
+-- Each letter leads to its other case.
 ascii_up : ℕ → Bool
 ascii_up d = is_between 65 90 d && list_any (leads d (d + 32)) ASCII_PAIRS
 
@@ -248,7 +248,7 @@ unfolding ascii_down
 ascii_down_found d h =
     (and_parts (is_between 65 90 d) (list_any (leads (d + 32) d) ASCII_PAIRS) (agree_below_at ascii_down (is_between 65 90) 128 d ascii_down_all (letter_below d h) ∙ h)).1
 
--- the letters i
+-- The letters i.
 letters_i : List ℕ
 letters_i = 73 ∷ 105 ∷ 304 ∷ 305 ∷ []
 
@@ -269,7 +269,7 @@ i_pair d c hd hc =
     (i_listed c hc))
     (i_listed d hd)
 
--- a pair that a list has is found in it
+-- A pair of the list is found in it.
 contains_leads : (pairs : List (ℕ × ℕ)) (d c : ℕ) → Contains pairs (d, c) → list_any (leads d c) pairs ≡ true
 unfolding leads
 contains_leads [] d c (k, lt, at) = absurd (not-suc-le-zero lt)

@@ -1,5 +1,5 @@
--- The codes that are like none before them, for any likeness that is an equivalence.
--- the first place whose item passes
+-- The codes that aren't like any smaller code, for any likeness that is an equivalence.
+-- The first index whose item satisfies the test is within the list.
 use Rattle.std.proofs.Common.{Bool, List, [], add-one, add-suc, add-zero, ap, ap₂, arith, false, get_or, inl, inr, le_of_suc-le-suc, le_refl, le_trans, length, not-suc-le-zero, refl, subst, suc, suc-le-suc, sym, true, zero, zero-lt-suc, ℕ, ◌++◌, ◌+◌, ◌<◌, ◌||◌, ◌∙◌, ◌∷◌, ◌≡◌, ◌≤◌}
 use Rattle.std.proofs.lemmas.Bool.{both_ways, cases_Bool, cases_lt, false_from_ne_true, or_left, or_parts, or_right}
 use Rattle.std.proofs.lemmas.List.{get_or_append_left, get_or_at, length_push}
@@ -42,7 +42,7 @@ place-push p (x ∷ xs) y h hit =
     let parts = or_parts (p x) (list_any p xs) h in
     ap (λ b. if b then zero else suc (place_where p (xs ++ y ∷ []))) parts.0 ∙ ap suc (place-push p xs y parts.1 hit)
 
--- the place is the one that passes with none before it
+-- The first index is the one whose item satisfies the test while no earlier item does.
 pub place-unique : (p : ℕ → Bool) (xs : List ℕ) (k : ℕ) → k < length xs → p (get_or xs k 0) ≡ true → ((i : ℕ) → i < k → p (get_or xs i 0) ≡ false) → place_where p xs ≡ k
 place-unique p [] k lt hit before = absurd (not-suc-le-zero lt)
 place-unique p (x ∷ xs) zero lt hit before = ap (λ b. if b then zero else suc (place_where p xs)) hit
@@ -77,20 +77,20 @@ none-at p xs k h lt = elim (cases_Bool (p (get_or xs k 0))) [
   | inr miss ↦ miss
 ]
 
--- likeness
+-- A likeness: an equivalence of codes.
 pub record IsLikeness (like : ℕ → ℕ → Bool) : Type 0 where
   pub itself : (c : ℕ) → like c c ≡ true
   pub back : (c d : ℕ) → like c d ≡ true → like d c ≡ true
   pub onward : (c d e : ℕ) → like c d ≡ true → like d e ≡ true → like c e ≡ true
 
--- codes that are alike are like the same codes
+-- Codes that are alike are like the same codes.
 pub like-same : (like : ℕ → ℕ → Bool) → IsLikeness like → (c d e : ℕ) → like c d ≡ true → like c e ≡ like d e
 like-same like laws c d e h = elim (cases_Bool (like d e)) [
   | inl hit ↦ laws.onward c d e h hit ∙ sym hit
   | inr miss ↦ false_from_ne_true _ (λ hit. both_ways _ miss (laws.onward d c e (laws.back c d h) hit)) ∙ sym miss
 ]
 
--- how one more code changes the list
+-- How one more code changes the list.
 pub firsts-known : (like : ℕ → ℕ → Bool) (n : ℕ) → list_any (like n) (firsts like n) ≡ true → firsts like (suc n) ≡ firsts like n
 unfolding firsts
 firsts-known like n h = ap (λ b. if b then firsts like n else firsts like n ++ n ∷ []) h
@@ -121,7 +121,7 @@ firsts-below like (suc n) k lt = elim (cases_Bool (list_any (like n) (firsts lik
       rw e (below-push (firsts like n) n k (firsts-below like n) (subst (λ l. k < length l) e lt))
 ]
 
--- every code below has one like it in the list
+-- Every smaller code has a code like it in the list.
 pub firsts-found : (like : ℕ → ℕ → Bool) → IsLikeness like → (n c : ℕ) → c < n → list_any (like c) (firsts like n) ≡ true
 firsts-found like laws zero c lt = absurd (not-suc-le-zero lt)
 firsts-found like laws (suc n) c lt = elim (cases_Bool (list_any (like n) (firsts like n))) [
@@ -135,7 +135,7 @@ firsts-found like laws (suc n) c lt = elim (cases_Bool (list_any (like n) (first
   ])
 ]
 
--- no item is like an earlier one
+-- No item is like an earlier one.
 pub firsts-apart : (like : ℕ → ℕ → Bool) (n i j : ℕ) → i < j → j < length (firsts like n) → like (get_or (firsts like n) j 0) (get_or (firsts like n) i 0) ≡ false
 firsts-apart like zero i j ij lt = absurd (not-suc-le-zero (subst (λ l. j < length l) (firsts-zero like) lt))
 firsts-apart like (suc n) i j ij lt = elim (cases_Bool (list_any (like n) (firsts like n))) [
@@ -166,7 +166,7 @@ firsts-rising like (suc n) i j ij lt = elim (cases_Bool (list_any (like n) (firs
       ])
 ]
 
--- the number of a code: which item is like it
+-- The number of a code: the index of the item that is like it.
 pub number-lt : (like : ℕ → ℕ → Bool) → IsLikeness like → (n c : ℕ) → c < n → place_where (like c) (firsts like n) < length (firsts like n)
 number-lt like laws n c lt = place-lt (like c) (firsts like n) (firsts-found like laws n c lt)
 
@@ -186,7 +186,7 @@ pub number-of_first : (like : ℕ → ℕ → Bool) → IsLikeness like → (n k
 number-of_first like laws n k lt =
     place-unique (like (get_or (firsts like n) k 0)) (firsts like n) k lt (laws.itself _) (λ i h. firsts-apart like n i k h lt)
 
--- the item that is like a code is not above it
+-- The item that is like a code isn't greater than the code.
 pub number-least : (like : ℕ → ℕ → Bool) → IsLikeness like → (n c : ℕ) → c < n → get_or (firsts like n) (place_where (like c) (firsts like n)) 0 ≤ c
 number-least like laws zero c lt = absurd (not-suc-le-zero lt)
 number-least like laws (suc n) c lt = elim (cases_Bool (list_any (like n) (firsts like n))) [
@@ -213,7 +213,7 @@ number-least like laws (suc n) c lt = elim (cases_Bool (list_any (like n) (first
   ])
 ]
 
--- ---- a piece whose codes are all alike
+-- ---- a run of codes that are all alike
 
 pub piece-known : (like : ℕ → ℕ → Bool) → IsLikeness like → (from more : ℕ) → list_any (like from) (firsts like from) ≡ true
     → ((c : ℕ) → from ≤ c → c < from + more → like from c ≡ true) → firsts like (from + more) ≡ firsts like from
@@ -255,7 +255,7 @@ firsts-longer like m (suc more) =
       | inr miss ↦ rw (firsts-new like (m + more) miss, length_push (firsts like (m + more)) (m + more)) (omega arith)
     ])
 
--- a finer likeness has at least as many
+-- A finer likeness has at least as many first codes.
 pub firsts-finer : (like finer : ℕ → ℕ → Bool) → IsLikeness like → ((c d : ℕ) → finer c d ≡ true → like c d ≡ true) → (n : ℕ) → length (firsts like n) ≤ length (firsts finer n)
 firsts-finer like finer laws h zero = rw (firsts-zero like, firsts-zero finer) (le_refl _)
 firsts-finer like finer laws h (suc n) =

@@ -1,4 +1,4 @@
--- Letters: what follows of codes that the sets don't tell apart.
+-- Letters: what follows if the sets don't tell two codes apart.
 use Rattle.std.proofs.Common.{Bool, List, Some, [], ap, ap₂, arith, false, get_or, inl, inr, le_refl, length, refl, slice_get, subst, suc, sym, true, zero, ℕ, ◌&&◌, ◌*◌, ◌++◌, ◌+◌, ◌-◌, ◌<◌, ◌==◌, ◌∙◌, ◌∷◌, ◌≡◌, ◌≤◌}
 use Rattle.std.proofs.Math.Bool.{beq}
 use Rattle.std.proofs.lemmas.Bool.{and_from, and_parts, both_ways, cases_Bool, cases_eq, eq-eqb, le-leb, ne_eqb}
@@ -49,7 +49,7 @@ alike-onward (s ∷ sets) c d e h k =
 pub IsLikeness-alike : (sets : List (ℕ → Bool)) → IsLikeness (alike sets)
 IsLikeness-alike sets = record { itself = alike-itself sets; back = alike-back sets; onward = alike-onward sets }
 
--- one more set
+-- One more set.
 pub alike-push : (sets : List (ℕ → Bool)) (s : ℕ → Bool) (c d : ℕ) → alike (sets ++ s ∷ []) c d ≡ (alike sets c d && beq (s c) (s d))
 alike-push [] s c d = and-true (beq (s c) (s d))
 alike-push (t ∷ sets) s c d =
@@ -64,7 +64,7 @@ pub class_of-place : (sets : List (ℕ → Bool)) (n c : ℕ) → class_of sets 
 unfolding class_of
 class_of-place sets n c = ap (place_where (alike sets c)) (classes-firsts sets n)
 
--- every code has the least code of its letter in the list, at the number of the letter
+-- The least code of a code's letter is in the list, at the number of the letter.
 pub class_found : (sets : List (ℕ → Bool)) (n c : ℕ) → c < n → (r : ℕ) × (slice_get (classes sets n) (class_of sets n c) ≡ Some r) × (alike sets c r ≡ true)
 class_found sets n c lt =
     let laws = IsLikeness-alike sets in
@@ -72,7 +72,7 @@ class_found sets n c lt =
     let place = place_where (alike sets c) l in
     (get_or l place 0, ap₂ slice_get (classes-firsts sets n) (class_of-place sets n c) ∙ slice_get-get_or l place 0 (number-lt (alike sets) laws n c lt), number-hit (alike sets) laws n c lt)
 
--- codes are of one letter where the sets don't tell them apart, and only there
+-- Two codes belong to the same letter if and only if the sets don't tell them apart.
 pub class_of-same : (sets : List (ℕ → Bool)) (n c d : ℕ) → alike sets c d ≡ true → class_of sets n c ≡ class_of sets n d
 class_of-same sets n c d h =
     class_of-place sets n c ∙ number-same (alike sets) (IsLikeness-alike sets) n c d h ∙ sym (class_of-place sets n d)
@@ -85,7 +85,7 @@ pub class_of-lt : (sets : List (ℕ → Bool)) (n c : ℕ) → c < n → class_o
 class_of-lt sets n c lt =
     rw (class_of-place sets n c, classes-firsts sets n) (number-lt (alike sets) (IsLikeness-alike sets) n c lt)
 
--- the least codes rise, and are codes
+-- The least codes are in ascending order, and each is a code.
 pub classes-rising : (sets : List (ℕ → Bool)) (n i j : ℕ) → i < j → j < length (classes sets n) → get_or (classes sets n) i 0 < get_or (classes sets n) j 0
 classes-rising sets n i j ij lt =
     rw (classes-firsts sets n) (firsts-rising (alike sets) n i j ij (subst (λ l. j < length l) (classes-firsts sets n) lt))
@@ -94,7 +94,7 @@ pub classes-below : (sets : List (ℕ → Bool)) (n k : ℕ) → k < length (cla
 classes-below sets n k lt =
     rw (classes-firsts sets n) (firsts-below (alike sets) n k (subst (λ l. k < length l) (classes-firsts sets n) lt))
 
--- a letter's least code is of that letter, and not above any code of it
+-- The least code of a letter belongs to the letter and isn't greater than any other code of it.
 pub class_of-first : (sets : List (ℕ → Bool)) (n k : ℕ) → k < length (classes sets n) → class_of sets n (get_or (classes sets n) k 0) ≡ k
 class_of-first sets n k lt =
     class_of-place sets n (get_or (classes sets n) k 0)
@@ -105,7 +105,7 @@ pub class_of-least : (sets : List (ℕ → Bool)) (n c : ℕ) → c < n → get_
 class_of-least sets n c lt =
     rw (class_of-place sets n c, classes-firsts sets n) (number-least (alike sets) (IsLikeness-alike sets) n c lt)
 
--- more sets have at least as many letters
+-- More sets have at least as many letters.
 pub classes-more : (sets : List (ℕ → Bool)) (s : ℕ → Bool) (n : ℕ) → length (classes sets n) ≤ length (classes (sets ++ s ∷ []) n)
 classes-more sets s n =
     rw (classes-firsts sets n, classes-firsts (sets ++ s ∷ []) n)
@@ -123,9 +123,9 @@ classes-append xs ys n =
     (firsts-finer (alike xs) (alike (xs ++ ys)) (IsLikeness-alike xs)
     (λ c d h. (and_parts (alike xs c d) (alike ys c d) (sym (alike-append xs ys c d) ∙ h)).0) n)
 
--- ---- the table of the letters, one set after the other
+-- ---- the table of letters, one set after another
 
--- two codes have one number where they are alike, and only there
+-- Two codes have the same number if and only if they are alike.
 pub number-tells : (sets : List (ℕ → Bool)) (n c d : ℕ) → c < n → d < n
     → (place_where (alike sets c) (firsts (alike sets) n) == place_where (alike sets d) (firsts (alike sets) n)) ≡ alike sets c d
 number-tells sets n c d hc hd = elim (cases_Bool (alike sets c d)) [
@@ -133,7 +133,7 @@ number-tells sets n c d hc hd = elim (cases_Bool (alike sets c d)) [
   | inr miss ↦ ne_eqb _ _ (λ same. both_ways _ miss (number-only (alike sets) (IsLikeness-alike sets) n c d hc hd same)) ∙ sym miss
 ]
 
--- a pair is told by its number
+-- The combined value of a pair determines the pair.
 pair_tells : (a b : ℕ) (x y : Bool) → (2 * a + (if x then 1 else 0) == 2 * b + (if y then 1 else 0)) ≡ ((a == b) && beq x y)
 pair_tells a b true true = grind (arith, nat_tests)
 pair_tells a b true false = grind (arith, nat_tests)
@@ -160,7 +160,7 @@ TellsApart-none n some stretches least s_is l_is =
       same_number = λ c c_in. rw (s_is, all) (ap (λ b. if b then 0 else 0) (le-leb 0 c (omega arith)));
     }
 
--- the numbers and one more set are told apart as the sets with that one tell
+-- The combined values of the numbers and one more set tell codes apart exactly as the sets together with that one do.
 pub values_tell : (sets : List (ℕ → Bool)) (s : List (ℕ × ℕ)) (n : ℕ) (stretches : List (ℕ × ℕ)) (least : List ℕ) → TellsApart stretches least sets n
     → (c d : ℕ) → c < n → d < n → same_value (value_in stretches s) c d ≡ alike (sets ++ has s ∷ []) c d
 values_tell sets s n stretches least t c d hc hd =
@@ -188,14 +188,14 @@ TellsApart-more sets s n stretches stretches' least least' t h =
           (λ k k_in. tell c (get_or (firsts (alike more) n) k 0) c_in (firsts-below (alike more) n k k_in));
     }
 
--- too many values are too many letters
+-- Too many values mean too many letters.
 pub values_many : (sets : List (ℕ → Bool)) (s : List (ℕ × ℕ)) (n : ℕ) (stretches : List (ℕ × ℕ)) (least : List ℕ) → TellsApart stretches least sets n
     → MOST_LETTERS < length (firsts (same_value (value_in stretches s)) n) → MOST_LETTERS < length (classes (sets ++ has s ∷ []) n)
 values_many sets s n stretches least t many =
     let same = firsts-congr (same_value (value_in stretches s)) (alike (sets ++ has s ∷ [])) n (values_tell sets s n stretches least t) in
     omega (arith, ap length same, ap length (classes-firsts (sets ++ has s ∷ []) n))
 
--- the finished table
+-- The finished table.
 pub IsLetters-from : (sets : List (ℕ → Bool)) (n : ℕ) (t : LetterTable) (least : List ℕ) → TellsApart t.stretches least sets n → t.codes ≡ n → 126 < n → length t.samples ≡ length least
     → ((k : ℕ) → k < length least → IsPreferred t.stretches 32 k (get_or least k 0) (get_or t.samples k 0)) → IsLetters t sets n
 unfolding letter_at
@@ -232,7 +232,7 @@ IsLetters-from sets n t least h codes plain_in len prefer =
           ];
     }
 
--- one more plain code is preferred
+-- Preferring one more printable code.
 pub IsPreferred-more : (stretches : List (ℕ × ℕ)) (code k first old new : ℕ) → code ≤ 126 → IsPreferred stretches (code + 1) k first old
     → (k ≡ letter_from 0 stretches code → new ≡ code) → ((k ≡ letter_from 0 stretches code → ⊥) → new ≡ old) → IsPreferred stretches code k first new
 IsPreferred-more stretches code k first old new le was here there = elim (cases_eq k (letter_from 0 stretches code)) [

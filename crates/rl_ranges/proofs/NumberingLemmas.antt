@@ -12,16 +12,16 @@ use Rattle.rl_ranges.specs.Numbering.{Covers, IsNumbered, ValuesBelow, firsts, s
 use Rattle.rl_ranges.specs.declared.letters.TheConstants.{MOST_LETTERS}
 use Rattle.rl_ranges.specs.internal.Splitting.{HasNumber, start_or}
 
--- the code has the value
+-- Whether the code has the value.
 unfoldable pub has_value : (ℕ → ℕ) → ℕ → ℕ → Bool
 has_value value v d = v == value d
 
--- what is known of a value: its number, or that no code so far has it
+-- What is known about a value: its number, or that no code so far has it.
 abbrev pub KnowsNumber : (ℕ → ℕ) → List ℕ → ℕ → Option ℕ → Type 0
 KnowsNumber value least v None = list_any (has_value value v) least ≡ false
 KnowsNumber value least v (Some n) = (list_any (has_value value v) least ≡ true) × (n ≡ place_where (has_value value v) least)
 
--- the codes below `at` are numbered
+-- The codes below `at` have been numbered.
 pub record Progress (value : ℕ → ℕ) (values at : ℕ) (known : List (Option ℕ)) (stretches : List (ℕ × ℕ)) (least : List ℕ) : Type 0 where
   pub width : length known ≡ values
   pub few : length least ≤ MOST_LETTERS
@@ -45,7 +45,7 @@ start_or-in s k count lt = ap (λ b. if b then (range_at s k).0 else count) (lt-
 pub start_or-past : (s : List (ℕ × ℕ)) (k count : ℕ) → length s ≤ k → start_or s k count ≡ count
 start_or-past s k count le = ap (λ b. if b then (range_at s k).0 else count) (le-ltb k (length s) le)
 
--- where a stretch ends
+-- Where a stretch ends.
 pub start_or-next : (s : List (ℕ × ℕ)) (k count : ℕ) → Covers s count → k < length s
     → ((range_at s k).0 < start_or s (k + 1) count) × (start_or s (k + 1) count ≤ count) × ((c : ℕ) → c < start_or s (k + 1) count → (j : ℕ) → k < j → j < length s → c < (range_at s j).0)
 start_or-next s k count h lt = elim (cases_lt (k + 1) (length s)) [
@@ -66,7 +66,7 @@ start_or-next s k count h lt = elim (cases_lt (k + 1) (length s)) [
       (omega arith, omega arith, λ c below j kj j_in. absurd (omega arith))
 ]
 
--- the codes of a stretch have its value
+-- The codes of a stretch have its value.
 pub stretch_value : (s : List (ℕ × ℕ)) (k count c : ℕ) → Covers s count → k < length s → (range_at s k).0 ≤ c → c < start_or s (k + 1) count → letter_from 0 s c ≡ (range_at s k).1
 stretch_value s k count c h lt low high = letter_from-at 0 s k c lt low ((start_or-next s k count h lt).2 c high)
 
@@ -91,7 +91,7 @@ below-push s at n m m' old le new k k_in = elim (cases_lt k (length s)) [
       omega (arith, new, ap (λ (r : ℕ × ℕ). r.1) (get_or_at s (at, n) [] (0, 0) k is))
 ]
 
--- what the next run changes: the value of its codes has the number, and the numbers of the codes before it stay
+-- What the next run changes: the value of its codes now has the number, and the numbers of earlier codes stay.
 record Grown (value : ℕ → ℕ) (values at next n : ℕ) (known : List (Option ℕ)) (least least' : List ℕ) : Type 0 where
   pub width : length known ≡ values
   pub few : length least' ≤ MOST_LETTERS
@@ -125,7 +125,7 @@ Progress-grown value values at next n known known' stretches least least' lt run
 run_alike : (value : ℕ → ℕ) (at next : ℕ) → ((c : ℕ) → at ≤ c → c < next → value c ≡ value at) → (c : ℕ) → at ≤ c → c < next → same_value value at c ≡ true
 run_alike value at next run c low high = eq-eqb _ _ (sym (run c low high))
 
--- every code so far has its value in the list
+-- Every code so far has its value in the list.
 found : (value : ℕ → ℕ) (at c : ℕ) (least : List ℕ) → least ≡ firsts (same_value value) at → c < at → list_any (has_value value (value c)) least ≡ true
 unfolding has_value
 found value at c least is lt = rw is (firsts-found (same_value value) (IsLikeness-same_value value) at c lt)
@@ -152,7 +152,7 @@ grown_known value values at next n m known known' stretches least least' lt run 
       longer = omega (arith, ap length is.2);
     }
 
--- what is known of a value stays when a code of another value is added
+-- What is known about a value doesn't change when a code with another value is added.
 knows-push : (value : ℕ → ℕ) (least : List ℕ) (w code : ℕ) (o : Option ℕ) → has_value value w code ≡ false → KnowsNumber value least w o → KnowsNumber value (least ++ code ∷ []) w o
 knows-push value least w code None other h = any-push (has_value value w) least code ∙ or_from _ _ h other
 knows-push value least w code (Some n) other h =
@@ -202,7 +202,7 @@ grown_go : (value : ℕ → ℕ) (values at next n : ℕ) (known known' : List (
 grown_go value values at next n known known' stretches least least' None lt run v_in p there is = grown_new value values at next n known known' stretches least least' lt run v_in p there is
 grown_go value values at next n known known' stretches least least' (Some m) lt run v_in p there is = grown_known value values at next n m known known' stretches least least' lt run v_in p there is
 
--- one more run of codes of one value is numbered
+-- One more run of codes with equal values has been numbered.
 pub Progress-more : (value : ℕ → ℕ) (values at next n v : ℕ) (known known' : List (Option ℕ)) (stretches : List (ℕ × ℕ)) (least least' : List ℕ)
     → at < next → ((c : ℕ) → at ≤ c → c < next → value c ≡ v) → v < values → Progress value values at known stretches least
     → HasNumber (get_or known v None) n known known' least least' v at
@@ -227,7 +227,7 @@ Progress-none value values known stretches least known_is stretches_is least_is 
   numbered = λ c lt. absurd (not-suc-le-zero lt);
 }
 
--- all codes are numbered
+-- All codes have been numbered.
 pub Progress-all : (value : ℕ → ℕ) (count values at : ℕ) (known : List (Option ℕ)) (stretches : List (ℕ × ℕ)) (least : List ℕ) → 0 < count → at ≡ count → Progress value values at known stretches least
     → IsNumbered value count stretches least
 unfolding has_value
@@ -239,7 +239,7 @@ Progress-all value count values at known stretches least some all p = record {
   same_number = λ c lt. p.numbered c (omega arith);
 }
 
--- a run with a value of its own, where all numbers are taken
+-- A run has a new value, and all numbers are taken.
 pub Progress-too_many : (value : ℕ → ℕ) (count values at v : ℕ) (known : List (Option ℕ)) (stretches : List (ℕ × ℕ)) (least : List ℕ) → at < count → value at ≡ v → v < values
     → Progress value values at known stretches least → get_or known v None ≡ None → length least ≡ MOST_LETTERS → MOST_LETTERS < length (firsts (same_value value) count)
 unfolding has_value
@@ -251,7 +251,7 @@ Progress-too_many value count values at v known stretches least lt here v_in p t
     let longer = subst (λ n. length (firsts like (suc at)) ≤ length (firsts like n)) more (firsts-longer like (suc at) (count - suc at)) in
     omega (arith, longer, ap length (firsts-new like at miss), length_push (firsts like at) at, ap length p.same_firsts, full)
 
--- the last stretch that has begun
+-- The last stretch that has begun.
 pub last_begun : (s : List (ℕ × ℕ)) (c n : ℕ) → n ≤ length s → 0 < n → (range_at s 0).0 ≤ c → (i : ℕ) × (i < n) × ((range_at s i).0 ≤ c) × ((k : ℕ) → i < k → k < n → c < (range_at s k).0)
 last_begun s c zero le some start = absurd (not-suc-le-zero some)
 last_begun s c (suc n) le some start = elim (cases_lt c (range_at s n).0) [
@@ -272,7 +272,7 @@ last_begun s c (suc n) le some start = elim (cases_lt c (range_at s n).0) [
       )
 ]
 
--- every code has one of the values
+-- Every code has one of the values.
 pub value-below : (s : List (ℕ × ℕ)) (count m c : ℕ) → Covers s count → ValuesBelow m s → letter_from 0 s c < m
 value-below s count m c h below =
     let at = last_begun s c (length s) (le_refl _) h.some (omega (arith, h.start)) in

@@ -1,4 +1,4 @@
--- The order in which sets are taken doesn't count for their letters: those of few ranges may come first.
+-- The order in which sets are taken doesn't matter for their letters, so sets with few ranges may come first.
 use Rattle.std.proofs.Common.{Bool, List, [], ap, arith, drop, false, get_or, le_of_suc-le-suc, length, map, not, refl, subst, suc, sym, take, true, zero, ℕ, ◌&&◌, ◌++◌, ◌+◌, ◌<◌, ◌∙◌, ◌∷◌, ◌≡◌, ◌≤◌}
 use Rattle.std.specs.Prelude.{if◌then◌else◌, nat_le, nat_lt}
 use Rattle.std.proofs.Math.Bool.{beq}
@@ -28,7 +28,7 @@ second_to_front a b c true = refl
 second_to_front true b c false = refl
 second_to_front false b c false = refl
 
--- the sets in the order of the passes
+-- The sets in the order of the passes.
 abbrev pub in_passes : List (List (ℕ × ℕ)) → List (ℕ → Bool)
 in_passes sets = (picked (is_taken Narrow) sets ++ picked (is_taken Middle) sets) ++ picked (is_taken Wide) sets
 
@@ -65,7 +65,7 @@ pub many-congr : (xs ys : List (ℕ → Bool)) (n : ℕ) → ((c d : ℕ) → al
 many-congr xs ys n e many =
     omega (arith, many, ap length (classes-firsts xs n), ap length (classes-firsts ys n), ap length (firsts-congr (alike xs) (alike ys) n (λ c d hc hd. e c d)))
 
--- the sets that are picked from two lists
+-- The sets that are picked from two lists.
 pub picked-append : (taken : List (ℕ × ℕ) → Bool) (xs ys : List (List (ℕ × ℕ))) → picked taken (xs ++ ys) ≡ picked taken xs ++ picked taken ys
 picked-append taken [] ys = refl
 picked-append taken (s ∷ xs) ys = step (taken s) (picked-append taken xs ys)
@@ -74,11 +74,11 @@ picked-append taken (s ∷ xs) ys = step (taken s) (picked-append taken xs ys)
     step true old = ap (λ l. has s ∷ l) old
     step false old = old
 
--- one more set, which is picked or isn't
+-- One more set, whether it is picked or not.
 picked-last : (taken : List (ℕ × ℕ) → Bool) (b : Bool) (xs : List (List (ℕ × ℕ))) (s : List (ℕ × ℕ)) → taken s ≡ b → picked taken (xs ++ s ∷ []) ≡ picked taken xs ++ (if b then (has s ∷ []) else [])
 picked-last taken b xs s is = picked-append taken xs (s ∷ []) ∙ ap (λ b. picked taken xs ++ (if b then (has s ∷ []) else [])) is
 
--- the sets up to the one at a place
+-- The sets up to an index.
 next-sets : (sets : List (List (ℕ × ℕ))) (k : ℕ) (s : List (ℕ × ℕ)) → k < length sets → s ≡ get_or sets k s → take (k + 1) sets ≡ take k sets ++ s ∷ []
 next-sets sets k s lt is = take_more sets k s lt ∙ ap (λ x. take k sets ++ x ∷ []) (sym is)
 
@@ -99,7 +99,7 @@ picked-passed taken sets k s lt at isnt =
 pub picked-rest : (taken : List (ℕ × ℕ) → Bool) (sets : List (List (ℕ × ℕ))) (k : ℕ) → picked taken (take k sets) ++ picked taken (drop k sets) ≡ picked taken sets
 picked-rest taken sets k = sym (picked-append taken (take k sets) (drop k sets)) ∙ ap (picked taken) (take-append-drop k sets)
 
--- a set that stands among those that were picked splits nothing
+-- A set that occurs among those already picked splits nothing.
 pub picked-splits : (taken : List (ℕ × ℕ) → Bool) (sets : List (List (ℕ × ℕ))) (k n : ℕ) (s : List (ℕ × ℕ)) (c d : ℕ) → k < n → n ≤ length sets → get_or sets k [] ≡ s → taken s ≡ true
     → alike (picked taken (take n sets)) c d ≡ true → beq (has s c) (has s d) ≡ true
 picked-splits taken [] k n s c d kn n_in at is h = absurd (omega arith)
@@ -115,7 +115,7 @@ picked-splits taken (x ∷ sets) (suc k) (suc n) s c d kn n_in at is h =
     rest true all = (and_parts (beq (has x c) (has x d)) (alike (picked taken (take n sets)) c d) all).1
     rest false all = all
 
--- one more set that splits nothing
+-- One more set that splits nothing.
 alike-known : (xs : List (ℕ → Bool)) (s : ℕ → Bool) (c d : ℕ) → (alike xs c d ≡ true → beq (s c) (s d) ≡ true) → alike (xs ++ s ∷ []) c d ≡ alike xs c d
 alike-known xs s c d h = alike-push xs s c d ∙ step (alike xs c d) (beq (s c) (s d)) h
   where
@@ -130,7 +130,7 @@ tells-known more s n a b j k splits told sets t =
     λ c d. sym (alike-known (sets ++ more) s c d (λ h. splits c d (and_parts (alike sets c d) (alike more c d) (sym (alike-append sets more c d) ∙ h)).1)) in
     subst (λ x. TellsApart b k x n) (append_assoc sets more (s ∷ [])) (TellsApart-congr (sets ++ more) ((sets ++ more) ++ s ∷ []) n b k known (told sets t))
 
--- no more sets
+-- No more sets.
 pub tells-none : (n : ℕ) (a : List (ℕ × ℕ)) (j : List ℕ) → TellsMore a j a j [] n
 tells-none n a j sets t = subst (λ x. TellsApart a j x n) (sym (append-none sets)) t
   where
@@ -138,14 +138,14 @@ tells-none n a j sets t = subst (λ x. TellsApart a j x n) (sym (append-none set
     append-none [] = refl
     append-none (x ∷ l) = ap (λ z. x ∷ z) (append-none l)
 
--- a numbering refined twice
+-- A numbering that is refined twice.
 pub tells-more : (more most : List (ℕ → Bool)) (n : ℕ) (a b c : List (ℕ × ℕ)) (j k l : List ℕ) → TellsMore a j b k more n → TellsMore b k c l most n → TellsMore a j c l (more ++ most) n
 tells-more more most n a b c j k l one two sets t = subst (λ x. TellsApart c l x n) (append_assoc sets more most) (two (sets ++ more) (one sets t))
 
 pub many-later : (more most : List (ℕ → Bool)) (n : ℕ) (a b : List (ℕ × ℕ)) (j k : List ℕ) → TellsMore a j b k more n → HasTooMany b k most n → HasTooMany a j (more ++ most) n
 many-later more most n a b j k one two sets t = subst (λ x. MOST_LETTERS < length (classes x n)) (append_assoc sets more most) (two (sets ++ more) (one sets t))
 
--- still more sets have no fewer letters
+-- Still more sets have no fewer letters.
 pub many-more : (more most : List (ℕ → Bool)) (n : ℕ) (a : List (ℕ × ℕ)) (j : List ℕ) → HasTooMany a j more n → HasTooMany a j (more ++ most) n
 many-more more most n a j many sets t =
     subst (λ x. MOST_LETTERS < length (classes x n)) (append_assoc sets more most) (omega (arith, many sets t, classes-append (sets ++ more) most n))

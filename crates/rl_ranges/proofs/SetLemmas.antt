@@ -1,4 +1,4 @@
--- What a list of ranges holds, and what it means that the list is sorted.
+-- What a list of ranges holds, and what it means for the list to be sorted.
 use Rattle.std.proofs.Common.{Bool, List, [], add-one, ap, ap₂, arith, drop, false, get_or, inl, inr, le_of_suc-le-suc, le_refl, le_trans, length, ltb, max, min, not, not-suc-le-zero, refl, set, subst, suc, suc-le-suc, sym, take, true, zero, zero-lt-suc, ℕ, ◌&&◌, ◌++◌, ◌+◌, ◌-◌, ◌<◌, ◌||◌, ◌∙◌, ◌∷◌, ◌≡◌, ◌≤◌, ◌⊎◌}
 use Rattle.std.proofs.lemmas.Bool.{cases_lt, or_from, or_left, or_right}
 use Rattle.std.proofs.lemmas.Bool.Decides.{nat_tests}
@@ -7,7 +7,7 @@ use Rattle.rl_ranges.specs.Building.{range_at}
 use Rattle.rl_ranges.specs.internal.Ordering.{ComeInOrder, last_first_or}
 use Rattle.rl_ranges.specs.Codes.{Above, has, is_between}
 
--- the test of a range, with what it tells
+-- The test of a range, and what its result means.
 pub within_tells : (a b c : ℕ) → ((is_between a b c ≡ true) × (a ≤ c) × (c ≤ b)) ⊎ ((is_between a b c ≡ false) × ((c < a) ⊎ (b < c)))
 unfolding is_between
 within_tells a b c = grind (arith, nat_tests)
@@ -53,7 +53,7 @@ has-more xs i c h = ap (λ l. has l c) (take_more xs i (0, 0) h) ∙ has-push (t
 pub has-rest : (xs : List (ℕ × ℕ)) (i c : ℕ) → i < length xs → has (drop i xs) c ≡ (is_between (range_at xs i).0 (range_at xs i).1 c || has (drop (i + 1) xs) c)
 has-rest xs i c h = ap (λ l. has l c) (drop_more xs i (0, 0) h) ∙ has-cons (range_at xs i) (drop (i + 1) xs) c
 
--- a sorted list holds no code below its start
+-- A sorted list holds no code below its start.
 pub has-below : (n : ℕ) (rs : List (ℕ × ℕ)) (c : ℕ) → Above n rs → c < n → has rs c ≡ false
 has-below n [] c h lt = has-nil c
 has-below n (r ∷ rs) c h lt =
@@ -63,7 +63,7 @@ pub Above-lower : (m n : ℕ) (rs : List (ℕ × ℕ)) → m ≤ n → Above n r
 Above-lower m n [] le h = tt
 Above-lower m n (r ∷ rs) le h = (le_trans le h.0, h.1, h.2)
 
--- where the next range may begin
+-- Where the next range may begin.
 unfoldable pub free_from : ℕ → List (ℕ × ℕ) → ℕ
 free_from n [] = n
 free_from n (r ∷ rs) = free_from (r.1 + 2) rs
@@ -102,7 +102,7 @@ Above-at n (r ∷ rs) zero h lt = (h.0, h.1)
 Above-at n (r ∷ rs) (suc k) h lt =
     let rest = Above-at (r.1 + 2) rs k h.2 (le_of_suc-le-suc lt) in (omega (arith, h.0, h.1), rest.1)
 
--- what begins behind a range
+-- What begins after a range.
 pub Above-rest : (n : ℕ) (rs : List (ℕ × ℕ)) (k : ℕ) → Above n rs → k < length rs → Above ((range_at rs k).1 + 2) (drop (k + 1) rs)
 Above-rest n [] k h lt = absurd (not-suc-le-zero lt)
 Above-rest n (r ∷ rs) zero h lt = h.2
@@ -130,9 +130,9 @@ has-at [] k c lt h = absurd (not-suc-le-zero lt)
 has-at (r ∷ rs) zero c lt h = has-cons r rs c ∙ or_left _ _ h
 has-at (r ∷ rs) (suc k) c lt h = has-cons r rs c ∙ or_right _ _ (has-at rs k c (le_of_suc-le-suc lt) h)
 
--- ---- how the tests of the parts join
+-- ---- how the tests of the parts are combined
 
--- a range goes from the rest of the left list, or of the right one, to what is built
+-- A range moves from the rest of the left or the right list to the list being built.
 pub or_left_moves : (r w l m : Bool) → (r || ((w || l) || m)) ≡ ((r || w) || (l || m))
 or_left_moves true w l m = refl
 or_left_moves false true l m = refl
@@ -144,7 +144,7 @@ or_right_moves false true true m = refl
 or_right_moves false true false m = refl
 or_right_moves false false l m = refl
 
--- of two ranges the one that ends first is passed; what they share goes to what is built
+-- Of two ranges, the one that ends first is skipped; what they share moves to the list being built.
 pub and_left_passes : (a b e f c : ℕ) (r l m : Bool) → b ≤ f → (c < f + 2 → m ≡ false)
     → (r || ((is_between a b c || l) && (is_between e f c || m))) ≡ ((r || is_between (max a e) (min b f) c) || (l && (is_between e f c || m)))
 and_left_passes a b e f c true l m le past = refl
@@ -155,7 +155,7 @@ pub and_right_passes : (a b e f c : ℕ) (r l m : Bool) → f ≤ b → (c < b +
 and_right_passes a b e f c true l m le past = refl
 and_right_passes a b e f c false l m le past = grind (arith, within_tells a b c, within_tells e f c, within_tells (max a e) (min b f) c)
 
--- one more range has been passed, and the gap in front of it was added
+-- One more range has been skipped, and the gap before it has been added.
 pub gap_added : (next first last c : ℕ) (r t : Bool) → next ≤ first → first ≤ last → r ≡ (ltb c next && not t) → (t ≡ true → c < next)
     → (r || (ltb next first && is_between next (first - 1) c)) ≡ (ltb c (last + 1) && not (t || is_between first last c))
 gap_added next first last c r true le filled is behind =
@@ -163,7 +163,7 @@ gap_added next first last c r true le filled is behind =
 gap_added next first last c r false le filled is behind =
     grind (arith, nat_tests, within_tells next (first - 1) c, within_tells first last c)
 
--- the gap behind the last range was added
+-- The gap after the last range has been added.
 pub last_gap_added : (next count c : ℕ) (r t : Bool) → next ≤ count → r ≡ (ltb c next && not t) → (t ≡ true → c < next)
     → (r || (ltb next count && is_between next (count - 1) c)) ≡ (ltb c count && not t)
 last_gap_added next count c r true le is behind = grind (arith, nat_tests, within_tells next (count - 1) c, behind refl)
@@ -205,11 +205,11 @@ right_passes left right built new i j x sorted i_in j_in le is =
     ∙ and_right_passes a.0 a.1 e.0 e.1 x (has built x) (has (drop (i + 1) left) x) (has (drop (j + 1) right) x) le (has-below (a.1 + 2) (drop (i + 1) left) x (Above-rest 0 left i sorted i_in))
     ∙ ap₂ (λ r m. r || (m && has (drop (j + 1) right) x)) (sym is) (sym (has-rest left i x i_in))
 
--- nothing is added where the range would end before it begins
+-- Nothing is added if the range would end before it begins.
 pub within-empty : (first last x : ℕ) (b : Bool) → last < first → b ≡ (b || is_between first last x)
 within-empty first last x b lt = let none : is_between first last x ≡ false = grind (arith, within_tells first last x) in sym (ap (λ t. b || t) none ∙ or-false b)
 
--- the least code of a sorted list
+-- The least code of a sorted list.
 pub has-first : (n : ℕ) (rs : List (ℕ × ℕ)) (r : ℕ × ℕ) → Above n rs → 0 < length rs → get_or rs 0 r ≡ r → (has rs r.0 ≡ true) × ((c : ℕ) → c < r.0 → has rs c ≡ false)
 has-first n [] r h lt is = absurd (not-suc-le-zero lt)
 has-first n (x ∷ rs) r h lt is =
@@ -217,7 +217,7 @@ has-first n (x ∷ rs) r h lt is =
     subst P is
     (has-cons x rs x.0 ∙ or_left _ _ (within-true x.0 x.1 x.0 (le_refl _) h.1), λ c below. has-below x.0 (x ∷ rs) c (le_refl _, h.1, h.2) below)
 
--- a list is its front and its last item, also after that item is replaced
+-- A list consists of its front and its last item, even after that item is replaced.
 pub front_last : (xs : List (ℕ × ℕ)) (n : ℕ) (last : ℕ × ℕ) → n ≡ length xs → 0 < n → last ≡ get_or xs (n - 1) last → xs ≡ take (n - 1) xs ++ last ∷ []
 front_last xs n last len some is =
     sym (take_all (n - 1 + 1) xs (omega arith)) ∙ take_more xs (n - 1) last (omega arith)
@@ -236,7 +236,7 @@ pub and_assoc : (x y z : Bool) → (x && (y && z)) ≡ ((x && y) && z)
 and_assoc true y z = refl
 and_assoc false y z = refl
 
--- no range holds a code that lies below the first or above the last code of each
+-- If a code lies before or after every range, the list doesn't hold it.
 pub has-outside : (rs : List (ℕ × ℕ)) (c : ℕ) → ((k : ℕ) → k < length rs → (c < (range_at rs k).0) ⊎ ((range_at rs k).1 < c)) → has rs c ≡ false
 has-outside [] c h = has-nil c
 has-outside (r ∷ rs) c h =

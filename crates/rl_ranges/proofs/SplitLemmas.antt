@@ -1,4 +1,4 @@
--- One more run of a stretch of codes, where the ranges split the stretch.
+-- One more run in a stretch of codes that is split by the ranges.
 use Rattle.std.proofs.Common.{Bool, List, None, Option, Some, ap, ap₂, arith, get_or, inl, inr, length, refl, replicate, subst, sym, true, false, add-zero, ℕ, ◌*◌, ◌++◌, ◌+◌, ◌<◌, ◌∙◌, ◌∷◌, ◌≡◌, ◌≤◌, le_refl, []}
 use Rattle.std.proofs.lemmas.Bool.{cases_lt}
 use Rattle.std.proofs.lemmas.List.{get_or-set_other, get_or-set_same, get_or_default, length_push}
@@ -11,7 +11,7 @@ use Rattle.rl_ranges.specs.Numbering.{Covers, IsNumbered, ValuesBelow, firsts, s
 use Rattle.rl_ranges.specs.declared.letters.TheConstants.{MOST_LETTERS}
 use Rattle.rl_ranges.specs.internal.Splitting.{ArePassed, HasNumber, start_or, value_in}
 
--- the value has its number from now on, and no other value's number changes
+-- The value has its number from now on, and no other value's number changes.
 number_own : (o : Option ℕ) (n v code : ℕ) (known known' : List (Option ℕ)) (least least' : List ℕ) → v < length known → o ≡ get_or known v None
     → HasNumber o n known known' least least' v code → Some n ≡ get_or known' v None
 number_own None n v code known known' least least' lt there is = rw is.1 (sym (get_or-set_same known v (Some n) None lt))
@@ -22,11 +22,11 @@ number_other : (o : Option ℕ) (n v w code : ℕ) (known known' : List (Option 
 number_other None n v w code known known' least least' other is = rw is.1 (get_or-set_other known v w (Some n) None other)
 number_other (Some m) n v w code known known' least least' other is = rw is.1 refl
 
--- the codes of a range
+-- The codes of a range.
 in_range : (s : List (ℕ × ℕ)) (p x : ℕ) → p < length s → (range_at s p).0 ≤ x → x ≤ (range_at s p).1 → has s x ≡ true
 in_range s p x lt low high = has-at s p x lt (within-true (range_at s p).0 (range_at s p).1 x low high)
 
--- the codes in front of the next range, also where no range is left
+-- The codes before the next range. There may be no next range.
 in_front : (s : List (ℕ × ℕ)) (p at x count : ℕ) → Above 0 s → ArePassed s p at → at ≤ x → x < start_or s p count → has s x ≡ false
 in_front s p at x count sorted h low high = has-outside s x (λ k k_in. elim (cases_lt k p) [
   | inl less ↦ inr (omega (arith, h.before k less k_in))
@@ -39,7 +39,7 @@ in_front s p at x count sorted h low high = has-outside s x (λ k k_in. elim (ca
       ])
 ])
 
--- the ranges that are passed once the next one is, or a part of it
+-- The ranges that have been passed once the next one, or a part of it, has been.
 passed_one : (s : List (ℕ × ℕ)) (p at : ℕ) → Above 0 s → ArePassed s p at → p < length s → ArePassed s (p + 1) ((range_at s p).1 + 1)
 passed_one s p at sorted h p_in = record {
   before = λ k lt k_in. elim (cases_lt k p) [
@@ -52,12 +52,12 @@ passed_one s p at sorted h p_in = record {
 passed_later : (s : List (ℕ × ℕ)) (p at next : ℕ) → ArePassed s p at → at ≤ next → (p < length s → next ≤ (range_at s p).1) → ArePassed s p next
 passed_later s p at next h le in_it = record { before = λ k lt k_in. omega (arith, h.before k lt k_in); unpassed = in_it }
 
--- the next range ends no earlier than it begins
+-- The next range doesn't end before it begins.
 passed_front : (s : List (ℕ × ℕ)) (p at next count : ℕ) → Above 0 s → ArePassed s p at → at ≤ next → next ≤ start_or s p count → ArePassed s p next
 passed_front s p at next count sorted h le front =
     passed_later s p at next h le (λ p_in. omega (arith, start_or-in s p count p_in, Above-at 0 s p sorted p_in))
 
--- the stretch at a place, from its first code to where it ends: `v` is twice its number
+-- The stretch at index `place`, from its first code to its end. `v` is twice its number.
 pub record InPlace (left held : List (ℕ × ℕ)) (count values place start end v : ℕ) : Type 0 where
   pub covers : Covers left count
   pub sorted : Above 0 held
@@ -82,20 +82,20 @@ in_place left held count values m many place end x d covers below sorted place_i
       values_in = omega (arith, twice, below place lt, ap (λ (r : ℕ × ℕ). r.1) is);
     }
 
--- the stretch ends within the codes
+-- The stretch ends within the codes.
 end_in : (left held : List (ℕ × ℕ)) (count values place start end v : ℕ) → InPlace left held count values place start end v → (start < end) × (end ≤ count)
 end_in left held count values place start end v h =
     let next = start_or-next left place count h.covers h.place_in in
     (omega (arith, next.0, h.start_is, h.end_is), omega (arith, next.1, h.end_is))
 
--- a range that begins below the stretch's end is one of the list
+-- A range that begins before the end of the stretch is in the list.
 range_next : (s : List (ℕ × ℕ)) (k end count : ℕ) → start_or s k count < end → end ≤ count → k < length s
 range_next s k end count lt le = elim (cases_lt k (length s)) [
   | inl less ↦ less
   | inr more ↦ absurd (omega (arith, start_or-past s k count more))
 ]
 
--- the codes below `at` are numbered, and it is known whether the stretch's two values have numbers
+-- The codes below `at` have been numbered, and it is known whether the stretch's two values have numbers.
 pub record InRun (left held : List (ℕ × ℕ)) (values start end v range at : ℕ) (outside inside : Option ℕ) (numbers : List (Option ℕ)) (stretches : List (ℕ × ℕ)) (least : List ℕ) : Type 0 where
   pub low : start ≤ at
   pub high : at ≤ end
@@ -104,7 +104,7 @@ pub record InRun (left held : List (ℕ × ℕ)) (values start end v range at : 
   pub outside_is : outside ≡ get_or numbers v None
   pub inside_is : inside ≡ get_or numbers (v + 1) None
 
--- the codes from one on have one value
+-- The codes from `at` on have the same value.
 run_value : (left held : List (ℕ × ℕ)) (count values place start end v at next bit c : ℕ) → InPlace left held count values place start end v → start ≤ at → next ≤ end
     → at ≤ c → c < next → (if has held c then 1 else 0) ≡ bit → value_in left held c ≡ v + bit
 run_value left held count values place start end v at next bit c h low ends above below alike =
@@ -133,7 +133,7 @@ full left held count values place start end v at bit numbers stretches least h l
 bit_of : (held : List (ℕ × ℕ)) (c : ℕ) (b : Bool) → has held c ≡ b → ◌≡◌ {A = ℕ} (if has held c then 1 else 0) (if b then 1 else 0)
 bit_of held c b is = let bit : Bool → ℕ = λ x. if x then 1 else 0 in ap bit is
 
--- one more run outside the ranges
+-- One more run outside the ranges.
 outside_run : (left held : List (ℕ × ℕ)) (count values place start end v range at next n : ℕ) (outside inside : Option ℕ) (numbers numbers' : List (Option ℕ)) (stretches stretches' : List (ℕ × ℕ)) (least least' : List ℕ)
     → InPlace left held count values place start end v → InRun left held values start end v range at outside inside numbers stretches least
     → at < next → next ≤ end → next ≤ start_or held range count
@@ -151,7 +151,7 @@ outside_run left held count values place start end v range at next n outside ins
       inside_is = r.inside_is ∙ sym (number_other (get_or numbers v None) n v (v + 1) at numbers numbers' least least' (λ e. absurd (omega arith)) has_it);
     }
 
--- one more run in a range, which is passed then or isn't
+-- One more run in a range, which has been passed then or not.
 inside_run : (left held : List (ℕ × ℕ)) (count values place start end v range range' at next n : ℕ) (outside inside : Option ℕ) (numbers numbers' : List (Option ℕ)) (stretches stretches' : List (ℕ × ℕ)) (least least' : List ℕ)
     → InPlace left held count values place start end v → InRun left held values start end v range at outside inside numbers stretches least
     → range < length held → (range_at held range).0 ≤ at → at < next → next ≤ end → next ≤ (range_at held range).1 + 1 → ArePassed held range' next
@@ -168,7 +168,7 @@ inside_run left held count values place start end v range range' at next n outsi
       inside_is = number_own (get_or numbers (v + 1) None) n (v + 1) at numbers numbers' least least' (omega (arith, h.values_in, r.progress.width)) refl has_it;
     }
 
--- a run with no number, where all numbers are taken
+-- A run has no number, and all numbers are taken.
 outside_full : (left held : List (ℕ × ℕ)) (count values place start end v range at : ℕ) (outside inside : Option ℕ) (numbers : List (Option ℕ)) (stretches : List (ℕ × ℕ)) (least : List ℕ)
     → InPlace left held count values place start end v → InRun left held values start end v range at outside inside numbers stretches least → at < end → at < start_or held range count
     → (get_or numbers v None ≡ None) × (length least ≡ MOST_LETTERS) → MOST_LETTERS < length (firsts (same_value (value_in left held)) count)
@@ -185,7 +185,7 @@ inside_full left held count values place start end v range at outside inside num
     full left held count values place start end v at 1 numbers stretches least h r.low some h.values_in
     (bit_of held at true (in_range held range at range_in begun (r.passed.unpassed range_in))) r.progress is
 
--- the stretches in front of the place are numbered, and there is room for the runs of the others
+-- The stretches before `place` have been numbered, and there is room for the runs of the others.
 pub record InStretches (left held : List (ℕ × ℕ)) (count values place range : ℕ) (numbers : List (Option ℕ)) (stretches : List (ℕ × ℕ)) (least : List ℕ) (room : ℕ) : Type 0 where
   pub passed : ArePassed held range (start_or left place count)
   pub short : (range < length held → start_or left place count ≤ (range_at held range).0) → length stretches ≤ place + 2 * range
@@ -194,7 +194,7 @@ pub record InStretches (left held : List (ℕ × ℕ)) (count values place range
   pub capacity : room ≡ length left + 2 * length held
   pub progress : Progress (value_in left held) values (start_or left place count) numbers stretches least
 
--- the codes below `at` are numbered, and there is room for the runs behind them
+-- The codes below `at` have been numbered, and there is room for the runs after them.
 pub record InStretch (left held : List (ℕ × ℕ)) (count values place start end v range at : ℕ) (outside inside : Option ℕ) (numbers : List (Option ℕ)) (stretches : List (ℕ × ℕ)) (least : List ℕ) (room : ℕ) : Type 0 where
   pub here : InPlace left held count values place start end v
   pub run : InRun left held values start end v range at outside inside numbers stretches least
@@ -204,7 +204,7 @@ pub record InStretch (left held : List (ℕ × ℕ)) (count values place start e
   pub range_in : range ≤ length held
   pub capacity : room ≡ length left + 2 * length held
 
--- the codes in front of the next range are numbered, which begins in the stretch
+-- The codes before the next range, which begins in the stretch, have been numbered.
 pub record InGap (left held : List (ℕ × ℕ)) (count values place start end v range at : ℕ) (outside inside : Option ℕ) (numbers : List (Option ℕ)) (stretches : List (ℕ × ℕ)) (least : List ℕ) (room : ℕ) : Type 0 where
   pub here : InPlace left held count values place start end v
   pub run : InRun left held values start end v range at outside inside numbers stretches least
@@ -214,7 +214,7 @@ pub record InGap (left held : List (ℕ × ℕ)) (count values place start end v
   pub short : length stretches ≤ place + 2 * range + 1
   pub capacity : room ≡ length left + 2 * length held
 
--- the next range begins in the stretch
+-- The next range begins in the stretch.
 pub record BeginsIn (held : List (ℕ × ℕ)) (count end range : ℕ) : Type 0 where
   pub range_in : range < length held
   pub front : start_or held range count ≡ (range_at held range).0
@@ -302,7 +302,7 @@ pub gap_room : {left held : List (ℕ × ℕ)} {count values place start end v r
 gap_room {left} {held} {count} {values} {place} {start} {end} {v} {range} {at} {outside} {inside} {numbers} {stretches} {least} {room} {many} gap is =
     omega (arith, gap.here.place_in, gap.range_in, gap.short, gap.capacity)
 
--- the whole range lies in the stretch
+-- The whole range lies in the stretch.
 pub range_numbered : {left held : List (ℕ × ℕ)} {count values place start end v range at n : ℕ} {outside inside : Option ℕ} {numbers numbers' : List (Option ℕ)} {stretches stretches' : List (ℕ × ℕ)} {least least' : List ℕ} {room room' : ℕ}
     → InGap left held count values place start end v range at outside inside numbers stretches least room → (range_at held range).1 < end
     → HasNumber (get_or numbers (v + 1) None) n numbers numbers' least least' (v + 1) at → stretches' ≡ stretches ++ (at, n) ∷ [] → room' ≡ room
@@ -322,7 +322,7 @@ range_numbered {left} {held} {count} {values} {place} {start} {end} {v} {range} 
       capacity = same ∙ gap.capacity;
     }
 
--- the range goes on behind the stretch
+-- The range continues after the stretch.
 pub range_begun : {left held : List (ℕ × ℕ)} {count values place start end v range at n : ℕ} {outside inside : Option ℕ} {numbers numbers' : List (Option ℕ)} {stretches stretches' : List (ℕ × ℕ)} {least least' : List ℕ} {room room' : ℕ}
     → InGap left held count values place start end v range at outside inside numbers stretches least room → end ≤ (range_at held range).1
     → HasNumber (get_or numbers (v + 1) None) n numbers numbers' least least' (v + 1) at → stretches' ≡ stretches ++ (at, n) ∷ [] → room' ≡ room
@@ -340,7 +340,7 @@ range_begun {left} {held} {count} {values} {place} {start} {end} {v} {range} {at
       capacity = same ∙ gap.capacity;
     }
 
--- no range begins in what is left of the stretch
+-- No range begins in the rest of the stretch.
 pub rest_numbered : {left held : List (ℕ × ℕ)} {count values place start end v range at : ℕ} (n : ℕ) {outside inside : Option ℕ} {numbers numbers' : List (Option ℕ)} {stretches stretches' : List (ℕ × ℕ)} {least least' : List ℕ} {room room' : ℕ}
     → InStretch left held count values place start end v range at outside inside numbers stretches least room → at < end → end ≤ start_or held range count
     → HasNumber (get_or numbers v None) n numbers numbers' least least' v at → stretches' ≡ stretches ++ (at, n) ∷ [] → room' ≡ room
@@ -371,13 +371,13 @@ rest_room {left} {held} {count} {values} {place} {start} {end} {v} {range} {at} 
     let short : length stretches ≤ place + 2 * range = was.short (λ r_in. omega (arith, start_or-in held range count r_in)) in
     omega (arith, was.here.place_in, was.range_in, was.capacity)
 
--- both values of the stretch have a place among the numbers
+-- Both values of the stretch have a place among the numbers.
 pub reach_values : {left held : List (ℕ × ℕ)} {count values place start end v range at : ℕ} {outside inside : Option ℕ} {numbers : List (Option ℕ)} {stretches : List (ℕ × ℕ)} {least : List ℕ}
     → InPlace left held count values place start end v → InRun left held values start end v range at outside inside numbers stretches least → (v < length numbers) × (v + 1 < length numbers)
 reach_values {left} {held} {count} {values} {place} {start} {end} {v} h r =
     (omega (arith, h.values_in, r.progress.width), omega (arith, h.values_in, r.progress.width))
 
--- nothing is left of the stretch
+-- Nothing is left of the stretch.
 pub rest_none : {left held : List (ℕ × ℕ)} {count values place start end v range at : ℕ} {outside inside : Option ℕ} {numbers : List (Option ℕ)} {stretches : List (ℕ × ℕ)} {least : List ℕ} {room : ℕ}
     → InStretch left held count values place start end v range at outside inside numbers stretches least room → end ≤ at
     → InStretches left held count values (place + 1) range numbers stretches least room

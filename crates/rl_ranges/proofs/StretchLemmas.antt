@@ -17,14 +17,14 @@ letter_from-push a xs s c = letter_from-append a xs (s ∷ []) c
 pub letter_from-more : (a : ℕ) (xs : List (ℕ × ℕ)) (i c : ℕ) → i < length xs → letter_from a (take (i + 1) xs) c ≡ (if nat_le (range_at xs i).0 c then (range_at xs i).1 else letter_from a (take i xs) c)
 letter_from-more a xs i c lt = ap (λ l. letter_from a l c) (take_more xs i (0, 0) lt) ∙ letter_from-push a (take i xs) (range_at xs i) c
 
--- no stretch has begun
+-- No stretch has begun yet.
 pub letter_from-late : (a : ℕ) (xs : List (ℕ × ℕ)) (c : ℕ) → ((k : ℕ) → k < length xs → c < (range_at xs k).0) → letter_from a xs c ≡ a
 letter_from-late a [] c h = refl
 letter_from-late a (x ∷ xs) c h =
     ap (λ b. letter_from (if b then x.1 else a) xs c) (lt-leb x.0 c (h zero (zero-lt-suc _)))
     ∙ letter_from-late a xs c (λ k lt. h (suc k) (suc-le-suc lt))
 
--- the last stretch that has begun decides
+-- The last stretch that has begun decides.
 pub letter_from-at : (a : ℕ) (xs : List (ℕ × ℕ)) (i c : ℕ) → i < length xs → (range_at xs i).0 ≤ c → ((k : ℕ) → i < k → k < length xs → c < (range_at xs k).0) → letter_from a xs c ≡ (range_at xs i).1
 letter_from-at a [] i c lt le h = absurd (not-suc-le-zero lt)
 letter_from-at a (x ∷ xs) zero c lt le h =

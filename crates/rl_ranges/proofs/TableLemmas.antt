@@ -1,4 +1,4 @@
--- The tables of ranges are the named classes: each is compared with its property step by step.
+-- The tables of ranges are the named classes. Each table is compared with its property step by step.
 use Rattle.std.proofs.Common.{Bool, List, [], ap, arith, false, inl, inr, leb-true, nat_le, nat_lt, refl, sym, true, ℕ, ◌&&◌, ◌+◌, ◌<◌, ◌==◌, ◌||◌, ◌∙◌, ◌∷◌, ◌≡◌}
 use Rattle.std.proofs.Math.Bool.{beq}
 use Rattle.std.proofs.lemmas.Bool.{and_parts, false≢true, ltb-true, or_cases}
@@ -38,7 +38,7 @@ one_range a b c = or-false (nat_le a c && nat_le c b)
 one_code : (a c : ℕ) → in_ranges ((a, a) ∷ []) c ≡ (c == a)
 one_code a c = one_range a a c ∙ grind (arith, nat_tests)
 
--- a table that agrees with a property at every step has the property's codes
+-- A table that agrees with a property at every step holds exactly the codes with the property.
 same_by_steps : (table : List (ℕ × ℕ)) (p : ℕ → Bool) (s : Stepped (in_ranges table)) (t : Stepped p)
     → (always (λ c. beq (in_ranges table c) (p c)) (zip_stepped beq (in_ranges table) p s t) && (ends_by 0x11_0000 (zip_stepped beq (in_ranges table) p s t).steps && (zip_stepped beq (in_ranges table) p s t).default)) ≡ true
     → (c : ℕ) → in_ranges table c ≡ p c
@@ -125,9 +125,9 @@ pub ASCII_WORDS-named : (c : ℕ) → has ASCII_WORDS c ≡ is_named Word true c
 unfolding is_named is_between has
 ASCII_WORDS-named c = grind (arith, nat_tests)
 
--- ---- what else a table shows by computing
+-- ---- what else a table shows by computation
 
--- the test that ranges are sorted
+-- The test whether ranges are sorted.
 unfoldable pub sorted_from : ℕ → List (ℕ × ℕ) → Bool
 sorted_from n [] = true
 sorted_from n (r ∷ rs) = (nat_le n r.0 && nat_le r.0 r.1) && sorted_from (r.1 + 2) rs
@@ -140,7 +140,7 @@ Above-from_test n (r ∷ rs) h =
     let head = and_parts (nat_le n r.0) (nat_le r.0 r.1) parts.0 in
     (leb-true n r.0 head.0, leb-true r.0 r.1 head.1, Above-from_test (r.1 + 2) rs parts.1)
 
--- the test that every range ends below a number
+-- The test whether all ranges end below a number.
 unfoldable pub end_below : ℕ → List (ℕ × ℕ) → Bool
 end_below n [] = true
 end_below n (r ∷ rs) = nat_lt r.1 n && end_below n rs
@@ -180,7 +180,7 @@ pub ASCII_WORDS-sorted : Above 0 ASCII_WORDS
 unfolding sorted_from
 ASCII_WORDS-sorted = Above-from_test 0 ASCII_WORDS refl
 
--- a named class lies in every universe that it goes by
+-- A named class lies in every universe that uses it.
 digits_inside : (c : ℕ) → has DIGITS c ≡ true → c < 1114112
 unfolding end_below
 digits_inside c = has-inside 1114112 DIGITS c refl

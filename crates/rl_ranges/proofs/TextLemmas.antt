@@ -1,4 +1,4 @@
--- Codes that pass a test are a text.
+-- Codes that satisfy a test are a text.
 use Rattle.std.proofs.Common.{ℕ, List, get_or}
 use Rattle.std.specs.Prelude.{IsTrue, nat_lt}
 use Rattle.std.specs.List.{list_all}

@@ -1,54 +1,57 @@
--- Letters. Two codes are one letter where every set of a list holds both or neither. Letters are numbered by their least code.
+-- Letters, or alphabet classes. Two codes belong to the same letter if every set of a list holds both or neither. Letters
+-- are numbered from 0 in the order of their least codes.
 use Rattle.std.specs.Prelude.{ℕ, ◌≡◌, ◌<◌, ◌≤◌, ◌⊎◌, suc, zero, Bool, true, ◌&&◌, List, [], ◌∷◌, ◌++◌, length, nat_le, slice_get, slice_index_or, if◌then◌else◌, Some}
 use Rattle.std.specs.List.{list_any}
 use Rattle.std.proofs.Math.Bool.{beq}
 
--- every set holds both codes or neither
+-- Whether every set of the list holds both codes or neither.
 abbrev pub alike : List (ℕ → Bool) → ℕ → ℕ → Bool
 alike [] c d = true
 alike (s ∷ sets) c d = beq (s c) (s d) && alike sets c d
 
--- the least code of each letter of the codes below `n`, rising
+-- The least code of each letter among the codes below `n`, in ascending order.
 unfoldable pub classes : List (ℕ → Bool) → ℕ → List ℕ
 classes sets zero = []
 classes sets (suc n) = let l = classes sets n in if list_any (alike sets n) l then l else l ++ n ∷ []
 
--- the first place of a list whose item passes the test; its length where none does
+-- The index of the first item that satisfies the test, or the length of the list if none does.
 abbrev pub place_where : (ℕ → Bool) → List ℕ → ℕ
 place_where p [] = zero
 place_where p (x ∷ l) = if p x then zero else suc (place_where p l)
 
--- the number of the letter of a code, of the codes below `n`
+-- The number of the letter that the code belongs to, among the letters of the codes below `n`.
 unfoldable pub class_of : List (ℕ → Bool) → ℕ → ℕ → ℕ
 class_of sets n c = place_where (alike sets c) (classes sets n)
 
--- what the program keeps of the letters: how many codes there are, the stretches of codes of one letter, each with its first
--- code and its letter, rising, and a sample code of each letter
+-- What the program stores about the letters: the number of codes; the stretches of codes of one letter, each with its first
+-- code and its letter, in ascending order; and a sample code for each letter.
 pub record LetterTable : Type 0 where
   pub codes : ℕ
   pub stretches : List (ℕ × ℕ)
   pub samples : List ℕ
 
--- the letter of the last stretch that begins at or before the code
+-- The letter of the last stretch that begins at or before the code, or `found` if there is none.
 abbrev pub letter_from : ℕ → List (ℕ × ℕ) → ℕ → ℕ
 letter_from found [] code = found
 letter_from found (s ∷ stretches) code = letter_from (if nat_le s.0 code then s.1 else found) stretches code
 
+-- The letter of the code according to the table.
 unfoldable pub letter_at : LetterTable → ℕ → ℕ
 letter_at t code = letter_from 0 t.stretches code
 
--- the codes that a sample is sought among first: those that print in ASCII
+-- The code is a printable character of ASCII. Samples are chosen from these codes if possible.
 abbrev pub IsPlain : ℕ → Type 0
 IsPlain code = (32 ≤ code) × (code ≤ 126)
 
--- the code stands for its letter: it is the letter's least plain code, or, where the letter has none, its least code
+-- The code is the sample of the letter: its least printable ASCII code, or its least code if it has no printable ASCII
+-- code.
 pub record IsSample (sets : List (ℕ → Bool)) (n letter code : ℕ) : Type 0 where
   pub within : code < n
   pub in_it : class_of sets n code ≡ letter
   pub least : ((d : ℕ) → d < code → class_of sets n d ≡ letter → IsPlain d → ⊥)
   pub plain : IsPlain code ⊎ ((slice_get (classes sets n) letter ≡ Some code) × ((d : ℕ) → d < n → class_of sets n d ≡ letter → IsPlain d → ⊥))
 
--- the table has the letters of the sets, for the codes below `n`
+-- The table holds the letters of the sets among the codes below `n`, with their number, their stretches and their samples.
 pub record IsLetters (t : LetterTable) (sets : List (ℕ → Bool)) (n : ℕ) : Type 0 where
   pub same_codes : t.codes ≡ n
   pub same_count : length t.samples ≡ length (classes sets n)

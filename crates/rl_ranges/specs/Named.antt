@@ -1,5 +1,5 @@
--- The named classes of Python's `re`, code by code. Without the flag ASCII they go by Unicode: a digit is of the general
--- category Nd, a word code of a category L* or N* or the code of `_`, and white space has the property White_Space or is one
+-- The named classes of Python's `re`, code by code. Without the flag ASCII they follow Unicode: a digit has general
+-- category Nd, a word character has a category L* or N* or is `_`, and white space has the property White_Space or is one
 -- of U+001C to U+001F. A surrogate is in none of them.
 use Rattle.std.specs.Prelude.{ℕ, Bool, true, false, ◌||◌, ◌==◌}
 use Rattle.rl_ranges.specs.declared.named.Named.{Named}
@@ -13,7 +13,7 @@ use Rattle.ucd_category.specs.declared.GeneralCategory.TheVariants.{DecimalNumbe
 use Rattle.ucd_category.specs.declared.GeneralCategoryGroup.TheVariants.{Letter, Number}
 unfoldable pub use Rattle.rl_ranges.specs.Codes.{is_between}
 
--- whether the code is in the named class; the flag says that the class is the ASCII one
+-- Whether the code is in the named class. The flag `true` selects the ASCII class, `false` the Unicode class.
 unfoldable pub is_named : Named → Bool → ℕ → Bool
 is_named Digit true code = is_between 48 57 code
 is_named Space true code = is_between 9 13 code || code == 32
@@ -22,7 +22,7 @@ is_named Digit false code = general_category_eq (general_category code) DecimalN
 is_named Space false code = is_white_space code || is_between 28 31 code
 is_named Word false code = in_group Letter (general_category code) || in_group Number (general_category code) || code == 95
 
--- whether named classes and the rule of case are the ASCII ones: under the flag ASCII, and in bytes
+-- Whether named classes and letter case follow ASCII. They do under the flag ASCII and for `bytes`.
 abbrev pub goes_by_ascii : Bool → Universe → Bool
 goes_by_ascii ascii Str = ascii
 goes_by_ascii ascii Bytes = true

@@ -1,31 +1,33 @@
--- Numbering. Codes that are alike share a number; the numbers go up in the order of the least codes.
+-- Numberings. Codes that are alike share a number, and the numbers follow the order of the least codes.
 use Rattle.std.specs.Prelude.{[], ◌≡◌, ℕ, ◌<◌, ◌≤◌, suc, zero, Bool, ◌==◌, List, ◌∷◌, ◌++◌, length, if◌then◌else◌}
 use Rattle.std.specs.List.{list_any}
 use Rattle.rl_ranges.specs.Letters.{letter_from, place_where}
 use Rattle.rl_ranges.specs.Building.{range_at}
 use Rattle.rl_ranges.specs.declared.letters.TheConstants.{MOST_LETTERS}
 
--- the codes below `n` that are like no code before them, rising
+-- The codes below `n` that aren't like any smaller code, in ascending order.
 unfoldable pub firsts : (ℕ → ℕ → Bool) → ℕ → List ℕ
 firsts like zero = []
 firsts like (suc n) = let l = firsts like n in if list_any (like n) l then l else l ++ n ∷ []
 
--- the two codes have one value
+-- Whether the function gives the two codes the same value.
 abbrev pub same_value : (ℕ → ℕ) → ℕ → ℕ → Bool
 same_value value c d = value c == value d
 
--- the stretches begin at 0 and come one after the other, each below `count`
+-- The stretches cover the codes below `count`: the first begins at 0, and each begins after the one before it and below
+-- `count`.
 pub record Covers (stretches : List (ℕ × ℕ)) (count : ℕ) : Type 0 where
   pub some : 0 < length stretches
   pub start : (range_at stretches 0).0 ≡ 0
   pub rising : (j k : ℕ) → j < k → k < length stretches → (range_at stretches j).0 < (range_at stretches k).0
   pub within : (k : ℕ) → k < length stretches → (range_at stretches k).0 < count
 
--- every value of the stretches is below `m`
+-- Every stretch has a value below `m`.
 abbrev pub ValuesBelow : ℕ → List (ℕ × ℕ) → Type 0
 ValuesBelow m stretches = (k : ℕ) → k < length stretches → (range_at stretches k).1 < m
 
--- the numbers of the codes below `count` by their values: each number's least code, and the stretches of the codes of one number
+-- The stretches and least codes number the codes below `count` by their values. Codes with equal values share a number,
+-- `least` holds the least code of each number, and there are at most MOST_LETTERS numbers.
 pub record IsNumbered (value : ℕ → ℕ) (count : ℕ) (stretches : List (ℕ × ℕ)) (least : List ℕ) : Type 0 where
   pub covers : Covers stretches count
   pub below : ValuesBelow (length least) stretches
@@ -33,7 +35,8 @@ pub record IsNumbered (value : ℕ → ℕ) (count : ℕ) (stretches : List (ℕ
   pub same_firsts : least ≡ firsts (same_value value) count
   pub same_number : (c : ℕ) → c < count → letter_from 0 stretches c ≡ place_where (same_value value c) least
 
--- what holds of every table of letters
+-- What holds for every table of letters: its stretches cover the codes, each letter has a sample, and there are at most
+-- MOST_LETTERS letters.
 pub record IsTable (codes : ℕ) (stretches : List (ℕ × ℕ)) (samples : List ℕ) : Type 0 where
   pub covers : Covers stretches codes
   pub below : ValuesBelow (length samples) stretches

@@ -1,4 +1,4 @@
-//! The codes that are of one kind with a code of a set.
+//! The codes that differ only in case from a code of a set.
 
 ghost use Rattle.std.specs.Prelude.{◌≡◌, ℕ, ◌<◌, ◌≤◌, ◌||◌, OnOk, IfOk, length};
 ghost use Rattle.std.specs.List.Sorted.{IsNonDecreasing};
@@ -12,7 +12,7 @@ use rl_lists::OutOfMemory;
 use std::alloc::Global;
 use unicode::case::fold_pairs;
 
-/// The first place of the pairs whose first code is at least the key, by binary search.
+/// Returns the first index whose pair has a first code of at least `key`. Uses binary search.
 fn lower_bound(pairs: &[(u32, u32)], key: u32) -> usize
     requires { KeysRise pairs.now }
     ensures { IsLowerBound pairs.now key result }
@@ -30,10 +30,10 @@ fn lower_bound(pairs: &[(u32, u32)], key: u32) -> usize
     low
 }
 
-/// Adds the second code of each pair whose first code lies from `first` to `last`.
+/// Adds the second code of each pair whose first code lies between `first` and `last`, both included.
 ///
 /// # Errors
-/// [`OutOfMemory`] where there was no memory for another code.
+/// [`OutOfMemory`] if there is no memory for another code.
 fn add_range_image(
     codes: &mut Vec<u32>,
     pairs: &[(u32, u32)],
@@ -55,7 +55,7 @@ fn add_range_image(
 /// Adds the second code of each pair whose first code is in the ranges.
 ///
 /// # Errors
-/// [`OutOfMemory`] where there was no memory for another code.
+/// [`OutOfMemory`] if there is no memory for another code.
 fn add_image(
     codes: &mut Vec<u32>,
     pairs: &[(u32, u32)],
@@ -72,10 +72,10 @@ fn add_image(
     Ok(())
 }
 
-/// The ranges of codes that do not fall.
+/// Returns the ranges of a sorted list of codes, in which a code may occur more than once.
 ///
 /// # Errors
-/// [`OutOfMemory`] where there was no memory for the ranges.
+/// [`OutOfMemory`] if there is no memory for the ranges.
 fn ranges_of(alloc: Global, codes: &[u32]) -> Result<Vec<(u32, u32)>, OutOfMemory>
     requires { IsNonDecreasing codes.now }
     ensures sorted { IfOk result (λ v. Above 0 v.items) }
@@ -88,10 +88,11 @@ fn ranges_of(alloc: Global, codes: &[u32]) -> Result<Vec<(u32, u32)>, OutOfMemor
     Ok(ranges)
 }
 
-/// The codes that are another code of one kind with a code of the ranges; by ASCII, or else by Unicode.
+/// Returns the codes that the tables of case pair with a code of the ranges: the ASCII table if `ascii` is set, otherwise
+/// those of Unicode.
 ///
 /// # Errors
-/// [`OutOfMemory`] where there was no memory for the ranges.
+/// [`OutOfMemory`] if there is no memory for the ranges.
 pub(crate) fn kin(
     alloc: Global,
     ranges: &[(u32, u32)],

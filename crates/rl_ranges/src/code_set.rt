@@ -1,4 +1,4 @@
-//! Sets of codes as sorted ranges.
+//! Sets of codes, kept as sorted ranges.
 
 ghost use Rattle.std.specs.Prelude.{◌≡◌, ℕ, ◌≤◌, ◌<◌, ◌&&◌, ◌||◌, not, true, false, nat_lt, List, [], IfOk, IfSome, MatchOption, IsTrue};
 ghost use Rattle.rl_ranges.specs.Text.{code_count};
@@ -15,7 +15,7 @@ use rl_lists::OutOfMemory;
 use std::alloc::Global;
 use std::marker::Model;
 
-/// A set of codes: a list of ranges, sorted, disjoint and not touching. Contracts see it as that list.
+/// A set of codes, kept as a sorted list of ranges that neither overlap nor touch. Contracts see it as that list.
 #[derive(Drop)]
 pub struct CodeSet {
     alloc: Global,
@@ -35,7 +35,7 @@ impl Model for CodeSet {
 }
 
 impl CodeSet {
-    /// The empty set. It takes no memory.
+    /// Returns the empty set. Allocates no memory.
     pub fn none(alloc: Global) -> CodeSet
         ensures { result ≡ [] }
     {
@@ -45,10 +45,10 @@ impl CodeSet {
         }
     }
 
-    /// The set of the ranges.
+    /// Returns the set that consists of these ranges.
     ///
     /// # Errors
-    /// [`OutOfMemory`] where there was no memory for the set.
+    /// [`OutOfMemory`] if there is no memory for the set.
     fn from_ranges(alloc: Global, ranges: Vec<(u32, u32)>) -> Result<CodeSet, OutOfMemory>
         requires { Above 0 ranges.items }
         ensures { IfOk result (λ s. s ≡ ranges.items) }
@@ -57,10 +57,10 @@ impl CodeSet {
         Ok(CodeSet { alloc, ranges })
     }
 
-    /// The codes from `first` to `last`.
+    /// Returns the set of the codes from `first` to `last`.
     ///
     /// # Errors
-    /// [`OutOfMemory`] where there was no memory for the range.
+    /// [`OutOfMemory`] if there is no memory for the range.
     pub fn range(alloc: Global, first: u32, last: u32) -> Result<CodeSet, OutOfMemory>
         requires filled { first ≤ last }
         requires inside { last ≤ 0x10_FFFF }
@@ -71,10 +71,10 @@ impl CodeSet {
         Ok(CodeSet { alloc, ranges })
     }
 
-    /// The codes that one of the two sets holds.
+    /// Returns the union: the codes that at least one of the two sets holds.
     ///
     /// # Errors
-    /// [`OutOfMemory`] where there was no memory for the set.
+    /// [`OutOfMemory`] if there is no memory for the set.
     pub fn union(&self, other: &CodeSet) -> Result<CodeSet, OutOfMemory>
         ensures members { IfOk result (λ s. (c : ℕ) → has s c ≡ (has self.now c || has other.now c)) }
         ensures inside { IfOk result (λ s. (u : Universe)
@@ -89,7 +89,7 @@ impl CodeSet {
         }
     }
 
-    /// The codes that one of the two sets holds, where one of them is empty: the other one.
+    /// Returns the other set if one of the two is empty: it is the union then. Returns `None` if neither is empty.
     fn whole<'a>(&'a self, other: &'a CodeSet) -> Option<&'a CodeSet>
         ensures { IfSome result (λ s. (c : ℕ) → has s.now c ≡ (has self.now c || has other.now c)) }
     {
@@ -102,10 +102,10 @@ impl CodeSet {
         }
     }
 
-    /// The codes that one of the two sets holds, in a list of its own.
+    /// Returns the union as a list of its own.
     ///
     /// # Errors
-    /// [`OutOfMemory`] where there was no memory for the set.
+    /// [`OutOfMemory`] if there is no memory for the set.
     fn merged(&self, other: &CodeSet) -> Result<CodeSet, OutOfMemory>
         ensures { IfOk result (λ s. (c : ℕ) → has s c ≡ (has self.now c || has other.now c)) }
     {
@@ -113,10 +113,10 @@ impl CodeSet {
         CodeSet::from_ranges(self.alloc, ranges)
     }
 
-    /// The codes that both sets hold.
+    /// Returns the intersection: the codes that both sets hold.
     ///
     /// # Errors
-    /// [`OutOfMemory`] where there was no memory for the set.
+    /// [`OutOfMemory`] if there is no memory for the set.
     pub fn meet(&self, other: &CodeSet) -> Result<CodeSet, OutOfMemory>
         ensures members { IfOk result (λ s. (c : ℕ) → has s c ≡ (has self.now c && has other.now c)) }
         ensures inside_left { IfOk result (λ s. (u : Universe) → IsInside u self.now → IsInside u s) }
@@ -126,10 +126,10 @@ impl CodeSet {
         CodeSet::from_ranges(self.alloc, ranges)
     }
 
-    /// The codes of the universe that the set does not hold.
+    /// Returns the complement: the codes of the universe that the set doesn't hold.
     ///
     /// # Errors
-    /// [`OutOfMemory`] where there was no memory for the set.
+    /// [`OutOfMemory`] if there is no memory for the set.
     pub fn complement(&self, universe: Universe) -> Result<CodeSet, OutOfMemory>
         requires { IsInside universe self.now }
         ensures members { IfOk result (λ s. (c : ℕ)
@@ -140,10 +140,10 @@ impl CodeSet {
         CodeSet::from_ranges(self.alloc, ranges)
     }
 
-    /// The named class: by ASCII under the flag and in bytes, else by Unicode.
+    /// Returns a named class. It follows ASCII under the flag ASCII and for `bytes`, and Unicode otherwise.
     ///
     /// # Errors
-    /// [`OutOfMemory`] where there was no memory for the set.
+    /// [`OutOfMemory`] if there is no memory for the set.
     pub fn named(
         alloc: Global,
         kind: Named,
@@ -158,11 +158,11 @@ impl CodeSet {
         Ok(CodeSet { alloc, ranges })
     }
 
-    /// The codes that are of one kind with a code of the set, as the flag IGNORECASE takes them: by ASCII under the flag and
-    /// in bytes, else by Unicode.
+    /// Returns the set of all codes that IGNORECASE treats as equal to a code of this set. Case follows ASCII under the
+    /// flag ASCII and for `bytes`, and Unicode otherwise.
     ///
     /// # Errors
-    /// [`OutOfMemory`] where there was no memory for the set.
+    /// [`OutOfMemory`] if there is no memory for the set.
     pub fn case_closed(&self, ascii: bool, universe: Universe) -> Result<CodeSet, OutOfMemory>
         requires { IsInside universe self.now }
         ensures members { IfOk result (IsCaseClosed (goes_by_ascii ascii universe) self.now) }
@@ -174,10 +174,10 @@ impl CodeSet {
         Ok(closed)
     }
 
-    /// The same set once more. It takes no memory.
+    /// Returns a copy of the set. Allocates no memory.
     ///
     /// # Errors
-    /// [`OutOfMemory`] where there are too many copies.
+    /// [`OutOfMemory`] if there are too many copies.
     pub fn copy(&self) -> Result<CodeSet, OutOfMemory>
         ensures { IfOk result (λ s. s ≡ self.now) }
     {
@@ -188,7 +188,7 @@ impl CodeSet {
         })
     }
 
-    /// The least code that the set holds, if it holds one.
+    /// Returns the least code of the set, or `None` if the set is empty.
     pub fn first_code(&self) -> Option<u32>
         ensures { MatchOption result ((c : ℕ) → has self.now c ≡ false)
             (λ least. (has self.now least ≡ true) × ((c : ℕ) → c < least → has self.now c ≡ false)) }
@@ -197,7 +197,7 @@ impl CodeSet {
         Some(*first)
     }
 
-    /// The set's ranges, in order.
+    /// Returns the set's ranges, in ascending order.
     pub(crate) fn as_ranges(&self) -> &[(u32, u32)]
         ensures value { result.now ≡ self.now }
         ensures sorted { Above 0 result.now }

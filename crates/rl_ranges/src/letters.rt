@@ -1,4 +1,4 @@
-//! The letters of a list of sets: codes that no set of the list tells apart are one letter.
+//! The letters of a list of sets. Codes that no set of the list tells apart are one letter.
 
 ghost use Rattle.std.specs.Prelude.{◌≡◌, ◌<◌, ◌≤◌, ℕ, All, IfOk, IfErr, [], ◌∷◌, length, map, slice_index_or, true};
 ghost use Rattle.rl_ranges.specs.Text.{code_count};
@@ -16,20 +16,20 @@ use rl_lists::OutOfMemory;
 use std::alloc::{AllocError, AllocFailed, Global};
 use std::marker::Model;
 
-/// The most letters of a list of sets. Sets that tell more codes apart have no letters.
+/// The maximum number of letters. A list of sets that needs more has no [`Letters`].
 pub const MOST_LETTERS: usize = 128;
 
-/// The number of the limit: 128 letters.
+/// Says which number the limit is: 128 letters.
 pub fn limits_are()
     ensures letters { MOST_LETTERS ≡ 128 }
 {}
 
-/// Why there are no letters.
+/// Why sets have no letters.
 #[derive(Clone, Copy, Debug, PartialEq, Eq)]
 pub enum LettersError {
-    /// There are more than [`MOST_LETTERS`].
+    /// There are more than [`MOST_LETTERS`] letters.
     TooMany,
-    /// Out of memory.
+    /// There was not enough memory.
     OutOfMemory,
 }
 
@@ -66,8 +66,8 @@ impl<T: Drop> From<AllocFailed<T>> for LettersError {
     }
 }
 
-/// The letters of a list of sets: alphabet classes. Two codes are one letter where every set holds both or neither. Letters
-/// are numbered from 0 by their least code.
+/// The letters of a list of sets, or alphabet classes. Two codes belong to the same letter if every set holds both or
+/// neither. Letters are numbered from 0 in the order of their least codes.
 #[derive(Drop)]
 pub struct Letters {
     codes: u32,
@@ -87,11 +87,11 @@ impl Model for Letters {
 }
 
 impl Letters {
-    /// The letters of the sets, for the codes of the universe.
+    /// Finds the letters of the sets among the codes of the universe.
     ///
     /// # Errors
-    /// [`LettersError::TooMany`] exactly where there are more than [`MOST_LETTERS`], [`LettersError::OutOfMemory`] where
-    /// there was no memory for them.
+    /// - [`LettersError::TooMany`] if and only if there are more than [`MOST_LETTERS`] letters.
+    /// - [`LettersError::OutOfMemory`] if there is no memory for them.
     pub fn of(
         alloc: Global,
         sets: &Vec<CodeSet>,
@@ -108,7 +108,8 @@ impl Letters {
             stretches: Vec::from_slice(alloc, &[(0, 0)])?,
             least: Vec::from_slice(alloc, &[0])?,
         };
-        // sets of many ranges come last, so that their many stretches aren't merged again with each set of fewer
+        // Sets with many ranges come last. They leave many stretches, which would have to be merged again for each smaller
+        // set.
         let narrow = refined_by(alloc, start, sets, Pass::Narrow, universe)?;
         let middle = refined_by(alloc, narrow, sets, Pass::Middle, universe)?;
         let Numbering { stretches, least } = refined_by(alloc, middle, sets, Pass::Wide, universe)?;
@@ -121,14 +122,14 @@ impl Letters {
         })
     }
 
-    /// How many letters there are.
+    /// Returns the number of letters.
     pub fn count(&self) -> u32
         ensures { result ≡ length self.now.samples }
     {
         self.samples.len() as u32
     }
 
-    /// The letter of the code.
+    /// Returns the letter that the code belongs to.
     pub fn letter_of(&self, code: u32) -> u32
         requires { code < self.now.codes }
         ensures value { result ≡ letter_at self.now code }
@@ -137,7 +138,7 @@ impl Letters {
         value_at(&self.stretches, code)
     }
 
-    /// The code that stands for the letter: its least code from 0x20 to 0x7E, or its least code where it has none there.
+    /// Returns a code that represents the letter: its least code from 0x20 to 0x7E, or its least code if it has none there.
     pub fn sample(&self, letter: u32) -> u32
         requires { letter < length self.now.samples }
         ensures { result ≡ slice_index_or self.now.samples letter 0 }
@@ -146,18 +147,18 @@ impl Letters {
     }
 }
 
-/// Which sets of a list are taken; the passes come one after the other.
+/// The passes over a list of sets, one after the other. Each pass takes the sets of one size.
 #[derive(Clone, Copy)]
 enum Pass {
-    /// Those of few ranges.
+    /// Takes sets of at most 32 ranges.
     Narrow,
-    /// Those of more ranges, as the digits.
+    /// Takes sets of 33 to 256 ranges, such as `\d`.
     Middle,
-    /// Those of many ranges, as the codes of words.
+    /// Takes sets of more than 256 ranges, such as `\w`.
     Wide,
 }
 
-/// Whether a set is taken in the pass.
+/// Whether the pass takes the set.
 fn is_taken(set: &CodeSet, pass: Pass) -> bool
     ensures { result ≡ is_taken pass set.now }
 {
@@ -171,10 +172,10 @@ fn is_taken(set: &CodeSet, pass: Pass) -> bool
     }
 }
 
-/// How many of the sets that were taken are remembered.
+/// The number of slots for remembering sets that were taken.
 const SLOTS: usize = 128;
 
-/// Where a set that was taken is remembered.
+/// Returns the slot in which to remember a set that was taken.
 fn slot_of(set: &CodeSet) -> usize
     ensures { result < 128 }
 {
@@ -184,7 +185,7 @@ fn slot_of(set: &CodeSet) -> usize
     }
 }
 
-/// Whether the set stands in the list, as the last one of so many.
+/// Whether `count` isn't 0 and the set before index `count` of the list is equal to `set`.
 fn stands_before(sets: &Vec<CodeSet>, count: usize, set: &CodeSet) -> bool
     requires { count ≤ length sets.now.items }
     ensures { result ≡ true → StandsBefore sets.now.items count set.now }
@@ -192,11 +193,12 @@ fn stands_before(sets: &Vec<CodeSet>, count: usize, set: &CodeSet) -> bool
     count > 0 && sets[count - 1].as_ranges() == set.as_ranges()
 }
 
-/// The numbering that tells codes apart where the known one does, or where the set holds one of them alone.
+/// Refines a numbering by one set. The result tells two codes apart if the known numbering does or if the set holds only
+/// one of them.
 ///
 /// # Errors
-/// [`LettersError::TooMany`] exactly where it has more than [`MOST_LETTERS`] numbers, [`LettersError::OutOfMemory`] where
-/// there was no memory for it.
+/// - [`LettersError::TooMany`] if and only if the result has more than [`MOST_LETTERS`] numbers.
+/// - [`LettersError::OutOfMemory`] if there is no memory for it.
 fn refined(
     alloc: Global,
     known: &Numbering,
@@ -213,11 +215,11 @@ fn refined(
     split(alloc, known, set.as_ranges(), universe.count())
 }
 
-/// The numbering refined by the sets of a list that are taken in the pass.
+/// Refines a numbering by every set of the list that the pass takes.
 ///
 /// # Errors
-/// [`LettersError::TooMany`] exactly where it has more than [`MOST_LETTERS`] numbers, [`LettersError::OutOfMemory`] where
-/// there was no memory for it.
+/// - [`LettersError::TooMany`] if and only if the result has more than [`MOST_LETTERS`] numbers.
+/// - [`LettersError::OutOfMemory`] if there is no memory for it.
 fn refined_by(
     alloc: Global,
     first: Numbering,
@@ -233,7 +235,7 @@ fn refined_by(
         → HasTooMany first.stretches.items first.least.items (picked (is_taken pass) sets.now.items) (code_count universe)) }
 {
     let mut known = first;
-    // a set that stands in the list again splits nothing: of the last one in each slot the place is kept, counted from 1
+    // A set that occurs again splits nothing. Each slot keeps the index of the last set put there, counted from 1.
     let mut taken = [0; SLOTS];
     for place in 0..sets.len() {
         let set = &sets[place];
@@ -245,7 +247,7 @@ fn refined_by(
     Ok(known)
 }
 
-/// Puts the least code from 0x20 to 0x7E of each value in place of its least code, where there is one.
+/// Replaces the sample of each letter by the letter's least code from 0x20 to 0x7E, if it has one.
 fn prefer_plain(samples: &mut Vec<u32>, stretches: &[(u32, u32)])
     requires covers { (count : ℕ) × Covers stretches.now count }
     requires below { ValuesBelow (length samples.old.items) stretches.now }

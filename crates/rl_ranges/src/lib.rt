@@ -1,16 +1,16 @@
 //! Sets of characters as Python's `re` has them, and the alphabet that a list of such sets needs.
 //!
-//! A [`CodeSet`] is a set of code points, kept as sorted ranges, and a [`Universe`] says which code points there are: those
-//! of `str` or of `bytes`. [`CodeSet::named`] is `\d`, `\s` or `\w`, and [`CodeSet::case_closed`] is what IGNORECASE makes of
-//! a set. [`Letters::of`] takes the sets of a pattern and finds its alphabet classes: code points that no set tells apart are
-//! one letter. So the automata above read at most 128 letters in place of 1,114,112 code points. [`Letters::sample`] gives
-//! one code point for a letter, a printable one of ASCII where it has one.
+//! A [`CodeSet`] is a set of code points, kept as sorted ranges. A [`Universe`] says which code points exist: those of
+//! `str` or those of `bytes`. [`CodeSet::named`] returns `\d`, `\s` or `\w`, and [`CodeSet::case_closed`] returns what
+//! IGNORECASE makes of a set. [`Letters::of`] takes the sets of a pattern and finds its alphabet classes: code points that
+//! no set tells apart are one letter. So the automata in the crates above read at most 128 letters instead of 1,114,112
+//! code points. [`Letters::sample`] returns one code point for a letter, a printable ASCII character if the letter has one.
 //!
 //! # What is proved
 //!
-//! Each operation is that of the sets, code point by code point. The named classes and case are those of the definitions, by
-//! ASCII or by Unicode. Letters are exactly the classes, numbered by their least code point, and [`LettersError::TooMany`]
-//! comes exactly where there are more than the limit.
+//! Each operation is the operation on sets, code point by code point. The named classes and the rules of case follow the
+//! definitions, by ASCII or by Unicode. The letters are exactly the classes, numbered by their least code point, and
+//! [`LettersError::TooMany`] is returned if and only if there are more letters than the limit.
 //!
 //! # Example
 //!

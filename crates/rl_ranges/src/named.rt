@@ -1,18 +1,18 @@
-//! The classes that a pattern names by a letter.
+//! The classes that a pattern names with an escaped letter.
 
 ghost use Rattle.std.specs.Prelude.{◌≡◌, ℕ};
 ghost use Rattle.rl_ranges.specs.Codes.{has, Above};
 
 use crate::tables;
 
-/// A named class of the Python `re` manual.
+/// A named class, as in the manual of Python's `re`.
 #[derive(Clone, Copy, Debug, PartialEq, Eq)]
 pub enum Named {
-    /// The digits, `\d`.
+    /// Digits: `\d`.
     Digit,
-    /// White space, `\s`.
+    /// White space: `\s`.
     Space,
-    /// The codes of words, `\w`.
+    /// Word characters: `\w`.
     Word,
 }
 
@@ -21,7 +21,7 @@ impl Named {
     ghost use Rattle.rl_ranges.specs.Codes.{has, Above};
     ghost use Rattle.rl_ranges.specs.Named.{is_named};
 
-    /// The ranges of the class, in order; by ASCII, or else by Unicode.
+    /// Returns the ranges of the class in ascending order: those of ASCII if `ascii` is set, otherwise those of Unicode.
     pub(crate) fn ranges(self, ascii: bool) -> &'static [(u32, u32)]
         ensures members { (c : ℕ) → has result.now c ≡ is_named self ascii c }
         ensures sorted { Above 0 result.now }

@@ -1,4 +1,4 @@
-//! Lists of ranges that are copied without memory.
+//! Lists of ranges that can be copied without allocating memory.
 
 ghost use Rattle.std.specs.Prelude.{◌≡◌, [], ◌∷◌, IfOk};
 ghost use Rattle.rl_ranges.specs.Listing.{listed};
@@ -7,22 +7,22 @@ use rl_lists::OutOfMemory;
 use std::alloc::Global;
 use std::rc::Rc;
 
-/// A list of ranges, by where it stands.
+/// A list of ranges, by where it is kept.
 #[derive(Drop)]
 pub(crate) enum RangeList {
-    /// A list of one range.
+    /// A single range, kept in place.
     One([(u32, u32); 1]),
     /// A table of the program.
     Table(&'static [(u32, u32)]),
-    /// A list that its copies share.
+    /// A list that is shared between its copies.
     Shared(Rc<Vec<(u32, u32)>>),
 }
 
 impl RangeList {
-    /// The list of the ranges, to be shared.
+    /// Creates a list whose copies share the ranges.
     ///
     /// # Errors
-    /// [`OutOfMemory`] where there was no memory for it.
+    /// [`OutOfMemory`] if there is no memory for it.
     pub(crate) fn shared(alloc: Global, ranges: Vec<(u32, u32)>) -> Result<RangeList, OutOfMemory>
         ensures { IfOk result (λ l. listed l ≡ ranges.items) }
     {
@@ -30,7 +30,7 @@ impl RangeList {
         Ok(RangeList::Shared(shared))
     }
 
-    /// The ranges.
+    /// Returns the ranges.
     pub(crate) fn as_slice(&self) -> &[(u32, u32)]
         ensures { result.now ≡ listed self.now }
     {
@@ -41,10 +41,10 @@ impl RangeList {
         }
     }
 
-    /// The same list once more. It takes no memory.
+    /// Returns a copy of the list. Allocates no memory.
     ///
     /// # Errors
-    /// [`OutOfMemory`] where there are too many copies.
+    /// [`OutOfMemory`] if there are too many copies.
     pub(crate) fn copy(&self) -> Result<RangeList, OutOfMemory>
         ensures { IfOk result (λ l. listed l ≡ listed self.now) }
     {

@@ -1,4 +1,4 @@
-//! Sorted lists of ranges: how one is built from ranges that come in order, and the operations of sets on them.
+//! Sorted lists of ranges: how to build one from ranges that come in order, and the set operations on them.
 
 ghost use Rattle.std.specs.Prelude.{◌≡◌, ℕ, ◌+◌, ◌≤◌, ◌<◌, ◌||◌, ◌&&◌, not, true, nat_lt, OnOk, IfOk, length, drop};
 ghost use Rattle.rl_ranges.specs.Codes.{has, is_between, Above};
@@ -8,11 +8,11 @@ ghost use Rattle.rl_ranges.specs.internal.Ordering.{BeginsBy, ComeInOrder};
 use rl_lists::OutOfMemory;
 use std::alloc::Global;
 
-/// Adds the codes from `first` to `last`, which begin no earlier than the last range there. A range that touches or overlaps
-/// the last one is joined with it.
+/// Adds the codes from `first` to `last`. `first` must not be less than the first code of the last range in the list. A
+/// range that touches or overlaps the last one is merged with it.
 ///
 /// # Errors
-/// [`OutOfMemory`] where there was no memory for another range.
+/// [`OutOfMemory`] if there is no memory for another range.
 pub(crate) fn append(ranges: &mut Vec<(u32, u32)>, first: u32, last: u32) -> Result<(), OutOfMemory>
     requires sorted { Above 0 ranges.old.items }
     requires filled { first ≤ last }
@@ -34,10 +34,11 @@ pub(crate) fn append(ranges: &mut Vec<(u32, u32)>, first: u32, last: u32) -> Res
     Ok(())
 }
 
-/// Adds the ranges from the place `from` on, which come in order and begin no earlier than the last range there.
+/// Adds the ranges of `more` from index `from` on. They must come in order, and none may begin before the last range in the
+/// list.
 ///
 /// # Errors
-/// [`OutOfMemory`] where there was no memory for another range.
+/// [`OutOfMemory`] if there is no memory for another range.
 pub(crate) fn append_from(
     ranges: &mut Vec<(u32, u32)>,
     more: &[(u32, u32)],
@@ -59,7 +60,7 @@ pub(crate) fn append_from(
     Ok(())
 }
 
-/// Whether some range of the sorted list holds the code, by binary search.
+/// Whether some range of the sorted list holds the code. Uses binary search.
 pub(crate) fn holds(ranges: &[(u32, u32)], code: u32) -> bool
     requires { Above 0 ranges.now }
     ensures { result ≡ has ranges.now code }
@@ -80,10 +81,10 @@ pub(crate) fn holds(ranges: &[(u32, u32)], code: u32) -> bool
     false
 }
 
-/// The codes that one of the two lists holds.
+/// Returns the union: the codes that at least one of the two lists holds.
 ///
 /// # Errors
-/// [`OutOfMemory`] where there was no memory for the list.
+/// [`OutOfMemory`] if there is no memory for the list.
 pub(crate) fn either(
     alloc: Global,
     left: &[(u32, u32)],
@@ -111,10 +112,10 @@ pub(crate) fn either(
     Ok(ranges)
 }
 
-/// The codes that both lists hold.
+/// Returns the intersection: the codes that both lists hold.
 ///
 /// # Errors
-/// [`OutOfMemory`] where there was no memory for the list.
+/// [`OutOfMemory`] if there is no memory for the list.
 pub(crate) fn both(
     alloc: Global,
     left: &[(u32, u32)],
@@ -143,10 +144,10 @@ pub(crate) fn both(
     Ok(ranges)
 }
 
-/// The codes below `count` that the list does not hold.
+/// Returns the complement: the codes below `count` that the list doesn't hold.
 ///
 /// # Errors
-/// [`OutOfMemory`] where there was no memory for the list.
+/// [`OutOfMemory`] if there is no memory for the list.
 pub(crate) fn gaps(
     alloc: Global,
     held: &[(u32, u32)],

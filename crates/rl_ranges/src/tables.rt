@@ -1,5 +1,5 @@
-//! The ranges of the named classes, and the pairs of codes that differ in case. The proofs of this crate compare each table
-//! with the properties of Unicode that its class is defined by.
+//! The ranges of the named classes, and the pairs of codes that differ only in case. This crate's proofs compare each table
+//! with the Unicode properties that define it.
 
 /// The ASCII digits.
 #[rattlefmt::skip]
@@ -7,19 +7,19 @@ pub(crate) static ASCII_DIGITS: [(u32, u32); 1] = [
     (0x30, 0x39),
 ];
 
-/// White space in ASCII.
+/// The white space of ASCII.
 #[rattlefmt::skip]
 pub(crate) static ASCII_SPACES: [(u32, u32); 2] = [
     (0x9, 0xD), (0x20, 0x20),
 ];
 
-/// The ASCII letters and digits, and `_`.
+/// The ASCII letters, the ASCII digits and `_`.
 #[rattlefmt::skip]
 pub(crate) static ASCII_WORDS: [(u32, u32); 4] = [
     (0x30, 0x39), (0x41, 0x5A), (0x5F, 0x5F), (0x61, 0x7A),
 ];
 
-/// The codes of the general category Nd.
+/// The codes of general category Nd.
 #[rattlefmt::skip]
 pub(crate) static DIGITS: [(u32, u32); 72] = [
     (0x30, 0x39), (0x660, 0x669), (0x6F0, 0x6F9), (0x7C0, 0x7C9), (0x966, 0x96F), (0x9E6, 0x9EF), (0xA66, 0xA6F),
@@ -189,7 +189,7 @@ pub(crate) static WORDS: [(u32, u32); 790] = [
     (0x30000, 0x3134A), (0x31350, 0x33479), (0x3D000, 0x3FC3F),
 ];
 
-/// Each ASCII letter with its other case, by the first code.
+/// Each ASCII letter paired with its other case, sorted by the first code.
 #[rattlefmt::skip]
 pub(crate) static ASCII_PAIRS: [(u32, u32); 52] = [
     (0x41, 0x61), (0x42, 0x62), (0x43, 0x63), (0x44, 0x64), (0x45, 0x65), (0x46, 0x66), (0x47, 0x67), (0x48, 0x68),
@@ -201,7 +201,7 @@ pub(crate) static ASCII_PAIRS: [(u32, u32); 52] = [
     (0x77, 0x57), (0x78, 0x58), (0x79, 0x59), (0x7A, 0x5A),
 ];
 
-/// The pairs among `I`, `i`, U+0130 and U+0131, by the first code.
+/// All pairs of two different codes among `I`, `i`, U+0130 and U+0131, sorted by the first code.
 #[rattlefmt::skip]
 pub(crate) static I_PAIRS: [(u32, u32); 12] = [
     (0x49, 0x69), (0x49, 0x130), (0x49, 0x131), (0x69, 0x49), (0x69, 0x130), (0x69, 0x131), (0x130, 0x49),

@@ -1,13 +1,13 @@
-//! The codes that a text may have.
+//! The codes that a text can contain.
 
 ghost use Rattle.std.specs.Prelude.{◌≡◌};
 
-/// The universe of a text: which codes there are.
+/// A universe: the codes that a kind of text can contain.
 #[derive(Clone, Copy, Debug, PartialEq, Eq)]
 pub enum Universe {
-    /// The codes of a string, 0 to 0x10FFFF, surrogates included.
+    /// The codes of a `str`: 0 to 0x10FFFF, including surrogates.
     Str,
-    /// The codes of a bytes object, 0 to 255.
+    /// The codes of a `bytes` object: 0 to 255.
     Bytes,
 }
 
@@ -15,7 +15,7 @@ impl Universe {
     ghost use Rattle.rl_ranges.specs.Text.{code_count};
     ghost use Rattle.rl_ranges.specs.Named.{goes_by_ascii};
 
-    /// How many codes there are; they are the numbers below it.
+    /// Returns the number of codes. The codes are the numbers below it.
     pub fn count(self) -> u32
         ensures { result ≡ code_count self }
     {
@@ -25,7 +25,7 @@ impl Universe {
         }
     }
 
-    /// Whether named classes and the rule of case go by ASCII: under the flag, and in bytes.
+    /// Whether named classes and letter case follow ASCII. They do under the flag ASCII and for `bytes`.
     pub(crate) fn goes_by_ascii(self, ascii: bool) -> bool
         ensures { result ≡ goes_by_ascii ascii self }
     {

@@ -1,4 +1,4 @@
--- Pumps and heads put one behind the other.
+-- Pumps and heads appended one after the other.
 use Rattle.std.proofs.Common.{◌≡◌, ℕ, ◌+◌, ◌<◌, ◌≤◌, List, [], ◌∷◌, ◌++◌, length, get_or, drop, min, refl, ap, ap₂, sym, ◌∙◌, append_assoc, arith, codes}
 use Rattle.std.proofs.lemmas.List.{drop_more, append-nil, length-drop}
 use Rattle.rl_ranges.specs.declared.universe.Universe.{Universe}
@@ -10,7 +10,7 @@ regroup a b c d = simp append_assoc
 front_of : (xs : List (List ℕ)) (i : ℕ) (x : List ℕ) → i < length xs → x ≡ get_or xs i x → drop i xs ≡ x ∷ drop (i + 1) xs
 front_of xs i x h e = drop_more xs i x h ∙ ap (λ y. y ∷ drop (i + 1) xs) (sym e)
 
--- what is put and what is left make up the whole
+-- What is appended so far and what is left make up the whole.
 pub part_more : (u : Universe) (whole now next last : List ℕ) (pumps heads : List (List ℕ)) (i : ℕ) (p h : List ℕ) → i < length pumps → i < length heads
     → p ≡ get_or pumps i p → h ≡ get_or heads i h
     → now ++ later_parts u (i + 1) (drop i pumps) (drop i heads) ≡ whole
@@ -28,7 +28,7 @@ no_pair u k [] heads h = refl
 no_pair u k (p ∷ pumps) [] h = refl
 no_pair u k (p ∷ pumps) (x ∷ heads) h = absurd (omega arith)
 
--- at the end nothing is left
+-- At the end nothing is left.
 pub part_end : (u : Universe) (whole now : List ℕ) (pumps heads : List (List ℕ)) (i : ℕ) → min (length pumps) (length heads) ≤ i
     → now ++ later_parts u (i + 1) (drop i pumps) (drop i heads) ≡ whole → now ≡ whole
 part_end u whole now pumps heads i h inv =

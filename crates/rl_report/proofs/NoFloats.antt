@@ -1,4 +1,4 @@
--- A report in JSON has no float: each part, put to members without one, gives members without one.
+-- A report in JSON has no float: each part adds members without a float to members without one.
 use Rattle.std.proofs.Common.{◌≡◌, ℕ, Bool, true, false, cond, ◌||◌, List, refl, ap, sym, ◌∙◌, Ordering, Less, Equal, Greater, nat_cmp, codes, map, Option, Some, None, option_and_then}
 use Rattle.std.specs.Prelude.{◌==◌}
 use Rattle.std.specs.Cmp.Lexicographic.{slice_cmp}
@@ -154,6 +154,6 @@ report-plain max_degree max_pairs report entries =
     (put-plain (codes "entries") (array (items_of (map (entry_data max_pairs report) entries))) no_members
     (items-plain (entry_data max_pairs report) entries (entry-plain max_pairs report)) refl))))
 
--- a report in JSON has no float
+-- A report in JSON has no float.
 pub plain_report : (d : Data) (max_degree max_pairs report : ℕ) (entries : List Entry) → d ≡ report_data max_degree max_pairs report entries → has_float d ≡ false
 plain_report d max_degree max_pairs report entries e = ap has_float e ∙ report-plain max_degree max_pairs report entries

@@ -28,7 +28,7 @@ column_more before GoesOn =
 at_place : ℕ → ℕ → Place
 at_place l c = record { line = l; column = c }
 
--- the place behind one more byte
+-- The place after one more byte.
 behind_more : (before : List Role) (r : Role) → place_behind (before ++ r ∷ []) ≡ after r (place_behind before)
 unfolding at_place
 behind_more before EndsLine =
@@ -38,7 +38,7 @@ behind_more before BeginsCode =
 behind_more before GoesOn =
     ap₂ at_place (omega (arith, line_more before GoesOn)) (omega (arith, column_more before GoesOn))
 
--- each byte of a text has a role
+-- Each byte of a text has a role.
 pub length-roles : (text : List ℕ) → length (roles text) ≡ length text
 length-roles [] = refl
 length-roles (c ∷ rest) = ap suc (length-roles rest)
@@ -67,7 +67,7 @@ place_more s at front h =
     ∙ ap place_behind (step_is s (text_start s) (at - text_start s) at (omega arith) h)
     ∙ behind_more (take (at - text_start s) (roles (drop (text_start s) s))) (role_at (drop at s)))
 
--- up to the front of the text the place is the same
+-- Up to the beginning of the text the place stays the same.
 pub place_front : (s : List ℕ) (a b : ℕ) → a ≤ text_start s → b ≤ text_start s → place_of s a ≡ place_of s b
 unfolding place_of
 place_front s a b h k =

@@ -19,27 +19,30 @@ use Rattle.rl_report.specs.Names.{Text, cause_name, kind_name, limit_name, limit
 use Rattle.rl_report.specs.Findings.{verdict_of, suggestion_of, becomes_of, is_finding, is_refused, is_undecided}
 use Rattle.rl_report.specs.Verdicts.{family_of, quoted_text}
 
--- Each definition below takes the members of an object that are there and gives these with its own. `put` keeps the keys in the
--- order of their bytes.
+-- Each definition with `Members` takes the members that an object already has, and returns them with its own members added.
+-- `put` keeps the keys in the order of their bytes.
 
--- A key without a value isn't there
+-- Adds a key with its value if there is a value.
 abbrev pub put_some : {X : Type 0} → Text → (X → Data) → Option X → Members → Members
 put_some key data_of value ms = option_map_or (λ x. put key (data_of x) ms) value ms
 
+-- A natural number as a JSON number.
 abbrev pub whole : ℕ → Data
 whole n = number (unsigned n)
 
+-- Adds a place: its line and column.
 abbrev pub place_members : Place → Members → Members
 place_members p ms = put (codes "column") (whole p.column) (put (codes "line") (whole p.line) ms)
 
+-- A place as an object of its own.
 abbrev pub place_data : Place → Data
 place_data p = object (place_members p no_members)
 
--- the place of the entry
+-- Adds the place of the entry, if it has one.
 abbrev pub at_members : Option Place → Members → Members
 at_members at ms = option_map_or (λ p. place_members p ms) at ms
 
--- a degree, or the name and the number of a limit that was passed
+-- Adds a verdict: its kind and, depending on it, the degree, or the name and number of the exceeded limit.
 abbrev pub verdict_members : ℕ → Verdict → Members → Members
 verdict_members max_pairs (Degree d family) ms = put (codes "degree") (whole d) (put (codes "kind") (string (codes "degree")) ms)
 verdict_members max_pairs (Expo family) ms = put (codes "kind") (string (codes "exponential")) ms
@@ -47,59 +50,69 @@ verdict_members max_pairs (Undecided limit) ms =
     put (codes "over") (whole (limit_number max_pairs limit))
     (put (codes "limit") (string (limit_name limit)) (put (codes "kind") (string (codes "undecided")) ms))
 
--- the kind, and the cause of a refusal with its place
+-- Adds the kind of an outcome without a verdict and, if it is a refusal, the cause and the place of the fault.
 abbrev pub refusal_members : Text → Option Text → Option Place → Members → Members
 refusal_members kind None fault ms = put (codes "kind") (string kind) ms
 refusal_members kind (Some cause) fault ms = put_some (codes "fault") place_data fault (put (codes "cause") (string cause) (put (codes "kind") (string kind) ms))
 
+-- Adds the outcome of an entry: the verdict if there is one, otherwise the refusal.
 abbrev pub outcome_members : ℕ → Entry → Option Verdict → Members → Members
 outcome_members max_pairs e None ms = refusal_members (kind_name e.outcome) (cause_name e.outcome) e.fault ms
 outcome_members max_pairs e (Some verdict) ms = verdict_members max_pairs verdict ms
 
+-- Texts as an array of quoted literals.
 abbrev pub texts_data : Universe → List (List ℕ) → Data
 texts_data universe texts = array (items_of (map (λ text. string (quoted_text universe text)) texts))
 
+-- The family of a verdict: its heads and pumps.
 abbrev pub family_data : Universe → Family → Data
 family_data universe family =
     object (put (codes "pumps") (texts_data universe family.pumps)
     (put (codes "heads") (texts_data universe family.heads) no_members))
 
+-- Marks as an array of places.
 abbrev pub marks_data : List Mark → Data
 marks_data marks = array (items_of (map (λ m. place_data m.at) marks))
 
+-- Adds the parts that a suggestion mentions, as three lists of places.
 abbrev pub marks_members : Marks → Members → Members
 marks_members marks ms =
     put (codes "passed") (marks_data marks.passed)
     (put (codes "merged") (marks_data marks.merged) (put (codes "dropped") (marks_data marks.dropped) ms))
 
--- in report version 2
+-- Adds the verdict on the suggested pattern, in report version 2.
 abbrev pub becomes_members : ℕ → ℕ → Option Verdict → Members → Members
 becomes_members max_pairs report becomes ms =
     option_map_or (λ v. if report == 2 then put (codes "becomes") (object (verdict_members max_pairs v no_members)) ms else ms) becomes ms
 
+-- Adds the suggested pattern, if there is one, and the verdict on it.
 abbrev pub suggest_members : ℕ → ℕ → Universe → Option (List ℕ) → Option Verdict → Members → Members
 suggest_members max_pairs report universe text becomes ms =
     option_map_or (λ t. becomes_members max_pairs report becomes (put (codes "suggest") (string (quoted_text universe t)) ms)) text ms
 
+-- Adds what belongs to a suggestion: its marks, the suggested pattern and the verdict on it.
 abbrev pub suggestion_members : ℕ → ℕ → Universe → Marks → Option Suggestion → Option Verdict → Members → Members
 suggestion_members max_pairs report universe marks suggestion becomes ms =
     option_map_or (λ s. suggest_members max_pairs report universe s.text becomes (marks_members marks ms)) suggestion ms
 
--- what stands before the outcome
+-- Adds the members that come before the outcome: the path, the place and the call.
 abbrev pub front_members : Entry → Members → Members
 front_members e ms =
     put_some (codes "call") (λ c. string (call_word c)) e.call (at_members e.at (put (codes "path") (string e.path) ms))
 
+-- Adds the family of the verdict and the suggestion.
 abbrev pub judged_members : ℕ → ℕ → Entry → Members → Members
 judged_members max_pairs report e ms =
     suggestion_members max_pairs report e.universe e.marks (suggestion_of e.outcome) (becomes_of e.outcome)
     (put_some (codes "family") (family_data e.universe) (option_and_then family_of (verdict_of e.outcome)) ms)
 
+-- The object of an entry.
 abbrev pub entry_data : ℕ → ℕ → Entry → Data
 entry_data max_pairs report e =
     object (judged_members max_pairs report e
     (outcome_members max_pairs e (verdict_of e.outcome) (front_members e no_members)))
 
+-- The object of the whole report.
 unfoldable pub report_data : ℕ → ℕ → ℕ → List Entry → Data
 report_data max_degree max_pairs report entries =
     object (put (codes "version") (whole report)
@@ -108,7 +121,7 @@ report_data max_degree max_pairs report entries =
     (put (codes "findings") (whole (count_by (is_finding max_degree) entries))
     (put (codes "entries") (array (items_of (map (entry_data max_pairs report) entries))) no_members)))))
 
--- one line
+-- The report in JSON, which is one line.
 abbrev pub json_report : ℕ → ℕ → ℕ → List Entry → Text
 json_report max_degree max_pairs report entries =
     compact_text (report_data max_degree max_pairs report entries) ++ codes "\n"

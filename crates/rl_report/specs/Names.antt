@@ -17,10 +17,11 @@ use Rattle.rl_syntax.specs.declared.verdict.Verdict.TheVariants.{Degree, Expo, U
 use Rattle.rl_report.specs.declared.report.Outcome.{Outcome}
 use Rattle.rl_report.specs.declared.report.Outcome.TheVariants as outcome
 
+-- A text of the report, as the list of its bytes.
 abbrev pub Text : Type 0
 Text = List ℕ
 
--- what a pattern may not hold
+-- The name of a feature that keeps a pattern from being judged.
 abbrev pub feature_name : Feature → Text
 feature_name feature.Locale = codes "locale"
 feature_name feature.FlagClash = codes "flag-clash"
@@ -37,6 +38,7 @@ feature_name feature.Atomic = codes "atomic"
 feature_name feature.NamedEscape = codes "named-escape"
 feature_name feature.InnerAnchor = codes "inner-anchor"
 
+-- The name of a limit.
 abbrev pub limit_name : Limit → Text
 limit_name limit.Size = codes "size"
 limit_name limit.Letters = codes "letters"
@@ -44,7 +46,7 @@ limit_name limit.Moves = codes "moves"
 limit_name limit.Sets = codes "sets"
 limit_name limit.Pairs = codes "pairs"
 
--- the number of a limit. That of the pairs is a setting
+-- The number of a limit. The limit of live pairs is a setting.
 abbrev pub limit_number : ℕ → Limit → ℕ
 limit_number max_pairs limit.Size = MOST_NODES
 limit_number max_pairs limit.Letters = MOST_LETTERS
@@ -52,7 +54,8 @@ limit_number max_pairs limit.Moves = MOST_MOVES
 limit_number max_pairs limit.Sets = MOST_COUNTED_SETS
 limit_number max_pairs limit.Pairs = max_pairs
 
--- why a source has no tokens. Out of memory is no outcome
+-- The name of the fault that keeps a source from being cut into tokens. Running out of memory has a name, but no report shows
+-- it.
 abbrev pub lexing_cause : LexError → Text
 lexing_cause (lex_error.NotUtf8 n) = codes "not-utf8"
 lexing_cause (lex_error.Coding p) = codes "coding"
@@ -61,7 +64,7 @@ lexing_cause lex_error.FileTooLong = codes "file-too-long"
 lexing_cause (lex_error.StrayCode p) = codes "stray-code"
 lexing_cause lex_error.OutOfMemory = codes "out-of-memory"
 
--- why literals have no value
+-- The name of the reason why literals have no value.
 abbrev pub literal_cause : StrError → Text
 literal_cause str_error.FString = codes "f-string"
 literal_cause str_error.Mixed = codes "mixed"
@@ -70,7 +73,7 @@ literal_cause (str_error.NamedEscape p) = codes "named-escape"
 literal_cause (str_error.NotAscii p) = codes "not-ascii"
 literal_cause str_error.OutOfMemory = codes "out-of-memory"
 
--- why codes are no pattern that is judged
+-- The name of the reason why a pattern can't be judged.
 abbrev pub pattern_cause : PatError → Text
 pattern_cause (pattern_error.Syntax n) = codes "syntax"
 pattern_cause (pattern_error.TooDeep p) = codes "too-deep"
@@ -78,7 +81,7 @@ pattern_cause pattern_error.TooLong = codes "too-long"
 pattern_cause (pattern_error.Outside p what) = feature_name what
 pattern_cause pattern_error.OutOfMemory = codes "out-of-memory"
 
--- the cause of a refusal
+-- The name of the cause of a refusal, if the outcome is one.
 abbrev pub cause_name : Outcome → Option Text
 cause_name (outcome.Source e) = Some (lexing_cause e)
 cause_name outcome.NotWhole = Some (codes "not-whole")
@@ -87,12 +90,13 @@ cause_name outcome.FlagsUnknown = Some (codes "flags-unknown")
 cause_name (outcome.Pattern e) = Some (pattern_cause e)
 cause_name _ = None
 
+-- The name of a verdict's kind.
 abbrev pub verdict_kind : Verdict → Text
 verdict_kind (Degree d family) = codes "degree"
 verdict_kind (Expo family) = codes "exponential"
 verdict_kind (Undecided l) = codes "undecided"
 
--- the kind of an outcome
+-- The name of an outcome's kind.
 abbrev pub kind_name : Outcome → Text
 kind_name outcome.Unreadable = codes "unreadable"
 kind_name outcome.TooDeepFolder = codes "too-deep-folder"

@@ -1,11 +1,11 @@
-//! What a report counts.
+//! The numbers in the last line of a report.
 ghost use Rattle.std.specs.Prelude.{◌≡◌, ◌≤◌, length};
 ghost use Rattle.std.specs.List.{count_by};
 ghost use Rattle.rl_report.specs.Findings.{is_finding, is_refused, is_undecided};
 
 use crate::report::Entry;
 
-/// How many entries are findings.
+/// Returns the number of entries that are findings.
 pub fn findings(entries: &[Entry], max_degree: u32) -> usize
     ensures { result ≡ count_by (is_finding max_degree) entries.now }
 {
@@ -18,7 +18,7 @@ pub fn findings(entries: &[Entry], max_degree: u32) -> usize
     count
 }
 
-/// How many entries are anything but verdicts.
+/// Returns the number of entries without a verdict.
 pub fn refusals(entries: &[Entry]) -> usize
     ensures { result ≡ count_by is_refused entries.now }
 {
@@ -31,7 +31,7 @@ pub fn refusals(entries: &[Entry]) -> usize
     count
 }
 
-/// How many verdicts are that a limit was passed.
+/// Returns the number of entries whose verdict is `undecided`.
 pub fn undecided(entries: &[Entry]) -> usize
     ensures { result ≡ count_by is_undecided entries.now }
 {

@@ -23,7 +23,7 @@ use rl_syntax::{Family, Limit, Suggestion, Universe, Verdict};
 use serde_json::{Map, Value, put};
 use std::alloc::Global;
 
-/// The members of an object.
+/// The members of a JSON object.
 type Members = Map<String, Value>;
 
 fn put_value(
@@ -178,7 +178,7 @@ fn put_outcome(
     }
 }
 
-/// A quoted text, which is ASCII.
+/// Returns a quoted text as a JSON string. A quoted text is always ASCII.
 fn quoted_value(alloc: Global, text: &Codes, universe: Universe) -> Result<Value, OutOfMemory>
     requires { IsText universe text.now }
     ensures { IfOk result (λ v. view v ≡ string (quoted_text universe text.now)) }
@@ -427,7 +427,7 @@ fn entries_value(alloc: Global, terms: Terms, entries: &[Entry]) -> Result<Value
     Ok(Value::Array(values))
 }
 
-/// Puts the counts and the version behind the entries.
+/// Adds the counts and the report version.
 fn put_counts(
     alloc: Global,
     members: &mut Members,
@@ -464,7 +464,7 @@ fn report_value(alloc: Global, terms: Terms, entries: &[Entry]) -> Result<Value,
     Ok(Value::Object(members))
 }
 
-/// The report in JSON: one line.
+/// Returns the report in JSON, which is one line.
 pub fn json_report(alloc: Global, terms: Terms, entries: &[Entry]) -> Result<Bytes, OutOfMemory>
     requires { All IsOfItsUniverse entries.now }
     ensures { IfOk result (λ bytes. bytes

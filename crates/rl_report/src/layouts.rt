@@ -20,7 +20,7 @@ pub enum Format {
     Json,
 }
 
-/// The report on the entries in a format.
+/// Lays out the report on the entries in a format.
 fn laid_out(
     alloc: Global,
     entries: &Entries,
@@ -40,11 +40,11 @@ fn laid_out(
     }
 }
 
-/// The report on the entries, in version 1 or 2. A degree above `max_degree` is a finding, and `max_pairs` is the limit of
-/// the live pairs.
+/// Returns the report on the entries, in version 1 or 2. A degree above `max_degree` is a finding, and `max_pairs` is the limit
+/// of live pairs.
 ///
 /// # Errors
-/// [`OutOfMemory`] when out of memory.
+/// [`OutOfMemory`] if memory runs out.
 pub fn render(
     alloc: Global,
     entries: &Entries,
@@ -66,11 +66,11 @@ pub fn render(
     laid_out(alloc, entries, format, terms, None)
 }
 
-/// The report on the entries that a baseline doesn't hide, as [`render`] gives it, with the number of those that it hides
-/// in the last line. JSON doesn't show that number.
+/// Returns the report on the entries that a baseline doesn't hide, as [`render`] does, with the number of hidden entries in the
+/// last line. JSON doesn't show that number.
 ///
 /// # Errors
-/// [`OutOfMemory`] when out of memory.
+/// [`OutOfMemory`] if memory runs out.
 pub fn render_shown(
     alloc: Global,
     entries: &Entries,

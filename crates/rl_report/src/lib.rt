@@ -1,9 +1,9 @@
-//! Reports: what is found of each pattern of a source, and the layouts in which it is written.
+//! Reports: what is found for each pattern of a source, and the layouts in which it is written.
 //!
 //! An [`Entry`] has a path, a place, a call, an [`Outcome`], which is a verdict or the cause of a refusal, and [`Marks`] for
-//! the parts of the pattern that a suggestion speaks of. [`render`] lays out a list of entries in a [`Format`]: as text, as
+//! the parts of the pattern that a suggestion mentions. [`render`] lays out a list of entries in a [`Format`]: as text, as
 //! brief text or as JSON. [`render_shown`] does so for the entries that a baseline doesn't hide. [`place_of`] and [`Cursor`]
-//! turn byte places into lines and columns, and the names of calls, limits and causes are a table of this crate.
+//! turn byte places into lines and columns, and tables in this crate name the calls, limits and causes.
 //!
 //! # What is proved
 //!

@@ -18,12 +18,12 @@ use rl_sites::Call;
 use rl_syntax::{Suggestion, Universe, Verdict};
 use std::alloc::Global;
 
-/// The limits and the version by which a report is written.
+/// The settings that the text of a report depends on.
 #[derive(Clone, Copy)]
 pub struct Terms {
-    /// The greatest degree that is no finding.
+    /// The highest degree that isn't a finding.
     pub max_degree: u32,
-    /// The limit of the live pairs.
+    /// The limit of live pairs.
     pub max_pairs: u32,
     /// The version of the report.
     pub report: u32,
@@ -318,7 +318,7 @@ fn push_last(
     push_text(out, "\n")
 }
 
-/// The head lines and the last line.
+/// Returns the head lines and the last line.
 pub fn brief_report(
     alloc: Global,
     terms: Terms,
@@ -334,7 +334,7 @@ pub fn brief_report(
     Ok(Bytes::from_vec(out))
 }
 
-/// The head line and the detail lines of each entry, and the last line.
+/// Returns the head line and the detail lines of each entry, and the last line.
 pub fn text_report(
     alloc: Global,
     terms: Terms,
@@ -351,11 +351,11 @@ pub fn text_report(
     Ok(Bytes::from_vec(out))
 }
 
-/// The last line of the text layout of the entries: how many they are, and how many of them are findings, are refused and
-/// are undecided. A degree above `max_degree` is a finding.
+/// Returns the last line of the text format: how many entries there are, and how many of them are findings, refused and
+/// undecided. A degree above `max_degree` is a finding.
 ///
 /// # Errors
-/// [`OutOfMemory`] when out of memory.
+/// [`OutOfMemory`] if memory runs out.
 pub fn summary_line(alloc: Global, entries: &Entries, max_degree: u32) -> Result<Bytes, OutOfMemory>
     ensures { IfOk result (λ bytes. bytes ≡ last_line max_degree None entries.now) }
 {

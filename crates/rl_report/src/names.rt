@@ -1,4 +1,4 @@
-//! The names in a report.
+//! The names that a report uses for calls, limits, kinds and causes.
 ghost use Rattle.std.specs.Prelude.{◌≡◌};
 ghost use Rattle.rl_sites.specs.Names.{call_word};
 ghost use Rattle.rl_report.specs.Names.{feature_name, lexing_cause, limit_name, limit_number, literal_cause, pattern_cause, verdict_kind};
@@ -9,7 +9,7 @@ use rl_pystr::StrError;
 use rl_sites::Call;
 use rl_syntax::{Feature, Limit, MOST_COUNTED_SETS, MOST_LETTERS, MOST_MOVES, MOST_NODES, Verdict};
 
-/// The name of what a pattern may not hold.
+/// Returns the name of a feature that keeps a pattern from being judged.
 pub fn feature_name(feature: Feature) -> &'static str
     ensures { result.now ≡ feature_name feature }
 {
@@ -31,7 +31,7 @@ pub fn feature_name(feature: Feature) -> &'static str
     }
 }
 
-/// The name of a call.
+/// Returns the name of a call.
 pub fn call_name(call: Call) -> &'static str
     ensures { result.now ≡ call_word call }
 {
@@ -48,7 +48,7 @@ pub fn call_name(call: Call) -> &'static str
     }
 }
 
-/// The name of a limit.
+/// Returns the name of a limit.
 pub fn limit_name(limit: Limit) -> &'static str
     ensures { result.now ≡ limit_name limit }
 {
@@ -61,7 +61,7 @@ pub fn limit_name(limit: Limit) -> &'static str
     }
 }
 
-/// The number of a limit, where that of the pairs is given.
+/// Returns the number of a limit. The limit of live pairs is a setting, given as `max_pairs`.
 pub fn limit_number(limit: Limit, max_pairs: u32) -> u32
     ensures { result ≡ limit_number max_pairs limit }
 {
@@ -74,7 +74,7 @@ pub fn limit_number(limit: Limit, max_pairs: u32) -> u32
     }
 }
 
-/// The name of a verdict's kind.
+/// Returns the name of a verdict's kind.
 pub fn verdict_kind(verdict: &Verdict) -> &'static str
     ensures { result.now ≡ verdict_kind verdict.now }
 {
@@ -85,7 +85,7 @@ pub fn verdict_kind(verdict: &Verdict) -> &'static str
     }
 }
 
-/// The name of why a source has no tokens.
+/// Returns the name of the fault that keeps a source from being cut into tokens.
 pub fn lexing_cause(error: LexError) -> &'static str
     ensures { result.now ≡ lexing_cause error }
 {
@@ -99,7 +99,7 @@ pub fn lexing_cause(error: LexError) -> &'static str
     }
 }
 
-/// The name of why literals have no value.
+/// Returns the name of the reason why literals have no value.
 pub fn literal_cause(error: StrError) -> &'static str
     ensures { result.now ≡ literal_cause error }
 {
@@ -113,7 +113,7 @@ pub fn literal_cause(error: StrError) -> &'static str
     }
 }
 
-/// The name of why codes are no pattern that is judged.
+/// Returns the name of the reason why a pattern can't be judged.
 pub fn pattern_cause(error: PatError) -> &'static str
     ensures { result.now ≡ pattern_cause error }
 {

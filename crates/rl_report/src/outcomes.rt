@@ -10,7 +10,7 @@ use crate::verdicts::verdict_text;
 use rl_lists::OutOfMemory;
 use std::alloc::Global;
 
-/// The cause of a refusal with its place, or the kind of what has no cause.
+/// Returns the cause of a refusal with its place, or the kind of an outcome that has no cause.
 fn refusal_text(
     alloc: Global,
     outcome: &Outcome,
@@ -32,11 +32,11 @@ fn refusal_text(
     }
 }
 
-/// The outcome of an entry, as it stands in the head line: the verdict, the cause of a refusal with its place, or the kind
-/// of what has no cause. `max_pairs` is the limit of the live pairs.
+/// Returns the outcome of an entry as the head line shows it: the verdict, the cause of a refusal with its place, or the kind
+/// of an outcome that has no cause. `max_pairs` is the limit of live pairs.
 ///
 /// # Errors
-/// [`OutOfMemory`] when out of memory.
+/// [`OutOfMemory`] if memory runs out.
 pub fn outcome_text(alloc: Global, entry: &Entry, max_pairs: u32) -> Result<String, OutOfMemory>
     ensures { IfOk result (λ text. string_bytes text
         ≡ outcome_text max_pairs entry.now (verdict_of entry.now.outcome)) }

@@ -1,4 +1,4 @@
-//! Pieces of a text, put one behind the other.
+//! Appending the pieces that a text report consists of.
 ghost use Rattle.std.specs.Prelude.{◌≡◌, ◌++◌, OnOk};
 ghost use Rattle.std.specs.Fmt.{decimal};
 ghost use Rattle.rl_ranges.specs.Text.{IsText};
@@ -19,7 +19,7 @@ pub fn push_text(out: &mut Vec<u8>, text: &str) -> Result<(), OutOfMemory>
     Ok(())
 }
 
-/// Appends a number.
+/// Appends a number in decimal.
 pub fn push_number(alloc: Global, out: &mut Vec<u8>, number: usize) -> Result<(), OutOfMemory>
     ensures { OnOk result (out.new.items ≡ out.old.items ++ decimal number) }
 {
@@ -27,7 +27,7 @@ pub fn push_number(alloc: Global, out: &mut Vec<u8>, number: usize) -> Result<()
     push_text(out, text.as_str())
 }
 
-/// Appends a line and a column.
+/// Appends a line and a column, as `LINE:COLUMN`.
 pub fn push_place(alloc: Global, out: &mut Vec<u8>, place: Place) -> Result<(), OutOfMemory>
     ensures { OnOk result (out.new.items ≡ out.old.items ++ place_text place) }
 {
@@ -37,7 +37,7 @@ pub fn push_place(alloc: Global, out: &mut Vec<u8>, place: Place) -> Result<(), 
     push_text(out, text.as_str())
 }
 
-/// Appends a quoted text.
+/// Appends a text as a quoted literal.
 pub fn push_quoted(
     alloc: Global,
     out: &mut Vec<u8>,

@@ -3,27 +3,27 @@ ghost use Rattle.std.specs.Prelude.{◌≡◌, ◌+◌, ◌<◌, ◌≤◌, List
 ghost use Rattle.rl_pylex.specs.Bytes.{text_start};
 ghost use Rattle.rl_report.specs.Places.{IsAt, after, place_of, role_at};
 
-/// A place in a source. Lines and columns count from 1, columns in codes.
+/// A place in a source. Lines and columns count from 1, and columns count code points.
 #[derive(Clone, Copy, PartialEq, Eq)]
 pub struct Place {
     /// The number of the line.
     pub line: u32,
-    /// The number of the code in its line.
+    /// The number of the code point in its line.
     pub column: u32,
 }
 
-/// What a byte is for lines and columns.
+/// The role of a byte in counting lines and columns.
 #[derive(Clone, Copy)]
 pub enum Role {
-    /// A line ends with it.
+    /// It ends a line.
     EndsLine,
-    /// A code begins with it.
+    /// It begins a code point.
     BeginsCode,
-    /// It goes on with a code.
+    /// It continues a code point.
     GoesOn,
 }
 
-/// The text from a place on.
+/// Returns the text from a byte place to the end.
 fn rest_from(text: &[u8], at: usize) -> &[u8]
     requires { at ≤ length text.now }
     ensures { result.now ≡ drop at text.now }
@@ -31,7 +31,7 @@ fn rest_from(text: &[u8], at: usize) -> &[u8]
     &text[at..]
 }
 
-/// Where the text of a source begins, behind its byte order mark.
+/// Returns the byte place where the text of a source begins, which is after its byte order mark if it has one.
 #[tactic(auto, unfolding(rl_pylex::specs::Bytes::text_start))]
 fn text_start(source: &[u8]) -> u32
     ensures value { result ≡ text_start source.now }
@@ -44,7 +44,7 @@ fn text_start(source: &[u8]) -> u32
     }
 }
 
-/// What the byte at the front of a text is.
+/// Returns the role of the first byte of a text.
 fn role_at(text: &[u8]) -> Role
     ensures { result ≡ role_at text.now }
 {
@@ -57,7 +57,7 @@ fn role_at(text: &[u8]) -> Role
 }
 
 impl Place {
-    /// The place behind a byte at this one.
+    /// Returns the place after a byte with this role, if the byte is at this place.
     fn after(self, role: Role) -> Place
         requires line { self.line < 4294967295 }
         requires column { self.column < 4294967295 }
@@ -77,8 +77,8 @@ impl Place {
     }
 }
 
-/// A byte place in a source with its line and column, which goes forward: the places of a source in rising order cost
-/// one pass over it.
+/// A byte place in a source, with its line and column. It only moves forward, so finding any number of places in increasing
+/// order takes one pass over the source.
 #[derive(Clone, Copy)]
 pub struct Cursor {
     byte: u32,
@@ -86,7 +86,7 @@ pub struct Cursor {
 }
 
 impl Cursor {
-    /// The front of every source.
+    /// Returns a cursor at the beginning, which fits every source.
     #[tactic(auto, using(crate::proofs::PlaceLemmas::steps))]
     pub fn start() -> Cursor
         ensures front { result.byte ≡ 0 }
@@ -98,21 +98,21 @@ impl Cursor {
         }
     }
 
-    /// The byte place.
+    /// Returns the byte place.
     pub fn byte(self) -> u32
         ensures { result ≡ self.byte }
     {
         self.byte
     }
 
-    /// The line and the column.
+    /// Returns the line and column.
     pub fn place(self) -> Place
         ensures { result ≡ self.place }
     {
         self.place
     }
 
-    /// A byte place in the same source, at this one or behind it.
+    /// Returns a cursor at a later byte place of the same source, or at the same one.
     #[tactic(auto, using(crate::proofs::PlaceLemmas::steps))]
     pub fn forward(self, source: &[u8], byte: u32) -> Cursor
         requires at { IsAt source.now self }
@@ -131,8 +131,9 @@ impl Cursor {
     }
 }
 
-/// The line and the column of a byte place. A byte order mark at the front counts as no column. A line end is CR LF, a CR
-/// without LF after it, or LF; a place between CR and LF is on the line that they end, one column after the CR.
+/// Returns the line and column of a byte place. A byte order mark at the beginning doesn't count as a column. A line ends with
+/// CR LF, with a CR that has no LF after it, or with LF. A place between CR and LF is on the line that they end, one column
+/// after the CR.
 pub fn place_of(source: &[u8], byte: u32) -> Place
     requires within { byte ≤ length source.now }
     requires small { byte < 4294967295 }

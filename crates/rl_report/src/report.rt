@@ -13,68 +13,68 @@ use rl_sites::Call;
 use rl_source::Name;
 use rl_syntax::{Suggestion, Universe, Verdict};
 
-/// What is told of a site, of a source without sites or of a path without a source.
+/// The result for a site, for a source that can't be cut into tokens, or for a path without a source.
 #[derive(Drop)]
 pub enum Outcome {
-    /// The path could not be read.
+    /// The path couldn't be read.
     Unreadable,
-    /// The folder lies too deep.
+    /// The folder is nested too deeply.
     TooDeepFolder,
     /// The path is neither a file nor a folder.
     NotPlain,
-    /// The source has no tokens.
+    /// The source can't be cut into tokens, because of this fault.
     Source(LexError),
-    /// The first argument of the call is more than literals.
+    /// The first argument of the call isn't only literals.
     NotWhole,
     /// The literals have no value.
     Literal(StrError),
     /// The flags aren't known.
     FlagsUnknown,
-    /// The value is no pattern that is judged.
+    /// The value isn't a pattern that can be judged.
     Pattern(PatError),
     /// The verdict on the pattern, a suggestion for it, and the verdict on the suggested pattern.
     Judged(Verdict, Option<Suggestion>, Option<Verdict>),
 }
 
-/// A place with the text of what stands there.
+/// A place in a source, with the text that is there.
 #[derive(Drop)]
 pub struct Mark {
-    /// Where it stands.
+    /// The place.
     pub at: Place,
-    /// It as a quoted text, where it is told.
+    /// The text as a quoted literal, if the report shows it.
     pub text: Option<Bytes>,
 }
 
 /// A list of marks.
 pub type MarkList = Items<Mark>;
 
-/// The parts of a pattern that a suggestion speaks of, each by rising place.
+/// The parts of a pattern that a suggestion mentions, each list in the order of the places.
 #[derive(Drop)]
 pub struct Marks {
-    /// The branches that it drops.
+    /// The branches that the suggestion drops.
     pub dropped: MarkList,
-    /// The quantifiers that it takes out. They have no text.
+    /// The quantifiers that the suggestion removes. They have no text.
     pub merged: MarkList,
-    /// The branches whose test passed its limit.
+    /// The branches that stay because their test exceeded its limit.
     pub passed: MarkList,
 }
 
-/// What is told of one site, of a source without sites or of a path without a source.
+/// An entry of a report: the result for one site, for a source that can't be cut into tokens, or for a path without a source.
 #[derive(Drop)]
 pub struct Entry {
     /// The path of the source, or the path that was visited.
     pub path: Name,
-    /// The place of the site's first literal, or that of the fault of a source.
+    /// The place of the site's first literal, or the place of a fault of the source.
     pub at: Option<Place>,
-    /// The site's call.
+    /// The call of the site.
     pub call: Option<Call>,
-    /// Whether the pattern is text or bytes; text where there is none.
+    /// Whether the pattern is text or bytes; text if there is no pattern.
     pub universe: Universe,
-    /// The place in the source of a fault of the literals or of the pattern.
+    /// The place in the source of a fault in the literals or in the pattern.
     pub fault: Option<Place>,
-    /// What is told.
+    /// The result.
     pub outcome: Outcome,
-    /// What the suggestion speaks of.
+    /// The parts of the pattern that the suggestion mentions.
     pub marks: Marks,
 }
 
@@ -82,7 +82,7 @@ pub struct Entry {
 pub type Entries = Items<Entry>;
 
 impl Outcome {
-    /// The name of its kind.
+    /// Returns the name of the outcome's kind.
     pub fn kind(&self) -> &'static str
         ensures { result.now ≡ kind_name self.now }
     {
@@ -99,7 +99,7 @@ impl Outcome {
         }
     }
 
-    /// The verdict.
+    /// Returns the verdict, if there is one.
     pub fn verdict(&self) -> Option<&Verdict>
         ensures { option_map (λ v. v.now) result ≡ verdict_of self.now }
     {
@@ -109,7 +109,7 @@ impl Outcome {
         }
     }
 
-    /// The suggestion beside the verdict.
+    /// Returns the suggestion that comes with the verdict, if there is one.
     pub fn suggestion(&self) -> Option<&Suggestion>
         ensures { option_map (λ s. s.now) result ≡ suggestion_of self.now }
     {
@@ -119,7 +119,7 @@ impl Outcome {
         }
     }
 
-    /// The verdict on the suggested pattern.
+    /// Returns the verdict on the suggested pattern, if there is one.
     pub fn becomes(&self) -> Option<&Verdict>
         ensures { option_map (λ v. v.now) result ≡ becomes_of self.now }
     {
@@ -129,7 +129,7 @@ impl Outcome {
         }
     }
 
-    /// The name of the cause of a refusal.
+    /// Returns the name of the cause, if the outcome is a refusal.
     pub fn cause(&self) -> Option<&'static str>
         ensures { option_map (λ c. c.now) result ≡ cause_name self.now }
     {
@@ -147,7 +147,7 @@ impl Outcome {
     }
 }
 
-/// Whether a verdict is a finding: an exponential one, or a degree above the greatest that is allowed.
+/// Whether a verdict is a finding: it is exponential, or its degree is above `max_degree`.
 pub fn is_finding(verdict: &Verdict, max_degree: u32) -> bool
     ensures { result ≡ is_found max_degree verdict.now }
 {
@@ -159,7 +159,7 @@ pub fn is_finding(verdict: &Verdict, max_degree: u32) -> bool
 }
 
 impl Entry {
-    /// Whether it is a finding: its verdict is one.
+    /// Whether the entry is a finding, which its verdict decides.
     #[tactic(auto, unfolding(crate::specs::Findings::is_finding))]
     pub fn is_finding(&self, max_degree: u32) -> bool
         ensures { result ≡ is_finding max_degree self.now }
@@ -170,7 +170,7 @@ impl Entry {
         }
     }
 
-    /// Whether it is anything but a verdict.
+    /// Whether the entry has no verdict.
     #[tactic(auto, unfolding(crate::specs::Findings::is_refused))]
     pub fn is_refused(&self) -> bool
         ensures { result ≡ is_refused self.now }
@@ -178,7 +178,7 @@ impl Entry {
         self.outcome.verdict().is_none()
     }
 
-    /// Whether its verdict is that a limit was passed.
+    /// Whether the entry's verdict is `undecided`, because a limit was exceeded.
     #[tactic(auto, unfolding(crate::specs::Findings::is_undecided))]
     pub fn is_undecided(&self) -> bool
         ensures { result ≡ is_undecided self.now }

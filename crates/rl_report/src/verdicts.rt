@@ -10,7 +10,7 @@ use rl_lists::{Bytes, Codes, OutOfMemory};
 use rl_syntax::{Family, Universe, Verdict};
 use std::alloc::Global;
 
-/// A verdict: `degree D`, `exponential` or `undecided L over N`.
+/// Returns a verdict as a text: `degree D`, `exponential` or `undecided L over N`.
 pub fn verdict_text(alloc: Global, verdict: &Verdict, max_pairs: u32) -> Result<String, OutOfMemory>
     ensures { IfOk result (λ text. string_bytes text ≡ verdict_text max_pairs verdict.now) }
 {
@@ -57,7 +57,7 @@ fn push_part(
     push_quoted(alloc, out, text, universe)
 }
 
-/// Appends the pumps and the heads behind them, numbered from 1.
+/// Appends each pump with the head that follows it, numbered from 1.
 fn push_later_parts(
     alloc: Global,
     out: &mut Vec<u8>,
@@ -118,10 +118,10 @@ pub fn push_family(
     push_text(out, "\n")
 }
 
-/// The line of a verdict: `degree D`, `exponential` or `undecided L over N`, and a line feed.
+/// Returns the line of a verdict: `degree D`, `exponential` or `undecided L over N`, and a line feed.
 ///
 /// # Errors
-/// [`OutOfMemory`] when out of memory.
+/// [`OutOfMemory`] if memory runs out.
 pub fn verdict_line(alloc: Global, verdict: &Verdict, max_pairs: u32) -> Result<Bytes, OutOfMemory>
     ensures { IfOk result (λ line. line ≡ verdict_text max_pairs verdict.now ++ codes "\n") }
 {
@@ -131,11 +131,11 @@ pub fn verdict_line(alloc: Global, verdict: &Verdict, max_pairs: u32) -> Result<
     Ok(Bytes::from_vec(out))
 }
 
-/// The line of a family: two spaces, `family`, its first head and each pump with the head behind it, as ` x0`, ` y1`,
-/// ` x1` and so on with the quoted text, and a line feed.
+/// Returns the line of a family: two spaces, `family`, the first head, then each pump with the head that follows it, labelled `
+/// x0`, ` y1`, ` x1` and so on, each with its quoted text, and a line feed.
 ///
 /// # Errors
-/// [`OutOfMemory`] when out of memory.
+/// [`OutOfMemory`] if memory runs out.
 pub fn family_line(alloc: Global, family: &Family, universe: Universe) -> Result<Bytes, OutOfMemory>
     requires { IsFamilyOf universe family.now }
     ensures { IfOk result (λ line. line ≡ family_text_line universe family.now) }

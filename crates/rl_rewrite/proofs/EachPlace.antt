@@ -21,7 +21,7 @@ pub record IsOfParts (R : List Bool → Tree → Tree → Type 0) : Type 0 where
   pub of_many : (k : List Bool) (a b : Tree) (g : Bool) → R k a b → R k (many a g) (many b g)
 
 module _ (R : List Bool → Tree → Tree → Type 0) (is : IsOfParts R) where
-  -- lists of trees, one beside the other
+  -- Lists of trees, one beside the other.
   pub data Each : List Bool → List Tree → List Tree → Type 0 where
     no_each : Each [] [] []
     one_each : {k m : List Bool} {s t : Tree} {ss ts : List Tree} → R k s t → Each m ss ts → Each (k ++ m) (s ∷ ss) (t ∷ ts)

@@ -1,4 +1,4 @@
--- What is left of a part may span the empty text where its tree may.
+-- What is left of a part may span the empty text if its tree may.
 use Rattle.std.proofs.Common.{◌≡◌, ℕ, zero, suc, ◌-◌, Bool, true, false, not, ◌&&◌, ◌||◌, ◌==◌, if◌then◌else◌, List, [], ◌∷◌, ◌++◌, replicate, Option, None, Some, refl, sym, ap, ◌∙◌}
 use Rattle.std.proofs.Math.Dec.{eqb-suc-zero}
 use Rattle.rl_syntax.specs.declared.span.Span.{Span}

@@ -1,4 +1,4 @@
--- A tree with fewer alternatives tells no more codes apart.
+-- A tree with fewer alternatives distinguishes no more codes.
 use Rattle.std.proofs.Common.{◌≡◌, ℕ, ◌≤◌, Bool, true, false, ◌&&◌, List, [], ◌∷◌, ◌++◌, length, refl, sym, ap, ◌∙◌}
 use Rattle.std.proofs.Math.Bool.{beq}
 use Rattle.rl_ranges.specs.declared.universe.Universe.{Universe}
@@ -23,7 +23,7 @@ join_alike (x ∷ xs) ys c d = ap (λ b. beq (x c) (x d) && b) (join_alike xs ys
     assoc true b e = refl
     assoc false b e = refl
 
--- what tells codes apart in the smaller tree does so in the greater one
+-- Codes that the smaller tree distinguishes are distinguished by the greater one.
 sets_fewer : {s t : Tree} → Fewer s t → (c d : ℕ) → alike (sets_in t) c d ≡ true → alike (sets_in s) c d ≡ true
 sets_fewer same_tree c d h = h
 sets_fewer (in_both {a = a} {b = b} {e = e} {f = f} h k) c d x =
@@ -53,11 +53,11 @@ all_fewer {s} {t} h c d x =
     let y = sym (join_alike (sets_in t) (guard_sets t) c d) ∙ x in
     join_alike (sets_in s) (guard_sets s) c d ∙ both_hold (alike (sets_in s) c d) (alike (guard_sets s) c d) (sets_fewer h c d (and_first (alike (sets_in t) c d) (alike (guard_sets t) c d) y)) (guards_fewer h c d (and_second (alike (sets_in t) c d) (alike (guard_sets t) c d) y))
 
--- the letters of both are those of the greater tree
+-- The letters of both trees are the letters of the greater one.
 pub joint_fewer : (u : Universe) {s t : Tree} → Fewer s t → joint_letters u t s ≡ classes (all_sets t) (code_count u)
 joint_fewer u {s} {t} h = joint-known u t s (all_fewer h)
 
--- and it has no more letters
+-- And it has no more letters.
 pub letters_fewer : (n : ℕ) {s t : Tree} → Fewer s t → length (classes (all_sets s) n) ≤ length (classes (all_sets t) n)
 letters_fewer n {s} {t} h =
     rw (classes-firsts (all_sets s) n, classes-firsts (all_sets t) n) (firsts-finer (alike (all_sets s)) (alike (all_sets t)) (IsLikeness-alike (all_sets s)) (all_fewer h) n)

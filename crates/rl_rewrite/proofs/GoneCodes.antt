@@ -58,7 +58,7 @@ some_text p [] [] codes h = absurd (h refl refl)
 some_text p [] (m ∷ ms) codes h = refl
 some_text p (d ∷ ds) ms codes h = refl
 
--- the codes that lie in no hole are the text, where something was taken out
+-- The codes that lie in no hole are the text, where something was taken out.
 pub text_made : (p : PatTree) (d m : List Span) (codes text : List ℕ) (holes : List Hole) → (d ≡ [] → m ≡ [] → ⊥) → holes ≡ holes_in (among d) (among m) p → text ≡ kept_from (λ t. not (in_holes holes t)) 0 codes → Some text ≡ text_if p d m codes
 text_made p d m codes text holes some e f =
     ap Some (f ∙ kept_alike (λ t. not (in_holes holes t)) (λ t. not (gone (among d) (among m) p t)) 0 codes (λ t. ap (λ hs. not (in_holes hs t)) e ∙ ap not (hole_gone (among d) (among m) p t))) ∙ some_text p d m codes some

@@ -23,7 +23,7 @@ use Rattle.rl_rewrite.specs.Verdicts.{IsVerdict}
 use Rattle.rl_rewrite.specs.internal.Trials.{AreTried}
 use Rattle.rl_rewrite.proofs.Stays.{texts_stay}
 
--- what was dropped, and what passed its limit, are some of the branches
+-- What was dropped, and what passed its limit, are some of the branches.
 tried_dropped : (Answers : Tree → Tree → Verdict → Type 0) (body : PatTree) {bs dropped passed : List Span} → Tried Answers body bs dropped passed → Fewer dropped bs
 tried_dropped Answers body none_tried = none_fewer
 tried_dropped Answers body (left_alone h m) = left_out (tried_dropped Answers body h)
@@ -38,13 +38,13 @@ tried_passed Answers body (dropped_one h m a) = left_out (tried_passed Answers b
 tried_passed Answers body (kept_one h m a) = left_out (tried_passed Answers body h)
 tried_passed Answers body (passed_one h m a) = taken (tried_passed Answers body h)
 
--- the codes where there is a text
+-- The codes where there is a text.
 some_text : (body : PatTree) (dropped merged : List Span) (codes text : List ℕ) → text_if body dropped merged codes ≡ Some text → text ≡ text_of body dropped merged codes
 some_text body [] [] codes text e = absurd (cc e)
 some_text body [] (m ∷ ms) codes text e = cc e
 some_text body (d ∷ ds) ms codes text e = cc e
 
--- kept codes are codes of the universe
+-- Kept codes are codes of the universe.
 kept_all : (kept : ℕ → Bool) (k n : ℕ) (w : List ℕ) → All (λ c. c < n) w → All (λ c. c < n) (kept_from kept k w)
 kept_all kept k n [] h = h
 kept_all kept k n (c ∷ w) h =

@@ -15,7 +15,7 @@ use Rattle.rl_rewrite.proofs.EachPlace.{IsOfParts, Each, no_each, one_each, each
 use Rattle.rl_rewrite.proofs.EmptyParts.{left_empty}
 use Rattle.rl_rewrite.specs.internal.Keeping.{spans_empty, loses_empty, items_lose_empty, branches_lose_empty, flags_in, items_flags, branches_flags}
 
--- each place of the second tree goes
+-- Each place of the second tree goes.
 abbrev Gone : List Bool → Tree → Tree → Type 0
 Gone k s t = k ≡ replicate (places t) false
 
@@ -38,7 +38,7 @@ without_of_parts = record {
   of_many = λ k a b g h. in_many h;
 }
 
--- lists of trees, where some of the second list are left out
+-- Lists of trees, where some of the second list are left out.
 data Part : List Bool → List Tree → List Tree → Type 0 where
   no_part : Part [] [] []
   in_part : {k m : List Bool} {s t : Tree} {ss ts : List Tree} → Without k s t → Part m ss ts → Part (k ++ m) (s ∷ ss) (t ∷ ts)
@@ -73,7 +73,7 @@ module _ (drop : Span → Bool) (b : Span) where
   gone_branch true s q bs h hs = hs
   gone_branch false s q bs h hs = one_each h hs
 
-  -- the flags of a part that goes
+  -- The flags of a part that goes.
   mutual
     gone_flags : (q : p.PatTree) → Gone (flags_in drop b false q) (lowered (left drop no_span q)) (lowered (left drop no_span q))
     gone_flags (p.nothing s) = refl
@@ -95,7 +95,7 @@ module _ (drop : Span → Bool) (b : Span) where
     gone_branches (p.branch s q bs) = gone_branch (drop s) s q bs (gone_flags q) (gone_branches bs)
 
 module _ (dropped : List Span) (b : Span) where
-  -- one more branch, which was dropped, goes now or is kept
+  -- One more branch, which was dropped, goes now or is kept.
   part_branch : (a d : Bool) (s : Span) (q : p.PatTree) (bs : p.BranchTrees)
       → Part (branches_flags (among dropped) b true bs) (branches_lowered (left_branches (among (b ∷ dropped)) no_span bs)) (branches_lowered (left_branches (among dropped) no_span bs))
       → (d ≡ false → a ≡ true → spans_empty (among dropped) q ≡ false)

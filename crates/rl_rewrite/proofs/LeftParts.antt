@@ -1,4 +1,4 @@
--- What is left of a pattern may stand in one, and holds no guard where the pattern holds none.
+-- What is left of a pattern is well formed in a pattern, and contains no guard if the pattern contains none.
 use Rattle.std.proofs.Common.{◌≡◌, Bool, true, false, not, ◌&&◌, ◌||◌, if◌then◌else◌, List, [], ◌∷◌, refl, ap, true≢false}
 use Rattle.std.proofs.lemmas.Bool.{cond_both}
 use Rattle.rl_ranges.specs.declared.universe.Universe.{Universe}
@@ -10,7 +10,7 @@ use Rattle.rl_pattern.specs.Suggested.{no_span, holds_guard, some_guard, branch_
 use Rattle.rl_pattern.proofs.Linking.{or_none}
 use Rattle.rl_rewrite.specs.internal.LeftLists.{all_left, some_left}
 
--- the lists of what is left are those of the left pattern
+-- The lists of what is left are the lists of the remaining pattern.
 pub items_left : (drop : Span → Bool) (ps : List PatTree) → items_of (all_left drop ps) ≡ left_items drop no_span (items_of ps)
 items_left drop [] = refl
 items_left drop (p ∷ ps) = ap (item (left drop no_span p)) (items_left drop ps)

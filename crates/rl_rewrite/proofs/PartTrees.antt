@@ -29,11 +29,11 @@ repeat-tree s m least most g b = ap pat_of (sym (V.rolls-Repeat s m least most g
 pub group-tree : (s : Span) (captures : Bool) (b : Box Pat Global) → pat_of (V.Group s captures b) ≡ group s captures (pat_of b.value)
 group-tree s captures b = ap pat_of (sym (V.rolls-Group s captures b)) ∙ fold-roll-Pat PatTree (Span × PatTree) layer_of branch_of (Pat-F.Group s captures b)
 
--- what is left of a part that holds no other
+-- What is left of a part that holds no other.
 pub leaf_left : (drop : Span → Bool) (p : Pat) (t : PatTree) (part : Pat) → part ≡ p → pat_of p ≡ t → left drop no_span t ≡ t → pat_of p ≡ left drop no_span (pat_of part)
 leaf_left drop p t part e f g = f ∙ sym (ap (left drop no_span) (ap pat_of e ∙ f) ∙ g)
 
--- a sequence of what is left of the items is what is left of the sequence
+-- A sequence of what is left of the items is what is left of the sequence.
 pub seq_left : (drop : Span → Bool) (s : Span) (ps found : List Pat) (part : Pat) → part ≡ V.Seq s ps → map pat_of found ≡ all_left drop (map pat_of ps) → pat_of (V.Seq s found) ≡ left drop no_span (pat_of part)
 seq_left drop s ps found part e f =
     seq-tree s found
@@ -41,7 +41,7 @@ seq_left drop s ps found part e f =
     ∙ ap (seq s) (items_left drop (map pat_of ps))
     ∙ sym (ap (left drop no_span) (ap pat_of e ∙ seq-tree s ps))
 
--- and the same of a choice
+-- And the same of a choice.
 pub choice_left : (drop : Span → Bool) (s : Span) (bs found : List Branch) (part result : Pat) → part ≡ V.Choice s bs → map branch_tree found ≡ some_left drop (map branch_tree bs)
     → pat_of result ≡ choice_of s (branches_of (map branch_tree found)) → pat_of result ≡ left drop no_span (pat_of part)
 choice_left drop s bs found part result e f g =

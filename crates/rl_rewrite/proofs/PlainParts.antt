@@ -31,7 +31,7 @@ none_last (x ∷ xs) ys e = absurd (cc e)
 some_none : (s : Span) (ss : List Span) → s ∷ ss ≡ [] → ⊥
 some_none s ss e = cc
 
--- a choice holds a branch where its list isn't empty
+-- A choice holds a branch where its list isn't empty.
 any_branch : (bs : List Branch) → not (length bs == 0) ≡ is_some_branch (branches_of (map branch_tree bs))
 any_branch [] = refl
 any_branch (b ∷ bs) = grind (arith)
@@ -39,7 +39,7 @@ any_branch (b ∷ bs) = grind (arith)
 pub some_branches : (s : Span) (bs : List Branch) (part : Pat) (empty : Bool) → part ≡ V.Choice s bs → empty ≡ (length bs == 0) → not empty ≡ holds_branch (pat_of part)
 some_branches s bs part empty e f = ap not f ∙ any_branch bs ∙ sym (ap holds_branch (ap pat_of e ∙ choice-tree s bs))
 
--- a part that holds no branch lists none, and one that holds a branch lists one
+-- A part that holds no branch lists none, and one that holds a branch lists one.
 mutual
   pub branches_none : (p : PatTree) → holds_branch p ≡ false → branches_in p ≡ []
   branches_none (nothing s) h = refl
@@ -81,7 +81,7 @@ mutual
       go true f g k = f refl
       go false f g k = g k
 
--- where nothing is dropped, what is left holds the same groups that capture
+-- Where nothing is dropped, what is left holds the same groups that capture.
 mutual
   captures_left : (p : PatTree) → branches_in p ≡ [] → holds_capture (left (among []) no_span p) ≡ holds_capture p
   captures_left (nothing s) h = refl
@@ -101,7 +101,7 @@ mutual
       ap (λ b. b || some_capture (left_items (among []) no_span ps)) (captures_left p (none_first (branches_in p) (items_branches ps) h))
       ∙ ap (λ b. holds_capture p || b) (some_captures ps (none_last (branches_in p) (items_branches ps) h))
 
--- and the same quantifiers are taken out of it
+-- And the same quantifiers are taken out of it.
 mutual
   pub merged_left : (p : PatTree) → branches_in p ≡ [] → merged_in (left (among []) no_span p) ≡ merged_in p
   merged_left (nothing s) h = refl
@@ -150,13 +150,13 @@ mutual
 none_text : (text : List ℕ) → None ≡ Some text → ⊥
 none_text text e = cc
 
--- a list of no length, which is another
+-- A list of no length, which is another.
 pub none_found : (more all : List Span) → all ≡ more → (length all == 0) ≡ true → (all ≡ []) × (more ≡ [])
 none_found more all e l =
     let none = nil_from_length all (eqb-true (length all) 0 l) in
     (none, sym e ∙ none)
 
--- of a plain pattern nothing goes
+-- Of a plain pattern nothing goes.
 pub plain_right : (flags : Flags) (found : Pattern) (codes : List ℕ) (limit : ℕ) → IsPlain (body_of found) → IsRightSuggestion flags found codes limit empty_suggestion
 plain_right flags found codes limit h = record {
   right = record {
@@ -168,8 +168,8 @@ plain_right flags found codes limit h = record {
   keeps = λ text e. absurd (none_text text e);
 }
 
--- the same for lists that are empty
--- no lists are the empty suggestion
+-- The same for lists that are empty
+-- no lists are the empty suggestion.
 pub empty_by : (dropped merged passed : List Span) → dropped ≡ [] → merged ≡ [] → passed ≡ [] → record { text = None; dropped = dropped; merged = merged; passed = passed } ≡ empty_suggestion
 empty_by dropped merged passed d m p =
     subst (λ ds. record { text = None; dropped = ds; merged = merged; passed = passed } ≡ empty_suggestion) (sym d)

@@ -33,14 +33,14 @@ bool_same true b f g = sym (f refl)
 bool_same false true f g = absurd (true≢false (sym (g refl)))
 bool_same false false f g = refl
 
--- trees that span the same places of a text match it alike
+-- Trees that span the same places of a text match it alike.
 matched_same : (u : Universe) (s t : Tree) (ending : Ending) (w : List ℕ) → SamePlaces u s t → IsText u w → matched s ending w ≡ matched t ending w
 matched_same u s t AtEnd w h is =
     bool_same (matched s AtEnd w) (matched t AtEnd w) (λ x. (matched_to_end t w).1 ((h w is 0 (length w)).0 ((matched_to_end s w).0 x))) (λ x. (matched_to_end s w).1 ((h w is 0 (length w)).1 ((matched_to_end t w).0 x)))
 matched_same u s t Anywhere w h is =
     bool_same (matched s Anywhere w) (matched t Anywhere w) (λ x. let r = (matched_to_some s w).0 x in (matched_to_some t w).1 (r.0, (h w is 0 r.0).0 r.1)) (λ x. let r = (matched_to_some t w).0 x in (matched_to_some s w).1 (r.0, (h w is 0 r.0).1 r.1))
 
--- nothing is dropped, and nothing taken out
+-- Nothing is dropped, and nothing taken out.
 mutual
   pub none_left : (q : p.PatTree) → lowered (left (among []) no_span q) ≡ lowered q
   none_left (p.nothing s) = refl
@@ -71,7 +71,7 @@ module _ (flags : Flags) (u : Universe) (codes : List ℕ) (found : Pattern) (dr
   merged : List Span
   merged = merged_in (left (among dropped) no_span (body_of found))
 
-  -- what is left where branches are dropped spans the same places
+  -- What is left after branches are dropped spans the same places.
   dropped_places : SamePlaces u (lowered (body_of found)) (without dropped (body_of found))
   dropped_places =
       ⊎_elim (λ (z : holds_guard (body_of found) ≡ true). places_refl u (lowered (body_of found)) (without dropped (body_of found)) (sym (ap (λ d. without d (body_of found)) (guarded z) ∙ none_left (body_of found))))
@@ -84,7 +84,7 @@ module _ (flags : Flags) (u : Universe) (codes : List ℕ) (found : Pattern) (dr
       let b = right_text_spans flags u codes found dropped parsed may guarded w i j in
       (λ x. b.1 (a.0 x), λ x. a.1 (b.0 x))
 
-  -- the texts that are matched
+  -- The texts that are matched.
   pub texts_stay : (new : Pattern) → IsLeft (among dropped) (among (merged_in (left (among dropped) no_span (body_of found)))) found new → (mode : Mode) (w : List ℕ) → IsText u w → matched (pattern_tree new mode) (pattern_ending new mode) w ≡ matched (pattern_tree found mode) (pattern_ending found mode) w
   texts_stay new h mode w is =
       let old = lowered (body_of found) in

@@ -40,12 +40,12 @@ module _ (u : Universe) (limit : ℕ) (body : PatTree) where
       language = t.language;
     })
 
--- what holds of a result where another fact does
+-- A property of a result that follows from another fact.
 pub ok_by : {A E : Type 0} {P Q : A → Type 0} (r : Result A E) → ((a : A) → P a → Q a) → IfOk r P → IfOk r Q
 ok_by (Ok a) f h = f a h
 ok_by (Err e) f h = h
 
--- what holds of the value that there is holds of none
+-- What holds of the value that there is holds of none.
 pub none_some : {A : Type 0} (P : A → Type 0) (o : Option A) → o ≡ None → IfSome o P
 none_some P None e = tt
 none_some P (Some x) e = cc
@@ -53,7 +53,7 @@ none_some P (Some x) e = cc
 pub last_of : (rest less bs all : List Span) (b : Span) → rest ≡ less ++ b ∷ [] → rest ++ bs ≡ all → less ++ b ∷ bs ≡ all
 last_of rest less bs all b e f = sym (append_assoc less (b ∷ []) bs) ∙ sym (ap (λ r. r ++ bs) e) ∙ f
 
--- what a trial of two trees told, said of what is left of the body
+-- The outcome of a trial of two trees, stated for what is left of the body.
 module _ (u v : Universe) (limit : ℕ) (body : PatTree) (dropped more m : List Span) (s t : Tree) (found is : Trial) (a : v ≡ u) (b : s ≡ without dropped body) (c : t ≡ without m body) (d : m ≡ more) (e : found ≡ is) where
   pub verdict_found : IsVerdict v limit s t (verdict_of found) → IsVerdict u limit (without dropped body) (without more body) (verdict_of is)
   verdict_found h = subst (λ x. IsVerdict u limit (without dropped body) (without x body) (verdict_of is)) d (subst (λ x. IsVerdict u limit (without dropped body) x (verdict_of is)) c (subst (λ x. IsVerdict u limit x t (verdict_of is)) b (subst (λ x. IsVerdict x limit s t (verdict_of is)) a (subst (λ x. IsVerdict v limit s t (verdict_of x)) e h))))

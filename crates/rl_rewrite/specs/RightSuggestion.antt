@@ -1,5 +1,5 @@
--- Right suggestions for a pattern, which its codes spell under flags: what is dropped and taken out by the rules, and a text
--- that is read as a pattern which matches the same texts.
+-- Right suggestions for a pattern: what is dropped and taken out follows the rules, and the new text is read as a pattern
+-- that matches the same texts.
 use Rattle.std.specs.Prelude.{◌≡◌, ◌⊎◌, ℕ, List, Some, Result, Ok, Err}
 use Rattle.rl_ranges.specs.Text.{IsText}
 use Rattle.rl_syntax.specs.declared.span.Span.{Span}
@@ -16,22 +16,23 @@ use Rattle.rl_pattern.specs.Reread.{IsLeft}
 use Rattle.rl_pattern.specs.Suggested.{among, IsRight}
 use Rattle.rl_rewrite.specs.Verdicts.{IsVerdict}
 
--- the outer anchors and the universe stay, and in every mode the same texts are matched
+-- The new pattern has the same outer anchors and the same universe, and it matches the same texts in every mode.
 pub record MatchesAlike (found new : Pattern) : Type 0 where
   pub leading : is_anchored new ≡ is_anchored found
   pub trailing : trail_of new ≡ trail_of found
   pub universe : universe_of new ≡ universe_of found
   pub matched_texts : (mode : Mode) (w : List ℕ) → IsText (universe_of found) w → matched (pattern_tree new mode) (pattern_ending new mode) w ≡ matched (pattern_tree found mode) (pattern_ending found mode) w
 
--- the text is read as a pattern, the one without what was dropped and taken out, which matches alike; and every answer of the
--- reader is such a pattern, unless memory was refused
+-- The text is read as the pattern without what was dropped and taken out, which matches alike. Any reading of the text gives
+-- such a pattern, unless memory runs out.
 pub record ReadsAlike (flags : Flags) (found : Pattern) (dropped merged : List Span) (text : List ℕ) : Type 0 where
   pub pattern : (new : Pattern) × IsParsed flags (universe_of found) text (Ok new) × IsLeft (among dropped) (among merged) found new × MatchesAlike found new
   pub answers : (r : Result Pattern PatError) → IsParsed flags (universe_of found) text r
       → (r ≡ Err error.OutOfMemory) ⊎ ((new : Pattern) × (r ≡ Ok new) × IsLeft (among dropped) (among merged) found new × MatchesAlike found new)
 
+-- The suggestion is right for the pattern, which was read from the codes under the flags.
 pub record IsRightSuggestion (flags : Flags) (found : Pattern) (codes : List ℕ) (limit : ℕ) (s : Suggestion) : Type 0 where
-  -- it is what the rules give
+  -- It is what the rules give.
   pub right : IsRight (IsVerdict (universe_of found) limit) (body_of found) codes s.dropped s.merged s.passed s.text
-  -- and its text is read as a pattern that matches alike
+  -- If it has a text, the text is read as a pattern that matches alike.
   pub keeps : (text : List ℕ) → s.text ≡ Some text → ReadsAlike flags found s.dropped s.merged text

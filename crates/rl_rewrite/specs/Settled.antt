@@ -6,13 +6,14 @@ use Rattle.rl_syntax.specs.PatTree.{PatTree}
 use Rattle.rl_equiv.specs.Languages.{IsOfOne}
 use Rattle.rl_pattern.specs.Suggested.{among, may_go, without}
 
--- `later` are the dropped branches behind it, without which it was tried
+-- The branch `b` of the body is settled in one of four ways. `later` is the list of the dropped branches behind it, without
+-- which it was tried.
 pub data IsSettled (u : Universe) (body : PatTree) (dropped passed : List Span) (b : Span) : Type 0 where
-  -- it is dropped
+  -- It is dropped.
   is_dropped : among dropped b ≡ true → IsSettled u body dropped passed b
-  -- its test passed the limit
+  -- Its trial exceeded the limit.
   is_passed : among passed b ≡ true → IsSettled u body dropped passed b
-  -- it is left alone: it holds a group that captures, or is the last one left of its choice
+  -- It is left alone, because it contains a capturing group or is the last remaining branch of its choice.
   is_left_alone : (earlier later : List Span) → dropped ≡ earlier ++ later → may_go (among (b ∷ later)) body ≡ false → IsSettled u body dropped passed b
-  -- it changes the language: a text is in that of the body with it, or in that of the body without it, and not in both
+  -- It is needed: some text is in the language of the body with it or without it, but not in both.
   is_needed : (earlier later : List Span) (w : List ℕ) → dropped ≡ earlier ++ later → IsOfOne u (without later body) (without (b ∷ later) body) w → IsSettled u body dropped passed b

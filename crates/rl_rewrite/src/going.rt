@@ -1,4 +1,4 @@
-//! Which branches there are, and whether some of them may be dropped.
+//! The branches of a pattern, and whether some of them may be dropped.
 
 ghost use Rattle.std.specs.Prelude.{◌≡◌, ◌∷◌, [], ◌++◌, map, IfOk, OnOk};
 ghost use Rattle.rl_syntax.specs.PatTree.{pat_of, items_of, branches_of};
@@ -12,7 +12,7 @@ use rl_lists::OutOfMemory;
 use rl_syntax::{Branch, Pat, Span, Spans};
 use std::alloc::Global;
 
-/// Appends the spans of the branches of a part by rising place.
+/// Appends the spans of the branches of a part, in the order of their places.
 #[cycle(branches)]
 fn put_branches(part: &Pat, found: &mut Spans) -> Result<(), OutOfMemory>
     ensures { OnOk result (found.new ≡ found.old ++ branches_in (pat_of part.now)) }
@@ -29,7 +29,7 @@ fn put_branches(part: &Pat, found: &mut Spans) -> Result<(), OutOfMemory>
     }
 }
 
-/// Appends those of the branches of items.
+/// Appends the spans of the branches of the items.
 #[cycle(branches)]
 fn put_items_branches(items: &[Pat], found: &mut Spans) -> Result<(), OutOfMemory>
     ensures { OnOk result (found.new ≡ found.old ++ items_branches (items_of (map pat_of items.now))) }
@@ -40,7 +40,7 @@ fn put_items_branches(items: &[Pat], found: &mut Spans) -> Result<(), OutOfMemor
     Ok(())
 }
 
-/// Appends those of the branches of a choice and of the branches in them.
+/// Appends the spans of the branches of a choice, and of the branches inside them.
 #[cycle(branches)]
 fn put_choice_branches(branches: &[Branch], found: &mut Spans) -> Result<(), OutOfMemory>
     ensures { OnOk result (found.new ≡ found.old ++ choice_branches (branches_of (map branch_tree branches.now))) }
@@ -52,7 +52,7 @@ fn put_choice_branches(branches: &[Branch], found: &mut Spans) -> Result<(), Out
     Ok(())
 }
 
-/// The spans of the branches of a part by rising place.
+/// Returns the spans of the branches of a part, in the order of their places.
 pub(crate) fn all_branches(alloc: Global, part: &Pat) -> Result<Spans, OutOfMemory>
     ensures { IfOk result (λ all. all ≡ branches_in (pat_of part.now)) }
 {
@@ -61,8 +61,8 @@ pub(crate) fn all_branches(alloc: Global, part: &Pat) -> Result<Spans, OutOfMemo
     Ok(all)
 }
 
-/// Whether the branches of these spans may be dropped from a part: none of them holds a group that captures, and each choice
-/// that is left keeps a branch.
+/// Whether the branches whose spans are in `dropped` may be dropped from a part: none of them contains a capturing group, and
+/// each remaining choice keeps at least one branch.
 #[cycle(going)]
 pub(crate) fn may_go(part: &Pat, dropped: &[Span]) -> bool
     ensures { result ≡ goes (lies_among dropped.now) (pat_of part.now) }
@@ -82,7 +82,7 @@ pub(crate) fn may_go(part: &Pat, dropped: &[Span]) -> bool
     }
 }
 
-/// Whether they may be dropped from items.
+/// Whether these branches may be dropped from the items.
 #[cycle(going)]
 fn items_may_go(items: &[Pat], dropped: &[Span]) -> bool
     ensures { result ≡ items_go (lies_among dropped.now) (items_of (map pat_of items.now)) }
@@ -97,7 +97,8 @@ fn items_may_go(items: &[Pat], dropped: &[Span]) -> bool
     all
 }
 
-/// Whether they may be dropped from each of the branches, or hold no group that captures where they are dropped.
+/// Whether these branches may be dropped from a choice, as far as its branches are concerned, without regard to how many
+/// remain.
 #[cycle(going)]
 fn branches_may_go(branches: &[Branch], dropped: &[Span]) -> bool
     ensures { result ≡ branches_go (lies_among dropped.now) (branches_of (map branch_tree branches.now)) }
@@ -109,7 +110,7 @@ fn branches_may_go(branches: &[Branch], dropped: &[Span]) -> bool
     all
 }
 
-/// Whether a branch may be dropped with all that it holds, or where it is kept, what is dropped of it.
+/// Whether the branch may be dropped if it is to be dropped, or otherwise whether branches inside it may be dropped.
 #[cycle(going)]
 fn branch_may_go(branch: &Branch, dropped: &[Span]) -> bool
     ensures { result ≡ branches_go (lies_among dropped.now) (branches_of (map branch_tree (branch.now ∷ []))) }
@@ -121,7 +122,7 @@ fn branch_may_go(branch: &Branch, dropped: &[Span]) -> bool
     }
 }
 
-/// Whether a branch is kept.
+/// Whether at least one branch remains.
 pub(crate) fn some_kept(branches: &[Branch], dropped: &[Span]) -> bool
     ensures { result ≡ is_kept (lies_among dropped.now) (branches_of (map branch_tree branches.now)) }
 {

@@ -1,4 +1,4 @@
-//! Which places of a part are kept where one more branch is dropped.
+//! The places of a part that are kept if one more branch is dropped.
 
 ghost use Rattle.std.specs.Prelude.{◌≡◌, ◌∷◌, [], ◌++◌, List, true, map, IfOk, OnOk, IfSome};
 ghost use Rattle.rl_syntax.specs.PatTree.{pat_of, items_of, branches_of};
@@ -18,7 +18,7 @@ use rl_lists::{Items, OutOfMemory};
 use rl_syntax::{Branch, Pat, Span};
 use std::alloc::Global;
 
-/// Flags of places, from left to right.
+/// A flag for each place, from left to right.
 pub(crate) type Flags = Items<bool>;
 
 /// Whether two spans are the same.
@@ -28,7 +28,7 @@ fn is_same(first: Span, second: Span) -> bool
     first == second
 }
 
-/// Whether what is left of a part without the branches of these spans may span the empty text.
+/// Whether the part, without the branches whose spans are in `dropped`, may span the empty text.
 #[cycle(empty)]
 fn may_be_empty(part: &Pat, dropped: &[Span]) -> bool
     ensures { result ≡ spans_empty (lies_among dropped.now) (pat_of part.now) }
@@ -47,7 +47,7 @@ fn may_be_empty(part: &Pat, dropped: &[Span]) -> bool
     }
 }
 
-/// Whether all of the items may.
+/// Whether all items may span the empty text.
 #[cycle(empty)]
 fn items_may_be_empty(items: &[Pat], dropped: &[Span]) -> bool
     ensures { result ≡ items_span_empty (lies_among dropped.now) (items_of (map pat_of items.now)) }
@@ -59,7 +59,7 @@ fn items_may_be_empty(items: &[Pat], dropped: &[Span]) -> bool
     all
 }
 
-/// Whether one of the branches that are left may.
+/// Whether one of the remaining branches may span the empty text.
 #[cycle(empty)]
 fn branches_may_be_empty(branches: &[Branch], dropped: &[Span]) -> bool
     ensures { result ≡ branch_spans_empty (lies_among dropped.now) (branches_of (map branch_tree branches.now)) }
@@ -71,7 +71,7 @@ fn branches_may_be_empty(branches: &[Branch], dropped: &[Span]) -> bool
     some
 }
 
-/// Whether a branch is left and may.
+/// Whether the branch remains and may span the empty text.
 #[cycle(empty)]
 fn branch_may_be_empty(branch: &Branch, dropped: &[Span]) -> bool
     ensures { result ≡ branch_spans_empty (lies_among dropped.now) (branches_of (map branch_tree (branch.now ∷ []))) }
@@ -83,7 +83,7 @@ fn branch_may_be_empty(branch: &Branch, dropped: &[Span]) -> bool
     }
 }
 
-/// Whether a branch of one more span, of those that are left, may span the empty text.
+/// Whether a remaining branch whose span is `gone` may span the empty text.
 #[cycle(losing)]
 fn may_lose_empty(part: &Pat, dropped: &[Span], gone: Span) -> bool
     ensures { result ≡ loses_empty (lies_among dropped.now) gone (pat_of part.now) }
@@ -100,7 +100,7 @@ fn may_lose_empty(part: &Pat, dropped: &[Span], gone: Span) -> bool
     }
 }
 
-/// Whether one in the items may.
+/// Whether one of the items has a remaining branch with the span `gone` that may span the empty text.
 #[cycle(losing)]
 fn items_may_lose_empty(items: &[Pat], dropped: &[Span], gone: Span) -> bool
     ensures { result ≡ items_lose_empty (lies_among dropped.now) gone (items_of (map pat_of items.now)) }
@@ -115,7 +115,7 @@ fn items_may_lose_empty(items: &[Pat], dropped: &[Span], gone: Span) -> bool
     some
 }
 
-/// Whether one of the branches, or one in them, may.
+/// Whether one of the branches, or a branch inside them, remains, has the span `gone` and may span the empty text.
 #[cycle(losing)]
 fn branches_may_lose_empty(branches: &[Branch], dropped: &[Span], gone: Span) -> bool
     ensures { result ≡ branches_lose_empty (lies_among dropped.now) gone (branches_of (map branch_tree branches.now)) }
@@ -127,7 +127,7 @@ fn branches_may_lose_empty(branches: &[Branch], dropped: &[Span], gone: Span) ->
     some
 }
 
-/// Whether a branch, or one in it, may.
+/// Whether the branch, or a branch inside it, remains, has the span `gone` and may span the empty text.
 #[cycle(losing)]
 fn branch_may_lose_empty(branch: &Branch, dropped: &[Span], gone: Span) -> bool
     ensures { result ≡ branches_lose_empty (lies_among dropped.now) gone (branches_of (map branch_tree (branch.now ∷ []))) }
@@ -142,7 +142,7 @@ fn branch_may_lose_empty(branch: &Branch, dropped: &[Span], gone: Span) -> bool
     }
 }
 
-/// How many copies of its body a repeat has.
+/// Returns the number of copies of its body that a repeat is lowered to.
 fn copies(min: u32, max: Option<u32>) -> u64
     ensures { result ≡ copies_of min max }
 {
@@ -152,7 +152,7 @@ fn copies(min: u32, max: Option<u32>) -> u64
     }
 }
 
-/// Appends flags so many times.
+/// Appends `times` copies of the flags.
 fn put_copies(flags: &[bool], times: u64, found: &mut Vec<bool>) -> Result<(), OutOfMemory>
     ensures { OnOk result (found.new.items ≡ found.old.items ++ repeated times flags.now) }
 {
@@ -162,7 +162,8 @@ fn put_copies(flags: &[bool], times: u64, found: &mut Vec<bool>) -> Result<(), O
     Ok(())
 }
 
-/// Appends the flags of the places of what is left of a part, which is kept or goes itself, where the branches of one more span go.
+/// Appends, for each place of what is left of a part, whether it is kept if the branches with the span `gone` are dropped
+/// too. `keep` is false if the part itself is in such a branch.
 #[cycle(keeping)]
 fn put_flags(
     alloc: Global,
@@ -202,7 +203,7 @@ fn put_flags(
     }
 }
 
-/// Appends the flags of items.
+/// Appends the flags of the items.
 #[cycle(keeping)]
 fn put_items_flags(
     alloc: Global,
@@ -223,7 +224,7 @@ fn put_items_flags(
     Ok(())
 }
 
-/// Appends the flags of the branches that are left.
+/// Appends the flags of the remaining branches.
 #[cycle(keeping)]
 fn put_branches_flags(
     alloc: Global,
@@ -244,8 +245,8 @@ fn put_branches_flags(
     Ok(())
 }
 
-/// For each place of what is left of a part without some branches, whether it is kept where one more branch is dropped; nothing
-/// where that branch may span the empty text.
+/// Returns, for each place of what is left of a part without the dropped branches, whether it is kept if `branch` is dropped
+/// too. Returns `None` if that branch may span the empty text.
 pub(crate) fn kept_places(
     alloc: Global,
     part: &Pat,

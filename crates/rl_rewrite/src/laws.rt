@@ -25,7 +25,9 @@ ghost use Rattle.rl_pattern.specs.Suggested.{may_go, among, no_span, holds_guard
 ghost use Rattle.rl_rewrite.specs.Settled.{IsSettled};
 ghost use Rattle.rl_rewrite.specs.Verdicts.{IsVerdict};
 
-/// What is left where more branches are dropped has no more nodes and no longer lists of items.
+/// If more branches are dropped, the tree of what is left has no more nodes and no longer item lists, and its sets
+/// distinguish no codes that the sets of the old tree don't distinguish. So it exceeds no limit that the old tree doesn't
+/// exceed.
 pub fn fewer_branches_pass_no_limit()
     ensures nodes { (drop more out : Span → Bool) (body : PatTree) → ((s : Span) → drop s ≡ true → more s ≡ true) → may_go more body ≡ true
         → size (lowered (left more out body)) ≤ size (lowered (left drop out body)) }
@@ -35,8 +37,9 @@ pub fn fewer_branches_pass_no_limit()
         → joint_letters u (lowered (left drop out body)) (lowered (left more out body)) ≡ classes (all_sets (lowered (left drop out body))) (code_count u) }
 {}
 
-/// A pattern without what was dropped and taken out matches the same texts in every mode, where the languages of its bodies
-/// before and after the branches were dropped are one, or nothing was dropped since the body holds a guard.
+/// A pattern without the dropped branches and the quantifiers that were taken out matches the same texts in every mode, if
+/// its body has the same language before and after the branches were dropped, or if nothing was dropped because the body
+/// contains a guard.
 pub fn matched_texts_stay()
     ensures { (flags : Flags) (u : Universe) (codes : List ℕ) (found : Pattern) (dropped : List Span) → IsParsed flags u codes (Ok found)
         → may_go (among dropped) (body_of found) ≡ true → (holds_guard (body_of found) ≡ true → dropped ≡ [])
@@ -45,8 +48,8 @@ pub fn matched_texts_stay()
         → (mode : Mode) (w : List ℕ) → IsText u w → matched (pattern_tree new mode) (pattern_ending new mode) w ≡ matched (pattern_tree found mode) (pattern_ending found mode) w }
 {}
 
-/// Of a right suggestion for a body without a guard, each branch is dropped, or listed as passed, or left alone, or changes the
-/// language: a text is in that of the body with it, or in that of the body without it, and not in both.
+/// In a right suggestion for a body without a guard, each branch is dropped, listed as given up, left alone, or needed: in
+/// the last case, some text is in the language of the body with the branch or without it, but not in both.
 pub fn every_branch_is_settled()
     ensures { (u : Universe) (limit : ℕ) (body : PatTree) (codes : List ℕ) (dropped merged passed : List Span) (text : Option (List ℕ))
         → IsRight (IsVerdict u limit) body codes dropped merged passed text → holds_guard body ≡ false

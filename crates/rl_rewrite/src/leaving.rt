@@ -16,7 +16,7 @@ use rl_lists::OutOfMemory;
 use rl_syntax::{Branch, Branches, LowerError, Mode, Pat, Pats, Pattern, Re, Span, lower};
 use std::alloc::Global;
 
-/// A part repeated.
+/// Makes a repeat of a body.
 fn repeat_of(
     alloc: Global,
     span: Span,
@@ -39,7 +39,7 @@ fn repeat_of(
     })
 }
 
-/// A group of a part.
+/// Makes a group with a body.
 fn group_of(alloc: Global, span: Span, captures: bool, body: Pat) -> Result<Pat, OutOfMemory>
     ensures { IfOk result (λ part. pat_of part ≡ p.group span captures (pat_of body)) }
 {
@@ -51,14 +51,15 @@ fn group_of(alloc: Global, span: Span, captures: bool, body: Pat) -> Result<Pat,
     })
 }
 
-/// A branch with its span.
+/// Makes a branch with a span.
 fn branch_at(span: Span, body: Pat) -> Branch
     ensures { branch_tree result ≡ (span, pat_of body) }
 {
     Branch { span, body }
 }
 
-/// A choice of branches; of one of them it is that branch, and of none it is nothing.
+/// Makes a choice of branches. If there is only one branch, the result is the body of that branch; if there is none, it is
+/// the empty pattern.
 fn choice_of(span: Span, branches: Branches) -> Pat
     ensures { pat_of result ≡ is_choice_of span (branches_of (map branch_tree branches)) }
 {
@@ -72,7 +73,7 @@ fn choice_of(span: Span, branches: Branches) -> Pat
     }
 }
 
-/// What is left of a part without the branches of these spans.
+/// Returns what is left of a part without the dropped branches.
 #[cycle(leaving)]
 pub(crate) fn left_part(alloc: Global, part: &Pat, dropped: &[Span]) -> Result<Pat, OutOfMemory>
     ensures { IfOk result (λ found. pat_of found ≡ left (lies_among dropped.now) no_span (pat_of part.now)) }
@@ -146,7 +147,7 @@ pub(crate) fn left_part(alloc: Global, part: &Pat, dropped: &[Span]) -> Result<P
     }
 }
 
-/// Appends what is left of items.
+/// Appends what is left of each item.
 #[cycle(leaving)]
 fn put_items_left(
     alloc: Global,
@@ -163,7 +164,7 @@ fn put_items_left(
     Ok(())
 }
 
-/// Appends the branches that are left, each as what is left of it.
+/// Appends what is left of each remaining branch.
 #[cycle(leaving)]
 fn put_branches_left(
     alloc: Global,
@@ -182,7 +183,7 @@ fn put_branches_left(
     Ok(())
 }
 
-/// The tree of a pattern's body without the branches of these spans, as fullmatch.
+/// Returns the tree, in the mode fullmatch, of a pattern's body without the dropped branches.
 pub(crate) fn tree_without(alloc: Global, p: &Pattern, dropped: &[Span]) -> Result<Re, OutOfMemory>
     requires guardless { holds_guard (body_of p.now) ≡ false }
     requires small { size (without dropped.now (body_of p.now)) ≤ MOST_NODES }

@@ -1,17 +1,17 @@
 //! Suggestions: a simpler pattern that matches the same texts.
 //!
-//! [`suggest`] tries the branches of a pattern, from the last one on, and drops each that the rules let go and without which
-//! the language stays the same. `rl_trim` decides these trials where it can, and `rl_equiv` the others. Then it takes out
-//! quantifiers that change nothing below another one, as the inner one of `(?:x*)*`. Last it spells the text that is left.
-//! The [`Suggestion`](rl_syntax::Suggestion) has the text and the places of all that went. [`plain_suggestion`] returns at
-//! once for a pattern of which nothing can go.
+//! [`suggest`] tries the branches of a pattern, starting with the last one, and drops each branch that the rules allow to be
+//! dropped and without which the language stays the same. `rl_trim` decides these trials if it can, and `rl_equiv` decides
+//! the others. Then [`suggest`] takes out quantifiers that change nothing below another one, such as the inner one in
+//! `(?:x*)*`, and spells the resulting text. The [`Suggestion`](rl_syntax::Suggestion) has this text and the places of
+//! everything that was removed. [`plain_suggestion`] returns at once for a pattern from which nothing can be removed.
 //!
 //! # What is proved
 //!
-//! The suggestion is exactly what the rules give. Its text is read as a pattern with the same outer anchors that matches the
-//! same texts in every mode. [`SuggestError::Limit`] comes exactly where the body passes the limit that it names. By the law
-//! [`laws::every_branch_is_settled`] each branch of a pattern without guards is dropped, given up as too costly, left alone
-//! by the rules, or needed.
+//! The suggestion is exactly what the rules give. Its text is read as a pattern that has the same outer anchors and matches
+//! the same texts in every mode. [`SuggestError::Limit`] is returned only if the body exceeds the limit that it names, and a
+//! suggestion is returned only if the body exceeds none. By the law [`laws::every_branch_is_settled`], each branch of a
+//! pattern without guards is dropped, given up as too costly, left alone by the rules, or needed.
 //!
 //! # Example
 //!
@@ -20,8 +20,8 @@
 //! suggest(alloc, &pattern, &codes, flags, 600)?; // for `(?:x*)*y`: the text `(?:x)*y`
 //! ```
 //!
-//! Read `specs/RightSuggestion.antt` first, with `specs/Suggested.antt` and `specs/Cut.antt` of `rl_pattern`, which have the
-//! rules; then `specs/Verdicts.antt`, `specs/Settled.antt` and `specs/Plain.antt`.
+//! Read `specs/RightSuggestion.antt` first, with `specs/Suggested.antt` and `specs/Cut.antt` of `rl_pattern`, which define
+//! the rules; then `specs/Verdicts.antt`, `specs/Settled.antt` and `specs/Plain.antt`.
 #![tactic(auto)]
 
 mod going;

@@ -1,4 +1,4 @@
-//! The limits of a body as fullmatch.
+//! The limits on a body in the mode fullmatch.
 
 ghost use Rattle.std.specs.Prelude.{◌≡◌, ◌≤◌, IfOk, IfErr, OnOk};
 ghost use Rattle.rl_syntax.specs.Pattern.{body_of, universe_of, pattern_tree};
@@ -16,7 +16,7 @@ use rl_equiv::{Baseline, SameError};
 use rl_syntax::{Limit, LowerError, Mode, Pattern, Re, lower};
 use std::alloc::Global;
 
-/// The tree of a body as fullmatch, which has no more nodes than the limit.
+/// Returns the tree of a body in the mode fullmatch, which has at most [`MOST_NODES`] nodes.
 fn small_tree(alloc: Global, p: &Pattern) -> Result<Re, SuggestError>
     ensures tree { IfOk result (λ re. tree_of re ≡ pattern_tree p.now Fullmatch) }
     ensures small { IfOk result (λ re. size (tree_of re) ≤ MOST_NODES) }
@@ -30,10 +30,11 @@ fn small_tree(alloc: Global, p: &Pattern) -> Result<Re, SuggestError>
     }
 }
 
-/// The tree of a body as fullmatch, which passes no limit, as the one that others are compared with.
+/// Returns the tree of a body in the mode fullmatch, which exceeds no limit, as the tree with which others are compared.
 ///
 /// # Errors
-/// [`SuggestError::Limit`] with the first limit that it passes; [`SuggestError::OutOfMemory`].
+/// [`SuggestError::Limit`], with the first limit that the tree exceeds, if there is one; [`SuggestError::OutOfMemory`] if
+/// there is not enough memory.
 pub(crate) fn baseline_of(alloc: Global, p: &Pattern) -> Result<Baseline, SuggestError>
     ensures tree { IfOk result (λ b. tree_of b.tree ≡ lowered (body_of p.now)) }
     ensures universe { IfOk result (λ b. b.universe ≡ universe_of p.now) }

@@ -1,4 +1,4 @@
-//! Which quantifiers are taken out.
+//! The quantifiers that are taken out.
 
 ghost use Rattle.std.specs.Prelude.{◌≡◌, ◌++◌, map, IfOk, OnOk};
 ghost use Rattle.rl_syntax.specs.PatTree.{pat_of, items_of, branches_of};
@@ -20,18 +20,18 @@ struct Times {
     most: Option<u32>,
 }
 
-/// Where a part stands.
+/// The surroundings of a part.
 #[derive(Clone, Copy)]
 enum Place {
-    /// Neither of the others.
+    /// Neither of the other two.
     Elsewhere,
-    /// It is the body of this repeat.
+    /// The part is the body of this repeat.
     Under(Times),
-    /// It is the whole content of a group, which captures or doesn't and is the body of this repeat.
+    /// The part is the whole content of a group that is the body of this repeat. The flag says whether the group captures.
     Inside(bool, Times),
 }
 
-/// Whether an inner repeat may go under an outer one: `*`, `+` or `?` under `*`, and `+` under `+`.
+/// Whether an inner repeat may be taken out under an outer one: `*`, `+` or `?` under `*`, and `+` under `+`.
 fn is_allowed(inner: Times, outer: Times) -> bool
     ensures { result ≡ allowed_pair inner.least inner.most outer.least outer.most }
 {
@@ -43,7 +43,7 @@ fn is_allowed(inner: Times, outer: Times) -> bool
     }
 }
 
-/// Whether the quantifier of a repeat at a place is taken out.
+/// Whether the quantifier of a repeat in these surroundings is taken out.
 fn goes(place: Place, inner: Times, body: &Pat) -> bool
     ensures { result ≡ goes_out (around_of place) inner.least inner.most (pat_of body.now) }
 {
@@ -55,7 +55,7 @@ fn goes(place: Place, inner: Times, body: &Pat) -> bool
     }
 }
 
-/// The place of the content of a group.
+/// Returns the surroundings of the content of a group.
 fn inside(place: Place, captures: bool) -> Place
     ensures { around_of result ≡ content (around_of place) captures }
 {
@@ -65,7 +65,7 @@ fn inside(place: Place, captures: bool) -> Place
     }
 }
 
-/// Appends the marks of the quantifiers that are taken out of a part at a place.
+/// Appends the spans of the quantifiers that are taken out of a part in these surroundings.
 #[cycle(merging)]
 fn put_merged(part: &Pat, place: Place, found: &mut Spans) -> Result<(), OutOfMemory>
     ensures { OnOk result (found.new ≡ found.old ++ merged_at (around_of place) (pat_of part.now)) }
@@ -99,7 +99,7 @@ fn put_merged(part: &Pat, place: Place, found: &mut Spans) -> Result<(), OutOfMe
     }
 }
 
-/// Appends the marks of those that are taken out of items.
+/// Appends the spans of the quantifiers that are taken out of the items.
 #[cycle(merging)]
 fn put_items_merged(items: &[Pat], found: &mut Spans) -> Result<(), OutOfMemory>
     ensures { OnOk result (found.new ≡ found.old ++ items_merged (items_of (map pat_of items.now))) }
@@ -110,7 +110,7 @@ fn put_items_merged(items: &[Pat], found: &mut Spans) -> Result<(), OutOfMemory>
     Ok(())
 }
 
-/// Appends the marks of those that are taken out of branches.
+/// Appends the spans of the quantifiers that are taken out of the branches.
 #[cycle(merging)]
 fn put_branches_merged(branches: &[Branch], found: &mut Spans) -> Result<(), OutOfMemory>
     ensures { OnOk result (found.new ≡ found.old ++ branches_merged (branches_of (map branch_tree branches.now))) }
@@ -121,7 +121,7 @@ fn put_branches_merged(branches: &[Branch], found: &mut Spans) -> Result<(), Out
     Ok(())
 }
 
-/// The marks of the quantifiers that are taken out of a body.
+/// Returns the spans of the quantifiers that are taken out of a body.
 pub(crate) fn all_merged(alloc: Global, body: &Pat) -> Result<Spans, OutOfMemory>
     ensures { IfOk result (λ all. all ≡ merged_in (pat_of body.now)) }
 {

@@ -1,4 +1,4 @@
-//! Patterns of which nothing can go.
+//! Patterns from which nothing can be removed.
 
 ghost use Rattle.std.specs.Prelude.{◌≡◌, ℕ, List, map, IfOk, IfSome, IfNone};
 ghost use Rattle.rl_syntax.specs.PatTree.{pat_of, items_of};
@@ -13,7 +13,7 @@ use rl_lists::OutOfMemory;
 use rl_syntax::{Pat, Pattern, Spans, Suggestion};
 use std::alloc::Global;
 
-/// Whether a part holds a branch of a choice.
+/// Whether a part contains a branch of a choice.
 #[cycle(choices)]
 fn holds_branch(part: &Pat) -> bool
     ensures { result ≡ branch_in (pat_of part.now) }
@@ -30,7 +30,7 @@ fn holds_branch(part: &Pat) -> bool
     }
 }
 
-/// Whether one of the items does.
+/// Whether one of the items contains a branch of a choice.
 #[cycle(choices)]
 fn items_hold_branch(items: &[Pat]) -> bool
     ensures { result ≡ branch_among (items_of (map pat_of items.now)) }
@@ -42,12 +42,12 @@ fn items_hold_branch(items: &[Pat]) -> bool
     held
 }
 
-/// The suggestion that drops and takes out nothing, for a pattern without a branch and without a quantifier that is taken
-/// out; none for another pattern. It is right under all flags, for all codes and every limit, also where the body passes a
-/// limit. Memory is asked for only where a quantifier is taken out.
+/// Returns the suggestion that removes nothing if the pattern has no branches and no quantifiers to be taken out, and `None`
+/// otherwise. This suggestion is right under all flags, for all codes and with every limit, even if the body exceeds a limit.
+/// Memory is allocated only if there is a quantifier to be taken out.
 ///
 /// # Errors
-/// [`OutOfMemory`].
+/// [`OutOfMemory`] if there is not enough memory.
 pub fn plain_suggestion(alloc: Global, p: &Pattern) -> Result<Option<Suggestion>, OutOfMemory>
     ensures plain { IfOk result (λ o. IfSome o (λ s. IsPlain (body_of p.now))) }
     ensures other { IfOk result (λ o. IfNone o (IsPlain (body_of p.now) → ⊥)) }

@@ -1,4 +1,4 @@
-//! The codes of a pattern without what was dropped and taken out.
+//! The codes of a pattern without the branches that are dropped and the quantifiers that are taken out.
 
 ghost use Rattle.std.specs.Prelude.{◌≡◌, ◌++◌, false, not, map, IfOk, OnOk};
 ghost use Rattle.rl_syntax.specs.PatTree.{pat_of, items_of, branches_of};
@@ -13,7 +13,7 @@ use rl_ranges::Codes;
 use rl_syntax::{Branch, Pat, Span};
 use std::alloc::Global;
 
-/// The codes from one place up to another, which are gone.
+/// A stretch of codes that are removed.
 #[derive(Clone, Copy)]
 pub(crate) struct Hole {
     /// The place of the first code.
@@ -22,7 +22,8 @@ pub(crate) struct Hole {
     pub(crate) upto: usize,
 }
 
-/// The hole of a branch that is dropped: with the `|` before it, or the one after it where no branch before it is left.
+/// Returns the hole of a dropped branch. It includes the `|` before the branch, or the `|` after it if no earlier branch is
+/// left.
 fn branch_hole(span: Span, some_before: bool) -> Hole
     ensures { result ≡ is_branch_hole span some_before }
 {
@@ -39,7 +40,7 @@ fn branch_hole(span: Span, some_before: bool) -> Hole
     }
 }
 
-/// The hole of a quantifier that is taken out.
+/// Returns the hole of a quantifier that is taken out.
 fn mark_hole(mark: Span) -> Hole
     ensures { result ≡ is_mark_hole mark }
 {
@@ -79,7 +80,7 @@ fn put_holes(
     }
 }
 
-/// Appends the holes of items.
+/// Appends the holes of the items.
 #[cycle(holes)]
 fn put_items_holes(
     items: &[Pat],
@@ -128,7 +129,7 @@ fn in_holes(holes: &[Hole], place: usize) -> bool
     found
 }
 
-/// The codes that lie in no hole.
+/// Returns the codes that lie in no hole.
 fn without_holes(alloc: Global, codes: &[u32], holes: &[Hole]) -> Result<Codes, OutOfMemory>
     ensures { IfOk result (λ text. text ≡ kept_from (λ t. not (lies_in_holes holes.now t)) 0 codes.now) }
 {
@@ -141,7 +142,8 @@ fn without_holes(alloc: Global, codes: &[u32], holes: &[Hole]) -> Result<Codes, 
     Ok(kept)
 }
 
-/// The codes of a body without the branches that are dropped and the quantifiers that are taken out, where there are some.
+/// Returns the codes of a body without the dropped branches and the quantifiers that are taken out, or `None` if there are
+/// neither.
 pub(crate) fn text_of(
     alloc: Global,
     body: &Pat,

@@ -1,4 +1,4 @@
-//! Suggestions for a pattern.
+//! The suggestion for a pattern.
 
 ghost use Rattle.std.specs.Prelude.{◌≡◌, ◌≤◌, ℕ, List, length, Some, Ok, IfOk, IfErr, OnOk};
 ghost use Rattle.rl_ranges.specs.Text.{IsText};
@@ -25,10 +25,10 @@ use rl_ranges::Codes;
 use rl_syntax::{Limit, Pattern, Span, Spans, Suggestion};
 use std::alloc::Global;
 
-/// Why there is no suggestion.
+/// The reason why there is no suggestion.
 #[derive(Clone, Copy, Debug, PartialEq, Eq)]
 pub enum SuggestError {
-    /// The body as fullmatch passes this limit: Size, Letters or Moves.
+    /// The body, in the mode fullmatch, exceeds this limit: `Size`, `Letters` or `Moves`.
     Limit(Limit),
     /// Out of memory.
     OutOfMemory,
@@ -45,7 +45,7 @@ impl From<OutOfMemory> for SuggestError {
     }
 }
 
-/// The marks of the quantifiers that are taken out of a body without the branches of these spans.
+/// Returns the spans of the quantifiers that are taken out of a body without the dropped branches.
 fn merged_of(alloc: Global, p: &Pattern, dropped: &[Span]) -> Result<Spans, OutOfMemory>
     ensures { IfOk result (λ all. all ≡ merged_in (left (among dropped.now) no_span (body_of p.now))) }
 {
@@ -55,10 +55,12 @@ fn merged_of(alloc: Global, p: &Pattern, dropped: &[Span]) -> Result<Spans, OutO
     merged
 }
 
-/// The right suggestion for a pattern, whose codes these are under the flags.
+/// Returns the right suggestion for a pattern, which must have been read from `codes` under `flags`. Each trial looks at no
+/// more than `limit` set pairs.
 ///
 /// # Errors
-/// [`SuggestError::Limit`] exactly where the body as fullmatch passes it; [`SuggestError::OutOfMemory`].
+/// [`SuggestError::Limit`], with the limit, if the body exceeds a limit in the mode fullmatch; [`SuggestError::OutOfMemory`]
+/// if there is not enough memory.
 pub fn suggest(
     alloc: Global,
     p: &Pattern,

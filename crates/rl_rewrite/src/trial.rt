@@ -1,4 +1,4 @@
-//! Trials of branches, each by the languages of a body with it and without it.
+//! Trials of branches: each compares the languages of a body with and without the branch.
 
 ghost use Rattle.std.specs.Prelude.{◌≡◌, ◌≤◌, IfOk};
 ghost use Rattle.rl_syntax.specs.Tree.{tree_of, IsOver};
@@ -14,18 +14,18 @@ use rl_ranges::Universe;
 use rl_syntax::Re;
 use std::alloc::Global;
 
-/// What a trial finds.
+/// The outcome of a trial.
 #[derive(Clone, Copy)]
 pub(crate) enum Trial {
     /// The languages are equal.
     Equal,
-    /// They differ.
+    /// The languages differ.
     Apart,
-    /// It passed its limit.
-    Passed,
+    /// It gave up: the comparison exceeded its limit.
+    GaveUp,
 }
 
-/// The trial of a branch, by the trees of a body with it and without it, which pass no limit.
+/// Tries a branch by comparing the trees of a body with and without it. Neither tree exceeds a limit.
 pub(crate) fn run_trial(
     alloc: Global,
     before: &mut Baseline,
@@ -50,13 +50,13 @@ pub(crate) fn run_trial(
             drop(text);
             Ok(Trial::Apart)
         }
-        Ok(Sameness::Passed) => Ok(Trial::Passed),
+        Ok(Sameness::Passed) => Ok(Trial::GaveUp),
         Err(SameError::OutOfMemory) => Err(OutOfMemory),
         Err(SameError::Size | SameError::Letters | SameError::Moves) => unreachable!(),
     }
 }
 
-/// A tree that passes no limit, as the one that others are compared with.
+/// Makes a tree that exceeds no limit the one with which others are compared.
 pub(crate) fn next_baseline(
     alloc: Global,
     tree: Re,

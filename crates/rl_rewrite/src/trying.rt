@@ -1,4 +1,4 @@
-//! The branches of a body tried one after another.
+//! Trying the branches of a body one after another.
 
 ghost use Rattle.std.specs.Prelude.{◌≡◌, ◌≤◌, [], ◌∷◌, List, length, false, true, IfOk, OnOk, IfSome};
 ghost use Rattle.rl_syntax.specs.declared.span.Span.{Span as AnySpan};
@@ -24,31 +24,32 @@ use rl_trim::{Judgement, Trimmer};
 use std::alloc::Global;
 use std::mem::replace;
 
-/// Of so many branches or more each is tried on one automaton first. It is for speed alone: one automaton more pays where there
-/// are some trials.
+/// If there are at least this many branches, each is first tried on a single automaton. This affects only speed: the extra
+/// automaton pays off if there are several trials.
 const QUICK_FROM: usize = 3;
 
-/// What trials of all branches give, by rising place.
+/// The outcome of the trials of all branches, in the order of their places.
 #[derive(Drop)]
 pub(crate) struct Tried {
     /// The branches that were dropped.
     pub(crate) dropped: Spans,
-    /// The branches whose test passed its limit.
+    /// The branches whose trial exceeded its limit.
     pub(crate) passed: Spans,
 }
 
-/// What the trials so far give, by rising place.
+/// The outcome of the trials so far, in the order of the places.
 #[derive(Drop)]
 struct Tries {
     /// The branches that were dropped.
     dropped: Spans,
-    /// The branches whose test passed its limit.
+    /// The branches whose trial exceeded its limit.
     passed: Spans,
-    /// The tree of the body without the branches that were dropped, with which others are compared, unless none was needed yet.
+    /// The tree of the body without the dropped branches, with which others are compared, or `None` if none has been needed
+    /// since the last branch was dropped.
     base: Option<Baseline>,
 }
 
-/// The automaton of the tree of a body without some of its branches, if others are to be tried on it.
+/// Returns, if `wanted`, the automaton of the tree of a body without the dropped branches, on which other branches are tried.
 fn trimmer_of(
     alloc: Global,
     p: &Pattern,
@@ -72,7 +73,7 @@ fn trimmer_of(
     Ok(Some(trimmer))
 }
 
-/// A span and those behind it.
+/// Returns a list with `first` in front of the other spans.
 fn with_first(alloc: Global, first: Span, others: &[Span]) -> Result<Spans, OutOfMemory>
     ensures { IfOk result (λ all. all ≡ first ∷ others.now) }
 {
@@ -82,18 +83,19 @@ fn with_first(alloc: Global, first: Span, others: &[Span]) -> Result<Spans, OutO
     Ok(Spans::from_vec(all))
 }
 
-/// What a trial tells, as a judgement on one automaton.
+/// Returns the outcome of a trial for a judgement on one automaton.
 fn told(found: Judgement) -> Trial
     ensures { result ≡ trial_told found }
 {
     match found {
         Judgement::Equal => Trial::Equal,
         Judgement::Apart => Trial::Apart,
-        Judgement::Passed => Trial::Passed,
+        Judgement::Passed => Trial::GaveUp,
     }
 }
 
-/// What a trial of one more branch on the automaton of what is left tells, if it tells something.
+/// Tries one more branch on the automaton of what is left. Returns `None` if there is no automaton or it doesn't decide the
+/// trial.
 fn judge_branch(
     alloc: Global,
     p: &Pattern,
@@ -123,7 +125,7 @@ fn judge_branch(
     Ok(Some(told(found)))
 }
 
-/// What a trial of both trees tells of one more branch.
+/// Tries one more branch by comparing the trees with and without it.
 fn compare_branch(
     alloc: Global,
     p: &Pattern,
@@ -153,7 +155,7 @@ fn compare_branch(
     trial
 }
 
-/// The tree of a body without some of its branches, as the one to compare with.
+/// Returns the tree of a body without the dropped branches, as the tree with which others are compared.
 fn baseline_without(alloc: Global, p: &Pattern, dropped: &[Span]) -> Result<Baseline, OutOfMemory>
     requires guardless { guard_in (body_of p.now) ≡ false }
     requires within { IsWithin (universe_of p.now) (lowered (body_of p.now)) }
@@ -166,7 +168,8 @@ fn baseline_without(alloc: Global, p: &Pattern, dropped: &[Span]) -> Result<Base
     Ok(base)
 }
 
-/// The same, unless it was made before.
+/// Returns the tree of a body without the dropped branches, as the tree with which others are compared. If `base` has it, it
+/// isn't made again.
 fn base_of(
     alloc: Global,
     p: &Pattern,
@@ -187,7 +190,7 @@ fn base_of(
     }
 }
 
-/// What a trial of one more branch tells: on the automaton of what is left, if there is one, or else of both trees.
+/// Tries one more branch: on the automaton of what is left if it decides the trial, and otherwise by comparing both trees.
 fn trial_of(
     alloc: Global,
     p: &Pattern,
@@ -228,7 +231,7 @@ fn trial_of(
     Ok(trial)
 }
 
-/// Adds what a trial of the branch before those that were tried gives.
+/// Tries the branch before all those tried so far, and records the outcome.
 fn try_branch(
     alloc: Global,
     p: &Pattern,
@@ -272,7 +275,7 @@ fn try_branch(
             drop(more);
             Ok(())
         }
-        Trial::Passed => {
+        Trial::GaveUp => {
             drop(more);
             let passed = with_first(alloc, branch, tries.passed.as_slice())?;
             tries.passed = passed;
@@ -281,7 +284,8 @@ fn try_branch(
     }
 }
 
-/// The same, and makes the automaton of what is left then, if others are to be tried on it.
+/// Tries the branch before all those tried so far, and records the outcome. If the branch is dropped and there is an
+/// automaton, makes the automaton of what is left then.
 fn try_next(
     alloc: Global,
     p: &Pattern,
@@ -314,7 +318,7 @@ fn try_next(
     Ok(())
 }
 
-/// Adds what trials of branches give to tries of none, the last branch first.
+/// Tries all of the branches, starting with the last one, if none has been tried before.
 fn try_each(
     alloc: Global,
     p: &Pattern,
@@ -339,7 +343,7 @@ fn try_each(
     Ok(())
 }
 
-/// The same of all branches of a body.
+/// Tries all branches of a body.
 fn try_all(alloc: Global, p: &Pattern, tries: &mut Tries, limit: u32) -> Result<(), OutOfMemory>
     requires guardless { guard_in (body_of p.now) ≡ false }
     requires within { IsWithin (universe_of p.now) (lowered (body_of p.now)) }
@@ -361,7 +365,7 @@ fn try_all(alloc: Global, p: &Pattern, tries: &mut Tries, limit: u32) -> Result<
     Ok(())
 }
 
-/// What trials of all branches of a body give, where its tree is the first one to compare with.
+/// Tries all branches of a body. `base` is its tree, with which the first branch is compared.
 fn try_branches(
     alloc: Global,
     p: &Pattern,
@@ -395,8 +399,8 @@ fn try_branches(
     Ok(Tried { dropped, passed })
 }
 
-/// What trials of all branches of a body give, where its tree is the first one to compare with; none is tried where the body
-/// holds a guard.
+/// Tries all branches of a body, or none if the body contains a guard. `base` is the tree of the body, with which the first
+/// branch is compared.
 pub(crate) fn tries_of(
     alloc: Global,
     p: &Pattern,

@@ -15,7 +15,7 @@ iterate-last : (h : ℕ → ℕ) (k x : ℕ) → iterate h (suc k) x ≡ h (iter
 iterate-last h zero x = refl
 iterate-last h (suc k) x = iterate-last h k (h x)
 
--- the number behind a number that is `k` steps behind the seed
+-- The number that follows the one reached from the seed in `k` steps.
 pub value_at-more : (seed k : ℕ) → value_at seed (k + 1) ≡ next_value (value_at seed k)
 value_at-more seed k = let e : k + 1 ≡ suc k = omega arith in ap (value_at seed) e ∙ iterate-last next_value k seed
 

@@ -1,7 +1,7 @@
-//! A Python source with many calls of `re`, made from a seed, for trials and measurements.
+//! A Python source with many calls of `re`, generated from a seed, for trials and measurements.
 //!
-//! [`sample_source`] takes as many steps of a linear congruential generator as there are calls to be made. Each number of the
-//! generator chooses one of eight patterns, and each pattern becomes a call of `re.fullmatch` in a line of its own.
+//! [`sample_source`] runs a linear congruential generator, with one step for each call. Each number of the generator
+//! selects one of eight patterns, and each pattern becomes a call of `re.fullmatch` on a line of its own.
 //!
 //! # What is proved
 //!
@@ -17,7 +17,7 @@
 //! // re.fullmatch(r"abc", s)
 //! ```
 //!
-//! Read `specs/Generator.antt`: it has the generator, the eight patterns and the text.
+//! Read `specs/Generator.antt`: it defines the generator, the eight patterns and the text.
 #![tactic(auto)]
 
 mod patterns;

@@ -1,8 +1,8 @@
-//! The numbers of the generator, and the patterns that they choose.
+//! The numbers of the generator, and the patterns that they select.
 ghost use Rattle.std.specs.Prelude.{◌≡◌, ◌<◌, ◌^◌};
 ghost use Rattle.rl_sample.specs.Generator.{next_value, pattern_of};
 
-/// The number that follows a number of the generator, which is a linear congruential one.
+/// Returns the number that follows a number of the linear congruential generator.
 pub fn next_value(value: u32) -> u32
     requires { value < 2 ^ 31 }
     ensures follows { result ≡ next_value value }
@@ -11,7 +11,7 @@ pub fn next_value(value: u32) -> u32
     ((u64::from(value) * 1_103_515_245 + 12_345) % 2_147_483_648) as u32
 }
 
-/// The text of the pattern that a number of the generator chooses.
+/// Returns the pattern that a number of the generator selects.
 pub fn pattern_of(value: u32) -> &'static str
     ensures { result.now ≡ pattern_of value }
 {

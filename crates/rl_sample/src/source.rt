@@ -1,4 +1,4 @@
-//! The sampled source.
+//! The generated source.
 ghost use Rattle.std.specs.Prelude.{◌≡◌, ◌++◌, ◌<◌, ◌≤◌, ◌^◌, IfOk, OnOk};
 ghost use Rattle.rl_sample.specs.Generator.{line_of, source_of};
 
@@ -6,7 +6,7 @@ use crate::patterns::{next_value, pattern_of};
 use rl_lists::{Bytes, OutOfMemory};
 use std::alloc::Global;
 
-/// Appends the line of a number of the generator.
+/// Appends the line for a number of the generator.
 fn push_line(text: &mut Vec<u8>, value: u32) -> Result<(), OutOfMemory>
     ensures { OnOk result (text.new.items ≡ text.old.items ++ line_of value) }
 {
@@ -16,10 +16,10 @@ fn push_line(text: &mut Vec<u8>, value: u32) -> Result<(), OutOfMemory>
     Ok(())
 }
 
-/// The source that the generator makes from this seed: `count` calls of `re.fullmatch` below an import.
+/// Generates a source from this seed: an import, followed by `count` calls of `re.fullmatch`.
 ///
 /// # Errors
-/// [`OutOfMemory`] when out of memory.
+/// [`OutOfMemory`] if there is not enough memory.
 pub fn sample_source(alloc: Global, seed: u32, count: u32) -> Result<Bytes, OutOfMemory>
     requires seed { seed < 2 ^ 31 }
     requires some { 1 ≤ count }

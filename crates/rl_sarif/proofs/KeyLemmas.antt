@@ -1,4 +1,4 @@
--- Keys that are the same, and the comparison that is derived for the structs.
+-- Keys that are equal, and the comparison that is derived for the structs.
 use Rattle.std.proofs.Common.{◌≡◌, ℕ, Bool, true, ◌&&◌, List, Option, None, Some, option_map, nat_eq, string_bytes, Bor, refl, ap, sym, subst}
 use Rattle.std.specs.Bool.{Decides}
 use Rattle.std.specs.Bool.{one_answer}
@@ -82,6 +82,6 @@ about-eq a b = λ i. named-eq a.call b.call i && (bytes_eq a.kind.now b.kind.now
 pub key-eq : (a b : Key) → key.eq-value.it a b ≡ same_key (key_in a) (key_in b)
 key-eq a b = λ i. bytes_eq (string_bytes a.path) (string_bytes b.path) && about-eq a.about b.about i
 
--- what a look-up of a key finds
+-- What a look-up of a key finds.
 pub found : {S : Type 0} (m : IndexMap Key ℕ S) (q : Key) → get key.eq-value.it m q ≡ get_by (λ k. same_key (key_in q) (key_in k)) m
 found m q = λ i. get_by (λ k. key-eq q k i) m

@@ -1,4 +1,4 @@
--- The keys that are read from the entries of a report are those of the entries.
+-- The keys that are read from the entries of a report are the keys of those entries.
 use Rattle.std.proofs.Common.{◌≡◌, ℕ, ◌<◌, ◌^◌, Bool, true, false, cond, nat_lt, List, [], ◌∷◌, map, Option, Some, None, option_map, option_and_then, All, IfSome, codes, refl, sym, ap, subst, ◌∙◌, arith}
 use Rattle.std.specs.Prelude.{⊤}
 use Rattle.std.specs.Str.{bytes_eq}
@@ -30,7 +30,7 @@ use Rattle.rl_sarif.specs.Keys.{Subject, degree_of, key_of, limit_of, subject_of
 use Rattle.rl_sarif.specs.Laws.{FitsVerdict, IsAnswer, IsSound}
 use Rattle.rl_sarif.proofs.NamesKnown.{call-known, limit-known, kind-known, lexing-known, literal-known, pattern-known}
 
--- ---- members that stand at other keys
+-- ---- members at other keys
 
 skip : (q k : List ℕ) (d : Data) (ms : Members) → bytes_eq q k ≡ false → get_member q (put k d ms) ≡ get_member q ms
 skip q k d ms other = get_member-put_other q k d ms (λ same. false≢true (sym other ∙ (bytes_eq-Decides q k).1 same))
@@ -79,7 +79,7 @@ judged-other q o max_pairs report e ms =
     (put_some (codes "family") (family_data e.universe) (option_and_then family_of (verdict_of e.outcome)) ms)
     ∙ some-other q (codes "family") (family_data e.universe) (option_and_then family_of (verdict_of e.outcome)) ms o.family
 
--- neither the kind nor what goes with it
+-- The key is neither the kind nor one of the keys that come with a kind.
 record IsBeside (q : List ℕ) : Type 0 where
   kind : bytes_eq q (codes "kind") ≡ false
   degree : bytes_eq q (codes "degree") ≡ false
@@ -111,7 +111,7 @@ outcome-other q b max_pairs e (Some (Undecided limit)) ms =
     skip q (codes "over") (whole (limit_number max_pairs limit)) (put (codes "limit") (string (limit_name limit)) kind) b.over
     ∙ skip q (codes "limit") (string (limit_name limit)) kind b.limit ∙ kind-other q b (codes "undecided") ms
 
--- ---- what stands at the keys of an entry
+-- ---- the values at the keys of an entry
 
 outside-path : IsOutside (codes "path")
 outside-path = record { family = refl; dropped = refl; merged = refl; passed = refl; suggest = refl; becomes = refl }
@@ -157,7 +157,7 @@ front-call e = by e.call
     by None = at-other (codes "call") e.at (put (codes "path") (string e.path) no_members) refl refl
     by (Some c) = get_member-put (codes "call") (string (call_word c)) (at_members e.at (put (codes "path") (string e.path) no_members))
 
--- ---- what an outcome puts
+-- ---- the members that an outcome adds
 
 refusal-kind : (kind : Text) (cause : Option Text) (fault : Option Place) (ms : Members) → get_member (codes "kind") (refusal_members kind cause fault ms) ≡ Some (string kind)
 refusal-kind kind None fault ms = get_member-put (codes "kind") (string kind) ms
@@ -201,14 +201,14 @@ outcome-kind : (max_pairs : ℕ) (e : Entry) (v : Option Verdict) (ms : Members)
 outcome-kind max_pairs e None ms h = refusal-kind (kind_name e.outcome) (cause_name e.outcome) e.fault ms
 outcome-kind max_pairs e (Some v) ms h = verdict-kind max_pairs v ms ∙ ap (λ k. Some (string k)) (verdict-kind-name e.outcome v h)
 
--- the degree or the limit of a verdict stands among the members
+-- The degree or the limit of a verdict is among the members.
 abbrev VerdictStands : Members → Option Verdict → Type 0
 VerdictStands ms None = ⊤
 VerdictStands ms (Some (Degree d family)) = get_member (codes "degree") ms ≡ Some (whole d)
 VerdictStands ms (Some (Expo family)) = ⊤
 VerdictStands ms (Some (Undecided limit)) = get_member (codes "limit") ms ≡ Some (string (limit_name limit))
 
--- the cause stands among the members
+-- The cause is among the members.
 abbrev CauseStands : Members → Option Text → Type 0
 CauseStands ms None = ⊤
 CauseStands ms (Some cause) = get_member (codes "cause") ms ≡ Some (string cause)
@@ -239,7 +239,7 @@ cause-stands max_pairs report e None ms h = refusal-stands max_pairs report e (k
 cause-stands max_pairs report e (Some v) ms h =
     subst (CauseStands (judged_members max_pairs report e (outcome_members max_pairs e (Some v) ms))) (sym (verdict-no-cause e.outcome v h)) tt
 
--- ---- what is read of it
+-- ---- what is read back
 
 cause-read : (call : Option Text) (ms : Members) (cause : Text) → get_member (codes "cause") ms ≡ Some (string cause) → one_of cause_names cause ≡ Some cause
     → subject_of_kind call (codes "refused") (object ms) ≡ Some (record (plain call (codes "refused")) { cause = Some cause })

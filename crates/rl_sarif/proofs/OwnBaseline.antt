@@ -27,7 +27,7 @@ own-baseline max_degree max_pairs report entries small version few sound short =
       holds = rw (is-version report version) (keys-back max_pairs report entries sound);
     }
 
--- the bytes have one value, and it has one list of keys
+-- The bytes spell one value, and this value has one list of keys.
 pub one-list : (bytes : List ℕ) (keys others : List EntryKey) → IsBaseline bytes keys → IsBaseline bytes others → keys ≡ others
 one-list bytes keys others a b =
     let read_same : Some a.value ≡ Some b.value = sym a.reads ∙ b.reads in

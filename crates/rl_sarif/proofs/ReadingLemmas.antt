@@ -7,7 +7,7 @@ use Rattle.rl_sarif.specs.declared.key.Key.{Key}
 use Rattle.rl_sarif.specs.Baseline.{key_read, keys_read}
 use Rattle.rl_sarif.specs.Keys.{EntryKey, key_in}
 
--- the keys that were read, and those of the values that are left
+-- The keys that have been read, followed by the keys of the values that are left.
 abbrev pub read_on : List Key → List Value → Option (List EntryKey)
 read_on keys values = option_map (λ more. map key_in keys ++ more) (keys_read (items_view values))
 

@@ -30,7 +30,7 @@ use Rattle.rl_sarif.specs.Laws.{FitsPlace, FitsVerdict, IsAnswer, IsSound}
 use Rattle.rl_sarif.proofs.NamesKnown.{call-utf8, limit-utf8, kind-utf8, cause-utf8, lexing-known, literal-known, pattern-known}
 use Rattle.rl_json.proofs.Writable.{IsWritable, AreWritable, AreWritableItems, put-writable}
 
--- a member with a name in ASCII
+-- A member with an ASCII name.
 put-named : (n : ℕ) (k : List ℕ) (d : Data) (ms : Members) → are_ascii k ≡ true → IsWritable n d → AreWritable n ms → AreWritable n (put k d ms)
 put-named n k d ms ascii w all = put-writable n k d ms (IsUtf8-are_ascii k ascii) w all
 

@@ -1,4 +1,4 @@
--- Results put one behind the other in a loop, and a document, which has no float.
+-- Results appended one after the other in a loop, and a document without floats.
 use Rattle.std.proofs.Common.{◌≡◌, ℕ, ◌+◌, ◌<◌, ◌≤◌, Bool, true, false, cond, List, [], ◌∷◌, ◌++◌, length, get_or, take, map, filter, Option, None, Some, codes, ap, ap₂, sym, refl, ◌∙◌, Vec, Global, append-nil}
 use Rattle.std.proofs.lemmas.List.{map-append, take_more, take_all}
 use Rattle.std.proofs.lemmas.List.Elements.{filter-append}
@@ -24,13 +24,13 @@ module _ {X : Type 0} (p : X → Bool) (f : X → Data) (xs : List X) (i : ℕ) 
       ∙ ap (map f) (filter-append p (take i xs) (x ∷ []) ∙ ap (λ l. filter p (take i xs) ++ l) (one-kept b is))
       ∙ map-append f (filter p (take i xs)) (cond b (x ∷ []) [])
 
--- the values of the items so far that are kept, and one more
+-- The values of the kept items so far, and one more.
 pub value_more : {X : Type 0} (p : X → Bool) (f : X → Data) (vs ws : List Value) (xs : List X) (i : ℕ) (x : X) (v : Value) → i < length xs → x ≡ get_or xs i x → p x ≡ true → view v ≡ f x
     → map view vs ≡ map f (filter p (take i xs)) → ws ≡ vs ++ v ∷ [] → map view ws ≡ map f (filter p (take (i + 1) xs))
 value_more p f vs ws xs i x v h e passes is so_far pushed =
     ap (map view) pushed ∙ map-append view vs (v ∷ []) ∙ ap₂ (λ ds d. ds ++ d ∷ []) so_far is ∙ sym (kept-so-far p f xs i x true h e passes)
 
--- an item that isn't kept
+-- An item that isn't kept.
 pub value_passed : {X : Type 0} (p : X → Bool) (f : X → Data) (vs : List Value) (xs : List X) (i : ℕ) (x : X) → i < length xs → x ≡ get_or xs i x → p x ≡ false
     → map view vs ≡ map f (filter p (take i xs)) → map view vs ≡ map f (filter p (take (i + 1) xs))
 value_passed p f vs xs i x h e fails so_far = so_far ∙ sym (kept-so-far p f xs i x false h e fails ∙ append-nil (map f (filter p (take i xs))))
@@ -39,7 +39,7 @@ pub value_all : {X : Type 0} (p : X → Bool) (f : X → Data) (vs : Vec Value G
     → view (Array vs) ≡ array (items_of (map f (filter p xs)))
 value_all p f vs xs i h so_far = view-Array vs ∙ ap (λ ds. array (items_of ds)) (so_far ∙ ap (λ l. map f (filter p l)) (take_all i xs h))
 
--- an array with one item
+-- An array with one item.
 pub one_item : (before : List Value) (vs : Vec Value Global) (v : Value) → before ≡ [] → vs.items ≡ before ++ v ∷ [] → view (Array vs) ≡ array (items_of (view v ∷ []))
 one_item before vs v none pushed = view-Array vs ∙ ap (λ xs. array (items_of (map view xs))) (pushed ∙ ap (λ xs. xs ++ v ∷ []) none)
 

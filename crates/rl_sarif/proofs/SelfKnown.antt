@@ -17,7 +17,7 @@ counts-itself k ks =
     let one : times (k ∷ []) k ≡ 1 = ap (λ b. 0 + cond b 1 0) (same_key-itself k) in
     omega arith
 
--- a key is known where fewer stand before it than in all
+-- A key is known if fewer equal keys come before it than there are in all.
 known-here : (before : List EntryKey) (k : EntryKey) (ks : List EntryKey) → is_known (before ++ k ∷ ks) (take (length before) (before ++ k ∷ ks)) k ≡ true
 known-here before k ks =
     ap (λ l. nat_lt (times l k) (times (before ++ k ∷ ks) k)) (take-append_seam before (k ∷ ks))

@@ -1,4 +1,4 @@
--- Tallies: what one more key and one less key leave, and the positions that aren't known so far.
+-- Tallies: how adding and taking a key change them, and the unknown positions so far.
 use Rattle.std.proofs.Common.{◌≡◌, ℕ, ◌+◌, ◌-◌, ◌<◌, ◌≤◌, Bool, true, false, cond, not, nat_lt, List, [], ◌∷◌, ◌++◌, length, get_or, take, map, filter, Option, Some, unwrap_or, refl, ap, sym, ◌∙◌, arith, append-nil}
 use Rattle.std.specs.HashMap.{get, get_by}
 use Rattle.std.specs.List.{enumerate_from}
@@ -20,7 +20,7 @@ unwrap-cond true w o = refl
 unwrap-cond false w o = refl
 
 module _ {S : Type 0} (m n : IndexMap Key ℕ S) (k : Key) where
-  -- what is left once a number stands at the key k
+  -- the tally after a number is stored at the key k
   left-put : (w : ℕ) → ((q : Key) → get key.eq-value.it n q ≡ cond (key.eq-value.it k q) (Some w) (get key.eq-value.it m q)) → (q : Key)
       → left n (key_in q) ≡ cond (same_key (key_in q) (key_in k)) w (left m (key_in q))
   left-put w puts q =
@@ -33,7 +33,7 @@ module _ {S : Type 0} (m n : IndexMap Key ℕ S) (k : Key) where
   added-at true w q e is = is ∙ ap (λ (a : EntryKey). left m a + 1) (sym (same_key-equal q (key_in k) e))
   added-at false w q e is = omega arith
 
-  -- one more of the key
+  -- one more occurrence of the key
   pub added : (w : ℕ) → w ≡ left m (key_in k) + 1
       → ((q : Key) → get key.eq-value.it n q ≡ cond (key.eq-value.it k q) (Some w) (get key.eq-value.it m q))
       → Holds n (λ q. left m q + one_if_same q (key_in k))
@@ -44,7 +44,7 @@ module _ {S : Type 0} (m n : IndexMap Key ℕ S) (k : Key) where
   taken-at true w q e is = is ∙ ap (λ (a : EntryKey). left m a - 1) (sym (same_key-equal q (key_in k) e))
   taken-at false w q e is = omega arith
 
-  -- one less of the key
+  -- one occurrence of the key less
   pub taken : (w : ℕ) → w ≡ left m (key_in k) - 1
       → ((q : Key) → get key.eq-value.it n q ≡ cond (key.eq-value.it k q) (Some w) (get key.eq-value.it m q))
       → Holds n (λ q. left m q - one_if_same q (key_in k))
@@ -54,7 +54,7 @@ none-at : {S : Type 0} (m : IndexMap Key ℕ S) (b : Bool) (q k : EntryKey) → 
 none-at m true q k e none = let nothing : left m q ≡ 0 = ap (left m) (same_key-equal q k e) ∙ none in omega arith
 none-at m false q k e none = omega arith
 
--- a key that isn't left can't be taken
+-- A key with no occurrence left can't be taken.
 pub none-taken : {S : Type 0} (m : IndexMap Key ℕ S) (k : Key) → left m (key_in k) ≡ 0 → Holds m (λ q. left m q - one_if_same q (key_in k))
 none-taken m k none q = none-at m (same_key (key_in q) (key_in k)) (key_in q) (key_in k) refl none
 
@@ -89,7 +89,7 @@ few-tallied keys i q = omega (arith, count_by-le-length (same_key q) (map key_in
 minus-sum : (a b c : ℕ) → (a - b) - c ≡ a - (b + c)
 minus-sum a b c = omega arith
 
--- one entry more is taken from the baseline's keys
+-- One more entry takes a key of the baseline.
 pub left-next : {S : Type 0} (m n : IndexMap Key ℕ S) (b ks : List EntryKey) (i : ℕ) (k : Key) → i < length ks → key_in k ≡ get_or ks i (key_in k)
     → Holds m (λ q. times b q - times (take i ks) q) → Holds n (λ q. left m q - one_if_same q (key_in k)) → Holds n (λ q. times b q - times (take (i + 1) ks) q)
 left-next m n b ks i k h e before after q =
@@ -100,12 +100,12 @@ left-next m n b ks i k h e before after q =
 more-left : (a b : ℕ) → nat_lt 0 (a - b) ≡ nat_lt b a
 more-left a b = grind (arith, nat_tests)
 
--- an entry is known where its key is left
+-- An entry is known if an occurrence of its key is left.
 pub known-left : {S : Type 0} (m : IndexMap Key ℕ S) (b ks : List EntryKey) (i : ℕ) (k : Key) → Holds m (λ q. times b q - times (take i ks) q)
     → nat_lt 0 (left m (key_in k)) ≡ is_known b (take i ks) (key_in k)
 known-left m b ks i k before = ap (nat_lt 0) (before k) ∙ more-left (times b (key_in k)) (times (take i ks) (key_in k))
 
--- the positions so far
+-- The unknown positions so far.
 abbrev pub so_far : List EntryKey → List EntryKey → ℕ → List ℕ
 so_far b ks i = map (λ (p : ℕ × EntryKey). p.0) (filter (is_unknown b ks) (take i (enumerate_from 0 ks)))
 

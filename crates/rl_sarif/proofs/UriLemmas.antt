@@ -1,9 +1,9 @@
--- Bytes put one behind the other in a loop.
+-- Bytes appended one after the other in a loop.
 use Rattle.std.proofs.Common.{◌≡◌, ℕ, ◌+◌, ◌<◌, ◌≤◌, List, [], ◌++◌, length, get_or, take, ap, sym, ◌∙◌}
 use Rattle.std.specs.List.{flat_map}
 use Rattle.std.proofs.lemmas.List.{flat_map_more, take_more, take_all}
 
--- the pieces of the items so far, and one more
+-- The pieces of the items so far, and one more.
 pub piece-more : (f : ℕ → List ℕ) (now next xs : List ℕ) (i : ℕ) → i < length xs
     → now ≡ flat_map f (take i xs) → next ≡ now ++ f (get_or xs i 0) → next ≡ flat_map f (take (i + 1) xs)
 piece-more f now next xs i h n m =

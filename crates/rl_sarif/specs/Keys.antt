@@ -1,4 +1,4 @@
--- What an entry is known by.
+-- The keys by which a baseline recognizes entries.
 use Rattle.std.specs.Prelude.{ℕ, Bool, ◌&&◌, Option, Some, None, option_map, option_and_then, nat_eq, string_bytes}
 use Rattle.std.specs.Option.{option_eq}
 use Rattle.std.specs.Str.{bytes_eq}
@@ -11,8 +11,8 @@ use Rattle.rl_report.specs.Names.{Text, cause_name, kind_name, limit_name}
 use Rattle.rl_sarif.specs.declared.key.About.{About}
 use Rattle.rl_sarif.specs.declared.key.Key.{Key}
 
--- What is told of a path: the name of a call, the name of a kind, and a degree, the name of a limit or the name of a cause.
--- What isn't told isn't there
+-- The part of a key that doesn't depend on the path: the names of the call and the kind, and depending on the kind a degree,
+-- the name of a limit, or the name of a cause. Parts that an entry doesn't have are `None`.
 pub record Subject : Type 0 where
   pub call : Option Text
   pub kind : Text
@@ -20,19 +20,22 @@ pub record Subject : Type 0 where
   pub limit : Option Text
   pub cause : Option Text
 
--- a path and what is told of it
+-- The key of an entry: its path and its subject.
 pub record EntryKey : Type 0 where
   pub path : Text
   pub subject : Subject
 
+-- The degree of a verdict, if it is one.
 abbrev pub degree_of : Verdict → Option ℕ
 degree_of (Degree d family) = Some d
 degree_of _ = None
 
+-- The name of the exceeded limit, if the verdict is `undecided`.
 abbrev pub limit_of : Verdict → Option Text
 limit_of (Undecided limit) = Some (limit_name limit)
 limit_of _ = None
 
+-- The subject of an entry.
 abbrev pub subject_of : Entry → Subject
 subject_of e = record {
   call = option_map call_word e.call;
@@ -42,21 +45,23 @@ subject_of e = record {
   cause = cause_name e.outcome;
 }
 
--- the key of an entry
+-- The key of an entry.
 abbrev pub key_of : Entry → EntryKey
 key_of e = record { path = e.path; subject = subject_of e }
 
--- whether all parts are the same
+-- Whether all parts of two subjects are equal.
 abbrev pub same_subject : Subject → Subject → Bool
 same_subject a b =
     option_eq bytes_eq a.call b.call && (bytes_eq a.kind b.kind && (option_eq nat_eq a.degree b.degree
     && (option_eq bytes_eq a.limit b.limit && option_eq bytes_eq a.cause b.cause)))
 
+-- Whether two keys are equal.
 abbrev pub same_key : EntryKey → EntryKey → Bool
 same_key a b = bytes_eq a.path b.path && same_subject a.subject b.subject
 
--- ---- what the structs hold
+-- ---- the values of the structs
 
+-- The subject that the struct `About` holds.
 abbrev pub subject_in : About → Subject
 subject_in a = record {
   call = option_map (λ n. n.now) a.call;
@@ -66,5 +71,6 @@ subject_in a = record {
   cause = option_map (λ n. n.now) a.cause;
 }
 
+-- The key that the struct `Key` holds.
 abbrev pub key_in : Key → EntryKey
 key_in k = record { path = string_bytes k.path; subject = subject_in k.about }

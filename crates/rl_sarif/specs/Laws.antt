@@ -11,18 +11,21 @@ use Rattle.rl_report.specs.declared.report.Outcome.{Outcome}
 use Rattle.rl_report.specs.declared.report.Outcome.TheVariants as outcome
 use Rattle.rl_report.specs.Document.{json_report}
 use Rattle.rl_report.specs.Findings.{becomes_of, verdict_of}
+use Rattle.rl_sarif.specs.declared.limits.TheConstants.{MOST_BASELINE_BYTES}
 use Rattle.rl_sarif.specs.Baseline.{IsBaseline}
 use Rattle.rl_sarif.specs.Keys.{key_of}
 
+-- The line and column fit in 32 bits.
 abbrev pub FitsPlace : Place → Type 0
 FitsPlace p = (p.line < 2 ^ 32) × (p.column < 2 ^ 32)
 
+-- The degree of the verdict, if it has one, fits in 32 bits.
 abbrev pub FitsVerdict : Verdict → Type 0
 FitsVerdict (Degree d family) = d < 2 ^ 32
 FitsVerdict (Expo family) = ⊤
 FitsVerdict (Undecided limit) = ⊤
 
--- out of memory is no outcome
+-- The outcome isn't that memory ran out.
 abbrev pub IsAnswer : Outcome → Type 0
 IsAnswer outcome.Unreadable = ⊤
 IsAnswer outcome.TooDeepFolder = ⊤
@@ -34,7 +37,7 @@ IsAnswer outcome.FlagsUnknown = ⊤
 IsAnswer (outcome.Pattern e) = e ≢ pattern_error.OutOfMemory
 IsAnswer (outcome.Judged verdict suggestion becomes) = ⊤
 
--- what the types of an entry's parts say of it, and that its outcome is an answer
+-- The entry is one that the program can build: its parts are values of their types, and its outcome isn't that memory ran out.
 pub record IsSound (e : Entry) : Type 0 where
   pub path : IsUtf8 e.path
   pub at : IfSome e.at FitsPlace
@@ -46,9 +49,9 @@ pub record IsSound (e : Entry) : Type 0 where
   pub becomes : IfSome (becomes_of e.outcome) FitsVerdict
   pub answer : IsAnswer e.outcome
 
--- a report in JSON, of version 1 or 2 and at most 64 MiB, holds the keys of its entries
+-- If a report in JSON is of version 1 or 2 and isn't too long, it is a baseline that holds the keys of its entries.
 abbrev pub IsOwnBaseline : ℕ → ℕ → ℕ → List Entry → Type 0
 IsOwnBaseline max_degree max_pairs report entries =
     max_pairs < 2 ^ 32 → (report ≡ 1) ⊎ (report ≡ 2) → length entries < 2 ^ 64 → All IsSound entries
-    → length (json_report max_degree max_pairs report entries) ≤ 67108864
+    → length (json_report max_degree max_pairs report entries) ≤ MOST_BASELINE_BYTES
     → IsBaseline (json_report max_degree max_pairs report entries) (map key_of entries)

@@ -1,4 +1,4 @@
--- A report as a document of SARIF 2.1.0.
+-- A report as a SARIF 2.1.0 document.
 use Rattle.std.specs.Prelude.{ℕ, ◌/◌, ◌%◌, Bool, true, ◌||◌, ◌==◌, List, [], ◌∷◌, ◌++◌, map, filter, codes, if◌then◌else◌}
 use Rattle.std.specs.Char.{is_ascii_alphanumeric}
 use Rattle.std.specs.List.{flat_map}
@@ -15,65 +15,75 @@ use Rattle.rl_report.specs.Names.{Text, kind_name}
 
 -- ---- the path as a relative URI
 
--- an ASCII letter, a digit, `-`, `.`, `_`, `~` or `/`
+-- Whether a byte of a path stays as it is in the URI: an ASCII letter, a digit, `-`, `.`, `_`, `~` or `/`.
 abbrev pub is_kept : ℕ → Bool
 is_kept c = is_ascii_alphanumeric c || (c == 45 || (c == 46 || (c == 95 || (c == 126 || c == 47))))
 
--- the byte itself, or `%` and two hexadecimal digits in upper case
+-- The byte itself, or `%` and two hexadecimal digits in upper case.
 abbrev pub uri_byte : ℕ → Text
 uri_byte c = if is_kept c then c ∷ [] else 37 ∷ digit_glyph true (c / 16) ∷ digit_glyph true (c % 16) ∷ []
 
+-- The path as a relative URI.
 abbrev pub uri_text : Text → Text
 uri_text path = flat_map uri_byte path
 
 -- ---- the results
 
--- the head line of an entry without its path, its place and the line end
+-- The message of an entry: its head line without the path, the place and the line end.
 abbrev pub message_text : ℕ → Entry → Text
 message_text max_pairs e = call_text e.call ++ outcome_text max_pairs e (verdict_of e.outcome)
 
+-- The region of a result: the line and column where it starts.
 abbrev pub region_data : Place → Data
 region_data p = object (put (codes "startLine") (whole p.line) (put (codes "startColumn") (whole p.column) no_members))
 
+-- The physical location of a result: the URI of its path and, if the entry has a place, the region.
 abbrev pub physical_data : Entry → Data
 physical_data e =
     object (put_some (codes "region") region_data e.at
     (put (codes "artifactLocation") (object (put (codes "uri") (string (uri_text e.path)) no_members)) no_members))
 
+-- The location of a result.
 abbrev pub location_data : Entry → Data
 location_data e = object (put (codes "physicalLocation") (physical_data e) no_members)
 
+-- The result for an entry. Its rule is the entry's kind.
 abbrev pub result_data : ℕ → Entry → Data
 result_data max_pairs e =
     object (put (codes "ruleId") (string (kind_name e.outcome))
     (put (codes "message") (object (put (codes "text") (string (message_text max_pairs e)) no_members))
     (put (codes "locations") (array (items_of (location_data e ∷ []))) no_members)))
 
--- a finding, or an entry that is refused or undecided: every entry but a degree that is no finding
+-- Whether the document has a result for the entry: it is a finding, refused or undecided. Only a degree that isn't a finding
+-- has no result.
 abbrev pub is_result : ℕ → Entry → Bool
 is_result max_degree e = is_finding max_degree e || is_refused e || is_undecided e
 
+-- The results, in the order of the entries.
 abbrev pub results_data : ℕ → ℕ → List Entry → Data
 results_data max_degree max_pairs entries =
     array (items_of (map (result_data max_pairs) (filter (is_result max_degree) entries)))
 
 -- ---- the document
 
+-- The tool that made the document.
 abbrev pub tool_data : Data
 tool_data = object (put (codes "driver") (object (put (codes "name") (string (codes "relint")) no_members)) no_members)
 
--- a run of the tool, whose columns count codes
+-- The run of the tool. Its columns count code points.
 abbrev pub run_data : Data → Data
 run_data results =
     object (put (codes "tool") tool_data
     (put (codes "results") results (put (codes "columnKind") (string (codes "unicodeCodePoints")) no_members)))
 
+-- The document with these results.
 abbrev pub document_data : Data → Data
 document_data results =
     object (put (codes "version") (string (codes "2.1.0"))
     (put (codes "runs") (array (items_of (run_data results ∷ []))) no_members))
 
--- The document on the entries, by the greatest degree that is no finding and the limit of the pairs: one line
+-- The document for the entries, in one line. A degree above `max_degree` is a finding, and `max_pairs` is the limit of live
+-- pairs.
 abbrev pub sarif_text : ℕ → ℕ → List Entry → Text
 sarif_text max_degree max_pairs entries =
     compact_text (document_data (results_data max_degree max_pairs entries)) ++ codes "\n"

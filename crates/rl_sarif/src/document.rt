@@ -1,4 +1,4 @@
-//! A report as a document of SARIF 2.1.0.
+//! A report as a SARIF 2.1.0 document.
 ghost use Rattle.std.specs.Prelude.{◌≡◌, [], ◌∷◌, IfOk, OnOk, codes, false, string_bytes};
 ghost use Rattle.serde_json.specs.Data.{array, no_members, object, put, string};
 ghost use Rattle.serde_json.specs.View.{items_of, members_view, view};
@@ -13,10 +13,10 @@ use rl_report::{Entries, Entry, Place, call_name, outcome_text};
 use serde_json::{Map, Value, json, put};
 use std::alloc::Global;
 
-/// The members of an object.
+/// The members of a JSON object.
 type Members = Map<String, Value>;
 
-/// An object with one member.
+/// Returns an object with one member.
 fn object_of(alloc: Global, key: &str, value: Value) -> Result<Value, OutOfMemory>
     ensures { IfOk result (λ v. view v ≡ object (put key.now (view value) no_members)) }
 {
@@ -25,7 +25,7 @@ fn object_of(alloc: Global, key: &str, value: Value) -> Result<Value, OutOfMemor
     Ok(Value::Object(members))
 }
 
-/// An array with one item.
+/// Returns an array with one item.
 fn array_of(alloc: Global, value: Value) -> Result<Value, OutOfMemory>
     ensures { IfOk result (λ v. view v ≡ array (items_of (view value ∷ []))) }
 {
@@ -87,7 +87,7 @@ fn location_value(alloc: Global, entry: &Entry) -> Result<Value, OutOfMemory>
     object_of(alloc, "physicalLocation", physical)
 }
 
-/// The head line of an entry without its path, its place and the line end.
+/// Returns the message of an entry: its head line without the path, the place and the line end.
 fn message(alloc: Global, entry: &Entry, max_pairs: u32) -> Result<String, OutOfMemory>
     ensures { IfOk result (λ text. string_bytes text ≡ message_text max_pairs entry.now) }
 {
@@ -101,7 +101,7 @@ fn message(alloc: Global, entry: &Entry, max_pairs: u32) -> Result<String, OutOf
     }
 }
 
-/// Puts the message and the rule.
+/// Adds the message and the rule of an entry.
 fn put_told(
     alloc: Global,
     members: &mut Members,
@@ -130,7 +130,7 @@ fn result_value(alloc: Global, entry: &Entry, max_pairs: u32) -> Result<Value, O
     Ok(Value::Object(members))
 }
 
-/// Whether the document tells of the entry: it is a finding, refused or undecided.
+/// Whether the document has a result for the entry: it is a finding, refused or undecided.
 fn is_result(entry: &Entry, max_degree: u32) -> bool
     ensures { result ≡ is_result max_degree entry.now }
 {
@@ -163,7 +163,7 @@ fn tool_value(alloc: Global) -> Result<Value, OutOfMemory>
     object_of(alloc, "driver", driver)
 }
 
-/// Puts the members of a run.
+/// Adds the members of a run.
 fn put_run(alloc: Global, members: &mut Members, results: Value) -> Result<(), OutOfMemory>
     ensures { OnOk result (members_view members.new.entries
         ≡ put (codes "tool") tool_data (put (codes "results") (view results)
@@ -195,11 +195,11 @@ fn document_value(alloc: Global, results: Value) -> Result<Value, OutOfMemory>
     Ok(Value::Object(members))
 }
 
-/// The report as a document of SARIF 2.1.0, one line with the keys in the order of their bytes. Its results are the entries
-/// in order, without those whose verdict is a degree up to `max_degree`. `max_pairs` is the limit of the live pairs.
+/// Returns the report as a SARIF 2.1.0 document, in one line with the keys in the order of their bytes. It has a result for
+/// each entry, in order, except those whose verdict is a degree up to `max_degree`. `max_pairs` is the limit of live pairs.
 ///
 /// # Errors
-/// [`OutOfMemory`] when out of memory.
+/// [`OutOfMemory`] if memory runs out.
 pub fn sarif(
     alloc: Global,
     entries: &Entries,

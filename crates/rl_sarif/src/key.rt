@@ -1,4 +1,4 @@
-//! What an entry is known by.
+//! The keys by which a baseline recognizes entries.
 ghost use Rattle.std.specs.Prelude.{◌≡◌, IfOk, option_and_then, option_map};
 ghost use Rattle.rl_sites.specs.Names.{call_word};
 ghost use Rattle.rl_sarif.specs.Keys.{degree_of, key_in, key_of, limit_of, subject_in, subject_of};
@@ -10,22 +10,22 @@ use rl_syntax::Verdict;
 use std::alloc::{AllocError, Global};
 use std::marker::Model;
 
-/// What is told of a path, by the names of a report.
+/// The part of a key that doesn't depend on the path, in the names of a report.
 #[derive(Clone, Copy, PartialEq, Eq, Hash)]
 pub struct About {
-    /// The name of the call, where there is one.
+    /// The name of the call, if there is one.
     pub(crate) call: Option<&'static str>,
     /// The name of the kind.
     pub(crate) kind: &'static str,
-    /// The degree, for that kind.
+    /// The degree, if the verdict is a degree.
     pub(crate) degree: Option<u32>,
-    /// The name of the limit that was passed, for that kind.
+    /// The name of the exceeded limit, if the verdict is `undecided`.
     pub(crate) limit: Option<&'static str>,
-    /// The name of the cause, for a refusal.
+    /// The name of the cause, if the entry is a refusal.
     pub(crate) cause: Option<&'static str>,
 }
 
-/// The key of an entry: its path and what is told of it.
+/// The key of an entry: its path, its call, its kind, and its degree, limit or cause.
 #[derive(PartialEq, Eq, Hash, Drop)]
 pub struct Key {
     pub(crate) path: String,
@@ -60,7 +60,7 @@ fn limit_of(verdict: Option<&Verdict>) -> Option<&'static str>
 }
 
 impl About {
-    /// What is told of an entry.
+    /// Returns what the key of an entry holds beside the path.
     pub(crate) fn of(entry: &Entry) -> About
         ensures { subject_in result ≡ subject_of entry.now }
     {
@@ -76,7 +76,7 @@ impl About {
 }
 
 impl Key {
-    /// The key of an entry.
+    /// Returns the key of an entry.
     pub(crate) fn of(alloc: Global, entry: &Entry) -> Result<Key, OutOfMemory>
         ensures { IfOk result (λ key. key_in key ≡ key_of entry.now) }
     {
@@ -100,7 +100,7 @@ impl Clone for Key {
     }
 }
 
-/// A baseline as read, which contracts see as the list of its keys, in order.
+/// A baseline that was read. For contracts it is the list of its keys, in order.
 #[derive(Drop)]
 pub struct KnownKeys {
     pub(crate) keys: Vec<Key>,

@@ -16,7 +16,7 @@ const KINDS: &[&str] = &[
     "not-plain",
 ];
 
-/// The last two stand in older reports.
+/// Only older reports use the last two names.
 const CAUSES: &[&str] = &[
     "not-utf8",
     "coding",
@@ -50,7 +50,7 @@ const CAUSES: &[&str] = &[
     "multiline-anchor",
 ];
 
-/// The text, where it is one of the names.
+/// Returns the name that equals the text, if there is one.
 fn one_of(names: &[&'static str], text: &str) -> Option<&'static str>
     ensures { option_map (λ n. n.now) result ≡ one_of (map (λ n. n.now) names.now) text.now }
 {
@@ -62,7 +62,7 @@ fn one_of(names: &[&'static str], text: &str) -> Option<&'static str>
     None
 }
 
-/// The name of a call.
+/// Returns the name of a call that the text spells, if it spells one.
 pub(crate) fn call_named(text: &str) -> Option<&'static str>
     ensures { option_map (λ n. n.now) result ≡ one_of call_names text.now }
 {
@@ -80,14 +80,14 @@ pub(crate) fn call_named(text: &str) -> Option<&'static str>
     one_of(names.as_slice(), text)
 }
 
-/// The name of a kind of entries.
+/// Returns the name of a kind of entries that the text spells, if it spells one.
 pub(crate) fn kind_named(text: &str) -> Option<&'static str>
     ensures { option_map (λ n. n.now) result ≡ one_of kind_names text.now }
 {
     one_of(KINDS, text)
 }
 
-/// The name of a limit.
+/// Returns the name of a limit that the text spells, if it spells one.
 pub(crate) fn limit_named(text: &str) -> Option<&'static str>
     ensures { option_map (λ n. n.now) result ≡ one_of limit_names text.now }
 {
@@ -101,7 +101,7 @@ pub(crate) fn limit_named(text: &str) -> Option<&'static str>
     one_of(names.as_slice(), text)
 }
 
-/// The name of the cause of a refusal.
+/// Returns the name of a refusal's cause that the text spells, if it spells one.
 pub(crate) fn cause_named(text: &str) -> Option<&'static str>
     ensures { option_map (λ n. n.now) result ≡ one_of cause_names text.now }
 {

@@ -1,4 +1,4 @@
-//! Which entries a baseline knows.
+//! The entries that a baseline doesn't know.
 ghost use Rattle.std.specs.Prelude.{◌≡◌, IfOk, map};
 ghost use Rattle.rl_sarif.specs.Keys.{key_in};
 ghost use Rattle.rl_sarif.specs.Known.{unknown_positions};
@@ -10,10 +10,11 @@ use rl_lists::{Items, OutOfMemory};
 use rl_report::{Entries, Entry};
 use std::alloc::Global;
 
-/// Positions in a list, from 0.
+/// Positions in a list, counted from 0.
 pub type Positions = Items<u64>;
 
-/// The positions of the entries that these keys don't know. The tally is empty, and used up then.
+/// Returns the positions of the entries that these keys don't know. The tally must be empty, and its content isn't meaningful
+/// afterwards.
 fn unknown_to(
     alloc: Global,
     tally: &mut Tally,
@@ -34,11 +35,11 @@ fn unknown_to(
     Ok(positions)
 }
 
-/// The positions, from 0 and in order, of the entries that the baseline doesn't know. An entry is known where fewer entries
-/// before it have its key than the baseline holds with that key.
+/// Returns the positions of the entries that the baseline doesn't know, counted from 0 and in order. An entry is known if fewer
+/// entries before it have its key than the baseline holds with that key.
 ///
 /// # Errors
-/// [`OutOfMemory`] when out of memory.
+/// [`OutOfMemory`] if memory runs out.
 pub fn unknown(
     alloc: Global,
     entries: &Entries,

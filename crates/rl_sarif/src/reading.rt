@@ -8,20 +8,18 @@ ghost use Rattle.rl_sarif.specs.Baseline.{IsBaseline, call_found, cause_names, f
 ghost use Rattle.rl_sarif.specs.Keys.{EntryKey, key_in, subject_in};
 
 use crate::key::{About, Key, KnownKeys};
+use crate::limits::MOST_BASELINE_BYTES;
 use crate::names::{call_named, cause_named, kind_named, limit_named};
 use rl_lists::Bytes;
 use serde_json::Value;
 use std::alloc::{AllocError, AllocFailed, Global};
 
-/// The most bytes of a baseline.
-const MAX_BYTES: usize = 67_108_864;
-
-/// Why bytes gave no baseline.
+/// Why bytes aren't read as a baseline.
 #[derive(Clone, Copy)]
 pub enum BaselineError {
-    /// They are too many, no JSON, or no report.
+    /// There are too many bytes, or they aren't JSON, or the JSON isn't a report.
     Refused,
-    /// Out of memory.
+    /// Memory ran out.
     OutOfMemory,
 }
 
@@ -57,7 +55,7 @@ fn number_at(value: &Value, key: &str) -> Option<u64>
     value.get(key).and_then(Value::as_u64)
 }
 
-/// The degree of an entry, which fits 32 bits.
+/// Returns the degree of an entry, if there is one that fits in 32 bits.
 fn degree_at(value: &Value) -> Option<u32>
     ensures { result ≡ option_and_then fitting (number_at (codes "degree") (view value.now)) }
 {
@@ -96,7 +94,7 @@ fn kind_at(value: &Value) -> Option<&'static str>
     }
 }
 
-/// The call of an entry, where one is there. It has to be one of the nine then.
+/// Returns the call of an entry: `Some(None)` if it has none, and `None` if it has one that isn't a known name.
 fn call_at(value: &Value) -> Option<Option<&'static str>>
     ensures { option_map (option_map (λ n. n.now)) result ≡ call_found (get (codes "call") (view value.now)) }
 {
@@ -151,8 +149,8 @@ fn with_cause(value: &Value, plain: About) -> Option<About>
     }
 }
 
-/// What is told of an entry with this call and this kind: a degree has its number, an undecided entry its limit, and a
-/// refusal its cause.
+/// Returns what the key of an entry with this call and kind holds beside the path. A degree needs its number, an undecided
+/// entry its limit, and a refusal its cause.
 fn about_of_kind(value: &Value, call: Option<&'static str>, kind: &'static str) -> Option<About>
     ensures { option_map subject_in result
         ≡ subject_of_kind (option_map (λ n. n.now) call.entry) kind.now (view value.now) }
@@ -183,7 +181,7 @@ fn about_at(value: &Value) -> Option<About>
     about_of_kind(value, call, kind)
 }
 
-/// The key of an entry.
+/// Returns the key of an entry.
 fn key_of(alloc: Global, value: &Value) -> Result<Key, BaselineError>
     ensures key { IfOk result (λ key. key_read (view value.now) ≡ Some (key_in key)) }
     ensures refused { result ≡ Err BaselineError.Refused → key_read (view value.now) ≡ None }
@@ -198,7 +196,7 @@ fn key_of(alloc: Global, value: &Value) -> Result<Key, BaselineError>
     Ok(Key { path, about })
 }
 
-/// The keys of the entries, in order.
+/// Returns the keys of the entries, in order.
 #[tactic(auto, using(crate::proofs::ReadingLemmas::reading))]
 fn keys_of(alloc: Global, values: &[Value]) -> Result<Vec<Key>, BaselineError>
     ensures keys { IfOk result (λ keys. keys_read (items_view values.now) ≡ Some (map key_in keys.items)) }
@@ -212,7 +210,7 @@ fn keys_of(alloc: Global, values: &[Value]) -> Result<Vec<Key>, BaselineError>
     Ok(keys)
 }
 
-/// Whether the report has a version, and it is 1 or 2.
+/// Whether the report has a version that is 1 or 2.
 fn has_version(value: &Value) -> bool
     ensures { result ≡ option_map_or (λ n. n == 1 || n == 2) (number_at (codes "version") (view value.now)) false }
 {
@@ -222,7 +220,7 @@ fn has_version(value: &Value) -> bool
     }
 }
 
-/// The keys of the entries of a report.
+/// Returns the keys of the entries of a report.
 fn report_keys(alloc: Global, value: &Value) -> Result<Vec<Key>, BaselineError>
     ensures keys { IfOk result (λ keys. report_keys (view value.now) ≡ Some (map key_in keys.items)) }
     ensures refused { result ≡ Err BaselineError.Refused → report_keys (view value.now) ≡ None }
@@ -236,7 +234,7 @@ fn report_keys(alloc: Global, value: &Value) -> Result<Vec<Key>, BaselineError>
     keys_of(alloc, entries.as_slice())
 }
 
-/// The value that the bytes are in JSON.
+/// Returns the JSON value that the bytes spell.
 fn value_of(alloc: Global, bytes: &[u8]) -> Result<Value, BaselineError>
     ensures value { IfOk result (λ v. IsUtf8 bytes.now × (read bytes.now ≡ Some (view v))) }
     ensures refused { result ≡ Err BaselineError.Refused → IsUtf8 bytes.now → read bytes.now ≡ None }
@@ -253,17 +251,15 @@ fn value_of(alloc: Global, bytes: &[u8]) -> Result<Value, BaselineError>
     }
 }
 
-/// The baseline that the bytes are: a report in JSON, of version 1 or 2 and at most 67,108,864 bytes. Members that aren't
-/// those of a key are passed over.
+/// Reads a baseline: a report in JSON, of version 1 or 2 and at most 67,108,864 bytes. Members that no key needs are ignored.
 ///
 /// # Errors
-/// [`BaselineError::Refused`] where the bytes are no such report, and [`BaselineError::OutOfMemory`] where memory was
-/// refused.
+/// [`BaselineError::Refused`] if the bytes aren't such a report; [`BaselineError::OutOfMemory`] if memory runs out.
 pub fn baseline(alloc: Global, bytes: &Bytes) -> Result<KnownKeys, BaselineError>
     ensures known { IfOk result (IsBaseline bytes.now) }
     ensures refused { result ≡ Err BaselineError.Refused → (keys : List EntryKey) → ¬ IsBaseline bytes.now keys }
 {
-    if bytes.len() > MAX_BYTES {
+    if bytes.len() > MOST_BASELINE_BYTES {
         return Err(BaselineError::Refused);
     }
     let value = value_of(alloc, bytes.as_slice())?;

@@ -1,4 +1,4 @@
-//! A tally of keys: how often each is left.
+//! A tally of keys: how often each of them can still be taken.
 ghost use Rattle.std.specs.Prelude.{◌≡◌, ◌+◌, ◌-◌, ◌<◌, ◌^◌, IfOk, OnOk, map, nat_lt};
 ghost use Rattle.rl_sarif.specs.Keys.{key_in};
 ghost use Rattle.rl_sarif.specs.Known.{times};
@@ -8,7 +8,7 @@ use crate::key::Key;
 use indexmap::IndexMap;
 use rl_lists::OutOfMemory;
 
-/// How often each key is left.
+/// How often each key can still be taken.
 pub(crate) type Tally = IndexMap<Key, usize>;
 
 fn left(tally: &Tally, key: &Key) -> usize
@@ -17,7 +17,7 @@ fn left(tally: &Tally, key: &Key) -> usize
     tally.get(key).copied().unwrap_or(0)
 }
 
-/// Counts a key once more.
+/// Adds one occurrence of a key.
 fn add(tally: &mut Tally, key: Key) -> Result<(), OutOfMemory>
     requires { left tally.old (key_in key) + 1 < 2 ^ 64 }
     ensures { OnOk result (Holds tally.new (λ q. left tally.old q + one_if_same q (key_in key))) }
@@ -27,7 +27,7 @@ fn add(tally: &mut Tally, key: Key) -> Result<(), OutOfMemory>
     Ok(())
 }
 
-/// Takes a key out once, and says whether it was left.
+/// Takes one occurrence of a key. Returns whether there was one.
 pub(crate) fn take(tally: &mut Tally, key: Key) -> Result<bool, OutOfMemory>
     ensures taken { IfOk result (λ taken. taken ≡ nat_lt 0 (left tally.old (key_in key))) }
     ensures rest { OnOk result (Holds tally.new (λ q. left tally.old q - one_if_same q (key_in key))) }
@@ -40,7 +40,7 @@ pub(crate) fn take(tally: &mut Tally, key: Key) -> Result<bool, OutOfMemory>
     Ok(true)
 }
 
-/// Counts each of the keys in an empty tally.
+/// Adds each of the keys to an empty tally.
 pub(crate) fn add_all(tally: &mut Tally, keys: &[Key]) -> Result<(), OutOfMemory>
     requires { Holds tally.old (λ _. 0) }
     ensures { OnOk result (Holds tally.new (times (map key_in keys.now))) }

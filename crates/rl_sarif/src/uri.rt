@@ -6,7 +6,7 @@ ghost use Rattle.rl_sarif.specs.Sarif.{is_kept, uri_byte, uri_text};
 use rl_lists::OutOfMemory;
 use std::alloc::Global;
 
-/// Whether a byte of a path stands for itself: an ASCII letter, a digit, `-`, `.`, `_`, `~` or `/`.
+/// Whether a byte of a path stays as it is in the URI: an ASCII letter, a digit, `-`, `.`, `_`, `~` or `/`.
 fn is_kept(byte: u8) -> bool
     ensures { result ≡ is_kept byte }
 {
@@ -24,7 +24,7 @@ fn hex_digit(digit: u8) -> char
     }
 }
 
-/// Appends a byte of a path.
+/// Appends a byte of a path, escaped if necessary.
 fn push_byte(uri: &mut String, byte: u8) -> Result<(), OutOfMemory>
     ensures { OnOk result (string_bytes uri.new ≡ string_bytes uri.old ++ uri_byte byte) }
 {
@@ -38,7 +38,7 @@ fn push_byte(uri: &mut String, byte: u8) -> Result<(), OutOfMemory>
     Ok(())
 }
 
-/// The path as a relative URI: every other byte is `%` and two hexadecimal digits in upper case.
+/// Returns the path as a relative URI. Each byte that isn't kept becomes `%` and two hexadecimal digits in upper case.
 pub(crate) fn uri_of(alloc: Global, path: &str) -> Result<String, OutOfMemory>
     ensures { IfOk result (λ uri. string_bytes uri ≡ uri_text path.now) }
 {

@@ -1,4 +1,4 @@
--- Whether a state accepts letters, by its walk: it does where it is the accepting state, or its walk has a hit.
+-- Whether a state accepts letters, by its walk: it does if it is the accepting state or its walk has a hit.
 use Rattle.std.proofs.Common.{◌≡◌, ◌∙◌, ℕ, List, [], ◌∷◌, ◌++◌, Bool, true, false, ◌||◌, cond, eqb, refl, ap, ap₂}
 use Rattle.std.specs.List.{list_any}
 use Rattle.rl_ranges.proofs.SetLemmas.{or-false}
@@ -23,7 +23,7 @@ any-stepped a w (t ∷ ts) h =
     has_hit-append (cond (eqb t (accepting_state a)) (true ∷ []) (false ∷ walk a t w)) (stepped (accepting_state a) (λ r. walk a r w) ts)
     ∙ ap₂ (λ x y. x || y) (hit-of-step (eqb t (accepting_state a)) (walk a t w) ∙ h t) (any-stepped a w ts h)
 
--- a state accepts exactly what its walk has a hit on
+-- A state other than the accepting one accepts exactly the letters on which its walk has a hit.
 pub walk-accepts : (a : Automaton) (w : List ℕ) (q : ℕ) → (eqb q (accepting_state a) || has_hit (walk a q w)) ≡ accepts a q w
 walk-accepts a [] q = or-false (eqb q (accepting_state a))
 walk-accepts a (l ∷ w) q = ap (λ b. eqb q (accepting_state a) || b) (any-stepped a w (moves_at a q l) (walk-accepts a w))

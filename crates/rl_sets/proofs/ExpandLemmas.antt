@@ -14,7 +14,7 @@ use Rattle.rl_sets.proofs.LiveLemmas.{end-refused, refuses-image}
 use Rattle.rl_sets.proofs.RouteLemmas.{HasRoute-more, HasRoute-end}
 use Rattle.rl_sets.proofs.SearchLemmas.{all-looked, IsSearch-grown, IsLookedAt-grown, Extends-refl, Extends-trans}
 
--- two searches, one after another
+-- Two searches, one after another.
 module _ (a : Automaton) (old w new : Walk) (f g h : Found) (s : IsSearch a old f) (x : GoesOn a old w f g) (grown : IsGrown a (found_set old f 0) old.sets w.sets) where
   pub root-kept : found_set w g 0 ≡ found_set old f 0
   root-kept = ap (set_at w) (x.extends.same 0 s.some) ∙ set-kept (number_at f 0) grown (s.within 0 s.some)
@@ -29,7 +29,7 @@ module _ (a : Automaton) (old w new : Walk) (f g h : Found) (s : IsSearch a old 
   pub goes-on : GoesOn a w new g h → GoesOn a old new f h
   goes-on y = record { search = y.search; extends = Extends-trans f g h x.extends y.extends }
 
--- where the images of the set at a place stand, before the letter `c`
+-- The state of the search while the images of the set at a place are looked at, before the letter `c`.
 pub record IsExpanding (a : Automaton) (old new : Walk) (f g : Found) (place c : ℕ) : Type 0 where
   pub made : IsMadeFor new a
   pub limit : new.limit ≡ old.limit
@@ -61,13 +61,13 @@ expanding-more a old w new f g h place c in' s x made limit grown goes looked =
       ended = ap (λ (y : List ℕ). holds (image a y (letters_count a)) (accepting_state a)) same ∙ x.ended;
     }
 
--- the end letter is refused
+-- The end letter is refused.
 pub route-at-end : (a : Automaton) (old w : Walk) (f : Found) (place after : ℕ) → IsAutomaton a → place < length f.numbers → IsSearch a old f → IsMadeFor w a → IsGrown a (found_set old f 0) old.sets w.sets → IsImageAt a w f place (letters_count a) after → holds (set_at w after) (accepting_state a) ≡ false → HasRoute a w.kept.routes (found_set w f place) 0
 route-at-end a old w f place after is in' s made grown at e =
     let free = (IsSearch-grown a (found_set old f 0) old w f s grown).free place in' in
     HasRoute-end a w.kept.routes (found_set w f place) made.first_route (end-refused a is (found_set w f place) free (ap (λ x. holds x (accepting_state a)) (sym at.is) ∙ e))
 
--- the route of a set gives one for the set whose image it is
+-- The route of a set gives one for the set whose image it is.
 pub route-back : (a : Automaton) (w : Walk) (f : Found) (at : ℕ) (routes : List Route) (route : ℕ) → IsAutomaton a → IsSearch a w f → 0 < at → at < length f.numbers → HasRoute a routes (found_set w f at) route
     → HasRoute a (routes ++ On (way_at f at).letter route ∷ []) (found_set w f (way_at f at).parent) (length routes)
 route-back a w f at routes route is s some in' h =
@@ -83,7 +83,7 @@ pub some-at : {T : Type 0} (o : Option T) (P : Type 0) → is_some o ≡ true �
 some-at None P e = absurd (true≢false (sym e))
 some-at (Some x) P e = tt
 
--- a found set on a walk with the same sets
+-- A found set on a walk with the same sets.
 pub number-set : (old w : Walk) (f : Found) (at n : ℕ) → w.sets ≡ old.sets → n ≡ number_at f at → set_at w n ≡ found_set old f at
 number-set old w f at n same e = ap (λ (l : List (List ℕ)). get_or l n []) same ∙ ap (set_at old) e
 

@@ -31,16 +31,16 @@ IsGrown-listed a from set old new n r listed =
 pub grown-length : {a : Automaton} {from : List ℕ} {old new : List (List ℕ)} → IsGrown a from old new → length old ≤ length new
 grown-length {old = old} g = omega (arith, ap length g.more, length-append old g.added)
 
--- a set keeps its number
+-- A set keeps its number.
 pub set-kept : {a : Automaton} {from : List ℕ} {old new : List (List ℕ)} (n : ℕ) → IsGrown a from old new → n < length old → get_or new n [] ≡ get_or old n []
 set-kept {old = old} n g lt = ap (λ l. get_or l n []) g.more ∙ get_or_append_left old g.added [] n lt
 
--- each set of a grown list is an old one or reached
+-- Each set of a grown list is an old one or reached.
 pub each-grown : (a : Automaton) (from : List ℕ) (old new : List (List ℕ)) → IsGrown a from old new → All (λ s. Contains old s ⊎ Reached a from s) new
 each-grown a from old new g =
     subst (All (λ s. Contains old s ⊎ Reached a from s)) (sym g.more) (All-append (λ s. Contains old s ⊎ Reached a from s) old g.added (All-weaker (Contains old) (λ s. Contains old s ⊎ Reached a from s) (λ s h. inl h) old (All-contains_itself old)) (All-weaker (Reached a from) (λ s. Contains old s ⊎ Reached a from s) (λ s h. inr h) g.added g.reached))
 
--- a full list and one more set are too many
+-- A full list and one more set are too many.
 pub IsOver-full : (a : Automaton) (from set : List ℕ) (old : List (List ℕ)) (w : Walk) → IsMadeFor w a → IsGrown a from old w.sets → Reached a from set → IsFull w.sets w.limit set → IsOver a from old w.limit
 IsOver-full a from set old w made g r full = record {
   sets = w.sets ++ set ∷ [];
@@ -49,7 +49,7 @@ IsOver-full a from set old w made g r full = record {
   each = All-push (λ s. Contains old s ⊎ Reached a from s) w.sets set (each-grown a from old w.sets g) (inr r);
 }
 
--- too many for a list that had grown are too many for the old one
+-- Too many for a list that had grown are too many for the old one.
 pub IsOver-grown : (a : Automaton) (from : List ℕ) (old mid : List (List ℕ)) (limit : ℕ) → IsGrown a from old mid → IsOver a from mid limit → IsOver a from old limit
 IsOver-grown a from old mid limit g over = record {
   sets = over.sets;

@@ -7,7 +7,7 @@ use Rattle.rl_prio.specs.Automaton.{Automaton, IsAutomaton, letters_count, accep
 use Rattle.rl_sets.specs.Live.{holds, accepts, image, refuses, IsRest, IsLive}
 use Rattle.rl_sets.proofs.SetLemmas.{same_tests, any-there, holds-from}
 
--- a test that passes at some element
+-- A test that is true for some element.
 pub found_in : (p : ℕ → Bool) (xs : List ℕ) → list_any p xs ≡ true → (x : ℕ) × (holds xs x ≡ true) × (p x ≡ true)
 found_in p [] e = absurd (false≢true e)
 found_in p (y ∷ ys) e =
@@ -32,7 +32,7 @@ holds_below n (y ∷ ys) x each e =
       | inr r ↦ holds_below n ys x (All-tail (λ t. t < n) y ys each) r
     ]
 
--- the accepting state accepts every rest, and the dead state none
+-- The accepting state accepts every rest, and the dead state none.
 accepting-accepts : (a : Automaton) (word : List ℕ) → accepts a (accepting_state a) word ≡ true
 accepting-accepts a [] = eq-eqb (accepting_state a) (accepting_state a) refl
 accepting-accepts a (l ∷ w) = or_left _ _ (eq-eqb (accepting_state a) (accepting_state a) refl)
@@ -42,7 +42,7 @@ dead-accepts a is [] = ne_eqb (dead_state a) (accepting_state a) (λ e. omega (a
 dead-accepts a is (l ∷ w) =
     or_from _ _ (ne_eqb (dead_state a) (accepting_state a) (λ e. omega (arith, is.three_states))) (ap (list_any (λ t. accepts a t w)) (is.died l))
 
--- some member accepts a letter and what follows where some member of the image accepts what follows
+-- Some member accepts a letter and the following letters if some member of the image accepts the following letters.
 accepts-image : (a : Automaton) → IsAutomaton a → (set : List ℕ) (letter : ℕ) (word : List ℕ) → holds set (accepting_state a) ≡ false
     → list_any (λ q. accepts a q (letter ∷ word)) set ≡ list_any (λ t. accepts a t word) (image a set letter)
 unfolding image
@@ -64,28 +64,28 @@ accepts-image a is set letter word free =
     let r = found_in (λ q. holds (moves_at a q letter) h.0) set parts.1 in
     found_from (λ q. accepts a q (letter ∷ word)) set r.0 r.1 (or_right (eqb r.0 (accepting_state a)) (list_any (λ t. accepts a t word) (moves_at a r.0 letter)) (found_from (λ t. accepts a t word) (moves_at a r.0 letter) h.0 r.2 h.3)))
 
--- a set refuses a letter and what follows where its image refuses what follows
+-- A set refuses a letter and the following letters if its image refuses the following letters.
 pub refuses-image : (a : Automaton) → IsAutomaton a → (set : List ℕ) (letter : ℕ) (word : List ℕ) → holds set (accepting_state a) ≡ false → refuses a set (letter ∷ word) ≡ refuses a (image a set letter) word
 unfolding refuses
 refuses-image a is set letter word free = ap not (accepts-image a is set letter word free)
 
--- and nothing where it doesn't hold the accepting state
+-- It refuses nothing if it holds the accepting state.
 pub refuses-nothing : (a : Automaton) (set : List ℕ) → refuses a set [] ≡ not (holds set (accepting_state a))
 unfolding refuses
 refuses-nothing a set = refl
 
--- a set with the accepting state isn't live
+-- A set with the accepting state isn't live.
 pub accepting-dead : (a : Automaton) (set : List ℕ) → holds set (accepting_state a) ≡ true → IsLive a set → ⊥
 unfolding refuses
 accepting-dead a set in' live =
     true≢false (sym live.2 ∙ ap not (found_from (λ q. accepts a q live.0) set (accepting_state a) in' (accepting-accepts a live.0)))
 
--- where the image on the end letter lacks the accepting state, the end letter is refused
+-- If the image on the end letter lacks the accepting state, the end letter is refused.
 pub end-refused : (a : Automaton) → IsAutomaton a → (set : List ℕ) → holds set (accepting_state a) ≡ false → holds (image a set (letters_count a)) (accepting_state a) ≡ false → refuses a set (letters_count a ∷ []) ≡ true
 end-refused a is set free after =
     refuses-image a is set (letters_count a) [] free ∙ refuses-nothing a (image a set (letters_count a)) ∙ ap not after
 
--- sets that all accept the end, and whose images are among them or dead, are dead
+-- Sets that all accept the end, and whose images are among them or dead, are dead.
 pub all-dead : (a : Automaton) → IsAutomaton a → (count : ℕ) (found : ℕ → List ℕ)
     → ((i : ℕ) → i < count → holds (found i) (accepting_state a) ≡ false)
     → ((i : ℕ) → i < count → holds (image a (found i) (letters_count a)) (accepting_state a) ≡ true)

@@ -13,7 +13,7 @@ use Rattle.rl_sets.specs.Rests.{Routed, last, more, HasRoute, IsLife}
 use Rattle.rl_sets.proofs.WalkLemmas.{get_kept}
 use Rattle.rl_sets.specs.Walk.{Walk, set_at, IsMadeFor}
 
--- the word of a route at the end, and of one that goes on
+-- The word of a route at the end, and of one that goes on.
 pub at-end : {end : ℕ} {routes : List Route} {r : ℕ} {word : List ℕ} → Routed end routes r word → slice_get routes r ≡ Some End → word ≡ end ∷ []
 at-end (last e) at = refl
 at-end (more letter e lt rest) at = cc
@@ -41,7 +41,7 @@ pub routed-within : {end : ℕ} {routes : List Route} {r : ℕ} {word : List ℕ
 routed-within {routes = routes} {r = r} (last e) = slice_get_within routes r End e
 routed-within {routes = routes} {r = r} (more {next = n} letter e lt rest) = slice_get_within routes r (On letter n) e
 
--- a route stays where others are put behind it
+-- A route stays when others are appended.
 get_last : {X : Type 0} (xs : List X) (x : X) → slice_get (xs ++ x ∷ []) (length xs) ≡ Some x
 get_last [] x = refl
 get_last (y ∷ xs) x = get_last xs x
@@ -58,7 +58,7 @@ IsLife-kept a routes others set Unknown h = h
 IsLife-kept a routes others set (Live r) h = HasRoute-kept a routes others set r h
 IsLife-kept a routes others set Dead h = h
 
--- the walk with one more route
+-- The walk with one more route.
 pub IsMadeFor-route : (w : Walk) (a : Automaton) (x : Route) → IsMadeFor w a → IsMadeFor (record { sets = w.sets; limit = w.limit; kept = record { states = w.kept.states; tables = w.kept.tables; images = w.kept.images; routes = w.kept.routes ++ x ∷ []; lives = w.kept.lives } }) a
 IsMadeFor-route w a x made = record {
   sets = made.sets;
@@ -75,7 +75,7 @@ IsMadeFor-route w a x made = record {
   lives = λ n lt. IsLife-kept a w.kept.routes (x ∷ []) (set_at w n) (get_or w.kept.lives n Unknown) (made.lives n lt);
 }
 
--- the walk with other notes
+-- The walk with other notes.
 pub IsMadeFor-lives : (w : Walk) (a : Automaton) (lives : List Life) → IsMadeFor w a → length lives ≤ length w.sets → ((n : ℕ) → n < length w.sets → IsLife a w.kept.routes (set_at w n) (get_or lives n Unknown)) → IsMadeFor (record { sets = w.sets; limit = w.limit; kept = record { states = w.kept.states; tables = w.kept.tables; images = w.kept.images; routes = w.kept.routes; lives = lives } }) a
 IsMadeFor-lives w a lives made few each = record {
   sets = made.sets;
@@ -92,7 +92,7 @@ IsMadeFor-lives w a lives made few each = record {
   lives = each;
 }
 
--- one more note
+-- One more note.
 pub lives-noted : (w : Walk) (a : Automaton) (longer : List Life) (k : ℕ) (life : Life) → IsMadeFor w a → ((n : ℕ) → get_or longer n Unknown ≡ get_or w.kept.lives n Unknown) → k < length longer → IsLife a w.kept.routes (set_at w k) life → (n : ℕ) → n < length w.sets → IsLife a w.kept.routes (set_at w n) (get_or (set longer k life) n Unknown)
 lives-noted w a longer k life made same lt is n below =
     elim (cases_eq n k) [
@@ -104,7 +104,7 @@ lives-noted w a longer k life made same lt is n below =
 pub lives-same : (w : Walk) (a : Automaton) (longer : List Life) → IsMadeFor w a → ((n : ℕ) → get_or longer n Unknown ≡ get_or w.kept.lives n Unknown) → (n : ℕ) → n < length w.sets → IsLife a w.kept.routes (set_at w n) (get_or longer n Unknown)
 lives-same w a longer made same n below = subst (IsLife a w.kept.routes (set_at w n)) (sym (same n)) (made.lives n below)
 
--- a route through a letter
+-- A route through a letter.
 pub HasRoute-more : (a : Automaton) (routes : List Route) (set : List ℕ) (letter next : ℕ) → letter < letters_count a → HasRoute a routes (image a set letter) next → ((word : List ℕ) → refuses a set (letter ∷ word) ≡ refuses a (image a set letter) word)
     → HasRoute a (routes ++ On letter next ∷ []) set (length routes)
 HasRoute-more a routes set letter next small h back = (

@@ -16,24 +16,24 @@ use Rattle.rl_sets.specs.Rows.{members_of, marked, IsTableOn}
 use Rattle.rl_sets.specs.internal.Moves.{targets_of, IsReached, MoveAlike}
 use Rattle.rl_sets.proofs.SetLemmas.{same_tests, filter_same, filter_gap, filter_next, any-there, any-from, holds-there, holds-from}
 
--- a state is a member where its place holds true
+-- A state is a member if its bit is set.
 pub holds-members : (row : List Bool) (q : ℕ) → holds (members_of row) q ≡ get_or row q false
 unfolding members_of
 holds-members row q =
     same_tests _ _ (λ e. (holds-there (λ k. get_or row k false) (length row) q e).1) (λ e.
     holds-from (λ k. get_or row k false) (length row) q (place_within row q e) e)
 
--- rows of one length with the same members are equal
+-- Rows of one length with the same members are equal.
 pub same_rows : (a b : List Bool) → length a ≡ length b → members_of a ≡ members_of b → a ≡ b
 same_rows a b long same = ext_get_or false a b long (λ q lt. sym (holds-members a q) ∙ ap (λ l. holds l q) same ∙ holds-members b q)
 
--- the set of a row whose places say whether a test passes
+-- The set of a row whose bits say whether a test is true.
 pub members-where : (a : Automaton) (row : List Bool) (p : ℕ → Bool) → length row ≡ a.states → ((q : ℕ) → q < a.states → get_or row q false ≡ p q) → members_of row ≡ set_where a p
 unfolding members_of
 members-where a row p long says =
     ap (λ n. filter (λ q. get_or row q false) (below n)) long ∙ filter_same (λ q. get_or row q false) p a.states says
 
--- a row stands for the set of its members
+-- A row represents the set of its members.
 pub members-set : (a : Automaton) (row : List Bool) → length row ≡ a.states → members_of row ≡ set_where a (holds (members_of row))
 members-set a row long = members-where a row (holds (members_of row)) long (λ q lt. sym (holds-members row q))
 
@@ -64,7 +64,7 @@ get_or-marked row (q ∷ qs) t lt =
         ap (λ b. b || holds qs t) (get_or-set_other row q t true false other)
         ∙ ap (λ b. get_or row t false || (b || holds qs t)) (sym (ne_eqb q t (λ e. other (sym e))))
 
--- the row of listed states
+-- The row of listed states.
 pub get_or-marked_zeros : (n : ℕ) (qs : List ℕ) (t : ℕ) → t < n → get_or (marked (replicate n false) qs) t false ≡ holds qs t
 get_or-marked_zeros n qs t lt =
     get_or-marked (replicate n false) qs t (omega (arith, length-replicate n false)) ∙ ap (λ b. b || holds qs t) (get_or-replicate_false n t)
@@ -77,7 +77,7 @@ length-marked_zeros n qs = length-marked (replicate n false) qs ∙ length-repli
 abbrev reaches : Automaton → ℕ → List ℕ → ℕ → Bool
 reaches a letter members t = list_any (λ q. holds (moves_at a q letter) t) members
 
--- the union of the rows of the members holds what they move to
+-- The union of the rows of the members holds what they move to.
 image_reaches : (a : Automaton) (letter : ℕ) (table : List (List Bool)) (row : List Bool) (t : ℕ) → IsTableOn a letter table → length row ≡ a.states → t < a.states
     → get_or (rows_image table row a.states) t false ≡ reaches a letter (members_of row) t
 unfolding members_of
@@ -92,7 +92,7 @@ image_reaches a letter table row t on long lt =
     let h = any-there f p (length row) e in
     both.1 (h.0, h.2, on.moves h.0 t (omega arith) lt ∙ h.3))
 
--- the same without the dead state
+-- The same without the dead state.
 image_says : (a : Automaton) (letter : ℕ) (into : List Bool) (members : List ℕ) (t : ℕ) → length into ≡ a.states → t < a.states → get_or into t false ≡ reaches a letter members t
     → get_or (set into (dead_state a) false) t false ≡ (not (eqb t (dead_state a)) && reaches a letter members t)
 image_says a letter into members t long lt same = by (cases_eq t (dead_state a))
@@ -107,27 +107,27 @@ image_says a letter into members t long lt same = by (cases_eq t (dead_state a))
         ∙ same
         ∙ ap (λ b. not b && reaches a letter members t) (sym (ne_eqb t (dead_state a) other))
 
--- the row of the states that the members move to, without the dead state, is that of the image
+-- The row of the states to which the members move, without the dead state, is the row of the image.
 pub members-reached : (a : Automaton) (letter : ℕ) (members : List ℕ) (row : List Bool) → IsReached a members letter row → members_of (set row (dead_state a) false) ≡ image a members letter
 unfolding image
 members-reached a letter members row r =
     members-where a (set row (dead_state a) false) (λ t. not (eqb t (dead_state a)) && reaches a letter members t) (length-set row (dead_state a) false ∙ r.wide) (λ t lt.
     image_says a letter row members t r.wide lt (r.moves t lt))
 
--- the union of the rows of the members is that row
+-- The union of the rows of the members is that row.
 pub reached-by_table : (a : Automaton) (letter : ℕ) (table : List (List Bool)) (row : List Bool) → IsTableOn a letter table → length row ≡ a.states → IsReached a (members_of row) letter (rows_image table row a.states)
 reached-by_table a letter table row on long = record {
   wide = length-image table row a.states on.wide;
   moves = λ t lt. image_reaches a letter table row t on long lt;
 }
 
--- a state is a target where a member moves to it
+-- A state is a target if a member moves to it.
 holds-targets : (a : Automaton) (letter : ℕ) (members : List ℕ) (t : ℕ) → holds (targets_of a members letter) t ≡ reaches a letter members t
 holds-targets a letter [] t = refl
 holds-targets a letter (q ∷ qs) t =
     list_any-append (λ x. eqb x t) (moves_at a q letter) (targets_of a qs letter) ∙ ap (λ b. holds (moves_at a q letter) t || b) (holds-targets a letter qs t)
 
--- the marks of the members' moves are that row too
+-- The marks of the members' moves are that row too.
 pub reached-by_moves : (a : Automaton) (letter : ℕ) (members : List ℕ) (row : List Bool) → row ≡ marked (replicate a.states false) (targets_of a members letter) → IsReached a members letter row
 reached-by_moves a letter members row e =
     let targets = targets_of a members letter in
@@ -140,7 +140,7 @@ marked-append : (row : List Bool) (ps qs : List ℕ) → marked row (ps ++ qs) �
 marked-append row [] qs = refl
 marked-append row (p ∷ ps) qs = marked-append (set row p true) ps qs
 
--- where the marking of the moves of a set's members stands, before the state `from`
+-- The state of the marking of the moves of a set's members, before the state `from`.
 pub record IsMarkingMoves (a : Automaton) (letter : ℕ) (chosen old now : List Bool) (from : ℕ) : Type 0 where
   pub marks : now ≡ marked old (targets_of a (filter (λ q. get_or chosen q false) (below from)) letter)
   pub long : length now ≡ length old
@@ -196,7 +196,7 @@ reaches-alike a row before letter t h =
     let there = any-there g p (length row) e in
     any-from f p (length row) there.0 there.1 there.2 (ap (λ qs. holds qs t) (h there.0 there.1 there.2) ∙ there.3))
 
--- the image is that on the other letter
+-- The image is that on the other letter.
 pub image-alike : (a : Automaton) (row : List Bool) (before letter : ℕ) → MoveAlike a row (length row) before letter → image a (members_of row) before ≡ image a (members_of row) letter
 unfolding image
 image-alike a row before letter h =
@@ -204,7 +204,7 @@ image-alike a row before letter h =
     (λ t lt. ap (λ b. not (eqb t (dead_state a)) && b) (reaches-alike a row before letter t h))
 
 -- ---- tables
--- where the marking of a row of a table stands, before the state with the number `i`
+-- The state of the marking of a row of a table, before the state with the number `i`.
 pub record IsMarking (old now : List (List Bool)) (at : ℕ) (qs : List ℕ) (i : ℕ) : Type 0 where
   pub rest_same : now ≡ set old at (get_or now at [])
   pub left : marked (get_or now at []) (drop i qs) ≡ marked (get_or old at []) qs
@@ -224,7 +224,7 @@ IsMarking-more old now new at i q qs in' lt read m e =
       long = ap length row_is ∙ length-set row q true ∙ m.long;
     }
 
--- where the filling of a table stands, before the row `q`
+-- The state of the filling of a table, before the row `q`.
 pub record IsFilling (a : Automaton) (letter : ℕ) (table : List (List Bool)) (q : ℕ) : Type 0 where
   pub high : length table ≡ a.states
   pub filled : (r : ℕ) → r < q → get_or table r [] ≡ marked (replicate a.states false) (moves_at a r letter)

@@ -15,7 +15,7 @@ use Rattle.rl_sets.proofs.LiveLemmas.{all-dead}
 use Rattle.rl_sets.proofs.GrowthLemmas.{grown-length, set-kept, IsGrown-same, IsGrown-listed, IsOver-full}
 
 module _ (a : Automaton) (from : List ℕ) (old new : Walk) (f : Found) (s : IsSearch a old f) (g : IsGrown a from old.sets new.sets) where
-  -- the found sets stay
+  -- The found sets stay.
   pub found-kept : (i : ℕ) → i < length f.numbers → found_set new f i ≡ found_set old f i
   found-kept i lt = set-kept (number_at f i) g (s.within i lt)
 
@@ -116,7 +116,7 @@ module _ (a : Automaton) (w : Walk) (f : Found) (n : ℕ) (way : Way) (s : IsSea
     steps = λ i some lt. pushed-step i some (either i lt);
   }
 
--- what was looked at stays looked at
+-- What was looked at stays looked at.
 pub IsLookedAt-extends : (a : Automaton) (w : Walk) (f g : Found) (k c : ℕ) → k < length f.numbers → Extends f g → IsLookedAt a w f k c → IsLookedAt a w g k c
 IsLookedAt-extends a w f g k c in' x looked = record {
   ended = λ i less lt. ap (λ m. holds (image a (set_at w m) (letters_count a)) (accepting_state a)) (x.same i (omega arith)) ∙ looked.ended i less (omega arith);
@@ -132,7 +132,7 @@ IsLookedAt-extends a w f g k c in' x looked = record {
     within-old i l (inl less) = omega arith
     within-old i l (inr here') = omega (arith, here'.0)
 
--- the next letter
+-- The next letter.
 pub IsLookedAt-letter : (a : Automaton) (w : Walk) (f : Found) (k c : ℕ) → IsLookedAt a w f k c → IsCovered a w f (image a (found_set w f k) c) → IsLookedAt a w f k (c + 1)
 IsLookedAt-letter a w f k c looked new = record {
   ended = looked.ended;
@@ -149,7 +149,7 @@ IsLookedAt-letter a w f k c looked new = record {
               subst (λ m. IsCovered a w f (image a (found_set w f i) m)) e (subst (λ m. IsCovered a w f (image a (found_set w f m) c)) (sym at.0) new)
         ]
 
--- the next set
+-- The next set.
 pub IsLookedAt-next : (a : Automaton) (w : Walk) (f : Found) (k c : ℕ) → letters_count a ≤ c → holds (image a (found_set w f k) (letters_count a)) (accepting_state a) ≡ true → IsLookedAt a w f k c → IsLookedAt a w f (k + 1) 0
 IsLookedAt-next a w f k c all end looked = record {
   ended = λ i less lt. elim (cases_lt i k) [
@@ -163,12 +163,12 @@ IsLookedAt-next a w f k c all end looked = record {
     by i l (inl less) lt small = looked.covered i l (elim (cases_eq i k) [ inl e ↦ inr (e, omega arith) | inr other ↦ inl (omega arith) ]) lt small
     by i l (inr at) lt small = absurd (omega (arith, at.1))
 
--- where all are looked at, none refuses a rest
+-- If all sets were looked at, none of them refuses a rest.
 pub all-looked : (a : Automaton) (w : Walk) (f : Found) (k : ℕ) → IsAutomaton a → IsSearch a w f → length f.numbers ≤ k → IsLookedAt a w f k 0 → (i : ℕ) → i < length f.numbers → IsLive a (found_set w f i) → ⊥
 all-looked a w f k is s all looked i lt live =
     all-dead a is (length f.numbers) (found_set w f) s.free (λ j small. looked.ended j (omega arith) small) (λ j letter small below. looked.covered j letter (inl (omega arith)) small below) live.0 i lt live.1 live.2
 
--- the first set of a search
+-- The first set of a search.
 pub IsSearch-start : (a : Automaton) (w : Walk) (n : ℕ) → n < length w.sets → holds (set_at w n) (accepting_state a) ≡ false → IsSearch a w (record { numbers = n ∷ []; ways = root_way ∷ [] })
 IsSearch-start a w n lt free = record {
   some = omega arith;

@@ -11,7 +11,7 @@ use Rattle.rl_sets.proofs.GrowthLemmas.{IsGrown-same, IsGrown-trans, IsOver-grow
 use Rattle.rl_sets.proofs.SearchLemmas.{IsSearch-start, IsLookedAt-start, all-looked}
 use Rattle.rl_sets.proofs.VisitLemmas.{place_of}
 
--- where the search from a set stands, before the set at the place `k`
+-- The state of the search from a set, before the set at the place `k`.
 pub record IsSearching (a : Automaton) (old w : Walk) (set : ℕ) (f : Found) (k : ℕ) : Type 0 where
   pub made : IsMadeFor w a
   pub limit : w.limit ≡ old.limit
@@ -52,7 +52,7 @@ module _ (a : Automaton) (old w new : Walk) (set : ℕ) (f : Found) (k : ℕ) (s
     root = root-again h g goes;
   }
 
-  -- the found sets are different ones of the walk
+  -- The found sets are different ones of the walk.
   pub searching-few : IsDistinct eqb f.numbers → length f.numbers ≤ old.limit
   searching-few apart =
       omega (arith, length-le_from_distinct_below f.numbers (length w.sets) apart (λ q e. let p = place_of f.numbers q e in subst (λ (n : ℕ). n < length w.sets) p.2 (s.search.within p.0 p.1)), s.made.few, s.limit)

@@ -1,4 +1,4 @@
--- Lemmas on sets as rising lists: the members that a filter of the numbers below `n` keeps.
+-- Lemmas on sets as increasing lists: the members that a filter of the numbers below `n` keeps.
 use Rattle.std.proofs.Common.{◌≡◌, ◌≢◌, All, get_or, ℕ, zero, suc, ◌<◌, ◌≤◌, ◌⊎◌, Bool, true, false, not, cond, ◌&&◌, ◌||◌, eqb, filter, List, [], ◌∷◌, ◌++◌, ◌+◌, refl, sym, ap, ◌∙◌, subst, inl, inr, arith}
 use Rattle.std.specs.List.{list_any}
 use Rattle.std.proofs.lemmas.Bool.{both_ways, cases_lt, cases_eq, cases_Bool, eq-eqb, ne_eqb, eqb-true, or_cases, or_left, or_right, or_from, cond-true, cond-false, false_from_ne_true, false≢true}
@@ -9,7 +9,7 @@ use Rattle.rl_prio.specs.Automaton.{Automaton, dead_state, moves_at}
 use Rattle.rl_sets.specs.Live.{below, holds, set_where, image, joined}
 use Rattle.rl_sets.specs.Walk.{set_of, IsSetOf}
 
--- two tests that give each other are equal
+-- Two tests that give each other are equal.
 pub same_tests : (x y : Bool) → (x ≡ true → y ≡ true) → (y ≡ true → x ≡ true) → x ≡ y
 same_tests true y there back = sym (there refl)
 same_tests false y there back = by (cases_Bool y)
@@ -18,11 +18,11 @@ same_tests false y there back = by (cases_Bool y)
     by (inl e) = back e ∙ sym e
     by (inr e) = sym e
 
--- the last number
+-- The last number.
 pub filter-below_suc : (p : ℕ → Bool) (n : ℕ) → filter p (below (suc n)) ≡ filter p (below n) ++ cond (p n) (n ∷ []) []
 filter-below_suc p n = filter-append p (below n) (n ∷ [])
 
--- two tests that agree below `n` keep the same members
+-- Two tests that agree below `n` keep the same members.
 pub filter_same : (p r : ℕ → Bool) (n : ℕ) → ((q : ℕ) → q < n → p q ≡ r q) → filter p (below n) ≡ filter r (below n)
 filter_same p r zero same = refl
 filter_same p r (suc n) same =
@@ -39,7 +39,7 @@ last_from : (f : ℕ → Bool) (b : Bool) (n : ℕ) → b ≡ true → f n ≡ t
 last_from f true n e h = or_left (f n) false h
 last_from f false n e h = absurd (false≢true e)
 
--- some member passes a test
+-- The test is true for some member.
 pub any-there : (f p : ℕ → Bool) (n : ℕ) → list_any f (filter p (below n)) ≡ true → (q : ℕ) × (q < n) × (p q ≡ true) × (f q ≡ true)
 any-there f p zero e = absurd (false≢true e)
 any-there f p (suc n) e =
@@ -61,7 +61,7 @@ any-from f p (suc n) q lt in' h =
           split ∙ or_right front last (last_from f (p n) n (subst (λ k. p k ≡ true) here in') (subst (λ k. f k ≡ true) here h))
     ]
 
--- a member is a number below `n` that passes the test
+-- A member is a number below `n` for which the test is true.
 pub holds-there : (p : ℕ → Bool) (n q : ℕ) → holds (filter p (below n)) q ≡ true → (q < n) × (p q ≡ true)
 holds-there p n q e =
     let h = any-there (λ x. eqb x q) p n e in
@@ -74,11 +74,11 @@ holds-from p n q lt e = any-from (λ x. eqb x q) p n q lt e (eq-eqb q q refl)
 pub holds-filter : (p : ℕ → Bool) (n q : ℕ) → q < n → holds (filter p (below n)) q ≡ p q
 holds-filter p n q lt = same_tests _ _ (λ e. (holds-there p n q e).1) (holds-from p n q lt)
 
--- the set of the members of a set is that set
+-- The set of the members of a set is that set.
 pub set_where-holds : (a : Automaton) (p : ℕ → Bool) → set_where a p ≡ set_where a (holds (set_where a p))
 set_where-holds a p = filter_same p (holds (set_where a p)) a.states (λ q lt. sym (holds-filter p a.states q lt))
 
--- a number between that isn't a member changes nothing
+-- A number between that isn't a member changes nothing.
 pub filter_gap : (p : ℕ → Bool) (from n : ℕ) → from ≤ n → ((k : ℕ) → from ≤ k → k < n → p k ≡ false) → filter p (below n) ≡ filter p (below from)
 filter_gap p from zero le none = let e : zero ≡ from = omega arith in ap (λ k. filter p (below k)) e
 filter_gap p from (suc n) le none =
@@ -91,7 +91,7 @@ filter_gap p from (suc n) le none =
           ∙ filter_gap p from n ge (λ k from_k lt. none k from_k (omega arith))
     ]
 
--- the least member at or above a number
+-- The least member at or above a number.
 pub filter_next : (p : ℕ → Bool) (from n : ℕ) → from ≤ n → ((k : ℕ) → from ≤ k → k < n → p k ≡ false) → p n ≡ true → filter p (below (n + 1)) ≡ filter p (below from) ++ n ∷ []
 filter_next p from n le none here =
     let e : n + 1 ≡ suc n = omega arith in
@@ -123,7 +123,7 @@ IsSetOf-joined a t set is =
           (IsSetOf-where a (λ x. eqb x t || holds set x) (or_from (eqb (dead_state a) t) (holds set (dead_state a)) (ne_eqb (dead_state a) t (λ e. other (sym e))) is.no_dead))
     ]
 
--- a set joined with one of its members is that set
+-- A set joined with one of its members is that set.
 pub joined-member : (a : Automaton) (t : ℕ) (set : List ℕ) → IsSetOf a set → holds set t ≡ true → joined a t set ≡ set
 unfolding joined
 joined-member a t set is in' =

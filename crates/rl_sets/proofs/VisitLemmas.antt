@@ -23,7 +23,7 @@ place_of xs n e =
     let h = Any-from_list_any (nat_eq n) xs e in
     (h.0, h.2, get_or_default xs h.0 0 h.1 h.2 ∙ h.3 ∙ sym (eqb-true n h.1 h.4))
 
--- a found set stays where the sets stay
+-- A found set stays if the sets of the walk stay.
 pub GoesOn-same : (a : Automaton) (from : List ℕ) (old new : Walk) (f : Found) → IsSearch a old f → IsGrown a from old.sets new.sets → GoesOn a old new f f
 GoesOn-same a from old new f s g = record { search = IsSearch-grown a from old new f s g; extends = Extends-refl f }
 
@@ -32,16 +32,16 @@ grown-again a from old mid new g e = IsGrown-trans a from old mid new g (IsGrown
 
 module _ (a : Automaton) (from : List ℕ) (old w : Walk) (f : Found) (place letter n : ℕ) (s : IsSearch a old f) (g : IsGrown a from old.sets w.sets) (looked : IsLookedAt a old f place letter) (in' : place < length f.numbers) (small : letter < letters_count a)
     (at : IsImageAt a w f place letter n) where
-  -- the image refuses no rest
+  -- The image refuses no rest.
   pub looked-dead : (IsLive a (set_at w n) → ⊥) → IsLookedAt a w f place (letter + 1)
   looked-dead dead =
       IsLookedAt-letter a w f place letter (IsLookedAt-grown a from old w f s g place letter looked) (inr (λ live. dead (subst (IsLive a) (sym at.is) live)))
 
-  -- the image holds the accepting state
+  -- The image holds the accepting state.
   pub looked-accepting : holds (set_at w n) (accepting_state a) ≡ true → IsLookedAt a w f place (letter + 1)
   looked-accepting e = looked-dead (accepting-dead a (set_at w n) e)
 
-  -- the image has a route
+  -- The image has a route.
   pub route-through : (new : Walk) (r route : ℕ) → IsAutomaton a → HasRoute a w.kept.routes (set_at w n) r → new.sets ≡ w.sets → new.kept.routes ≡ w.kept.routes ++ On letter r ∷ [] → route ≡ length w.kept.routes → HasRoute a new.kept.routes (found_set new f place) route
   route-through new r route is h same routes number =
       let free = (IsSearch-grown a from old w f s g).free place in' in
@@ -49,7 +49,7 @@ module _ (a : Automaton) (from : List ℕ) (old w : Walk) (f : Found) (place let
       subst (λ (x : List (List ℕ)). HasRoute a new.kept.routes (get_or x (number_at f place) []) route) (sym same)
       (subst (λ (x : List Route). HasRoute a x (found_set w f place) route) (sym routes) (subst (HasRoute a (w.kept.routes ++ On letter r ∷ []) (found_set w f place)) (sym number) there))
 
-  -- the image is found
+  -- The image is found.
   module _ (new : Found) (free : holds (set_at w n) (accepting_state a) ≡ false) (added : IsAdded n (record { parent = place; letter = letter }) f new) where
     way : Way
     way = record { parent = place; letter = letter }
@@ -79,7 +79,7 @@ module _ (a : Automaton) (from : List ℕ) (old w : Walk) (f : Found) (place let
               (inl (length f.numbers, omega (arith, length_push f.numbers n), ap (set_at w) last ∙ at.is ∙ ap (λ (m : ℕ). image a (set_at w m) letter) (sym (x.same place in')))))
         ]
 
--- what is noted of a set
+-- What is noted of a set.
 pub life-dead : (a : Automaton) (w : Walk) (n : ℕ) → IsMadeFor w a → n < length w.sets → get_or w.kept.lives n Unknown ≡ Dead → IsLive a (set_at w n) → ⊥
 life-dead a w n made lt e = subst (IsLife a w.kept.routes (set_at w n)) e (made.lives n lt)
 

@@ -1,4 +1,4 @@
--- Lemmas on the rows of a walk and the sets that they stand for.
+-- Lemmas on the rows of a walk and the sets that they represent.
 use Rattle.std.proofs.Common.{set as put, ◌*◌, ◌≡◌, ◌≢◌, ℕ, zero, suc, ◌<◌, ◌≤◌, ◌⊎◌, Bool, true, false, List, [], ◌∷◌, ◌++◌, length, get_or, map, replicate, if◌then◌else◌, slice_get, position, Option, Some, None, Result, Ok, Err, is_some, IfOk, OnErr, set, Contains, refl, sym, ap, ◌∙◌, subst, inl, inr, arith}
 use Rattle.std.specs.List.{list_any}
 use Rattle.std.specs.Option.{option_map}
@@ -22,18 +22,18 @@ use Rattle.rl_sets.specs.Walk.{set_at, image_place, Walk, IsSetOf, IsMadeFor, Is
 use Rattle.rl_sets.specs.Live.{holds}
 use Rattle.rl_sets.proofs.RowLemmas.{same_rows, holds-members}
 
--- the sets that rows stand for
+-- The sets that rows represent.
 abbrev pub sets_of : List (List Bool) → List (List ℕ)
 sets_of rows = map members_of rows
 
--- a row that stands at a place
+-- A row at a place.
 pub row_found : (rows : List (List Bool)) (row : List Bool) (n : ℕ) → Some n ≡ position (row_eq row) rows → slice_get (sets_of rows) n ≡ Some (members_of row)
 row_found rows row n e =
     let h = position-Some (row_eq row) rows n [] (sym e) in
     let same : row ≡ get_or rows n [] = (row_eq_decides row (get_or rows n [])).0 h.1 in
     slice_get-map members_of rows n ∙ ap (option_map members_of) (slice_get-get_or rows n [] h.0) ∙ ap (λ r. Some (members_of r)) (sym same)
 
--- a row that isn't listed
+-- A row that isn't listed.
 row_absent : (states limit : ℕ) (rows : List (List Bool)) (row : List Bool) → AreRows states limit rows → length row ≡ states → list_any (row_eq row) rows ≡ false → (k : ℕ) → k < length rows → get_or rows k [] ≢ row
 row_absent states limit rows row are long none k lt e =
     both_ways (list_any (row_eq row) rows) none (list_any_at (row_eq row) rows k [] lt ((row_eq_decides row (get_or rows k [])).1 (sym e)))
@@ -44,7 +44,7 @@ set_absent states limit rows row are long none c =
     let same : members_of (get_or rows c.0 []) ≡ members_of row = sym (get_or-map members_of rows c.0 [] (members_of row) lt) ∙ c.2 in
     row_absent states limit rows row are long none c.0 lt (same_rows (get_or rows c.0 []) row (are.wide c.0 [] lt ∙ sym long) same)
 
--- one more row
+-- One more row.
 pub AreRows-push : (states limit : ℕ) (rows : List (List Bool)) (row : List Bool) → AreRows states limit rows → length row ≡ states → list_any (row_eq row) rows ≡ false → length rows < limit → AreRows states limit (rows ++ row ∷ [])
 AreRows-push states limit rows row are long none room = record {
   low = are.low;
@@ -58,25 +58,25 @@ AreRows-push states limit rows row are long none room = record {
     by m n lt (inr new) le e =
         row_absent states limit rows row are long none m (omega arith) (sym (get_or_append_left rows (row ∷ []) [] m (omega arith)) ∙ e ∙ get_or_push rows row [] n (omega arith))
 
--- the keys with a new row
+-- The keys with a new row.
 pub inserted : (rows : List (List Bool)) (row : List Bool) → list_any (row_eq row) rows ≡ false → insert_key row_eq rows row ≡ rows ++ row ∷ []
 inserted rows row none = ap (λ b. if b then rows else rows ++ row ∷ []) none
 
 pub room_left : (n limit : ℕ) → n ≤ limit → (n ≡ limit → ⊥) → n < limit
 room_left n limit le other = elim (cases_lt n limit) [ inl lt ↦ lt | inr ge ↦ absurd (other (omega arith)) ]
 
--- a row that is stored at a place
+-- A row that is stored at a place.
 pub row_stored : (rows : List (List Bool)) (row : List Bool) (n : ℕ) → (k : List Bool) × (slice_get rows n ≡ Some k) × (row_eq row k ≡ true) → slice_get (sets_of rows) n ≡ Some (members_of row)
 row_stored rows row n s =
     slice_get-map members_of rows n ∙ ap (option_map members_of) s.1 ∙ ap (λ r. Some (members_of r)) (sym ((row_eq_decides row s.0).0 s.2))
 
--- no table is made of the letters of a new walk
+-- No table is made of the letters of a new walk.
 pub none_made : (n letter : ℕ) (table : List (List Bool)) → slice_get (replicate {A = Option (List (List Bool))} n None) letter ≡ Some (Some table) → ⊥
 none_made zero letter table e = cc
 none_made (suc n) zero table e = cc
 none_made (suc n) (suc letter) table e = none_made n letter table e
 
--- a member of a set by the row that stands there
+-- Membership in a set, by the row of the set.
 pub row_at : (rows : List (List Bool)) (row : List Bool) (n : ℕ) → slice_get rows n ≡ Some row → members_of row ≡ get_or (sets_of rows) n []
 row_at rows row n read = sym (get_or_from_slice_get (sets_of rows) n (members_of row) [] (slice_get-map members_of rows n ∙ ap (option_map members_of) read))
 
@@ -86,7 +86,7 @@ holds-row rows row n q read = sym (holds-members row q) ∙ ap (λ l. holds l q)
 pub row_wide : (states limit : ℕ) (rows : List (List Bool)) (row : List Bool) (n : ℕ) → AreRows states limit rows → slice_get rows n ≡ Some row → length row ≡ states
 row_wide states limit rows row n are read = ap length (sym (get_or_from_slice_get rows n row [] read)) ∙ are.wide n [] (slice_get_within rows n row read)
 
--- what stands in a list stays where another is put behind it
+-- The members of a list stay when another one is appended.
 pub get_kept : {X : Type 0} (xs ys : List X) (i : ℕ) (x : X) → slice_get xs i ≡ Some x → slice_get (xs ++ ys) i ≡ Some x
 get_kept [] ys i x e = cc
 get_kept (y ∷ xs) ys zero x e = e
@@ -147,12 +147,12 @@ IsMadeFor-listed old new a set n made is listed few f g = by listed.grown
         let room : length old.sets < old.limit = omega (arith, ap length more.1, length_push old.sets set) in
         subst (λ (w : Walk). IsMadeFor w a) (sym (same_walk new (record { sets = old.sets ++ set ∷ []; limit = old.limit; kept = old.kept }) more.1 f g)) (IsMadeFor-pushed old a set made is more.0 room)
 
--- the same where the set may have been refused
+-- The same if the set may have been refused.
 pub IsMadeFor-added : (old new : Walk) (a : Automaton) (set : List ℕ) (r : Result ℕ SetsError) → IsMadeFor old a → IsSetOf a set → IfOk r (IsListed old.sets new.sets set) → OnErr r (new.sets ≡ old.sets) → length new.sets ≤ new.limit → new.limit ≡ old.limit → new.kept ≡ old.kept → IsMadeFor new a
 IsMadeFor-added old new a set (Ok n) made is listed same few f g = IsMadeFor-listed old new a set n made is listed few f g
 IsMadeFor-added old new a set (Err e) made is listed same few f g = IsMadeFor-same old new a made same f g
 
--- a set that is listed, or that no room is left for, in equal lists
+-- A set that is listed, or that no room is left for, in equal lists.
 pub IsListed-same : (old mid new last : List (List ℕ)) (set members : List ℕ) (n : ℕ) → IsListed mid new members n → mid ≡ old → last ≡ new → members ≡ set → IsListed old last set n
 IsListed-same old mid new last set members n listed before after same =
     subst (λ (s : List ℕ). IsListed old last s n) same
@@ -175,7 +175,7 @@ get_set_other (x ∷ xs) zero (suc j) v other = refl
 get_set_other (x ∷ xs) (suc i) zero v other = refl
 get_set_other (x ∷ xs) (suc i) (suc j) v other = get_set_other xs i j v (λ e. other (ap suc e))
 
--- the walk with one more table
+-- The walk with one more table.
 pub IsMadeFor-table : (old new : Walk) (a : Automaton) (letter : ℕ) (table : List (List Bool)) → IsMadeFor old a → IsTableOn a letter table → new.sets ≡ old.sets → new.limit ≡ old.limit → new.kept ≡ record { states = old.kept.states; tables = set old.kept.tables letter (Some table); images = old.kept.images; routes = old.kept.routes; lives = old.kept.lives } → IsMadeFor new a
 IsMadeFor-table old new a letter table made on e f g =
     subst (λ (w : Walk). IsMadeFor w a) (sym (same_walk new (record { sets = old.sets; limit = old.limit; kept = record { states = old.kept.states; tables = set old.kept.tables letter (Some table); images = old.kept.images; routes = old.kept.routes; lives = old.kept.lives } }) e f g)) (record {
@@ -204,7 +204,7 @@ IsMadeFor-table old new a letter table made on e f g =
 pub get_set_here : {X : Type 0} (xs : List X) (i : ℕ) (v : X) → i < length xs → slice_get (set xs i v) i ≡ Some v
 get_set_here xs i v lt = slice_get-get_or (set xs i v) i v (omega (arith, length-set xs i v)) ∙ ap Some (get_or-set_same xs i v v lt)
 
--- the table of a letter that is read from a walk's fields, of which `v` is the view
+-- The table of a letter that is read from the fields of a walk with the view `v`.
 pub table_read : (v now : Walk) (a : Automaton) (letter : ℕ) (o : Option (List (List Bool))) (table : List (List Bool)) → v ≡ now → IsMadeFor now a
     → (t : List (List Bool)) × (slice_get now.kept.tables letter ≡ Some (Some t)) → o ≡ get_or v.kept.tables letter o → o ≡ Some table → IsTableOn a letter table
 table_read v now a letter o table same made there read is =
@@ -219,7 +219,7 @@ there_is (Some x) e = (x, refl)
 
 -- ---- numbers of images
 module _ (w : Walk) (a : Automaton) (longer : List (Option ℕ)) (made : IsMadeFor w a) (same : (i : ℕ) → get_or longer i None ≡ get_or w.kept.images i None) (few : length longer ≤ length w.sets * suc (letters_count a)) where
-  -- the walk with room for more
+  -- The walk with room for more.
   pub IsMadeFor-room : IsMadeFor (record { sets = w.sets; limit = w.limit; kept = record { states = w.kept.states; tables = w.kept.tables; images = longer; routes = w.kept.routes; lives = w.kept.lives } }) a
   IsMadeFor-room = record {
     sets = made.sets;
@@ -236,7 +236,7 @@ module _ (w : Walk) (a : Automaton) (longer : List (Option ℕ)) (made : IsMadeF
     lives = made.lives;
   }
 
--- the walk with one more number
+-- The walk with one more number.
 pub IsMadeFor-image : (w : Walk) (a : Automaton) (set letter number : ℕ) → IsMadeFor w a → letter ≤ letters_count a → image_place a set letter < length w.kept.images → slice_get w.sets number ≡ Some (image a (set_at w set) letter)
     → IsMadeFor (record { sets = w.sets; limit = w.limit; kept = record { states = w.kept.states; tables = w.kept.tables; images = put w.kept.images (image_place a set letter) (Some number); routes = w.kept.routes; lives = w.kept.lives } }) a
 IsMadeFor-image w a set letter number made small there is = record {

@@ -1,4 +1,4 @@
--- Refused rests, and the sets that are looked at for one.
+-- Refused rests, and the sets that are searched for them.
 use Rattle.std.specs.Prelude.{◌≡◌, ◌≢◌, ℕ, suc, ◌<◌, ◌≤◌, ◌⊎◌, true, false, List, [], ◌∷◌, ◌++◌, length, slice_get, Some, All, Contains}
 use Rattle.std.specs.List.{AllPairs}
 use Rattle.rl_prio.specs.Automaton.{Automaton, letters_count, accepting_state}
@@ -8,38 +8,39 @@ use Rattle.rl_sets.specs.declared.life.Route.{Route}
 use Rattle.rl_sets.specs.declared.life.Route.TheVariants.{End, On}
 use Rattle.rl_sets.specs.Live.{holds, image, refuses, IsRest, IsLive}
 
--- images, taken any number of times, give the set from the first one; a set that holds the accepting state has no image
+-- The set can be reached from the set `from` by taking images any number of times. Images are taken only of sets without the
+-- accepting state.
 pub data Reached (a : Automaton) (from : List ℕ) : List ℕ → Type 0 where
   here : Reached a from from
   further : {set : List ℕ} (letter : ℕ) → Reached a from set → holds set (accepting_state a) ≡ false → letter ≤ letters_count a → Reached a from (image a set letter)
 
--- a list of sets has grown at its end, by sets that images give from a set
+-- `new` is `old` with more sets at the end, all of which can be reached from the set `from` by images.
 pub record IsGrown (a : Automaton) (from : List ℕ) (old new : List (List ℕ)) : Type 0 where
   pub added : List (List ℕ)
   pub more : new ≡ old ++ added
   pub reached : All (Reached a from) added
 
--- the listed sets and those that images give from a set are together more than the limit
+-- More different sets than the limit allows are listed or can be reached from the set `from` by images.
 pub record IsOver (a : Automaton) (from : List ℕ) (listed : List (List ℕ)) (limit : ℕ) : Type 0 where
   pub sets : List (List ℕ)
   pub many : length sets ≡ suc limit
   pub apart : AllPairs ◌≢◌ sets
   pub each : All (λ s. Contains listed s ⊎ Reached a from s) sets
 
--- the word refused by the set
+-- The word is a rest that the set refuses.
 abbrev pub IsRefusedRest : Automaton → List ℕ → List ℕ → Type 0
 IsRefusedRest a set word = IsRest a word × (refuses a set word ≡ true)
 
--- the word of a route; `end` is the end letter
+-- The route with the given number describes the word; `end` is the end letter.
 pub data Routed (end : ℕ) (routes : List Route) : ℕ → List ℕ → Type 0 where
   last : {r : ℕ} → slice_get routes r ≡ Some End → Routed end routes r (end ∷ [])
   more : {r next : ℕ} {word : List ℕ} (letter : ℕ) → slice_get routes r ≡ Some (On letter next) → next < r → Routed end routes next word → Routed end routes r (letter ∷ word)
 
--- the set refuses the rest of a route
+-- The set refuses the rest that the route with the number `r` describes.
 abbrev pub HasRoute : Automaton → List Route → List ℕ → ℕ → Type 0
 HasRoute a routes set r = (word : List ℕ) × Routed (letters_count a) routes r word × IsRest a word × (refuses a set word ≡ true)
 
--- what is known of a set is so
+-- What is recorded of the set is true.
 abbrev pub IsLife : Automaton → List Route → List ℕ → Life → Type 0
 IsLife a routes set Unknown = Unit {0}
 IsLife a routes set (Live r) = HasRoute a routes set r

@@ -1,4 +1,4 @@
--- Walks over sets of states: a list of different sets, each under one number, its place in the list.
+-- Walks over sets of states: lists of different sets, whose numbers are their places in the list.
 use Rattle.std.specs.Prelude.{◌≡◌, ◌≢◌, ℕ, suc, ◌+◌, ◌*◌, ◌<◌, ◌≤◌, ◌⊎◌, Bool, false, List, [], ◌∷◌, ◌++◌, length, slice_get, slice_index_or, Option, None, Some, All, Contains}
 use Rattle.rl_prio.specs.Automaton.{Automaton, letters_count, dead_state}
 use Rattle.rl_sets.specs.Live.{holds, set_where, image}
@@ -9,8 +9,8 @@ use Rattle.rl_sets.specs.declared.life.Route.TheVariants.{End}
 use Rattle.rl_sets.specs.Rests.{IsLife}
 use Rattle.rl_sets.specs.Rows.{IsTableOn}
 
--- what a walk keeps beside its sets: how many states there are, the tables of the letters that were used,
--- the numbers of images, set by set and letter by letter, refused rests, and what is known of the first sets
+-- What a walk keeps beside its sets: the number of states, the tables of the letters that were used, the numbers of images,
+-- set by set and letter by letter, the routes of refused rests, and what is known of the first sets.
 pub record Kept : Type 0 where
   pub states : ℕ
   pub tables : List (Option (List (List Bool)))
@@ -18,31 +18,33 @@ pub record Kept : Type 0 where
   pub routes : List Route
   pub lives : List Life
 
--- the sets of a walk, each the rising list of its members, how many there may be, and what it keeps beside them
+-- A walk: its sets, each as the list of its members in increasing order, the limit on their number, and what it keeps beside
+-- them.
 pub record Walk : Type 0 where
   pub sets : List (List ℕ)
   pub limit : ℕ
   pub kept : Kept
 
--- the set with a number
+-- The set with the number `n`.
 abbrev pub set_at : Walk → ℕ → List ℕ
 set_at w n = slice_index_or w.sets n []
 
--- where the number of the image of a set on a letter is kept
+-- The index at which the number of the image of a set on a letter is kept.
 abbrev pub image_place : Automaton → ℕ → ℕ → ℕ
 image_place a n letter = n * suc (letters_count a) + letter
 
--- the set of the states that are listed
+-- The set of the listed states.
 abbrev pub set_of : Automaton → List ℕ → List ℕ
 set_of a members = set_where a (holds members)
 
--- a set of states of the automaton, rising, without the dead state
+-- The list is a set of states of the automaton, in increasing order and without the dead state.
 pub record IsSetOf (a : Automaton) (set : List ℕ) : Type 0 where
   pub rising : set ≡ set_of a set
   pub no_dead : holds set (dead_state a) ≡ false
 
--- the walk is one of the automaton: its sets are different sets of the automaton's states without the dead one, no more than
--- the limit, and what it keeps is the automaton's
+-- The walk belongs to the automaton: its sets are different sets of the automaton's states without the dead state, there are
+-- no more of them than the limit allows, and all tables, images, routes and findings that it keeps are right for the
+-- automaton.
 pub record IsMadeFor (w : Walk) (a : Automaton) : Type 0 where
   pub sets : (n : ℕ) → n < length w.sets → IsSetOf a (set_at w n)
   pub apart : (m n : ℕ) → m < n → n < length w.sets → set_at w m ≢ set_at w n
@@ -57,17 +59,18 @@ pub record IsMadeFor (w : Walk) (a : Automaton) : Type 0 where
   pub few_lives : length w.kept.lives ≤ length w.sets
   pub lives : (n : ℕ) → n < length w.sets → IsLife a w.kept.routes (set_at w n) (slice_index_or w.kept.lives n Unknown)
 
--- the set stands at the place `n` of the new list, which is the old one with the set at its end where the set wasn't in it
+-- The set is at the place `n` of `new`, which is `old`, or `old` with the set appended if `old` doesn't have it.
 pub record IsListed (old new : List (List ℕ)) (set : List ℕ) (n : ℕ) : Type 0 where
   pub stands : slice_get new n ≡ Some set
   pub grown : (new ≡ old) ⊎ ((Contains old set → ⊥) × (new ≡ old ++ set ∷ []))
 
--- the set isn't in the list, and the list has as many sets as it may
+-- The set isn't in the list, and the list has as many sets as the limit allows.
 pub record IsFull (sets : List (List ℕ)) (limit : ℕ) (set : List ℕ) : Type 0 where
   pub absent : Contains sets set → ⊥
   pub full : length sets ≡ limit
 
--- the rows of a walk: as many as the limit allows, all of one length, and different
+-- The rows of a walk are well formed: there are no more of them than the limit allows, they all have one bit for each state,
+-- and no two of them are equal.
 pub record AreRows (states limit : ℕ) (rows : List (List Bool)) : Type 0 where
   pub low : limit ≤ 60000
   pub few : length rows ≤ limit

@@ -1,14 +1,14 @@
-//! Why a walk over sets can't go on.
+//! The reasons why a walk over sets can't go on.
 
 ghost use Rattle.std.specs.Prelude.{◌≡◌};
 
 use rl_lists::OutOfMemory;
 use std::alloc::{AllocError, AllocFailed};
 
-/// Why a set gets no number, or no refused rest is looked for.
+/// The reason why a set gets no number, or why the search for a refused rest stops.
 #[derive(Clone, Copy, Debug, PartialEq, Eq)]
 pub enum SetsError {
-    /// There would be more sets than the limit of the walk.
+    /// The walk would exceed its limit on the number of sets.
     Sets,
     /// Out of memory.
     OutOfMemory,

@@ -1,10 +1,10 @@
-//! Lists that are lengthened by a filler.
+//! Lengthening a list with a filler.
 
 ghost use Rattle.std.specs.Prelude.{◌≡◌, ℕ, ◌≤◌, max, length, slice_index_or, OnOk};
 
 use rl_lists::OutOfMemory;
 
-/// Makes the list at least as long as wanted, with the filler behind what it held.
+/// Appends `filler` until the list has at least `len` items.
 pub(crate) fn lengthen<T: Copy + Drop>(
     list: &mut Vec<T>,
     len: usize,

@@ -1,21 +1,22 @@
-//! The powerset construction on demand, here "set walk": sets of states of an ordered automaton, each found once and known by
-//! its number.
+//! The powerset construction on demand, here called "set walk": sets of states of an ordered automaton, each of which is
+//! found once and has a number.
 //!
-//! A [`SetWalk`] is the list of the sets that were found so far. [`SetWalk::intern`] gives the number of a set,
-//! [`SetWalk::step`] that of the image of a set on a letter, and [`SetWalk::join`] that of a set with one more member.
-//! [`SetWalk::refused_rest`] looks by breadth-first search for a rest of a text that no member of a set accepts; a set that
-//! has one is live. Sets are rows of bits, and images that were made once are kept.
+//! A [`SetWalk`] is the list of the sets found so far. [`SetWalk::intern`] returns the number of a set, [`SetWalk::step`]
+//! returns the number of the image of a set on a letter, and [`SetWalk::join`] returns the number of a set with one more
+//! member. [`SetWalk::refused_rest`] searches breadth first for a rest of a text that no member of a set accepts; a set for
+//! which there is such a rest is live. Sets are stored as rows of bits, and images are computed once and kept.
 //!
 //! # What is proved
 //!
-//! Each set has one number. A step gives the image, a join the set with its new member, and in these calls
-//! [`SetsError::Sets`] comes exactly where the set isn't listed and the list is full. A rest that is returned is refused by
-//! the set, and there is none exactly where the set isn't live.
+//! Each set has one number. A step returns the image, and a join returns the set with its new member; both fail with
+//! [`SetsError::Sets`] only if that set isn't listed and the list is full. A rest that is returned is refused by the set, and
+//! `None` is returned only if the set isn't live.
 //!
 //! # Example
 //!
 //! ```
-//! // `automaton` is that of `(a|a)*`, matched whole; its letters are 0 for all but `a`, 1 for `a`, and 2 for the end
+//! // `automaton` is the automaton of `(a|a)*`, matched to the end of the text; letter 0 is every code except `a`,
+//! // letter 1 is `a`, and letter 2 is the end letter
 //! let none = walk.intern(&automaton, &Vec::new(alloc))?; // 0
 //! let start = walk.join(none, 0)?; // 1
 //! let both = walk.step(&automaton, start, 1)?; // 2

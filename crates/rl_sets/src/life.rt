@@ -11,22 +11,22 @@ use std::alloc::Global;
 pub enum Life {
     /// Nothing.
     Unknown,
-    /// It refuses the rest of the route with this number.
+    /// The set refuses the rest that the route with this number describes.
     Live(usize),
-    /// It refuses none.
+    /// The set refuses no rest.
     Dead,
 }
 
-/// A refused rest, by its first letter and the number of an earlier route for what follows.
+/// The description of a refused rest: its first letter, and the number of an earlier route for the letters that follow.
 #[derive(Clone, Copy)]
 pub enum Route {
-    /// The end letter alone.
+    /// Only the end letter.
     End,
-    /// A letter, and then the rest of the route with the number.
+    /// A letter, followed by the rest that the route with this number describes.
     On(u32, usize),
 }
 
-/// The rest of a route; `end` is the end letter.
+/// Returns the rest that a route describes; `end` is the end letter.
 pub(crate) fn word_of(
     alloc: Global,
     routes: &[Route],

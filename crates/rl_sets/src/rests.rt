@@ -1,4 +1,4 @@
-//! Refused rests.
+//! The search for a rest that a set refuses.
 
 ghost use Rattle.std.specs.Prelude.{◌≡◌, ◌+◌, ◌<◌, ◌≤◌, false, length, IfOk, IfErr, OnOk, IfSome, IfNone};
 ghost use Rattle.rl_prio.specs.Automaton.{Automaton, letters_count, accepting_state};
@@ -16,14 +16,14 @@ use rl_lists::{OutOfMemory, Word};
 use rl_prio::Prio;
 use std::alloc::Global;
 
-/// How a set was found: the place of the set whose image it is, and the letter.
+/// How a set was found: as the image, on `letter`, of the set at the place `parent`.
 #[derive(Clone, Copy)]
 struct Way {
     parent: usize,
     letter: u32,
 }
 
-/// The numbers of the sets that a search has found, in order, and how each was found.
+/// The numbers of the sets that a search has found, in order, and how each of them was found.
 #[derive(Drop)]
 pub(crate) struct RestSearch {
     numbers: IndexSet<u32>,
@@ -31,7 +31,7 @@ pub(crate) struct RestSearch {
 }
 
 impl RestSearch {
-    /// A search that hasn't begun. It takes no memory.
+    /// Creates a search that hasn't begun. It allocates no memory.
     pub(crate) fn new(alloc: Global) -> RestSearch {
         RestSearch {
             numbers: IndexSet::new(alloc),
@@ -39,7 +39,7 @@ impl RestSearch {
         }
     }
 
-    /// Begins anew, from a set. What was found is let go, and its room is used again.
+    /// Restarts the search from a set. Earlier results are dropped, and their memory is used again.
     pub(crate) fn begin(&mut self, set: u32) -> Result<(), OutOfMemory>
         ensures { OnOk result (found_of self.new ≡ root_of set) }
     {
@@ -53,7 +53,7 @@ impl RestSearch {
         Ok(())
     }
 
-    /// Appends a set unless it is found.
+    /// Appends a set unless it has been found already.
     fn add(&mut self, set: u32, parent: usize, letter: u32) -> Result<(), OutOfMemory>
         ensures { OnOk result (IsAdded set (record { parent = parent; letter = letter }) (found_of self.old) (found_of self.new)) }
     {
@@ -65,13 +65,13 @@ impl RestSearch {
 }
 
 impl SetWalk {
-    /// A rest that no member of a set accepts, or `None` where there is none.
+    /// Returns a rest that no member of a set accepts, or `None` if there is none.
     ///
-    /// It is looked for by breadth-first search over images. What is found out of a set is kept, so it is looked for once.
+    /// The search is a breadth-first search over images. Its findings about sets are kept, so no set is searched twice.
     ///
     /// # Errors
-    /// [`SetsError::Sets`] where the sets of the walk and those that images give from the set would be more than the walk
-    /// may have, and [`SetsError::OutOfMemory`] where there was no memory for the search or the rest.
+    /// [`SetsError::Sets`] if the sets of the walk, together with all sets that can be reached from the set by images, exceed
+    /// the limit of the walk; [`SetsError::OutOfMemory`] if there is not enough memory for the search or the rest.
     pub fn refused_rest(&mut self, a: &Prio, set: u32) -> Result<Option<Word>, SetsError>
         requires made { IsMadeFor self.old a.now }
         requires set_in { set < length self.old.sets }
@@ -92,7 +92,7 @@ impl SetWalk {
         }
     }
 
-    /// The number of a route for a set, or `None` where the set refuses no rest.
+    /// Returns the number of a route for a set, or `None` if the set refuses no rest.
     fn route_from(&mut self, a: &Prio, set: u32) -> Result<Option<usize>, SetsError>
         requires made { IsMadeFor self.old a.now }
         requires set_in { set < length self.old.sets }
@@ -113,7 +113,7 @@ impl SetWalk {
         }
     }
 
-    /// Searches the sets that images give from a set, for a route for the set.
+    /// Searches the sets that can be reached from a set by images, and returns a route for the set if there is one.
     fn search(&mut self, a: &Prio, set: u32) -> Result<Option<usize>, SetsError>
         requires made { IsMadeFor self.old a.now }
         requires set_in { set < length self.old.sets }
@@ -131,7 +131,7 @@ impl SetWalk {
         Ok(route)
     }
 
-    /// Searches on from the set that a search begins with.
+    /// Continues a search that has found only its first set.
     fn seek(
         &mut self,
         a: &Prio,
@@ -162,7 +162,7 @@ impl SetWalk {
         Ok(None)
     }
 
-    /// Looks at the images of the set at a place. A route for the set where there is one at once.
+    /// Looks at the images of the set at `place`. Returns a route for this set if one of the images shows that there is one.
     fn expand(
         &mut self,
         a: &Prio,
@@ -195,7 +195,7 @@ impl SetWalk {
         Ok(None)
     }
 
-    /// Looks at the image of the set at a place on a letter. A route for the set where the image has one.
+    /// Looks at the image on `letter` of the set at `place`. Returns a route for this set if a route for the image is known.
     fn visit(
         &mut self,
         a: &Prio,
@@ -233,7 +233,7 @@ impl SetWalk {
         }
     }
 
-    /// The number of the image of the set at a place.
+    /// Returns the number of the image on `letter` of the set at `place`.
     fn step_from(
         &mut self,
         a: &Prio,
@@ -254,7 +254,8 @@ impl SetWalk {
         self.step(a, search.numbers[place], letter)
     }
 
-    /// Notes routes for the sets on the way from the first set to one with a route. A route for the first set.
+    /// Records a route for each set on the way from the first set to the set at `place`, for which `route` is a route.
+    /// Returns a route for the first set.
     fn trace(
         &mut self,
         a: &Prio,
@@ -282,7 +283,8 @@ impl SetWalk {
         Ok(route)
     }
 
-    /// Notes a route for the set at a place, and appends one for the set whose image it is. The number of that one.
+    /// Records a route for the set at `at`, and appends a route for its parent, whose image it is. Returns the number of the
+    /// new route.
     fn trace_back(
         &mut self,
         a: &Prio,
@@ -307,7 +309,7 @@ impl SetWalk {
         Ok(number)
     }
 
-    /// Notes a route for the set at a place.
+    /// Records a route for the set at `at`.
     fn note_route(
         &mut self,
         search: &RestSearch,
@@ -324,7 +326,7 @@ impl SetWalk {
         self.note(search.numbers[at], Life::Live(route))
     }
 
-    /// Notes that the found sets refuse no rest.
+    /// Records that the sets found refuse no rest.
     fn bury(&mut self, a: &Prio, search: &RestSearch) -> Result<(), OutOfMemory>
         requires made { IsMadeFor self.old a.now }
         requires search { IsSearch a.now self.old (found_of search.now) }

@@ -1,4 +1,4 @@
-//! Rows of states, and the table of the moves on one letter.
+//! Rows of bits for sets of states, and the table of the moves on one letter.
 
 ghost use Rattle.std.specs.Prelude.{◌≡◌, ◌-◌, ◌<◌, ◌≤◌, ◌^◌, All, [], length, slice_index_or, slice_set, IsTrue, IfOk};
 ghost use Rattle.rl_prio.specs.Automaton.{letters_count};
@@ -10,7 +10,7 @@ use rl_lists::{Items, Members, OutOfMemory};
 use rl_prio::Prio;
 use std::alloc::Global;
 
-/// Makes the places of states hold true.
+/// Sets the bits of the given states.
 pub(crate) fn mark(row: &mut BitRow, states: &[u32])
     requires { All (λ q. q < length row.old) states.now }
     ensures marked { row.new ≡ marked row.old states.now }
@@ -21,8 +21,8 @@ pub(crate) fn mark(row: &mut BitRow, states: &[u32])
     }
 }
 
-/// Makes the places of the states hold true that the members of a set move to on a letter, and answers true. Where the members
-/// have more moves than there are states, it stops with some of them and answers false.
+/// Sets the bits of the states to which the members of a set move on a letter, and returns true. If the members have more
+/// moves than there are states, it stops after some of them and returns false.
 pub(crate) fn mark_moves(row: &mut BitRow, a: &Prio, set: &BitRow, letter: u32) -> bool
     requires letter_in { letter ≤ letters_count a.now }
     requires set_in { length set.now ≡ a.now.states }
@@ -44,7 +44,7 @@ pub(crate) fn mark_moves(row: &mut BitRow, a: &Prio, set: &BitRow, letter: u32) 
     true
 }
 
-/// Whether the members of a set move on a letter as on the one before it.
+/// Whether each member of a set has the same moves on a letter as on the letter before it.
 pub(crate) fn move_alike(a: &Prio, set: &BitRow, letter: u32) -> bool
     requires letter_in { letter ≤ letters_count a.now }
     requires later { 0 < letter }
@@ -62,7 +62,7 @@ pub(crate) fn move_alike(a: &Prio, set: &BitRow, letter: u32) -> bool
     true
 }
 
-/// Makes the places of states hold true in one row of a table.
+/// Sets the bits of the given states in one row of a table.
 fn mark_row(table: &mut BitTable, at: usize, states: &[u32])
     requires row_in { at < length table.old }
     requires states_in { All (λ q. q < length (slice_index_or table.old at [])) states.now }
@@ -73,7 +73,7 @@ fn mark_row(table: &mut BitTable, at: usize, states: &[u32])
     }
 }
 
-/// The moves of an automaton on one letter, the end letter included.
+/// Returns the table of the moves of an automaton on a letter or the end letter.
 pub(crate) fn table_on(alloc: Global, a: &Prio, letter: u32) -> Result<BitTable, OutOfMemory>
     requires { letter ≤ letters_count a.now }
     ensures { IfOk result (IsTableOn a.now letter) }
@@ -87,7 +87,7 @@ pub(crate) fn table_on(alloc: Global, a: &Prio, letter: u32) -> Result<BitTable,
     Ok(table)
 }
 
-/// The members of the set that a row stands for, rising.
+/// Returns the members of the set that a row represents, in increasing order.
 pub(crate) fn members(alloc: Global, row: &BitRow) -> Result<Members, OutOfMemory>
     requires { length row.now < 2 ^ 32 }
     ensures { IfOk result (λ m. m ≡ members_of row.now) }

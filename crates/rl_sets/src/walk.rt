@@ -24,14 +24,14 @@ use rl_prio::Prio;
 use std::alloc::Global;
 use std::marker::Model;
 
-/// For how many sets a walk has room at first. Many automata have no more.
+/// The number of sets for which a walk has room at first. Many automata need no more.
 const FIRST_SETS: usize = 18;
 
-/// A walk over sets of states of one automaton: its powerset construction, as far as it was asked for. Each set has one
-/// number, its place in the walk's list.
+/// A walk over sets of states of one automaton: as much of its powerset construction as has been asked for. Each set has one
+/// number, which is its place in the walk's list.
 ///
-/// A row whose set was there already is kept as the spare one, so that a set that is known takes no memory. In the same way
-/// the last search for a refused rest is kept idle, so that the next one takes its room.
+/// A row that turns out to represent a known set is kept as a spare, so that looking up a known set allocates no memory. In
+/// the same way, the last search for a refused rest is kept, so that the next search can use its memory.
 #[derive(Drop)]
 pub struct SetWalk {
     states: u32,
@@ -57,7 +57,7 @@ impl Model for SetWalk {
     ghost invariant = { λ w. AreRows w.states w.limit w.rows.keys };
 }
 
-/// The route of the end letter alone, in a list with room for more.
+/// Returns a list with only the route of the end letter, with room for more routes.
 fn first_routes(alloc: Global) -> Result<Vec<Route>, OutOfMemory>
     ensures { IfOk result (λ routes. routes.items ≡ End ∷ []) }
 {
@@ -66,7 +66,7 @@ fn first_routes(alloc: Global) -> Result<Vec<Route>, OutOfMemory>
     Ok(routes)
 }
 
-/// Places for the tables of letters, where none is made.
+/// Returns a list with an empty place for the table of each letter.
 fn no_tables(alloc: Global, letters: usize) -> Result<Vec<Option<BitTable>>, OutOfMemory>
     ensures { IfOk result (λ tables. tables.items ≡ replicate letters None) }
 {
@@ -78,10 +78,10 @@ fn no_tables(alloc: Global, letters: usize) -> Result<Vec<Option<BitTable>>, Out
 }
 
 impl SetWalk {
-    /// A walk without a set, which may get `limit` of them.
+    /// Creates a walk without sets, which may have up to `limit` of them.
     ///
     /// # Errors
-    /// [`OutOfMemory`] where there was no memory for it.
+    /// [`OutOfMemory`] if there is not enough memory for it.
     pub fn new(alloc: Global, a: &Prio, limit: u32) -> Result<SetWalk, OutOfMemory>
         requires some { 1 ≤ limit }
         requires low { limit ≤ 60000 }
@@ -108,7 +108,7 @@ impl SetWalk {
         })
     }
 
-    /// How many sets the walk has.
+    /// Returns the number of sets.
     pub fn len(&self) -> u32
         ensures len { result ≡ length self.now.sets }
         ensures few { length self.now.sets ≤ self.now.limit }
@@ -116,7 +116,7 @@ impl SetWalk {
         self.rows.len() as u32
     }
 
-    /// Whether a state is a member of the set with a number.
+    /// Whether a state is a member of the set with the given number.
     pub fn holds(&self, set: u32, state: u32) -> bool
         requires set_in { set < length self.now.sets }
         requires state_in { state < self.now.kept.states }
@@ -125,11 +125,11 @@ impl SetWalk {
         self.rows[set as usize].get(state as usize)
     }
 
-    /// The number of the set of the listed states, which is appended unless it is there.
+    /// Returns the number of the set of the listed states, which is appended if it is new.
     ///
     /// # Errors
-    /// [`SetsError::Sets`] where the set isn't there and the walk has as many sets as it may, and
-    /// [`SetsError::OutOfMemory`] where there was no memory for it. The walk's sets are unchanged then.
+    /// [`SetsError::Sets`] if the set is new and the walk already has as many sets as its limit allows;
+    /// [`SetsError::OutOfMemory`] if there is not enough memory for it. In both cases, the walk's sets are unchanged.
     pub fn intern(&mut self, a: &Prio, members: &Vec<u32>) -> Result<u32, SetsError>
         requires made { IsMadeFor self.old a.now }
         requires states { All (λ q. (q < a.now.states) × (q ≢ dead_state a.now)) members.now.items }
@@ -146,12 +146,12 @@ impl SetWalk {
         self.add(row)
     }
 
-    /// The number of the image of a set on a letter, which is appended unless it is there. The letter after the
-    /// last one is the end letter.
+    /// Returns the number of the image of a set on a letter. The image is appended if it is new. The end letter is the number
+    /// after the last letter.
     ///
     /// # Errors
-    /// [`SetsError::Sets`] where the image isn't there and the walk has as many sets as it may, and
-    /// [`SetsError::OutOfMemory`] where there was no memory for it. The walk's sets are unchanged then.
+    /// [`SetsError::Sets`] if the image is new and the walk already has as many sets as its limit allows;
+    /// [`SetsError::OutOfMemory`] if there is not enough memory for it. In both cases, the walk's sets are unchanged.
     pub fn step(&mut self, a: &Prio, set: u32, letter: u32) -> Result<u32, SetsError>
         requires made { IsMadeFor self.old a.now }
         requires set_in { set < length self.old.sets }
@@ -170,12 +170,12 @@ impl SetWalk {
         self.find_image(a, set, letter)
     }
 
-    /// The number of the set with one more member, which is appended unless it is there. The dead state is left
-    /// out, so with it the set is the one that it was.
+    /// Returns the number of the set with one more member, which is appended if it is new. The dead state is never a member,
+    /// so adding it gives the same set.
     ///
     /// # Errors
-    /// [`SetsError::Sets`] where the new set isn't there and the walk has as many sets as it may, and
-    /// [`SetsError::OutOfMemory`] where there was no memory for it. The walk's sets are unchanged then.
+    /// [`SetsError::Sets`] if the set is new and the walk already has as many sets as its limit allows;
+    /// [`SetsError::OutOfMemory`] if there is not enough memory for it. In both cases, the walk's sets are unchanged.
     pub fn join(&mut self, set: u32, state: u32) -> Result<u32, SetsError>
         requires set_in { set < length self.old.sets }
         requires state_in { state < self.old.kept.states }
@@ -198,25 +198,25 @@ impl SetWalk {
         self.add(row)
     }
 
-    /// The members of the set with a number, rising.
+    /// Returns the members of the set with the given number, in increasing order.
     ///
     /// # Errors
-    /// [`OutOfMemory`] where there was no memory for the list.
+    /// [`OutOfMemory`] if there is not enough memory for the list.
     pub fn members(&self, set: u32) -> Result<Members, OutOfMemory>
         requires { set < length self.now.sets }
         ensures { IfOk result (λ m. m ≡ set_at self.now set) }
     {
-        // Each row has a place for each state, whose number is read so that it is known to fit.
+        // A row has one bit for each state. The number of states is read here so that it is known to fit.
         let _states = self.states;
         members(self.allocator(), &self.rows[set as usize])
     }
 
-    /// The allocator of the walk.
+    /// Returns the allocator of the walk.
     pub(crate) fn allocator(&self) -> Global {
         *self.tables.allocator()
     }
 
-    /// Makes the table of a letter unless it is made.
+    /// Builds the table of a letter unless it exists.
     fn prepare(&mut self, a: &Prio, letter: u32) -> Result<(), OutOfMemory>
         requires made { IsMadeFor self.old a.now }
         requires letter_in { letter ≤ letters_count a.now }
@@ -232,8 +232,8 @@ impl SetWalk {
         Ok(())
     }
 
-    /// Makes a row that of the states that the members of a set move to on a letter, move by move, and answers true. Where the
-    /// letter has a table, or the members have more moves than there are states, it answers false.
+    /// Sets `row` to the states to which the members of a set move on a letter, move by move, and returns true. Returns false
+    /// if the letter has a table or the members have more moves than there are states.
     fn reach_by_moves(&self, a: &Prio, set: u32, letter: u32, row: &mut BitRow) -> bool
         requires made { IsMadeFor self.now a.now }
         requires set_in { set < length self.now.sets }
@@ -249,7 +249,8 @@ impl SetWalk {
         mark_moves(row, a, &self.rows[set as usize], letter)
     }
 
-    /// Makes a row that of the states that the members of a set move to on a letter whose table is made.
+    /// Sets `row` to the states to which the members of a set move on a letter, using the table of the letter, which must
+    /// exist.
     fn reach_by_table(&self, a: &Prio, set: u32, letter: u32, row: &mut BitRow)
         requires made { IsMadeFor self.now a.now }
         requires set_in { set < length self.now.sets }
@@ -263,7 +264,7 @@ impl SetWalk {
         table.image(&self.rows[set as usize], row);
     }
 
-    /// Makes a row that of the states that the members of a set move to on a letter.
+    /// Sets `row` to the states to which the members of a set move on a letter.
     fn reach(
         &mut self,
         a: &Prio,
@@ -288,7 +289,7 @@ impl SetWalk {
         Ok(())
     }
 
-    /// A row with as many places as wanted, and any values: the spare row, or a new one.
+    /// Returns a row with `states` bits of any values: the spare row if it has the right length, or a new one.
     fn take_row(&mut self, states: usize) -> Result<BitRow, OutOfMemory>
         ensures len { IfOk result (λ row. length row ≡ states) }
         ensures same { self.new ≡ self.old }
@@ -299,7 +300,7 @@ impl SetWalk {
         }
     }
 
-    /// A search from a set: the idle one begun anew, or a new one.
+    /// Returns a search that begins with a set: the kept search, restarted, or a new one.
     pub(crate) fn take_search(&mut self, set: u32) -> Result<RestSearch, OutOfMemory>
         ensures root { IfOk result (λ s. found_of s ≡ root_of set) }
         ensures same { self.new ≡ self.old }
@@ -312,14 +313,14 @@ impl SetWalk {
         Ok(search)
     }
 
-    /// Keeps a search for the next one.
+    /// Keeps a search for later use.
     pub(crate) fn keep_search(&mut self, search: RestSearch)
         ensures { self.new ≡ self.old }
     {
         self.idle = Some(search);
     }
 
-    /// The row of a set, as a row of its own.
+    /// Returns a copy of the row of a set.
     fn row_of(&mut self, set: u32) -> Result<BitRow, OutOfMemory>
         requires { set < length self.old.sets }
         ensures members { IfOk result (λ row. members_of row ≡ set_at self.old set) }
@@ -333,7 +334,7 @@ impl SetWalk {
         Ok(row)
     }
 
-    /// The row of the image of a set on a letter.
+    /// Returns the row of the image of a set on a letter.
     fn image_row(&mut self, a: &Prio, set: u32, letter: u32) -> Result<BitRow, OutOfMemory>
         requires made { IsMadeFor self.old a.now }
         requires set_in { set < length self.old.sets }
@@ -351,8 +352,9 @@ impl SetWalk {
         Ok(row)
     }
 
-    /// The number of the image of a set on a letter, which is kept: that on the letter before, where the members move alike
-    /// on both, or else that of a row which is made. It stands apart, so that `step` stays small.
+    /// Finds the image of a set on a letter, records its number, and returns it. If the members move alike on this letter and
+    /// the one before, the number is taken from that letter; otherwise the row of the image is computed. The function isn't
+    /// inlined, so that `step` stays small.
     #[inline(never)]
     fn find_image(&mut self, a: &Prio, set: u32, letter: u32) -> Result<u32, SetsError>
         requires made { IsMadeFor self.old a.now }
@@ -374,8 +376,9 @@ impl SetWalk {
         Ok(number)
     }
 
-    /// The number of the image of a set on the letter before, where it is known and the members move alike on both letters. Where
-    /// the letter has a table, members have many moves, and the image by the table costs less than comparing them.
+    /// Returns the number of the image of a set on the letter before if it is known and the members move alike on both
+    /// letters. If the letter has a table, sets have many moves, and computing the image by the table is cheaper than
+    /// comparing the moves.
     fn image_before(&self, a: &Prio, set: u32, letter: u32) -> Option<u32>
         requires made { IsMadeFor self.now a.now }
         requires set_in { set < length self.now.sets }
@@ -393,7 +396,7 @@ impl SetWalk {
         }
     }
 
-    /// The number of the image of a set on a letter, whose row is made, and which is kept.
+    /// Computes the image of a set on a letter, records its number, and returns it.
     fn make_image(&mut self, a: &Prio, set: u32, letter: u32) -> Result<u32, SetsError>
         requires made { IsMadeFor self.old a.now }
         requires set_in { set < length self.old.sets }
@@ -413,7 +416,7 @@ impl SetWalk {
         Ok(number)
     }
 
-    /// The number of the set of a row.
+    /// Returns the number of the set that a row represents, which is appended if it is new.
     fn add(&mut self, row: BitRow) -> Result<u32, SetsError>
         requires { length row ≡ self.old.kept.states }
         ensures listed { IfOk result (IsListed self.old.sets self.new.sets (members_of row)) }

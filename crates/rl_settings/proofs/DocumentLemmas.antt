@@ -1,4 +1,4 @@
--- The document of some bytes, by what `toml` reads from them.
+-- The document of some bytes, given what `toml` reads from them.
 use Rattle.std.proofs.Common.{◌≡◌, ℕ, List, Some, None, inl, inr}
 use Rattle.std.specs.Str.{IsUtf8, is_utf8}
 use Rattle.std.proofs.lemmas.Bool.{cases_Bool}

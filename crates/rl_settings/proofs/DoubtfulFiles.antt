@@ -1,4 +1,4 @@
--- What doubtful settings files say, each decided by computation. Nothing cites these lemmas: they review the definitions.
+-- What doubtful settings files say, each decided by computation. No proof uses these lemmas: they review the definitions.
 use Rattle.std.proofs.Common.{◌≡◌, ◌++◌, [], ◌∷◌, ℕ, Option, Some, None, codes, refl}
 use Rattle.std.specs.Str.{chars, is_utf8}
 use Rattle.toml.proofs.OnLiterals.{toml_on_literals}
@@ -19,7 +19,7 @@ pairs n = Some (record nothing { max_pairs = Some n })
 abbrev version : ℕ → Option PartialSettings
 version n = Some (record nothing { report = Some n })
 
--- ---- taken
+-- ---- accepted
 
 empty_file : file_values [] ≡ Some nothing
 unfolding toml_on_literals file_values document_of is_utf8 chars

@@ -1,4 +1,4 @@
--- The keys of a table, by the entries of its map.
+-- The keys of a table, given the entries of its map.
 use Rattle.std.proofs.Common.{◌≡◌, ◌∷◌, [], ◌&&◌, List, ap, refl, string_bytes}
 use Rattle.std.specs.List.{list_all, list_any}
 use Rattle.std.specs.Str.{bytes_eq}

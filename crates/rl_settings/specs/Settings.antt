@@ -1,4 +1,4 @@
--- The settings that a settings file gives, by the keys of the document that its bytes are.
+-- The settings that a settings file gives, by the keys of its document.
 use Rattle.std.specs.Prelude.{◌&&◌, ℕ, Bool, true, List, [], ◌∷◌, Option, Some, None, codes}
 use Rattle.std.specs.Prelude.{if◌then◌else◌}
 use Rattle.std.specs.List.{list_any}
@@ -10,21 +10,21 @@ use Rattle.rl_words.specs.declared.ranges.TheConstants.{MAX_DEGREES, MAX_PAIRS, 
 use Rattle.rl_words.specs.declared.words.PartialSettings.{PartialSettings}
 use Rattle.rl_settings.specs.Values.{format_in, mode_in, number_in}
 
--- the keys that a settings file may have
+-- The keys that a settings file may have.
 abbrev pub known_keys : List (List ℕ)
 known_keys = codes "compile-as" ∷ codes "max-degree" ∷ codes "max-pairs" ∷ codes "format"
     ∷ codes "report" ∷ []
 
--- the table has no other keys
+-- Whether all keys of the table are known.
 abbrev pub has_known_keys : Members → Bool
 has_known_keys no_members = true
 has_known_keys (member key value rest) = list_any (bytes_eq key) known_keys && has_known_keys rest
 
--- what a key gives, where its value isn't refused
+-- What a key gives: `Some None` if the table lacks it, and `None` if its value is refused.
 abbrev pub read_at : {A : Type 0} → List ℕ → (Data → Option A) → Members → Option (Option A)
 read_at key read table = optional read (get_member key table)
 
--- the settings that a table gives, where none of its keys and values is refused
+-- The settings that a table gives, or `None` if a key or a value is refused.
 abbrev pub table_values : Members → Option PartialSettings
 table_values table = if has_known_keys table then (do
   Some (record {
@@ -35,10 +35,10 @@ table_values table = if has_known_keys table then (do
     report = (← read_at (codes "report") (number_in REPORT_VERSIONS) table);
   })) else None
 
--- the top table of the TOML document that the bytes are
+-- The top-level table of the TOML document, or `None` if the bytes aren't one.
 unfoldable pub document_of : List ℕ → Option Members
 document_of bytes = if is_utf8 bytes then parse_document bytes else None
 
--- the settings that the bytes of a settings file give, and `None` exactly where they are refused
+-- The settings that the bytes of a settings file give, or `None` if they are refused.
 unfoldable pub file_values : List ℕ → Option PartialSettings
 file_values bytes = document_of bytes >>= table_values

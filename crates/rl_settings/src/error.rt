@@ -1,11 +1,10 @@
-//! Why a settings file was not taken.
+//! Why a settings file is refused.
 
-/// Why a settings file was not taken.
+/// Why a settings file is refused.
 #[derive(Clone, Copy, Debug, PartialEq, Eq)]
 pub enum SettingsError {
-    /// The bytes are no TOML document, or one with another key or with a value that its key doesn't
-    /// take.
+    /// The bytes aren't a TOML document, or the document has an unknown key or a value that its key doesn't take.
     Refused,
-    /// Out of memory.
+    /// There was not enough memory.
     OutOfMemory,
 }

@@ -14,7 +14,7 @@ use rl_words::{
 };
 use toml::{Table, Value};
 
-// Whether a settings file may have this key.
+/// Whether a settings file may have this key.
 fn is_known(key: &str) -> bool
     ensures { result ≡ list_any (bytes_eq key.now) known_keys }
 {
@@ -24,14 +24,14 @@ fn is_known(key: &str) -> bool
     )
 }
 
-// Whether the table has no other keys.
+/// Whether all keys of the table are known.
 fn has_known_keys(table: &Table) -> bool
     ensures { result ≡ has_known_keys (table_view table.now) }
 {
     table.keys().all(|key| is_known(key.as_str()))
 }
 
-// The value at a key.
+/// Returns the value of a key.
 fn value_at<'a>(table: &'a Table, key: &str) -> Option<&'a Value>
     ensures { option_map (λ v. view v.now) result
         ≡ get_member key.now (table_view table.entry.now) }
@@ -39,9 +39,7 @@ fn value_at<'a>(table: &'a Table, key: &str) -> Option<&'a Value>
     table.get(key)
 }
 
-// In each of these `Some(None)` says that the table lacks the key, and `None` that its value is
-// refused.
-
+/// Reads a key whose value is a mode. `Some(None)` means that the table lacks the key, `None` that its value is refused.
 fn mode_at(table: &Table, key: &str) -> Option<Option<ModeWord>>
     ensures { result ≡ read_at key.now mode_in (table_view table.now) }
 {
@@ -51,6 +49,7 @@ fn mode_at(table: &Table, key: &str) -> Option<Option<ModeWord>>
     }
 }
 
+/// Reads a key whose value is a format. `Some(None)` means that the table lacks the key, `None` that its value is refused.
 fn format_at(table: &Table, key: &str) -> Option<Option<FormatWord>>
     ensures { result ≡ read_at key.now format_in (table_view table.now) }
 {
@@ -60,6 +59,8 @@ fn format_at(table: &Table, key: &str) -> Option<Option<FormatWord>>
     }
 }
 
+/// Reads a key whose value is a number in a range. `Some(None)` means that the table lacks the key, `None` that its value
+/// is refused.
 fn number_at(table: &Table, key: &str, range: NumberRange) -> Option<Option<u32>>
     ensures value { result ≡ read_at key.now (number_in range) (table_view table.now) }
     ensures range { IfSome result (λ n. IfSome n (IsWithin range)) }
@@ -70,7 +71,7 @@ fn number_at(table: &Table, key: &str, range: NumberRange) -> Option<Option<u32>
     }
 }
 
-/// The settings that a table gives, or `None` where it is refused.
+/// Returns the settings that a table gives, or `None` if a key or a value is refused.
 pub(crate) fn table_values(table: &Table) -> Option<PartialSettings>
     ensures value { result ≡ table_values (table_view table.now) }
     ensures ranges { IfSome result AreInRange }

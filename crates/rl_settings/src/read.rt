@@ -10,7 +10,7 @@ use rl_words::PartialSettings;
 use std::alloc::Global;
 use toml::Table;
 
-// The document that the bytes are.
+/// Parses the bytes as a TOML document.
 fn document_of(alloc: Global, bytes: &[u8]) -> Result<Table, SettingsError>
     ensures ok { IfOk result (λ table. document_of bytes.now ≡ Some (table_view table)) }
     ensures refused { IsErrOf result SettingsError.Refused → document_of bytes.now ≡ None }
@@ -22,11 +22,12 @@ fn document_of(alloc: Global, bytes: &[u8]) -> Result<Table, SettingsError>
     }
 }
 
-/// The settings that the bytes of a settings file give.
+/// Reads the settings from the bytes of a settings file.
 ///
 /// # Errors
-/// [`SettingsError::Refused`] exactly where the bytes are no TOML document, a key isn't one of the
-/// five, or a key doesn't take its value; [`SettingsError::OutOfMemory`] when out of memory.
+/// - [`SettingsError::Refused`] if and only if the bytes aren't a TOML document, a key isn't one of the five known ones, or
+///   a key doesn't take its value.
+/// - [`SettingsError::OutOfMemory`] if there is not enough memory.
 #[tactic(auto, unfolding(crate::specs::Settings::file_values))]
 pub fn read_settings(alloc: Global, bytes: &[u8]) -> Result<PartialSettings, SettingsError>
     ensures ok { IfOk result (λ settings. file_values bytes.now ≡ Some settings) }

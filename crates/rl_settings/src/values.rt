@@ -1,4 +1,4 @@
-//! What a value of the document stands for.
+//! What the values of the document denote.
 ghost use Rattle.std.specs.Prelude.{◌≡◌, IfSome};
 ghost use Rattle.toml.specs.View.{view};
 ghost use Rattle.rl_words.specs.Call.{IsWithin};
@@ -7,21 +7,21 @@ ghost use Rattle.rl_settings.specs.Values.{format_in, mode_in, number_in};
 use rl_words::{FormatWord, ModeWord, NumberRange, format_of, mode_of};
 use toml::Value;
 
-/// The mode that a string names.
+/// Returns the mode that a string names.
 pub(crate) fn mode_in(value: &Value) -> Option<ModeWord>
     ensures { result ≡ mode_in (view value.now) }
 {
     mode_of(value.as_str()?)
 }
 
-/// The layout that a string names.
+/// Returns the format that a string names.
 pub(crate) fn format_in(value: &Value) -> Option<FormatWord>
     ensures { result ≡ format_in (view value.now) }
 {
     format_of(value.as_str()?)
 }
 
-/// The whole number in the range.
+/// Returns the whole number if it is in the range.
 pub(crate) fn number_in(range: NumberRange, value: &Value) -> Option<u32>
     ensures value { result ≡ number_in range (view value.now) }
     ensures range { IfSome result (IsWithin range) }

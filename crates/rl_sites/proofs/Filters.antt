@@ -1,4 +1,4 @@
--- The arguments of a form.
+-- The arguments that have a form.
 use Rattle.std.proofs.Common.{◌≡◌, ℕ, zero, suc, ◌<◌, ◌≤◌, Bool, true, false, cond, List, [], ◌∷◌, length, refl, arith}
 use Rattle.std.specs.Prelude.{filter, ◌||◌, ◌&&◌, not, codes}
 use Rattle.std.specs.List.{list_any}
@@ -8,7 +8,7 @@ use Rattle.rl_sites.specs.Significant.{is_word, is_op, stands}
 use Rattle.rl_sites.specs.Flags.{is_named}
 use Rattle.rl_sites.specs.internal.Walks.{is_filled, has_form}
 
--- one is among them exactly where a filter leaves one
+-- There is one if and only if the filter leaves one.
 pub any-filled : (p : List SignificantToken → Bool) (xs : List (List SignificantToken)) → list_any p xs ≡ is_filled (filter p xs)
 any-filled p [] = refl
 any-filled p (x ∷ xs) =
@@ -24,7 +24,7 @@ middle true true c h = refl
 middle true false c h = cc
 middle false b c h = cc
 
--- `flags` and `=` are two tokens
+-- `flags=` consists of two tokens.
 pub flags_long : (s : List ℕ) (a : List SignificantToken) → has_form s form.FlagsNamed a ≡ true → 2 ≤ length a
 unfolding is_named
 flags_long s a h =

@@ -1,4 +1,4 @@
--- The arguments one by one: which has a form, and which stands at a place.
+-- The arguments one by one: whether one has a form, and which one has an index.
 use Rattle.std.proofs.Common.{◌≡◌, ℕ, zero, suc, ◌-◌, ◌<◌, ◌≤◌, Bool, true, false, cond, List, [], ◌∷◌, drop, refl, ap, ap₂, sym, ◌∙◌, arith, subst, Some, None}
 use Rattle.std.specs.Prelude.{filter, slice_get}
 use Rattle.rl_sites.specs.declared.significant.SignificantToken.{SignificantToken}
@@ -19,13 +19,13 @@ filter_true p x xs h = ap (λ b. cond b (x ∷ filter p xs) (filter p xs)) h
 filter_false : (p : List SignificantToken → Bool) (x : List SignificantToken) (xs : List (List SignificantToken)) → p x ≡ false → filter p (x ∷ xs) ≡ filter p xs
 filter_false p x xs h = ap (λ b. cond b (x ∷ filter p xs) (filter p xs)) h
 
--- the argument in front has the form
+-- The first argument has the form.
 pub find_here : (s : List ℕ) (form : Form) (rest argument behind : List SignificantToken) → argument ≡ first_argument s rest → behind ≡ drop (argument_size s 0 false rest) rest
     → has_form s form argument ≡ true → filter (has_form s form) (arguments_of s rest) ≡ argument ∷ filter (has_form s form) (others_from s behind)
 find_here s form rest argument behind h k e =
     ap (filter (has_form s form)) (parts_of s rest argument behind h k) ∙ filter_true (has_form s form) argument (others_from s behind) e
 
--- it hasn't
+-- The first argument doesn't have the form.
 pub find_on : (s : List ℕ) (form : Form) (rest argument behind : List SignificantToken) → argument ≡ first_argument s rest → behind ≡ drop (argument_size s 0 false rest) rest
     → has_form s form argument ≡ false → filter (has_form s form) (arguments_of s rest) ≡ filter (has_form s form) (others_from s behind)
 find_on s form rest argument behind h k e =
@@ -47,14 +47,14 @@ get_front : (x : List SignificantToken) (xs : List (List SignificantToken)) (n :
 get_front x xs zero h = refl
 get_front x xs (suc n) h = absurd (omega arith)
 
--- there are no more arguments
+-- There are no more arguments.
 pub place_none : (s : List ℕ) (rest behind : List SignificantToken) (n : ℕ) → behind ≡ drop (argument_size s 0 false rest) rest → others_from s behind ≡ [] → 0 < n
     → slice_get (arguments_of s rest) n ≡ None
 place_none s rest behind n k none h =
     ap (λ (xs : List (List SignificantToken)). slice_get xs n) (parts_of s rest (first_argument s rest) behind refl k ∙ ap (λ (xs : List (List SignificantToken)). first_argument s rest ∷ xs) none)
     ∙ get_past (first_argument s rest) n h
 
--- one argument is passed
+-- One argument is skipped.
 pub place_on : (s : List ℕ) (rest behind others : List SignificantToken) (n : ℕ) → behind ≡ drop (argument_size s 0 false rest) rest → others_from s behind ≡ arguments_of s others → 0 < n
     → slice_get (arguments_of s rest) n ≡ slice_get (arguments_of s others) (n - 1)
 place_on s rest behind others n k more h =

@@ -1,4 +1,4 @@
--- The sites stand in order: no site begins in the head of another, in front of its literals or among them.
+-- The sites are in order: no site begins in the head of another, before its literals or among them.
 use Rattle.std.proofs.Common.{◌≡◌, ℕ, zero, suc, ◌+◌, ◌-◌, ◌<◌, ◌≤◌, Bool, true, false, cond, ◌&&◌, List, [], ◌∷◌, ◌++◌, length, take, drop, refl, ap, sym, ◌∙◌, arith, subst, Some, None, Option, Ok, Err}
 use Rattle.std.specs.Prelude.{All, slice_get, option_to_list, codes, bytes_eq, IfOk, Result}
 use Rattle.std.specs.List.{prefix_len}
@@ -27,9 +27,9 @@ use Rattle.rl_sites.specs.internal.Parts.{call_by, head, flags_if, site_by}
 use Rattle.rl_sites.specs.Runs.{AreInOrder}
 use Rattle.rl_sites.proofs.Runs.{Literals, literals_front, prefix_within, get_take}
 
--- ---- numbers rise
+-- ---- increasing indexes
 
--- the numbers of the tokens rise, from this one on
+-- The indexes of the tokens increase, beginning with at least this one.
 abbrev Rise : ℕ → List SignificantToken → Type 0
 Rise n [] = Unit {0}
 Rise n (m ∷ ms) = (n ≤ m.number) × Rise (suc m.number) ms
@@ -62,13 +62,13 @@ rise_at n k [] m e h = absurd (none_is_no m e)
 rise_at n zero (x ∷ ms) m e h = subst (λ (y : SignificantToken). n ≤ y.number) (one_token x m e) h.0
 rise_at n (suc k) (x ∷ ms) m e h = omega (arith, h.0, rise_at (suc x.number) k ms m e h.1)
 
--- the tokens behind one have higher numbers
+-- The tokens after one have higher indexes.
 rise_behind : (n k : ℕ) (ms : List SignificantToken) (m : SignificantToken) → slice_get ms k ≡ Some m → Rise n ms → Rise (suc m.number) (drop (suc k) ms)
 rise_behind n k [] m e h = absurd (none_is_no m e)
 rise_behind n zero (x ∷ ms) m e h = subst (λ (y : SignificantToken). Rise (suc y.number) ms) (one_token x m e) h.1
 rise_behind n (suc k) (x ∷ ms) m e h = rise_behind (suc x.number) k ms m e h.1
 
--- no token has a lower number than the first
+-- No token has a lower index than the first.
 rise_first : (n k : ℕ) (ms : List SignificantToken) (first m : SignificantToken) → slice_get ms 0 ≡ Some first → slice_get ms k ≡ Some m → Rise n ms → first.number ≤ m.number
 rise_first n k [] first m f e h = absurd (none_is_no first f)
 rise_first n k (x ∷ ms) first m f e h =
@@ -76,7 +76,7 @@ rise_first n k (x ∷ ms) first m f e h =
 
 -- ---- sites begin at tokens
 
--- the site begins at this number or behind it
+-- The site begins at this index or after it.
 abbrev IsLate : ℕ → Site → Type 0
 IsLate n site = n ≤ site.first
 
@@ -122,13 +122,13 @@ all_late s al n hidden (m ∷ ms) h =
 
 -- ---- tokens at which no site begins
 
--- no site begins at one of so many tokens in front
+-- No site begins at any of the first tokens.
 abbrev Quiet : List ℕ → List Alias → Bool → ℕ → List SignificantToken → Type 0
 Quiet s al hidden zero ms = Unit {0}
 Quiet s al hidden (suc k) [] = Unit {0}
 Quiet s al hidden (suc k) (m ∷ ms) = (cond hidden [] (option_to_list (site_here s al (m ∷ ms))) ≡ []) × Quiet s al (hides s m) k ms
 
--- quiet tokens are passed
+-- Tokens at which no site begins are skipped.
 passed : (s : List ℕ) (al : List Alias) (n : ℕ) (hidden : Bool) (k : ℕ) (ms : List SignificantToken) → Quiet s al hidden k ms
     → ((h : Bool) → All (IsLate n) (sites_from s al h (drop k ms))) → All (IsLate n) (sites_from s al hidden ms)
 passed s al n hidden zero ms q h = h hidden
@@ -177,11 +177,11 @@ unfolding bare_head
 no_bare s al m ms e =
     either (stands 1 (is_op s (codes "(")) (m ∷ ms)) (head 2 (call_aliased s al m)) (ap (head 2) (no_call s al m e))
 
--- a site begins at a name
+-- A site begins at a name.
 no_name : (s : List ℕ) (al : List Alias) (m : SignificantToken) (ms : List SignificantToken) → is_name m ≡ false → site_here s al (m ∷ ms) ≡ None
 no_name s al m ms e = no_head s al (m ∷ ms) (no_dotted s al m ms e) (no_bare s al m ms e)
 
--- and an operator other than `.` and `(` doesn't stand behind it
+-- The token after that name is `.` or `(` and no other operator.
 no_such_dotted : (s : List ℕ) (al : List Alias) (m e : SignificantToken) (ms : List SignificantToken) → is_op s (codes ".") e ≡ false → dotted_head s al (m ∷ e ∷ ms) ≡ None
 unfolding dotted_head
 no_such_dotted s al m e ms d =
@@ -214,7 +214,7 @@ literal_no_name kind.Op h = refl
 literal_no_name kind.Comment h = refl
 literal_no_name kind.LineEnd h = refl
 
--- no site begins at an operator
+-- No site begins at an operator.
 no_op : (s : List ℕ) (al : List Alias) (op : List ℕ) (m : SignificantToken) (ms : List SignificantToken) → is_op s op m ≡ true → site_here s al (m ∷ ms) ≡ None
 unfolding is_op
 no_op s al op m ms h =
@@ -230,7 +230,7 @@ dot_hides : (s : List ℕ) (m : SignificantToken) → is_op s (codes ".") m ≡ 
 unfolding hides
 dot_hides s m h = or_left (is_op s (codes ".") m) (is_word s (codes "def") m) h
 
--- ---- a site, and those that begin behind its first token
+-- ---- a site, and the sites that begin after its first token
 
 quiet_literals : (s : List ℕ) (al : List Alias) (hidden : Bool) (k : ℕ) (ms : List SignificantToken) → Literals k ms → Quiet s al hidden k ms
 quiet_literals s al hidden zero ms h = tt
@@ -256,7 +256,7 @@ quiet_pattern s al hidden ms =
         quiet_assigned s al hidden ms (and_parts (stands 0 (is_word s (codes "pattern")) ms) (stands 1 (is_op s (codes "=")) ms) e).1
     by-test false e = tt
 
--- `.`, a token and `(` behind the name of the module
+-- `.`, a token and `(` after the name of the module.
 quiet_dotted : (s : List ℕ) (al : List Alias) (hidden : Bool) (ms : List SignificantToken) → stands 0 (is_op s (codes ".")) ms ≡ true → stands 2 (is_op s (codes "(")) ms ≡ true
     → Quiet s al hidden 3 ms
 quiet_dotted s al hidden [] d p = tt
@@ -270,7 +270,7 @@ quiet_dotted s al hidden (m ∷ x ∷ b ∷ ms) d p = (
   ),
 )
 
--- `(` behind the name of a call
+-- `(` after the name of a function.
 quiet_bare : (s : List ℕ) (al : List Alias) (hidden : Bool) (ms : List SignificantToken) → stands 0 (is_op s (codes "(")) ms ≡ true → Quiet s al hidden 1 ms
 quiet_bare s al hidden [] p = tt
 quiet_bare s al hidden (m ∷ ms) p = (silent hidden (site_here s al (m ∷ ms)) (no_op s al (codes "(") m ms p), tt)
@@ -281,13 +281,13 @@ no_found h e = cc
 one_head : (x h : Head) → Some x ≡ Some h → x ≡ h
 one_head x h e = cc
 
--- the test held, and the head has this size
+-- The test held, and the head has this size.
 head_tested : (b : Bool) (size : ℕ) (call : Option Call) (found : Head) → cond b (head size call) None ≡ Some found → (b ≡ true) × (found.size ≡ size)
 head_tested true size None found e = absurd (no_found found e)
 head_tested true size (Some call) found e = (refl, ap (λ (h : Head). h.size) (sym (one_head (record { call = call; size = size }) found e)))
 head_tested false size call found e = absurd (no_found found e)
 
--- no site begins in the head of another, behind its first token
+-- No site begins in the head of another after its first token.
 abbrev IsQuietHead : List ℕ → List Alias → Head → SignificantToken → List SignificantToken → Type 0
 IsQuietHead s al found m ms = (k : ℕ) × (found.size ≡ suc k) × Quiet s al (hides s m) k ms
 
@@ -314,12 +314,12 @@ head_quiet s al found m ms e = by-dotted (dotted_head s al (m ∷ ms)) refl e
     by-dotted None i f = bare_quiet s al found m ms f
     by-dotted (Some x) i f = dotted_quiet s al found m ms (i ∙ f)
 
--- the run of the site ends before the others begin
+-- The run of the site ends before the other sites begin.
 abbrev IsBefore : Option Site → List Site → Type 0
 IsBefore None others = Unit {0}
 IsBefore (Some site) others = All (λ b. site.first + site.count ≤ b.first) others
 
--- what sites that begin behind a head are like, so are these
+-- What holds for the sites that begin after a head holds for these sites.
 abbrev Follow : List ℕ → List Alias → List SignificantToken → List Site → Type 0
 Follow s al ms others = (n : ℕ) → ((h : Bool) → All (IsLate n) (sites_from s al h ms)) → All (IsLate n) others
 
@@ -377,7 +377,7 @@ in_order s al n hidden (m ∷ ms) rise =
     (before_by s al n m ms (head_of s al (m ∷ ms)) rise refl)
     (in_order s al (suc m.number) (hides s m) ms rise.1)
 
--- the sites among the significant tokens stand in order
+-- The sites among the significant tokens are in order.
 pub all_in_order : {E : Type 0} (source : List ℕ) (tokens : List Token) (aliases : List Alias) (significant : List SignificantToken) (r : Result (List Site) E)
     → significant ≡ significant_from 0 tokens → IfOk r (λ sites. sites ≡ sites_from source aliases false significant) → IfOk r AreInOrder
 all_in_order source tokens aliases significant (Ok sites) e h =

@@ -8,7 +8,7 @@ use Rattle.rl_sites.specs.declared.imports.Import.{Import}
 use Rattle.rl_sites.specs.Significant.{is_name, is_op, stands}
 use Rattle.rl_sites.specs.Imports.{item_size, item_alias, items_from}
 
--- tokens that are passed
+-- Tokens that are skipped.
 pub items-skip : (s : List ℕ) (k : Import) (n : ℕ) (ms : List SignificantToken) → items_from s k n ms ≡ items_from s k 0 (drop n ms)
 items-skip s k zero ms = refl
 items-skip s k (suc n) [] = refl
@@ -21,7 +21,7 @@ items-front s k m ms named comma =
     ∙ ap (λ b. option_to_list (item_alias s k m ms) ++ cond b (items_from s k (suc (item_size s k ms)) ms) []) comma
     ∙ ap (λ (xs : List Alias). option_to_list (item_alias s k m ms) ++ xs) (items-skip s k (suc (item_size s k ms)) ms ∙ ap (items_from s k 0) (ap (λ n. drop n ms) (sym (add-one (item_size s k ms))) ∙ sym (drop-drop 1 (item_size s k ms) ms)))
 
--- one item and a `,`
+-- One item and a `,`.
 pub items_step : (s : List ℕ) (k : Import) (ms after next : List SignificantToken) (d : SignificantToken) (size : ℕ) (old pushed : List Alias)
     → 1 ≤ length ms → after ≡ drop 1 ms → is_name (get_or ms 0 d) ≡ true → size ≡ item_size s k after
     → stands size (is_op s (codes ",")) after ≡ true → next ≡ drop 1 (drop size after)

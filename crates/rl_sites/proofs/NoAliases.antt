@@ -1,4 +1,4 @@
--- A source that makes no alias of the module has no sites.
+-- A source without an alias of the module has no sites.
 use Rattle.std.proofs.Common.{◌≡◌, ℕ, Bool, true, false, ◌&&◌, cond, List, [], ◌∷◌, ◌++◌, length, refl, ap, sym, ◌∙◌, arith, Option, None}
 use Rattle.std.specs.Prelude.{slice_get, option_to_list, codes}
 use Rattle.rl_sites.specs.declared.significant.SignificantToken.{SignificantToken}

@@ -1,4 +1,4 @@
--- A source whose code never names the module `re` makes no alias of it, and so has no sites.
+-- A source whose code never names the module `re` defines no alias of it, and so has no sites.
 use Rattle.std.proofs.Common.{◌≡◌, ◌≢◌, ℕ, zero, suc, ◌+◌, Bool, true, false, ◌&&◌, cond, List, [], ◌∷◌, ◌++◌, drop, length, refl, ap, sym, ◌∙◌, Option, None}
 use Rattle.std.specs.Prelude.{All, codes, option_to_list, bytes_eq}
 use Rattle.std.proofs.lemmas.List.Elements.{All-nil, All-cons, All-head, All-tail, All-drop}
@@ -15,7 +15,7 @@ use Rattle.rl_sites.specs.Imports.{ends_statement, item_size, item_alias, items_
 use Rattle.rl_sites.specs.Sites.{sites_of, HasNoSites}
 use Rattle.rl_sites.proofs.NoAliases.{no_sites}
 
--- not a name with the text `re`
+-- The token isn't a name with the text `re`.
 abbrev IsOtherToken : List ℕ → Token → Type 0
 IsOtherToken s t = t.kind ≡ kind.Name → text_of s t ≢ codes "re"
 
@@ -61,7 +61,7 @@ no_items s zero (m ∷ ms) h =
     (items_from s import.Module (suc (item_size s import.Module ms)) ms) (no_alias s m ms (All-head (IsOther s) m ms h))
     (no_items s (suc (item_size s import.Module ms)) ms (All-tail (IsOther s) m ms h))
 
--- `re` doesn't stand second
+-- The second token isn't `re`.
 not_second : (s : List ℕ) (ms : List SignificantToken) → All (IsOther s) ms → stands 1 (is_word s (codes "re")) ms ≡ false
 not_second s [] h = refl
 not_second s (m ∷ []) h = refl

@@ -1,4 +1,4 @@
--- The numbers of tokens, and of the significant ones.
+-- The indexes of tokens and of the significant tokens.
 use Rattle.std.proofs.Common.{◌≡◌, ℕ, zero, suc, ◌+◌, ◌<◌, ◌≤◌, true, false, cond, List, [], ◌∷◌, take, drop, length, get_or, sym, arith, subst, Some, None}
 use Rattle.std.specs.Prelude.{slice_get}
 use Rattle.rl_pylex.specs.declared.token_list.Token.{Token}
@@ -33,7 +33,7 @@ numbered_at (x ∷ ms) (suc i) m h e = numbered_at ms i m h.1 e
 
 pub ruleset numbers = (numbered_drop, numbered_take, numbered_at, table_drop)
 
--- the significant ones of so many tokens
+-- The significant tokens of a list have indexes from its first index on.
 pub significant-numbered : (n : ℕ) (ts : List Token) → n + length ts ≤ 4194304 → IsNumbered (significant_from n ts)
 significant-numbered n [] h = tt
 significant-numbered n (t ∷ ts) h =
@@ -42,7 +42,7 @@ significant-numbered n (t ∷ ts) h =
       | false ↦ (omega arith, significant-numbered (n + 1) ts (omega arith))
     ]
 
--- a token begins no earlier than its number
+-- A token doesn't begin at a byte place below its index.
 begins_late : (s : List ℕ) (ts : List Token) (d : Token) → IsInOrder s ts → (k : ℕ) → k < length ts → k ≤ (get_or ts k d).from
 begins_late s ts d h zero l = omega arith
 begins_late s ts d h (suc k) l =
@@ -53,7 +53,7 @@ count_within s [] h = omega arith
 count_within s (t ∷ ts) h =
     omega (arith, begins_late s (t ∷ ts) t h (length ts) (omega arith), (h.each (length ts) t (omega arith)).some, (h.each (length ts) t (omega arith)).within)
 
--- a source has at most 4,194,304 tokens
+-- A source has at most 4,194,304 tokens.
 pub few_tokens : (s : List ℕ) (ts : List Token) → IsTokenList s ts → length ts ≤ 4194304
 few_tokens s ts h = omega (arith, count_within s ts (IsInOrder-tokens s ts h), h.readable.short)
 

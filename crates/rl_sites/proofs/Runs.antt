@@ -1,4 +1,4 @@
--- The literals of a site stand among the tokens, with nothing but comments between them.
+-- The literals of a site are among the tokens, with nothing but comments between them.
 use Rattle.std.proofs.Common.{◌≡◌, ℕ, zero, suc, ◌+◌, ◌-◌, ◌<◌, ◌≤◌, Bool, true, false, cond, ◌&&◌, ◌||◌, ◌⊎◌, inl, inr, List, [], ◌∷◌, length, take, drop, refl, ap, sym, ◌∙◌, arith, subst, Some, None, Option, Ok, Err}
 use Rattle.std.specs.Prelude.{All, slice_get, option_to_list, IfOk, Result}
 use Rattle.std.specs.List.{list_all, prefix_len}
@@ -22,7 +22,7 @@ use Rattle.rl_sites.specs.Sites.{pattern_size, site_of_run, ends_whole, site_beh
 use Rattle.rl_sites.specs.internal.Parts.{site_by, flags_if}
 use Rattle.rl_sites.specs.Runs.{HasRun}
 
--- a literal or a comment
+-- Whether the token is a literal or a comment.
 abbrev is_of_run : Token → Bool
 is_of_run token = is_literal_token token || same_kind kind.Comment token.kind
 
@@ -33,7 +33,8 @@ and_true : (b c : Bool) → b ≡ true → c ≡ true → (b && c) ≡ true
 and_true true c eb ec = ec
 and_true false c eb ec = eb
 
--- the significant token with this number behind the first stands on a token, up to which there are only literals and comments
+-- The significant token with this index after the first is one of the tokens, and up to it there are only literals and
+-- comments.
 record Spans (n : ℕ) (tokens : List Token) (k : ℕ) : Type 0 where
   gap : ℕ
   last : SignificantToken
@@ -43,7 +44,7 @@ record Spans (n : ℕ) (tokens : List Token) (k : ℕ) : Type 0 where
   parts : list_all is_of_run (take (suc gap) tokens) ≡ true
   literal : is_literal_token last.inner ≡ true
 
--- so many tokens in front are literals
+-- The first tokens are literals.
 abbrev pub Literals : ℕ → List SignificantToken → Type 0
 Literals zero ms = Unit {0}
 Literals (suc k) [] = ⊥
@@ -103,7 +104,7 @@ spans n (t ∷ ts) k h = by-test (same_kind kind.Comment t.kind) (λ j g. spans 
         later n k t ts k (significant_from (n + 1) ts) (or_right (is_literal_token t) (same_kind kind.Comment t.kind) e) (λ m f. f) (same true e) (rest k g)
     by-test false rest e g = more k rest e g.0 g.1
 
--- what is left of the significant tokens are the significant ones of what is left of the tokens
+-- The significant tokens that are left are the significant ones of the tokens that are left.
 record LeftOf (n : ℕ) (tokens : List Token) (ms : List SignificantToken) : Type 0 where
   gap : ℕ
   same : ms ≡ significant_from (n + gap) (drop gap tokens)
@@ -121,7 +122,7 @@ left (suc s) n (t ∷ ts) = by-test (same_kind kind.Comment t.kind) (left (suc s
     by-test true all others = further (drop (suc s) (significant_from (n + 1) ts)) all
     by-test false all others = further (drop s (significant_from (n + 1) ts)) others
 
--- the tokens with no comment in front
+-- The tokens from the first one on that isn't a comment.
 record Opens (n : ℕ) (tokens : List Token) : Type 0 where
   gap : ℕ
   first : Token
@@ -158,7 +159,7 @@ opens n (t ∷ ts) = by-test (same_kind kind.Comment t.kind) (opens (n + 1) ts) 
           ∙ ap (λ k. numbered k t ∷ significant_from (k + 1) ts) (omega arith);
     })
 
--- the site, if there is one, has its run
+-- The site, if there is one, has its run.
 abbrev HasItsRun : List Token → Option Site → Type 0
 HasItsRun all None = Unit {0}
 HasItsRun all (Some site) = HasRun all site
@@ -172,7 +173,7 @@ get_take (suc gap) (suc k) (x ∷ xs) h = get_take gap k xs (omega arith)
 tested : (t : Token) (o : Option Token) → o ≡ Some t → is_literal_token t ≡ true → option_map_or is_literal_token o false ≡ true
 tested t o e h = ap (λ (p : Option Token). option_map_or is_literal_token p false) e ∙ h
 
--- a run that begins at a place, with its last literal so many tokens behind the first
+-- A run that begins at a place, with its last literal `gap` tokens after the first.
 run_there : (all : List Token) (place gap count : ℕ) (first last : Token) → count ≡ gap + 1
     → slice_get (drop place all) 0 ≡ Some first → is_literal_token first ≡ true
     → slice_get (drop place all) gap ≡ Some last → is_literal_token last ≡ true
@@ -194,7 +195,7 @@ run_there all place gap count first last e f fl l ll parts =
       }),
     )
 
--- the site of the literals in front
+-- The site of the literals that the tokens begin with.
 abbrev site_in_front : Call → Bool → SiteFlags → ℕ → List SignificantToken → Option Site
 site_in_front call whole flags size ms =
     site_of_run call whole flags (slice_get (take size ms) 0) (slice_get (take size ms) (length (take size ms) - 1))
@@ -308,7 +309,7 @@ sites_all source all aliases hidden n (t ∷ ts) e =
         (by_head source all aliases n (numbered n t ∷ others) (head_of source aliases (numbered n t ∷ others)) (here f)))
         (rest (hides source (numbered n t)) next)
 
--- the sites among the significant tokens have their runs
+-- The sites among the significant tokens have their runs.
 pub all_runs : {E : Type 0} (source : List ℕ) (tokens : List Token) (aliases : List Alias) (significant : List SignificantToken) (r : Result (List Site) E)
     → significant ≡ significant_from 0 tokens → IfOk r (λ sites. sites ≡ sites_from source aliases false significant) → IfOk r (All (HasRun tokens))
 all_runs source tokens aliases significant (Ok sites) e h =

@@ -13,7 +13,7 @@ hidden_case : (hidden : Bool) (s : List ℕ) (al : List Alias) (found : Option H
 hidden_case true s al found ms = refl
 hidden_case false s al found ms = refl
 
--- the site in front, if there is one, and those behind the first token
+-- The site that the tokens begin with, if there is one, and the sites after the first token.
 pub sites_step : (s : List ℕ) (al : List Alias) (before : Option SignificantToken) (ms next : List SignificantToken) (m d : SignificantToken) (old pushed : List Site)
     → 0 < length ms → m ≡ get_or ms 0 d → next ≡ drop 1 ms → pushed ≡ old ++ option_to_list (site_by s al (open_head s al before ms) ms)
     → old ++ sites_from s al (is_hidden s before) ms ≡ pushed ++ sites_from s al (is_hidden s (Some m)) next

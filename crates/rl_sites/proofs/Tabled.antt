@@ -1,4 +1,4 @@
--- The table of what names stand for, alias by alias.
+-- The table of the meanings of names, alias by alias.
 use Rattle.std.proofs.Common.{◌≡◌, ℕ, ◌+◌, ◌<◌, ◌≤◌, Bool, true, false, cond, List, [], ◌∷◌, take, length, get_or, refl, ap, ap₂, sym, ◌∙◌, arith, Some, None, Option}
 use Rattle.std.specs.Prelude.{◌||◌, ◌&&◌, map, slice_get, bytes_eq, nat_lt, nat_le, ⊤, unwrap_or}
 use Rattle.std.specs.Map.{lookup}
@@ -18,24 +18,24 @@ use Rattle.rl_sites.specs.Significant.{word_of}
 use Rattle.rl_sites.specs.Names.{calls, call_word, flag_names, names_any_module, names_any_member}
 use Rattle.rl_sites.specs.internal.Meanings.{call_of, call_rank, flag_rank, earlier, nothing, joined, own_meaning, meaning_with, meaning_of, meaning_in, IsMeant, flag_of, first_call, first_flag}
 
--- the alias is of the module
+-- Whether the alias is one of the module.
 abbrev is_of_module : Option SignificantToken → Bool
 is_of_module member = is_none member
 
--- the alias is of the member with this name
+-- Whether the alias is one of the member with this name.
 abbrev is_of_member : List ℕ → List ℕ → Option SignificantToken → Bool
 is_of_member source word member = option_map_or (λ m. bytes_eq (word_of source m) word) member false
 
--- the alias gives this name to the module
+-- Whether the alias gives this name to the module.
 abbrev names_module : List ℕ → List ℕ → Alias → Bool
 names_module source name alias = bytes_eq (word_of source alias.name) name && is_of_module alias.member
 
--- the alias gives this name to the member with that name
+-- Whether the alias gives this name to the member with that name.
 abbrev names_member : List ℕ → List ℕ → List ℕ → Alias → Bool
 names_member source name member alias =
     bytes_eq (word_of source alias.name) name && is_of_member source member alias.member
 
--- the values of a table, by their ranks, don't fall
+-- The ranks of the values in a table don't decrease.
 abbrev from_on : {X : Type 0} → (X → ℕ) → ℕ → List (List ℕ × X) → Bool
 from_on rank n [] = true
 from_on rank n ((k, x) ∷ es) = nat_le n (rank x) && from_on rank n es
@@ -44,12 +44,12 @@ abbrev rising : {X : Type 0} → (X → ℕ) → List (List ℕ × X) → Bool
 rising rank [] = true
 rising rank ((k, x) ∷ es) = from_on rank (rank x) es && rising rank es
 
--- what is found has a rank of at least n
+-- What is found has a rank of at least n.
 abbrev IsFrom : {X : Type 0} → (X → ℕ) → ℕ → Option X → Type 0
 IsFrom rank n None = ⊤
 IsFrom rank n (Some x) = n ≤ rank x
 
--- no two values have one rank
+-- No two values have the same rank.
 abbrev IsOneEach : {X : Type 0} → (X → ℕ) → Type 0
 IsOneEach {X} rank = (x y : X) → rank x ≡ rank y → x ≡ y
 
@@ -102,7 +102,7 @@ or_case rank true false x both first second one h k l = sym (not_below rank x se
 or_case rank false true x both first second one h k l = sym (below rank x first one k)
 or_case rank false false x both first second one h k l = h
 
--- the first value that passes one of two tests is the earlier of the first that pass them
+-- The first value that satisfies one of two tests is the earlier one of the first values that satisfy each of them.
 lookup-or : {X : Type 0} (rank : X → ℕ) (p q : List ℕ → Bool) (es : List (List ℕ × X)) → IsOneEach rank → rising rank es ≡ true
     → lookup (λ k. p k || q k) es ≡ earlier rank (lookup p es) (lookup q es)
 lookup-or rank p q [] one h = refl
@@ -119,13 +119,13 @@ or_false : (b : Bool) → (b || false) ≡ b
 or_false true = refl
 or_false false = refl
 
--- one test more, where it counts
+-- One more test, if it counts.
 lookup_case : {X : Type 0} (rank : X → ℕ) (b : Bool) (p q : List ℕ → Bool) (es : List (List ℕ × X)) → IsOneEach rank → rising rank es ≡ true
     → lookup (λ k. p k || (b && q k)) es ≡ cond b (earlier rank (lookup p es) (lookup q es)) (lookup p es)
 lookup_case rank true p q es one h = lookup-or rank p q es one h
 lookup_case rank false p q es one h = lookup-same (λ k. p k || false) p es (λ k. or_false (p k))
 
--- the calls with their names
+-- The functions with their names.
 abbrev call_names : List (List ℕ × Call)
 call_names = map (λ c. (call_word c, c)) calls
 
@@ -197,7 +197,7 @@ own_module : (s : List ℕ) (m : Option SignificantToken) → is_of_module m ≡
 own_module s None = refl
 own_module s (Some m) = refl
 
--- what a table gives by one alias more
+-- What a table gives after one more alias.
 value_more : {X : Type 0} (rank : X → ℕ) (table : List (List ℕ × X)) (s : List ℕ) (al : List Alias) (i : ℕ) (a : Alias) (name : List ℕ) → IsOneEach rank → rising rank table ≡ true → i < length al
     → lookup (names_any_member s (take (i + 1) al) name) table
     ≡ cond (bytes_eq (word_of s (get_or al i a).name) name)
@@ -227,7 +227,7 @@ flag_more s al i a name h =
     value_more flag_rank flag_names s al i a name one_flag refl h
     ∙ ap (λ (o : Option Flag). cond b (earlier flag_rank old o) old) (own_flag s (get_or al i a).member)
 
--- one alias more
+-- One more alias.
 meaning_more : (s : List ℕ) (al : List Alias) (i : ℕ) (a : Alias) (name : List ℕ) → i < length al
     → meaning_of s (take (i + 1) al) name ≡ meaning_with s (get_or al i a) name (meaning_of s (take i al) name)
 unfolding made
@@ -244,12 +244,12 @@ meaning_none : (s : List ℕ) (name : List ℕ) → nothing ≡ meaning_of s [] 
 unfolding names_any_module names_any_member first_call first_flag
 meaning_none s name = refl
 
--- a table without entries
+-- A table without entries.
 pub meant_none : (s : List ℕ) (al : List Alias) (entries : List (Bor (List ℕ) × Meaning)) → entries ≡ [] → IsMeant s (take 0 al) entries
 meant_none s al entries h =
     record { each = λ name. ap (λ (es : List (Bor (List ℕ) × Meaning)). meaning_in es name) h ∙ meaning_none s name }
 
--- one alias is put into the table
+-- One alias is added to the table.
 pub meant_more : (s : List ℕ) (al : List Alias) (i : ℕ) (a d : Alias) (old new : List (Bor (List ℕ) × Meaning)) → i < length al → a ≡ get_or al i d
     → IsMeant s (take i al) old → ((name : List ℕ) → meaning_in new name ≡ meaning_with s a name (meaning_in old name)) → IsMeant s (take (i + 1) al) new
 meant_more s al i a d old new h e was more = record {
@@ -268,7 +268,7 @@ with_case : (b : Bool) (key name : List ℕ) (old : List (Bor (List ℕ) × Mean
 with_case true key name old own h = ap (λ (n : List ℕ). joined (meaning_in old n) own) (h refl)
 with_case false key name old own h = refl
 
--- a name's entry is written
+-- The entry of a name is written.
 pub added : (old new : List (Bor (List ℕ) × Meaning)) (key name : List ℕ) (value own : Meaning)
     → lookup (λ (k : Bor (List ℕ)). bytes_eq name k.now) new ≡ cond (bytes_eq key name) (Some value) (lookup (λ (k : Bor (List ℕ)). bytes_eq name k.now) old)
     → value ≡ joined (meaning_in old key) own

@@ -6,7 +6,7 @@ use Rattle.rl_sites.specs.declared.significant.SignificantToken.{SignificantToke
 use Rattle.rl_sites.specs.Arguments.{opens, closes}
 use Rattle.rl_sites.specs.internal.Walks.{inside_size, IsTable}
 
--- three numbers, each at most n
+-- Three numbers, each at most n.
 three_within : (b c : Bool) (x y z n : ℕ) → x ≤ n → y ≤ n → z ≤ n → suc (cond b x (cond c y z)) ≤ suc n
 three_within true c x y z n h k l = omega arith
 three_within false true x y z n h k l = omega arith
@@ -21,14 +21,14 @@ inside_within s zero (m ∷ ms) =
     three_within (opens s m) (closes s m) (inside_size s 1 ms) 0 (inside_size s 0 ms) (length ms)
     (inside_within s 1 ms) (omega arith) (inside_within s 0 ms)
 
--- a choice of three, each of which splits
+-- A choice of three numbers, each of which is a sum.
 pub three_split : (b c : Bool) (x y z k l n : ℕ) (f : ℕ → ℕ) → x ≡ k + f k → y ≡ l + f l → z ≡ n + f n
     → suc (cond b x (cond c y z)) ≡ suc (cond b k (cond c l n)) + f (cond b k (cond c l n))
 three_split true c x y z k l n f h i j = omega arith
 three_split false true x y z k l n f h i j = omega arith
 three_split false false x y z k l n f h i j = omega arith
 
--- brackets inside brackets
+-- Brackets inside brackets.
 pub inside-group : (s : List ℕ) (e d deep : ℕ) (ms : List SignificantToken) → deep ≡ e + d + 1
     → inside_size s deep ms ≡ inside_size s e ms + inside_size s d (drop (inside_size s e ms) ms)
 inside-group s e d deep [] h = omega arith
@@ -88,7 +88,7 @@ table_cons : (s : List ℕ) (m : SignificantToken) (ms : List SignificantToken) 
 table_cons s m ms t x h n e =
     (get_last t x (length (m ∷ ms)) (omega arith) ∙ ap Some e, table_push s ms t x h)
 
--- one token more from the end
+-- One more token, counted from the end.
 table_back : (s : List ℕ) (ms : List SignificantToken) (t : List ℕ) (next x : ℕ) → next < length ms
     → IsTable s (drop (suc next) ms) t → length t + next ≡ length ms → x ≡ inside_size s 0 (drop next ms)
     → IsTable s (drop next ms) (t ++ x ∷ [])
@@ -116,7 +116,7 @@ one_case true c x y h = cc
 one_case false true x y h = refl
 one_case false false x y h = cc
 
--- the closing bracket in front
+-- The tokens begin with the closing bracket.
 pub next_one : (s : List ℕ) (m d : SignificantToken) (ms : List SignificantToken) → 0 < length ms → m ≡ get_or ms 0 d → (not (opens s m) && closes s m) ≡ true → 1 ≡ inside_size s 0 ms
 next_one s m d [] some e h = absurd (omega arith)
 next_one s m d (x ∷ ms) some e h =
@@ -128,7 +128,7 @@ more_case s ms true c h = inside-group s 0 0 1 ms (omega arith)
 more_case s ms false true h = cc
 more_case s ms false false h = omega arith
 
--- another token in front, and its brackets where it opens some
+-- The tokens begin with another token, and with its brackets if it opens any.
 pub next_more : (s : List ℕ) (m d : SignificantToken) (ms after : List SignificantToken) (inner : ℕ) → 0 < length ms → m ≡ get_or ms 0 d → (not (opens s m) && closes s m) ≡ false
     → after ≡ drop 1 ms → inner ≡ cond (opens s m) (inside_size s 0 after) 0 → 1 + inner + inside_size s 0 (drop inner after) ≡ inside_size s 0 ms
 next_more s m d [] after inner some e h a b = absurd (omega arith)

@@ -35,7 +35,7 @@ prefix_len-take p (suc n) (x ∷ xs) =
       | false ↦ omega arith
     ]
 
--- the terms behind a `|`
+-- The terms after a `|`.
 abbrev pub behind_bar : List ℕ → List SignificantToken → List (List SignificantToken)
 behind_bar s [] = []
 behind_bar s (m ∷ ms) = terms_of s ms
@@ -51,7 +51,7 @@ terms-front : (s : List ℕ) (ms : List SignificantToken) → terms_of s ms ≡ 
 terms-front s [] = refl
 terms-front s (m ∷ ms) = bar_case s (is_bar s m) m ms (prefix_len (λ x. not (is_bar s x)) ms) (terms_of s ms) (terms-front s ms)
 
--- no term has two tokens, or more than three
+-- No term has two tokens, or more than three.
 pub term_none : (s : List ℕ) (al : List Alias) (t : List SignificantToken) → (length t ≡ 1 → ⊥) → (length t ≡ 3 → ⊥) → term s al t ≡ None
 term_none s al [] h k = refl
 term_none s al (a ∷ []) h k = absurd (h refl)
@@ -88,7 +88,7 @@ cases_of size k h = elim (cases_lt 4 k) [ inl a ↦ inr (omega arith, omega arit
 two_apart : (o : Option Flag) (f : Flag) → o ≡ None → o ≡ Some f → ⊥
 two_apart o f h k = cc
 
--- the tokens before the first `|` are as good as the first four of them
+-- It makes no difference to look for the first `|` only among the first four tokens.
 term-cap : (s : List ℕ) (al : List Alias) (rest : List SignificantToken) (size : ℕ) → size ≡ prefix_len (λ m. not (is_bar s m)) (take 4 rest)
     → term s al (take size rest) ≡ term s al (take (prefix_len (λ m. not (is_bar s m)) rest) rest)
 term-cap s al rest size h =
@@ -128,7 +128,7 @@ behind_some s (m ∷ ms) (suc k) h = behind_some s ms k (omega arith)
 behind_all : (s : List ℕ) (rest : List SignificantToken) (k : ℕ) → length rest ≤ k → behind_bar s (drop k rest) ≡ []
 behind_all s rest k h = ap (behind_bar s) (drop_all k rest h)
 
--- something is no term
+-- The tokens aren't a term.
 pub all_unknown : (s : List ℕ) (al : List Alias) (rest part : List SignificantToken) (size : ℕ) (flags : Flags) → size ≡ prefix_len (λ m. not (is_bar s m)) (take 4 rest)
     → part ≡ take size rest → term s al part ≡ None → set_all s al (terms_of s rest) flags ≡ Unknown
 all_unknown s al rest part size flags h p e =
@@ -136,7 +136,7 @@ all_unknown s al rest part size flags h p e =
     all_front s al rest size flags h
     ∙ ap (λ (o : Option Flag). set_by o flags others) (ap (term s al) (sym p) ∙ e)
 
--- the last term
+-- The last term.
 pub all_last : (s : List ℕ) (al : List Alias) (rest part : List SignificantToken) (size : ℕ) (f : Flag) (flags : Flags) → size ≡ prefix_len (λ m. not (is_bar s m)) (take 4 rest)
     → part ≡ take size rest → term s al part ≡ Some f → size ≡ length rest → set_all s al (terms_of s rest) flags ≡ Known (with_flag f flags)
 all_last s al rest part size f flags h p e last =
@@ -147,7 +147,7 @@ all_last s al rest part size f flags h p e last =
     ∙ ap (λ (o : Option Flag). set_by o flags (set_all s al (behind_bar s (drop k rest)))) found
     ∙ ap (λ (ts : List (List SignificantToken)). set_all s al ts (with_flag f flags)) (behind_all s rest k (omega arith))
 
--- a term and a `|`
+-- A term and a `|`.
 pub all_more : (s : List ℕ) (al : List Alias) (rest part : List SignificantToken) (size : ℕ) (f : Flag) (flags : Flags) → size ≡ prefix_len (λ m. not (is_bar s m)) (take 4 rest)
     → part ≡ take size rest → term s al part ≡ Some f → size < length rest
     → set_all s al (terms_of s rest) flags ≡ set_all s al (terms_of s (drop 1 (drop size rest))) (with_flag f flags)

@@ -8,7 +8,7 @@ use Rattle.rl_sites.specs.internal.Walks.{inside_size, argument_size, others_fro
 use Rattle.std.proofs.lemmas.List.{length-drop}
 use Rattle.rl_sites.proofs.Tables.{table_drop, three_split}
 
--- an argument passes what stands in brackets
+-- An argument includes everything inside its brackets.
 pub size-group : (s : List ℕ) (e d deep : ℕ) (lambda : Bool) (ms : List SignificantToken) → deep ≡ e + d + 1
     → argument_size s deep lambda ms ≡ inside_size s e ms + argument_size s d lambda (drop (inside_size s e ms) ms)
 size-group s e d deep lambda [] h = omega arith
@@ -38,7 +38,7 @@ outer_cuts s m ms false true p x y k l e h i = ap (λ b. [] ∷ cond b [] (argum
 outer_cuts s m ms false false true x y k l e h i = ap (λ b. [] ∷ cond b [] (arguments_of s ms)) (sym e)
 outer_cuts s m ms false false false x y k l e h i = ap (onto_first m) i
 
--- the arguments are the one in front and those behind it
+-- The arguments are the first one and those after it.
 pub arguments-front : (s : List ℕ) (d : ℕ) (lambda : Bool) (ms : List SignificantToken)
     → arguments_from s d lambda ms ≡ take (argument_size s d lambda ms) ms ∷ others_from s (drop (argument_size s d lambda ms) ms)
 arguments-front s d lambda [] = refl
@@ -72,7 +72,7 @@ goes_case s ms lambda false true p h = cc
 goes_case s ms lambda false false true h = cc
 goes_case s ms lambda false false false h = omega arith
 
--- the argument ends before this token
+-- The argument ends before this token.
 pub size_ends : (s : List ℕ) (lambda : Bool) (ms : List SignificantToken) (m d : SignificantToken) → 0 < length ms → m ≡ get_or ms 0 d
     → (not (opens s m) && (closes s m || parts s lambda m)) ≡ true → argument_size s 0 lambda ms ≡ 0
 size_ends s lambda [] m d some e h = absurd (omega arith)
@@ -80,7 +80,7 @@ size_ends s lambda (x ∷ ms) m d some e h =
     ends_case (opens s x) (closes s x) (parts s lambda x) (suc (argument_size s 1 (lambda_after s lambda x) ms)) (suc (argument_size s 0 (lambda_after s lambda x) ms))
     (subst (λ (y : SignificantToken). (not (opens s y) && (closes s y || parts s lambda y)) ≡ true) e h)
 
--- the argument goes on behind this token, and behind its brackets where it opens some
+-- The argument goes on after this token, and after its brackets if it opens any.
 pub size_goes : (s : List ℕ) (lambda : Bool) (ms after next : List SignificantToken) (m d : SignificantToken) (inner : ℕ) → 0 < length ms → m ≡ get_or ms 0 d
     → (not (opens s m) && (closes s m || parts s lambda m)) ≡ false → after ≡ drop 1 ms → inner ≡ cond (opens s m) (inside_size s 0 after) 0 → next ≡ drop inner after
     → argument_size s 0 lambda ms ≡ 1 + inner + argument_size s 0 (lambda_after s lambda m) next
@@ -105,7 +105,7 @@ step_table s ms after next t inner h a n =
 
 pub ruleset walks = (table_drop)
 
--- what stands behind an argument
+-- What follows an argument.
 pub others_token : (s : List ℕ) (ms : List SignificantToken) (m d : SignificantToken) → 0 < length ms → m ≡ get_or ms 0 d → closes s m ≡ false → others_from s ms ≡ arguments_of s (drop 1 ms)
 others_token s [] m d some e h = absurd (omega arith)
 others_token s (x ∷ ms) m d some e h = ap (λ b. cond b [] (arguments_of s ms)) (subst (λ (y : SignificantToken). closes s y ≡ false) e h)

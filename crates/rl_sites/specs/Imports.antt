@@ -8,42 +8,45 @@ use Rattle.rl_sites.specs.declared.imports.Import.{Import}
 use Rattle.rl_sites.specs.declared.imports.Import.TheVariants as import
 use Rattle.rl_sites.specs.Significant.{is_name, is_word, is_op, stands}
 
--- a statement begins behind the token
+-- Whether a statement begins after the token.
 unfoldable pub ends_statement : List ℕ → SignificantToken → Bool
 ends_statement source token =
     same_kind kind.LineEnd token.inner.kind || is_op source (codes ";") token || is_op source (codes ":") token
 
--- `as` and a name stand in front
+-- Whether the tokens begin with `as` and a name.
 unfoldable pub is_renamed : List ℕ → List SignificantToken → Bool
 is_renamed source rest = stands 0 (is_word source (codes "as")) rest && stands 1 is_name rest
 
--- how many tokens the names in front take that are joined on by `.`
+-- The number of tokens in the dotted names that the tokens begin with, such as `.b.c`.
 abbrev pub dots_size : List ℕ → List SignificantToken → ℕ
 dots_size source (dot ∷ name ∷ rest) =
     if is_op source (codes ".") dot && is_name name then 2 + dots_size source rest else 0
 dots_size source _ = 0
 
--- how many tokens of an item stand behind its first name: names joined on by `.`, of an item of `import`, and `as` with a name
+-- The number of tokens in the dotted names after the first name of an item. Only the items of `import` may have them.
 abbrev pub joined_size : List ℕ → Import → List SignificantToken → ℕ
 joined_size source import.Module rest = dots_size source rest
 joined_size source import.Member rest = 0
 
+-- The number of tokens of an item after its first name: the dotted names, and `as` with a name.
 unfoldable pub item_size : List ℕ → Import → List SignificantToken → ℕ
 item_size source kind rest =
     let joined = joined_size source kind rest in joined + (if is_renamed source (drop joined rest) then 2 else 0)
 
--- the name behind the `as` in front, or else the item's own
+-- The name that an item defines: the name after `as` if there is one, otherwise `token`, the item's first name.
 unfoldable pub given_name : List ℕ → SignificantToken → List SignificantToken → SignificantToken
 given_name source token rest = if is_renamed source rest then slice_index_or rest 1 token else token
 
--- The alias that an item makes. Of the items of `import` the item `re` alone makes one, of the module; each item of `from re import` makes one, of the member that it names.
+-- The alias that an item defines. Of the items of `import`, only `re` itself defines one, for the module. Each item of `from re
+-- import` defines one, for the member that it names.
 abbrev pub item_alias : List ℕ → Import → SignificantToken → List SignificantToken → Option Alias
 item_alias source import.Module token rest =
     if is_word source (codes "re") token && dots_size source rest == 0
     then Some (record { name = given_name source token rest; member = None }) else None
 item_alias source import.Member token rest = Some (record { name = given_name source token rest; member = Some token })
 
--- The aliases of the items in front, with `,` between them, up to the first token that doesn't fit. The first `skip` tokens are passed.
+-- The aliases of the items that the tokens begin with, separated by `,`, up to the first token that doesn't fit. The first
+-- `skip` tokens are skipped.
 abbrev pub items_from : List ℕ → Import → ℕ → List SignificantToken → List Alias
 items_from source kind skip [] = []
 items_from source kind (suc skip) (token ∷ rest) = items_from source kind skip rest
@@ -54,13 +57,14 @@ items_from source kind zero (token ∷ rest) =
     then items_from source kind (suc (item_size source kind rest)) rest else [])
     else []
 
--- `from re import` stands in front
+-- Whether the tokens begin with `from re import`.
 unfoldable pub is_from_import : List ℕ → List SignificantToken → Bool
 is_from_import source rest =
     stands 0 (is_word source (codes "from")) rest && stands 1 (is_word source (codes "re")) rest
     && stands 2 (is_word source (codes "import")) rest
 
--- the aliases of the import with which a statement begins, if it is one; a `(` in front of the items of `from re import` is passed
+-- The aliases of the import that a statement consists of, if it is an import. The items of `from re import` may begin with a
+-- `(`.
 unfoldable pub import_here : List ℕ → List SignificantToken → List Alias
 import_here source rest =
     if stands 0 (is_word source (codes "import")) rest then items_from source import.Module 0 (drop 1 rest)
@@ -68,12 +72,12 @@ import_here source rest =
     then items_from source import.Member (if stands 3 (is_op source (codes "(")) rest then 1 else 0) (drop 3 rest)
     else [])
 
--- the aliases of the imports, where a statement begins at the first token or not
+-- The aliases of the imports. `begins` says whether a statement begins at the first token.
 abbrev pub aliases_from : List ℕ → Bool → List SignificantToken → List Alias
 aliases_from source begins [] = []
 aliases_from source begins (token ∷ rest) =
     (if begins then import_here source (token ∷ rest) else []) ++ aliases_from source (ends_statement source token) rest
 
--- the aliases of a source, which hold in the whole of it
+-- The aliases of a source. They hold everywhere in it, whatever the scope of the import.
 abbrev pub aliases_of : List ℕ → List SignificantToken → List Alias
 aliases_of source tokens = aliases_from source true tokens

@@ -1,4 +1,4 @@
--- What names stand for: the module, its nine calls that take a pattern first, and its flags.
+-- The meanings of names: the module, its nine functions that take a pattern first, and its flags.
 use Rattle.std.specs.Prelude.{ℕ, Bool, false, ◌&&◌, List, [], ◌∷◌, codes, find, Option, None, bytes_eq, if◌then◌else◌}
 use Rattle.std.specs.List.{list_any}
 use Rattle.std.specs.Map.{lookup}
@@ -11,11 +11,12 @@ use Rattle.rl_sites.specs.declared.flag.Flag.{Flag}
 use Rattle.rl_sites.specs.declared.flag.Flag.TheVariants as flag
 use Rattle.rl_sites.specs.Significant.{word_of, is_name}
 
--- the nine calls in their order
+-- The nine functions in their order.
 abbrev pub calls : List Call
 calls =
     call.Compile ∷ call.Match ∷ call.Search ∷ call.Fullmatch ∷ call.Findall ∷ call.Finditer ∷ call.Split ∷ call.Sub ∷ call.Subn ∷ []
 
+-- The name of a function.
 abbrev pub call_word : Call → List ℕ
 call_word call.Compile = codes "compile"
 call_word call.Match = codes "match"
@@ -27,7 +28,7 @@ call_word call.Split = codes "split"
 call_word call.Sub = codes "sub"
 call_word call.Subn = codes "subn"
 
--- the names of flags in their order, each with the flag that it sets
+-- The names of flags in their order, each with the flag that it sets.
 abbrev pub flag_names : List (List ℕ × Flag)
 flag_names =
     (codes "A", flag.Ascii) ∷ (codes "ASCII", flag.Ascii)
@@ -40,34 +41,36 @@ flag_names =
     ∷ (codes "DEBUG", flag.Nothing) ∷ (codes "NOFLAG", flag.Nothing)
     ∷ []
 
--- the name is an alias of the module
+-- Whether the name is an alias of the module.
 unfoldable pub names_any_module : List ℕ → List Alias → List ℕ → Bool
 names_any_module source aliases name =
     list_any (λ alias. bytes_eq (word_of source alias.name) name && is_none alias.member) aliases
 
--- the name is an alias of the member with that name
+-- Whether the name is an alias of the module's member called `member`.
 unfoldable pub names_any_member : List ℕ → List Alias → List ℕ → List ℕ → Bool
 names_any_member source aliases name member =
     list_any
     (λ alias. bytes_eq (word_of source alias.name) name && option_map_or (λ m. bytes_eq (word_of source m) member) alias.member false)
     aliases
 
--- the token is a name and an alias of the module
+-- Whether the token is a name and an alias of the module.
 unfoldable pub is_module : List ℕ → List Alias → SignificantToken → Bool
 is_module source aliases token = is_name token && names_any_module source aliases (word_of source token)
 
--- the call or the flag that the token names itself, as it does behind the module and a `.`
+-- The function whose own name the token is. Such a name counts after an alias of the module and a `.`.
 unfoldable pub call_named : List ℕ → SignificantToken → Option Call
 call_named source token = if is_name token then find (λ call. bytes_eq (word_of source token) (call_word call)) calls else None
 
+-- The flag whose own name the token is. Such a name counts after an alias of the module and a `.`.
 unfoldable pub flag_named : List ℕ → SignificantToken → Option Flag
 flag_named source token = if is_name token then lookup (bytes_eq (word_of source token)) flag_names else None
 
--- the call or the flag that the token is an alias of, the first of several
+-- The function that the token is an alias of, or the first one if there are several.
 unfoldable pub call_aliased : List ℕ → List Alias → SignificantToken → Option Call
 call_aliased source aliases token =
     if is_name token then find (λ call. names_any_member source aliases (word_of source token) (call_word call)) calls else None
 
+-- The flag that the token is an alias of, or the first one if there are several.
 unfoldable pub flag_aliased : List ℕ → List Alias → SignificantToken → Option Flag
 flag_aliased source aliases token =
     if is_name token then lookup (names_any_member source aliases (word_of source token)) flag_names else None

@@ -1,18 +1,18 @@
--- Where the literals of sites stand among the tokens of their source.
+-- The places of the sites' literals among the tokens of their source.
 use Rattle.std.specs.Prelude.{◌+◌, ◌≤◌, List, length, take, drop, AllPairs}
 use Rattle.rl_pylex.specs.declared.token_list.Token.{Token}
 use Rattle.rl_pystr.specs.Runs.{IsLiteralRun}
 use Rattle.rl_sites.specs.declared.site.Site.{Site}
 
--- the tokens of a site's literals, with the comments between them
+-- The tokens of a site's literals, including the comments between them.
 abbrev pub run_of : List Token → Site → List Token
 run_of tokens site = take site.count (drop site.first tokens)
 
--- the site's literals stand among the tokens, with nothing but comments between them
+-- The site's literals are among the tokens, with nothing but comments between them.
 pub record HasRun (tokens : List Token) (site : Site) : Type 0 where
   pub within : site.first + site.count ≤ length tokens
   pub run : IsLiteralRun (run_of tokens site)
 
--- the sites stand in the order of their runs, which don't overlap: the run of each ends before that of every later one begins
+-- The sites are in the order of their runs, and the runs don't overlap: each ends before every later one begins.
 abbrev pub AreInOrder : List Site → Type 0
 AreInOrder sites = AllPairs (λ a b. a.first + a.count ≤ b.first) sites

@@ -1,4 +1,4 @@
--- The significant tokens of a source, which are all but comments, with their numbers, and words on them.
+-- The significant tokens of a source, which are all except comments, with their indexes, and tests on them.
 use Rattle.std.specs.Prelude.{ℕ, ◌+◌, Bool, false, ◌&&◌, List, [], ◌∷◌, slice_get, if◌then◌else◌, bytes_eq}
 use Rattle.std.specs.Option.{option_map_or}
 use Rattle.rl_pylex.specs.declared.token_list.TokenKind.TheVariants as kind
@@ -6,31 +6,33 @@ use Rattle.rl_pylex.specs.declared.token_list.Token.{Token}
 use Rattle.rl_pylex.specs.Source.{text_of, same_kind}
 use Rattle.rl_sites.specs.declared.significant.SignificantToken.{SignificantToken}
 
--- the significant tokens of a list whose first token has this number
+-- The significant tokens of a list whose first token has the index `number`.
 abbrev pub significant_from : ℕ → List Token → List SignificantToken
 significant_from number [] = []
 significant_from number (t ∷ ts) =
     if same_kind kind.Comment t.kind then significant_from (number + 1) ts
     else record { number = number; inner = t } ∷ significant_from (number + 1) ts
 
--- the text of a token
+-- The text of a token.
 abbrev pub word_of : List ℕ → SignificantToken → List ℕ
 word_of source token = text_of source token.inner
 
+-- Whether the token is a name.
 abbrev pub is_name : SignificantToken → Bool
 is_name token = same_kind kind.Name token.inner.kind
 
+-- Whether the token is a literal.
 abbrev pub is_literal : SignificantToken → Bool
 is_literal token = same_kind kind.Literal token.inner.kind
 
--- the token is a name with this text
+-- Whether the token is a name with this text.
 unfoldable pub is_word : List ℕ → List ℕ → SignificantToken → Bool
 is_word source word token = is_name token && bytes_eq (word_of source token) word
 
--- the token is an operator or a bracket with this text
+-- Whether the token is an operator or a bracket with this text.
 unfoldable pub is_op : List ℕ → List ℕ → SignificantToken → Bool
 is_op source op token = same_kind kind.Op token.inner.kind && bytes_eq (word_of source token) op
 
--- the token at the place i of the list passes the test
+-- Whether there is a token at the index `i`, and it satisfies the test.
 abbrev pub stands : ℕ → (SignificantToken → Bool) → List SignificantToken → Bool
 stands i test tokens = option_map_or test (slice_get tokens i) false

@@ -1,11 +1,11 @@
-// Sources that are seen to have no sites.
+//! Sources that have no sites, as a quick look shows.
 ghost use Rattle.std.specs.Prelude.{IsTrue};
 ghost use Rattle.rl_sites.specs.Sites.{HasNoSites};
 
 use rl_pylex::lacks_name;
 
-/// Whether a quick look tells that the source has tokens and no sites: its code never names the module `re`. Where it
-/// doesn't tell, nothing is said.
+/// Whether a quick look shows that the source can be cut into tokens and has no sites, because its code never names the module
+/// `re`. If the result is false, the source may or may not have sites.
 #[tactic(auto, using(crate::proofs::NoName::without_name))]
 pub fn has_no_sites(source: &[u8]) -> bool
     ensures { IsTrue result → HasNoSites source.now }

@@ -1,4 +1,4 @@
-// The arguments of a call, one by one.
+//! The arguments of a call, one by one.
 ghost use Rattle.std.specs.Prelude.{◌≡◌, ◌≤◌, ◌<◌, ◌+◌, ◌∷◌, [], ◌&&◌, ◌||◌, not, true, false, length, take, drop, filter, slice_get, Some, None, MatchOption, IfSome};
 ghost use Rattle.rl_sites.specs.Arguments.{opens, closes, lambda_after, arguments_of};
 ghost use Rattle.rl_sites.specs.internal.Parts.{parts};
@@ -9,16 +9,16 @@ ghost use Rattle.rl_sites.specs.Significant.{is_name, is_word};
 use crate::brackets::{closes, jump_size, opens};
 use crate::significant::{SignificantToken, is_op, is_word, name_at, op_at, rest_from, word_at};
 
-/// A form of arguments that is looked for.
+/// A form of argument that is searched for.
 #[derive(Clone, Copy)]
 pub enum Form {
-    /// It begins with `*`.
+    /// The argument begins with `*`.
     Starred,
-    /// It begins with `flags` and a single `=`.
+    /// The argument begins with `flags` and a single `=`.
     FlagsNamed,
 }
 
-/// Whether the tokens behind a token, at the depth of the arguments, are between a `lambda` and its `:`.
+/// Whether the tokens after `token` are between a `lambda` and its `:`. Only tokens outside the brackets of the arguments count.
 #[tactic(auto, unfolding(crate::specs::Arguments::lambda_after))]
 fn lambda_after(source: &[u8], in_lambda: bool, token: SignificantToken) -> bool
     ensures { result ≡ lambda_after source.now in_lambda token }
@@ -32,14 +32,14 @@ fn parts(source: &[u8], in_lambda: bool, token: SignificantToken) -> bool
     is_op(source, b",", token) && !in_lambda
 }
 
-/// Whether an argument ends before a token at its depth.
+/// Whether an argument ends before a token that is outside the argument's own brackets.
 fn ends_argument(source: &[u8], in_lambda: bool, token: SignificantToken) -> bool
     ensures { result ≡ (not (opens source.now token) && (closes source.now token || parts source.now in_lambda token)) }
 {
     !opens(source, token) && (closes(source, token) || parts(source, in_lambda, token))
 }
 
-/// How many tokens the argument in front has.
+/// Returns the number of tokens in the argument that `rest` begins with.
 pub fn argument_size(source: &[u8], rest: &[SignificantToken], sizes: &[usize]) -> usize
     requires { IsTable source.now rest.now sizes.now }
     ensures value { result ≡ argument_size source.now 0 false rest.now }
@@ -59,8 +59,8 @@ pub fn argument_size(source: &[u8], rest: &[SignificantToken], sizes: &[usize]) 
     rest.len() - left.len()
 }
 
-/// The tokens behind the `,` that parts the argument in front from the next one, if there is a next one. `behind` are
-/// the tokens behind the argument.
+/// Returns the tokens of the remaining arguments, or `None` if there are none. `behind` are the tokens after an argument,
+/// which begin with the `,` that separates it from the next argument if there is one.
 #[tactic(auto, using(crate::proofs::Walking::others))]
 pub fn other_arguments<'a>(
     source: &[u8],
@@ -100,7 +100,7 @@ fn has_form(source: &[u8], form: Form, argument: &[SignificantToken]) -> bool
     }
 }
 
-/// The argument in front.
+/// Returns the argument that `rest` begins with.
 fn first_argument<'a>(
     source: &[u8],
     rest: &'a [SignificantToken],
@@ -112,7 +112,7 @@ fn first_argument<'a>(
     &rest[..argument_size(source, rest, sizes)]
 }
 
-/// The tokens behind the first argument.
+/// Returns the tokens after the first argument.
 fn behind_first<'a>(
     source: &[u8],
     rest: &'a [SignificantToken],
@@ -124,14 +124,14 @@ fn behind_first<'a>(
     rest_from(rest, argument_size(source, rest, sizes))
 }
 
-/// An argument that was found, and the tokens behind it.
+/// An argument that was found, and the tokens after it.
 #[derive(Clone, Copy)]
 pub struct Found<'a> {
     pub argument: &'a [SignificantToken],
     pub behind: &'a [SignificantToken],
 }
 
-/// The first of the arguments that has the form.
+/// Finds the first of the arguments that has the form.
 #[tactic(auto, using(crate::proofs::Walking::walks))]
 pub fn find_argument<'a>(
     source: &[u8],
@@ -158,7 +158,7 @@ pub fn find_argument<'a>(
     }
 }
 
-/// The argument at a place.
+/// Returns the argument with this index, counted from 0.
 #[tactic(auto, using(crate::proofs::Walking::walks))]
 pub fn argument_at<'a>(
     source: &[u8],

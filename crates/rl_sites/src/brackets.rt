@@ -1,4 +1,4 @@
-// Brackets, and how far it is to the closing one.
+//! Brackets, and the distance to the closing one.
 ghost use Rattle.std.specs.Prelude.{◌≡◌, ◌≤◌, ◌<◌, ◌+◌, ◌&&◌, not, length, drop, IfOk, if◌then◌else◌};
 ghost use Rattle.rl_sites.specs.Arguments.{opens, closes};
 ghost use Rattle.rl_sites.specs.internal.Walks.{inside_size, IsTable};
@@ -7,6 +7,7 @@ use crate::significant::{SignificantToken, is_op, rest_from};
 use rl_lists::OutOfMemory;
 use std::alloc::Global;
 
+/// Whether the token is an opening bracket of any kind.
 #[tactic(auto, unfolding(crate::specs::Arguments::opens))]
 pub fn opens(source: &[u8], token: SignificantToken) -> bool
     ensures { result ≡ opens source.now token }
@@ -14,6 +15,7 @@ pub fn opens(source: &[u8], token: SignificantToken) -> bool
     is_op(source, b"(", token) || is_op(source, b"[", token) || is_op(source, b"{", token)
 }
 
+/// Whether the token is a closing bracket of any kind.
 #[tactic(auto, unfolding(crate::specs::Arguments::closes))]
 pub fn closes(source: &[u8], token: SignificantToken) -> bool
     ensures { result ≡ closes source.now token }
@@ -21,7 +23,7 @@ pub fn closes(source: &[u8], token: SignificantToken) -> bool
     is_op(source, b")", token) || is_op(source, b"]", token) || is_op(source, b"}", token)
 }
 
-/// How many tokens there are up to the closing bracket of the bracket that these tokens stand in, by the table.
+/// Returns the number of tokens up to and including the bracket that closes the one that `rest` is inside, by the table.
 #[tactic(auto, using(crate::proofs::Tables::tables))]
 fn size_inside(source: &[u8], rest: &[SignificantToken], sizes: &[usize]) -> usize
     requires { IsTable source.now rest.now sizes.now }
@@ -31,7 +33,8 @@ fn size_inside(source: &[u8], rest: &[SignificantToken], sizes: &[usize]) -> usi
     sizes[rest.len()]
 }
 
-/// How many of the tokens behind a token stand in its brackets, the closing one included, where it opens some.
+/// Returns the number of tokens in `after` that belong to the brackets that `token` opens, including the closing one; 0 if
+/// `token` doesn't open any.
 pub fn jump_size(
     source: &[u8],
     token: SignificantToken,
@@ -55,8 +58,8 @@ fn only_closes(source: &[u8], token: SignificantToken) -> bool
     !opens(source, token) && closes(source, token)
 }
 
-/// How many tokens there are up to the closing bracket of the bracket that these tokens stand in, by the table for the
-/// tokens behind the first.
+/// Returns the number of tokens up to and including the bracket that closes the one that `rest` is inside, by the table for all
+/// tokens of `rest` except the first.
 #[tactic(auto, using(crate::proofs::Tables::tables))]
 fn next_size(source: &[u8], rest: &[SignificantToken], sizes: &[usize]) -> usize
     requires some { 0 < length rest.now }
@@ -72,7 +75,7 @@ fn next_size(source: &[u8], rest: &[SignificantToken], sizes: &[usize]) -> usize
     1 + inner + size_inside(source, rest_from(after, inner), sizes)
 }
 
-/// The table of the sizes inside brackets.
+/// Returns the table of sizes: for each suffix of the tokens, the number of its tokens up to and including the closing bracket.
 #[tactic(auto, using(crate::proofs::Tables::tables))]
 pub fn sizes_of(
     alloc: Global,

@@ -1,6 +1,6 @@
-// The calls of the module that take a pattern first.
+//! The calls of the module `re` that take a pattern first.
 
-/// One of the nine calls of Python's module `re` whose first argument is a pattern.
+/// One of the nine functions of Python's module `re` whose first argument is a pattern.
 #[derive(Clone, Copy, Debug, PartialEq, Eq)]
 pub enum Call {
     /// `compile`

@@ -1,6 +1,6 @@
-// The module's flags.
+//! The flags of the module `re`.
 
-/// What one of the sixteen names of the module's flags sets.
+/// The flag that one of the sixteen flag names of the module sets.
 #[derive(Clone, Copy)]
 pub enum Flag {
     /// `A` and `ASCII`
@@ -17,6 +17,6 @@ pub enum Flag {
     Unicode,
     /// `X` and `VERBOSE`
     Verbose,
-    /// `DEBUG` and `NOFLAG`
+    /// `DEBUG` and `NOFLAG`, which don't change what matches
     Nothing,
 }

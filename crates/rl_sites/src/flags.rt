@@ -1,4 +1,4 @@
-// The flags of a call, by its arguments.
+//! The flags of a call, decided by its arguments.
 ghost use Rattle.std.specs.Prelude.{◌≡◌, ◌≤◌, Some, slice_get, length, filter};
 ghost use Rattle.std.specs.List.{list_any};
 ghost use Rattle.rl_sites.specs.Arguments.{arguments_of};
@@ -12,7 +12,7 @@ use crate::significant::{SignificantToken, rest_from};
 use crate::terms::{flags_by, no_flags};
 use crate::{Call, SiteFlags};
 
-/// Whether an argument begins with `*`.
+/// Whether any argument begins with `*`.
 fn any_starred(source: &[u8], arguments: &[SignificantToken], sizes: &[usize]) -> bool
     requires { IsTable source.now arguments.now sizes.now }
     ensures { result ≡ list_any (is_starred source.now) (arguments_of source.now arguments.now) }
@@ -23,7 +23,7 @@ fn any_starred(source: &[u8], arguments: &[SignificantToken], sizes: &[usize]) -
     }
 }
 
-/// Whether an argument of this form is among those behind one.
+/// Whether the arguments that follow one include another of this form.
 #[tactic(auto, using(crate::proofs::Filters::filters))]
 fn has_another(source: &[u8], form: Form, behind: &[SignificantToken], sizes: &[usize]) -> bool
     requires { IsTable source.now behind.now sizes.now }
@@ -38,7 +38,7 @@ fn has_another(source: &[u8], form: Form, behind: &[SignificantToken], sizes: &[
     }
 }
 
-/// The place of the flags argument, where no argument is named `flags`.
+/// Returns the index of the flags argument, which counts if no argument is named `flags`.
 fn position(call: Call) -> usize
     ensures { result ≡ position call }
 {
@@ -50,7 +50,7 @@ fn position(call: Call) -> usize
     }
 }
 
-/// The flags by the argument at that place.
+/// Returns the flags that the argument at that index gives.
 fn flags_placed(source: &[u8], names: &Names<'_>, argument: &[SignificantToken]) -> SiteFlags
     requires { IsMeant source.now names.now.aliases.items names.now.meanings.entries }
     ensures { result ≡ flags_by_place source.now names.now.aliases.items (Some argument.now) }
@@ -79,7 +79,7 @@ fn flags_by_place(
     }
 }
 
-/// The flags by the argument named `flags`, or else by the place.
+/// Returns the flags that the argument named `flags` gives, or otherwise the argument at the index of the flags.
 #[tactic(auto, using(crate::proofs::Filters::filters))]
 fn flags_by_name(
     source: &[u8],
@@ -104,7 +104,7 @@ fn flags_by_name(
     }
 }
 
-/// The flags of a call whose arguments these tokens begin with.
+/// Returns the flags of a call whose arguments `arguments` begins with.
 #[tactic(auto, unfolding(crate::specs::Flags::flags_of))]
 pub fn flags_of(
     source: &[u8],

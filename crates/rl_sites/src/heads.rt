@@ -1,4 +1,4 @@
-// The heads of calls.
+//! The heads of calls.
 ghost use Rattle.std.specs.Prelude.{◌≡◌, ◌≤◌, ◌<◌, ◌&&◌, IsTrue, IfSome, codes, length, slice_get};
 ghost use Rattle.rl_sites.specs.Significant.{is_op, stands};
 ghost use Rattle.rl_sites.specs.Names.{is_module, call_named, call_aliased};
@@ -10,14 +10,14 @@ use crate::Call;
 use crate::names::{Names, call_aliased, call_named, is_module};
 use crate::significant::{SignificantToken, op_at, token_at};
 
-/// The head of a call: what is called, and how many tokens there are up to the opening bracket, that one included.
+/// The head of a call: which function is called, and the number of tokens up to and including the opening bracket.
 #[derive(Clone, Copy)]
 pub struct Head {
     pub call: Call,
     pub size: usize,
 }
 
-/// Whether an alias of the module stands in front.
+/// Whether the first token is an alias of the module.
 fn begins_module(source: &[u8], names: &Names<'_>, rest: &[SignificantToken]) -> bool
     requires { IsMeant source.now names.now.aliases.items names.now.meanings.entries }
     ensures { result ≡ stands 0 (is_module source.now names.now.aliases.items) rest.now }
@@ -28,7 +28,7 @@ fn begins_module(source: &[u8], names: &Names<'_>, rest: &[SignificantToken]) ->
     }
 }
 
-/// The call that the token at a place names itself.
+/// Returns the function whose own name the token at an index is, if there is one.
 fn named_at(source: &[u8], rest: &[SignificantToken], at: usize) -> Option<Call>
     ensures { result ≡ call_by (call_named source.now) (slice_get rest.now at) }
 {
@@ -38,7 +38,7 @@ fn named_at(source: &[u8], rest: &[SignificantToken], at: usize) -> Option<Call>
     }
 }
 
-/// The call that the token in front is an alias of.
+/// Returns the function that the first token is an alias of, if there is one.
 fn begins_alias(source: &[u8], names: &Names<'_>, rest: &[SignificantToken]) -> Option<Call>
     requires { IsMeant source.now names.now.aliases.items names.now.meanings.entries }
     ensures { result ≡ call_by (call_aliased source.now names.now.aliases.items) (slice_get rest.now 0) }
@@ -59,7 +59,7 @@ fn made_head(size: usize, call: Option<Call>) -> Option<Head>
     }
 }
 
-/// Whether an alias of the module, `.`, a token and `(` stand in front.
+/// Whether the tokens begin with an alias of the module, `.`, any token and `(`.
 fn is_dotted(source: &[u8], names: &Names<'_>, rest: &[SignificantToken]) -> bool
     requires { IsMeant source.now names.now.aliases.items names.now.meanings.entries }
     ensures value { result ≡ (stands 1 (is_op source.now (codes ".")) rest.now && stands 3 (is_op source.now (codes "(")) rest.now && stands 0 (is_module source.now names.now.aliases.items) rest.now) }
@@ -70,7 +70,7 @@ fn is_dotted(source: &[u8], names: &Names<'_>, rest: &[SignificantToken]) -> boo
         && begins_module(source, names, rest)
 }
 
-/// The head of an alias of the module, `.`, one of the nine names and `(`.
+/// Returns the head that consists of an alias of the module, `.`, one of the nine names and `(`, if the tokens begin with one.
 #[tactic(auto, unfolding(crate::specs::Sites::dotted_head))]
 fn dotted_head(source: &[u8], names: &Names<'_>, rest: &[SignificantToken]) -> Option<Head>
     requires { IsMeant source.now names.now.aliases.items names.now.meanings.entries }
@@ -84,7 +84,7 @@ fn dotted_head(source: &[u8], names: &Names<'_>, rest: &[SignificantToken]) -> O
     }
 }
 
-/// The head of an alias of one of the nine names and `(`.
+/// Returns the head that consists of an alias of one of the nine functions and `(`, if the tokens begin with one.
 #[tactic(auto, unfolding(crate::specs::Sites::bare_head))]
 fn bare_head(source: &[u8], names: &Names<'_>, rest: &[SignificantToken]) -> Option<Head>
     requires { IsMeant source.now names.now.aliases.items names.now.meanings.entries }
@@ -98,7 +98,7 @@ fn bare_head(source: &[u8], names: &Names<'_>, rest: &[SignificantToken]) -> Opt
     }
 }
 
-/// The head of the call in front, if there is one.
+/// Returns the head of the call that the tokens begin with, if they begin with one.
 #[tactic(auto, unfolding(crate::specs::Sites::head_of))]
 pub fn head_of(source: &[u8], names: &Names<'_>, rest: &[SignificantToken]) -> Option<Head>
     requires { IsMeant source.now names.now.aliases.items names.now.meanings.entries }

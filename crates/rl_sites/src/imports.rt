@@ -1,4 +1,4 @@
-// The aliases that the imports of a source make.
+//! The aliases that the imports of a source define.
 ghost use Rattle.std.specs.Prelude.{◌≡◌, ◌≤◌, ◌+◌, ◌++◌, ℕ, List, [], IsTrue, IfOk, OnOk, length, drop, codes, option_to_list, if◌then◌else◌};
 ghost use Rattle.rl_sites.specs.Significant.{is_name, is_op, stands};
 ghost use Rattle.rl_sites.specs.Imports.{ends_statement, is_renamed, dots_size, joined_size, item_size, given_name, item_alias, items_from, is_from_import, import_here, aliases_from, aliases_of};
@@ -10,7 +10,7 @@ use crate::significant::{
 use rl_lists::OutOfMemory;
 use std::alloc::Global;
 
-/// A name that an import gives to the module `re`, or to the member of it that a token names.
+/// A name that an import gives to the module `re`, or to the member of the module that a token names.
 #[derive(Clone, Copy)]
 pub struct Alias {
     pub name: SignificantToken,
@@ -20,13 +20,13 @@ pub struct Alias {
 /// The two kinds of import.
 #[derive(Clone, Copy)]
 pub enum Import {
-    /// `import`, whose items are modules.
+    /// `import`, which lists modules.
     Module,
-    /// `from re import`, whose items are members of the module.
+    /// `from re import`, which lists members of the module.
     Member,
 }
 
-/// Whether a statement begins behind the token.
+/// Whether a statement begins after the token.
 #[tactic(auto, unfolding(crate::specs::Imports::ends_statement))]
 pub fn ends_statement(source: &[u8], token: SignificantToken) -> bool
     ensures { result ≡ ends_statement source.now token }
@@ -34,7 +34,7 @@ pub fn ends_statement(source: &[u8], token: SignificantToken) -> bool
     is_line_end(token) || is_op(source, b";", token) || is_op(source, b":", token)
 }
 
-/// Whether `as` and a name stand in front.
+/// Whether the tokens begin with `as` and a name.
 #[tactic(auto, unfolding(crate::specs::Imports::is_renamed))]
 fn is_renamed(source: &[u8], rest: &[SignificantToken]) -> bool
     ensures value { result ≡ is_renamed source.now rest.now }
@@ -43,7 +43,7 @@ fn is_renamed(source: &[u8], rest: &[SignificantToken]) -> bool
     word_at(source, b"as", rest, 0) && name_at(rest, 1)
 }
 
-/// How many tokens the names in front take that are joined on by `.`.
+/// Returns the number of tokens in the dotted names that the tokens begin with, such as `.b.c`.
 fn dots_size(source: &[u8], rest: &[SignificantToken]) -> usize
     ensures value { result ≡ dots_size source.now rest.now }
     ensures within { result ≤ length rest.now }
@@ -75,7 +75,7 @@ fn as_size(source: &[u8], rest: &[SignificantToken]) -> usize
     if is_renamed(source, rest) { 2 } else { 0 }
 }
 
-/// How many tokens of an item stand behind its first name.
+/// Returns the number of tokens of an item after its first name.
 #[tactic(auto, unfolding(crate::specs::Imports::item_size))]
 fn item_size(source: &[u8], kind: Import, rest: &[SignificantToken]) -> usize
     ensures value { result ≡ item_size source.now kind rest.now }
@@ -85,7 +85,7 @@ fn item_size(source: &[u8], kind: Import, rest: &[SignificantToken]) -> usize
     joined + as_size(source, rest_from(rest, joined))
 }
 
-/// The name that an item gives, whose own name is the token.
+/// Returns the name that an item defines: the name after `as` if there is one, otherwise `token`, the item's first name.
 #[tactic(auto, unfolding(crate::specs::Imports::given_name))]
 fn given_name(source: &[u8], token: SignificantToken, rest: &[SignificantToken]) -> SignificantToken
     ensures { result ≡ given_name source.now token rest.now }
@@ -110,7 +110,7 @@ fn module_alias(source: &[u8], token: SignificantToken, rest: &[SignificantToken
     }
 }
 
-/// The alias that an item makes, if it makes one.
+/// Returns the alias that an item defines, if it defines one.
 fn item_alias(
     source: &[u8],
     kind: Import,
@@ -131,7 +131,7 @@ fn item_alias(
     }
 }
 
-/// Appends the alias of an item, if it makes one.
+/// Appends the alias that an item defines, if it defines one.
 fn push_item(
     aliases: &mut Vec<Alias>,
     source: &[u8],
@@ -147,7 +147,7 @@ fn push_item(
     Ok(())
 }
 
-/// Appends the aliases of the items in front.
+/// Appends the aliases of the items that the tokens begin with.
 fn push_items(
     aliases: &mut Vec<Alias>,
     source: &[u8],
@@ -172,7 +172,7 @@ fn push_items(
     Ok(())
 }
 
-/// Whether `from re import` stands in front.
+/// Whether the tokens begin with `from re import`.
 #[tactic(auto, unfolding(crate::specs::Imports::is_from_import))]
 fn is_from_import(source: &[u8], rest: &[SignificantToken]) -> bool
     ensures value { result ≡ is_from_import source.now rest.now }
@@ -183,7 +183,7 @@ fn is_from_import(source: &[u8], rest: &[SignificantToken]) -> bool
         && word_at(source, b"import", rest, 2)
 }
 
-/// The tokens behind a `(` in front, or else all of them.
+/// Returns the tokens after a `(` if they begin with one, otherwise all of them.
 fn behind_bracket<'a>(source: &[u8], rest: &'a [SignificantToken]) -> &'a [SignificantToken]
     ensures { result.now ≡ drop (if stands 0 (is_op source.now (codes "(")) rest.now then 1 else 0) rest.now }
 {
@@ -194,7 +194,7 @@ fn behind_bracket<'a>(source: &[u8], rest: &'a [SignificantToken]) -> &'a [Signi
     }
 }
 
-/// Appends the aliases of the import with which a statement begins, if it is one.
+/// Appends the aliases of the import that a statement consists of, if it is an import.
 #[tactic(auto, using(crate::proofs::Items::items), unfolding(crate::specs::Imports::import_here))]
 fn push_import(
     aliases: &mut Vec<Alias>,
@@ -213,7 +213,7 @@ fn push_import(
     Ok(())
 }
 
-/// Appends the aliases of an import, where a statement begins.
+/// Appends the aliases of an import if a statement begins here.
 fn push_statement(
     aliases: &mut Vec<Alias>,
     source: &[u8],
@@ -229,7 +229,7 @@ fn push_statement(
     }
 }
 
-/// The aliases of a source.
+/// Returns the aliases of a source.
 pub fn aliases_of(
     alloc: Global,
     source: &[u8],

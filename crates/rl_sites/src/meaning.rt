@@ -1,8 +1,9 @@
-// What a name stands for.
+//! The meaning of a name.
 use crate::Call;
 use crate::flag::Flag;
 
-/// What a name stands for by its imports: perhaps the module, and the first of the calls and of the flags' names.
+/// The meaning that imports give to a name: whether it is the module, and the first function and the first flag that it is an
+/// alias of.
 #[derive(Clone, Copy)]
 pub struct Meaning {
     pub of_module: bool,

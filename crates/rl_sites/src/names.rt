@@ -1,4 +1,4 @@
-// What names stand for: the module, its nine calls that take a pattern first, and its flags.
+//! The meanings of names: the module, its nine functions that take a pattern first, and its flags.
 ghost use Rattle.std.specs.Prelude.{◌≡◌, ◌||◌, ℕ, List, None, IfOk, OnOk, bytes_eq};
 ghost use Rattle.rl_sites.specs.Names.{is_module, call_named, flag_named, call_aliased, flag_aliased};
 ghost use Rattle.rl_sites.specs.Significant.{word_of};
@@ -13,12 +13,12 @@ use indexmap::IndexMap;
 use rl_lists::OutOfMemory;
 use std::alloc::Global;
 
-/// What the names of a source stand for.
+/// The meanings of the names in a source.
 #[derive(Drop)]
 pub struct Names<'a> {
     /// The aliases of the source.
     pub aliases: Vec<Alias>,
-    /// What each of their names stands for.
+    /// The meaning of each of their names.
     pub meanings: IndexMap<&'a [u8], Meaning>,
 }
 
@@ -29,7 +29,7 @@ fn is_same(word: &[u8], name: &[u8]) -> bool
     word == name
 }
 
-/// The call with this name.
+/// Returns the function with this name, if there is one.
 #[tactic(auto, unfolding(crate::specs::internal::Meanings::call_of))]
 fn call_of(word: &[u8]) -> Option<Call>
     ensures { result ≡ call_of word.now }
@@ -64,7 +64,7 @@ fn is_either(word: &[u8], first: &[u8], second: &[u8]) -> bool
     is_same(word, first) || is_same(word, second)
 }
 
-/// The flag with this name.
+/// Returns the flag with this name, if there is one.
 #[tactic(auto, unfolding(crate::specs::internal::Meanings::flag_of))]
 fn flag_of(word: &[u8]) -> Option<Flag>
     ensures { result ≡ flag_of word.now }
@@ -102,7 +102,7 @@ fn flag_rank(flag: Flag) -> u8
     flag as u8
 }
 
-/// The call that comes first in their order.
+/// Returns the function that comes first in their order.
 fn earlier_call(first: Option<Call>, second: Option<Call>) -> Option<Call>
     ensures { result ≡ earlier call_rank first second }
 {
@@ -121,7 +121,7 @@ fn earlier_call(first: Option<Call>, second: Option<Call>) -> Option<Call>
     }
 }
 
-/// The flag that comes first in their order.
+/// Returns the flag that comes first in their order.
 fn earlier_flag(first: Option<Flag>, second: Option<Flag>) -> Option<Flag>
     ensures { result ≡ earlier flag_rank first second }
 {
@@ -150,7 +150,7 @@ fn joined(first: Meaning, second: Meaning) -> Meaning
     }
 }
 
-/// What an alias gives its name to.
+/// Returns the meaning that an alias gives to its name.
 fn own_meaning(source: &[u8], member: Option<SignificantToken>) -> Meaning
     ensures { result ≡ own_meaning source.now member }
 {
@@ -168,7 +168,7 @@ fn own_meaning(source: &[u8], member: Option<SignificantToken>) -> Meaning
     }
 }
 
-/// What a name stands for in a table.
+/// Returns the meaning of a name in a table.
 fn meaning_in(meanings: &IndexMap<&[u8], Meaning>, name: &[u8]) -> Meaning
     ensures { result ≡ meaning_in meanings.now.entries name.now }
 {
@@ -182,7 +182,7 @@ fn meaning_in(meanings: &IndexMap<&[u8], Meaning>, name: &[u8]) -> Meaning
     }
 }
 
-/// Puts an alias into a table.
+/// Adds an alias to a table.
 fn add_alias<'a>(
     meanings: &mut IndexMap<&'a [u8], Meaning>,
     source: &'a [u8],
@@ -199,7 +199,7 @@ fn add_alias<'a>(
     Ok(())
 }
 
-/// The table of what the names of these aliases stand for.
+/// Returns the table of the meanings that these aliases give to their names.
 fn meanings_of<'a>(
     alloc: Global,
     source: &'a [u8],
@@ -214,7 +214,7 @@ fn meanings_of<'a>(
     Ok(meanings)
 }
 
-/// What the names of a source with these aliases stand for.
+/// Returns the meanings of the names in a source with these aliases.
 pub fn names_of<'a>(
     alloc: Global,
     source: &'a [u8],
@@ -227,7 +227,7 @@ pub fn names_of<'a>(
     Ok(Names { aliases, meanings })
 }
 
-/// What the text of a token stands for.
+/// Returns the meaning of a token's text.
 fn meaning_of(source: &[u8], names: &Names<'_>, token: SignificantToken) -> Meaning
     requires { IsMeant source.now names.now.aliases.items names.now.meanings.entries }
     ensures { result ≡ meaning_of source.now names.now.aliases.items (word_of source.now token) }
@@ -244,7 +244,7 @@ pub fn is_module(source: &[u8], names: &Names<'_>, token: SignificantToken) -> b
     is_name(token) && meaning_of(source, names, token).of_module
 }
 
-/// The call that the token names itself.
+/// Returns the function whose own name the token is, if there is one.
 #[tactic(auto, unfolding(crate::specs::Names::call_named, crate::specs::internal::Meanings::call_of))]
 pub fn call_named(source: &[u8], token: SignificantToken) -> Option<Call>
     ensures { result ≡ call_named source.now token }
@@ -256,7 +256,7 @@ pub fn call_named(source: &[u8], token: SignificantToken) -> Option<Call>
     }
 }
 
-/// The flag that the token names itself.
+/// Returns the flag whose own name the token is, if there is one.
 #[tactic(auto, unfolding(crate::specs::Names::flag_named, crate::specs::internal::Meanings::flag_of))]
 pub fn flag_named(source: &[u8], token: SignificantToken) -> Option<Flag>
     ensures { result ≡ flag_named source.now token }
@@ -268,7 +268,7 @@ pub fn flag_named(source: &[u8], token: SignificantToken) -> Option<Flag>
     }
 }
 
-/// The call that the token is an alias of, the first of several.
+/// Returns the function that the token is an alias of, or the first one if there are several.
 #[tactic(auto, unfolding(crate::specs::Names::call_aliased, crate::specs::internal::Meanings::first_call))]
 pub fn call_aliased(source: &[u8], names: &Names<'_>, token: SignificantToken) -> Option<Call>
     requires { IsMeant source.now names.now.aliases.items names.now.meanings.entries }
@@ -281,7 +281,7 @@ pub fn call_aliased(source: &[u8], names: &Names<'_>, token: SignificantToken) -
     }
 }
 
-/// The flag that the token is an alias of, the first of several.
+/// Returns the flag that the token is an alias of, or the first one if there are several.
 #[tactic(auto, unfolding(crate::specs::Names::flag_aliased, crate::specs::internal::Meanings::first_flag))]
 pub fn flag_aliased(source: &[u8], names: &Names<'_>, token: SignificantToken) -> Option<Flag>
     requires { IsMeant source.now names.now.aliases.items names.now.meanings.entries }

@@ -1,4 +1,4 @@
-// The sites of a source.
+//! The sites of a source.
 ghost use Rattle.std.specs.Prelude.{◌≡◌, ◌≤◌, ◌<◌, ◌+◌, ◌-◌, ◌++◌, length, take, drop, slice_get, not, false, position, All, IfOk, IfSome, OnOk, option_to_list};
 ghost use Rattle.std.specs.List.{prefix_len};
 ghost use Rattle.rl_pylex.specs.Source.{IsTokenList};
@@ -24,7 +24,7 @@ use rl_lists::OutOfMemory;
 use rl_pylex::TokenList;
 use std::alloc::Global;
 
-/// How many tokens `pattern` and `=` take, where they stand in front.
+/// Returns the number of tokens in `pattern=` if the tokens begin with it, otherwise 0.
 fn pattern_size(source: &[u8], rest: &[SignificantToken]) -> usize
     ensures value { result ≡ pattern_size source.now rest.now }
     ensures within { result ≤ length rest.now }
@@ -42,7 +42,7 @@ fn after_literals(tokens: &[SignificantToken]) -> Option<usize>
     tokens.iter().position(|token| !is_literal(*token))
 }
 
-/// How many literals stand in front.
+/// Returns the number of literals that the tokens begin with.
 #[tactic(auto, using(crate::proofs::TermFacts::runs))]
 fn literal_size(tokens: &[SignificantToken]) -> usize
     ensures value { result ≡ prefix_len is_literal tokens.now }
@@ -51,7 +51,7 @@ fn literal_size(tokens: &[SignificantToken]) -> usize
     after_literals(tokens).unwrap_or(tokens.len())
 }
 
-/// The first tokens.
+/// Returns the first `size` tokens.
 #[tactic(auto, using(crate::proofs::Numbers::numbers))]
 fn first(tokens: &[SignificantToken], size: usize) -> &[SignificantToken]
     requires within { size ≤ length tokens.now }
@@ -62,7 +62,7 @@ fn first(tokens: &[SignificantToken], size: usize) -> &[SignificantToken]
     &tokens[..size]
 }
 
-/// Whether `,` or `)` stands behind a run of literals.
+/// Whether the tokens after a run of literals begin with `,` or `)`.
 #[tactic(auto, unfolding(crate::specs::Sites::ends_whole))]
 fn ends_whole(source: &[u8], rest: &[SignificantToken]) -> bool
     ensures { result ≡ ends_whole source.now rest.now }
@@ -89,7 +89,7 @@ fn flags_if(
     }
 }
 
-/// The site whose literals are this run, if it has any.
+/// Returns the site whose literals are this run, or `None` if the run is empty.
 #[tactic(auto, using(crate::proofs::Numbers::numbers))]
 fn site_of_run(call: Call, whole: bool, flags: SiteFlags, run: &[SignificantToken]) -> Option<Site>
     requires { IsNumbered run.now }
@@ -110,7 +110,7 @@ fn site_of_run(call: Call, whole: bool, flags: SiteFlags, run: &[SignificantToke
     }
 }
 
-/// The site of a call, by the tokens behind its opening bracket.
+/// Returns the site of a call, given the tokens after its opening bracket.
 #[tactic(auto, using(crate::proofs::Numbers::numbers), unfolding(crate::specs::Sites::site_behind))]
 fn site_behind(
     source: &[u8],
@@ -131,7 +131,7 @@ fn site_behind(
     site_of_run(call, whole, flags, first(run, size))
 }
 
-/// Whether no site begins behind the token.
+/// Whether a site can't begin right after the token.
 #[tactic(auto, unfolding(crate::specs::Sites::hides))]
 fn hides(source: &[u8], token: SignificantToken) -> bool
     ensures { result ≡ hides source.now token }
@@ -139,7 +139,7 @@ fn hides(source: &[u8], token: SignificantToken) -> bool
     is_op(source, b".", token) || is_word(source, b"def", token)
 }
 
-/// Whether the token before a place, if there is one, hides a site there.
+/// Whether the token before a place, if there is one, prevents a site there.
 fn is_hidden(source: &[u8], before: Option<SignificantToken>) -> bool
     ensures { result ≡ is_hidden source.now before }
 {
@@ -149,7 +149,7 @@ fn is_hidden(source: &[u8], before: Option<SignificantToken>) -> bool
     }
 }
 
-/// The head of the call in front, if there is one and it isn't hidden.
+/// Returns the head of the call that the tokens begin with, if there is one and the token before doesn't hide it.
 fn open_head(
     source: &[u8],
     names: &Names<'_>,
@@ -166,7 +166,7 @@ fn open_head(
     }
 }
 
-/// The site that begins in front, if there is one and it isn't hidden.
+/// Returns the site that the tokens begin with, if there is one and the token before doesn't hide it.
 #[tactic(auto, using(crate::proofs::Numbers::numbers))]
 fn site_here(
     source: &[u8],
@@ -186,7 +186,7 @@ fn site_here(
     }
 }
 
-/// Appends the site that begins in front, if there is one and it isn't hidden.
+/// Appends the site that the tokens begin with, if there is one and the token before doesn't hide it.
 fn push_site(
     sites: &mut SiteList,
     source: &[u8],
@@ -206,7 +206,7 @@ fn push_site(
     Ok(())
 }
 
-/// The sites among the tokens.
+/// Returns the sites among the tokens.
 #[tactic(auto, using(crate::proofs::Numbers::numbers))]
 fn sites_among(
     alloc: Global,
@@ -231,7 +231,7 @@ fn sites_among(
     Ok(sites)
 }
 
-/// The tokens from the first on at which a call begins that isn't hidden: before it no site begins.
+/// Returns the tokens from the first call on that isn't hidden. No site begins before it.
 #[tactic(auto, using(crate::proofs::Numbers::numbers))]
 fn from_first_call<'a>(
     source: &[u8],
@@ -255,7 +255,7 @@ fn from_first_call<'a>(
     rest
 }
 
-/// The sites among the tokens, by what the names of their source stand for.
+/// Returns the sites among the tokens, given the meanings of the names in the source.
 fn sites_named(
     alloc: Global,
     source: &[u8],
@@ -271,7 +271,7 @@ fn sites_named(
     sites_among(alloc, source, names, calls, sizes.as_slice())
 }
 
-/// The sites among the tokens, by the aliases of their source. A source that makes none has no sites.
+/// Returns the sites among the tokens, given the aliases of the source. A source without aliases has no sites.
 fn sites_by(
     alloc: Global,
     source: &[u8],
@@ -288,7 +288,7 @@ fn sites_by(
     sites_named(alloc, source, &names, tokens)
 }
 
-/// The sites among the tokens of a source.
+/// Returns the sites among the tokens of a source.
 fn sites_in(
     alloc: Global,
     source: &[u8],
@@ -301,14 +301,14 @@ fn sites_in(
     sites_by(alloc, source, aliases, tokens)
 }
 
-/// The sites of a source with these tokens, which are its own: each call of the module `re` by an alias that its
-/// imports make, whose first argument is a run of literals, in the order of their places.
+/// Returns the sites of a source with these tokens, which must be its own: each call of the module `re`, by an alias that the
+/// imports define, whose first argument begins with a run of literals, in the order of their places.
 ///
-/// A site's run of tokens begins and ends with a literal and holds only literals and comments. No two runs overlap: each
-/// ends before the next site's begins.
+/// A site's run of tokens begins and ends with a literal and holds only literals and comments. No two runs overlap: each ends
+/// before the next site's run begins.
 ///
 /// # Errors
-/// [`OutOfMemory`] when out of memory.
+/// [`OutOfMemory`] if memory runs out.
 #[tactic(auto, unfolding(crate::specs::Sites::sites_of))]
 pub fn sites(alloc: Global, source: &[u8], tokens: &TokenList) -> Result<SiteList, OutOfMemory>
     requires { IsTokenList source.now tokens.now }

@@ -1,4 +1,4 @@
-// The significant tokens of a source, and tests of them.
+//! The significant tokens of a source, and tests on them.
 ghost use Rattle.std.specs.Prelude.{◌≡◌, ◌<◌, ◌≤◌, length, drop, slice_get, IfOk, IfSome, IsTrue};
 ghost use Rattle.rl_pylex.specs.Source.{same_kind};
 ghost use Rattle.rl_sites.specs.Significant.{is_name, is_literal, word_of, is_word, is_op, significant_from, stands};
@@ -8,7 +8,7 @@ use rl_lists::OutOfMemory;
 use rl_pylex::{Token, TokenKind, text_of};
 use std::alloc::Global;
 
-/// A significant token, which is no comment, and its number among all tokens.
+/// A significant token, which is any token except a comment, and its index among all tokens.
 #[derive(Clone, Copy)]
 pub struct SignificantToken {
     pub number: u32,
@@ -21,25 +21,28 @@ fn is_comment(token: Token) -> bool
     matches!(token.kind, TokenKind::Comment)
 }
 
-/// The text of a token.
+/// Returns the text of a token.
 pub fn word_of(source: &[u8], token: SignificantToken) -> &[u8]
     ensures { result.now ≡ word_of source.now token }
 {
     text_of(source, token.inner)
 }
 
+/// Whether the token is a name.
 pub fn is_name(token: SignificantToken) -> bool
     ensures { result ≡ is_name token }
 {
     matches!(token.inner.kind, TokenKind::Name)
 }
 
+/// Whether the token is a literal.
 pub fn is_literal(token: SignificantToken) -> bool
     ensures { result ≡ is_literal token }
 {
     matches!(token.inner.kind, TokenKind::Literal)
 }
 
+/// Whether the token is a line end.
 pub fn is_line_end(token: SignificantToken) -> bool
     ensures { result ≡ same_kind TokenKind.LineEnd token.inner.kind }
 {
@@ -69,7 +72,7 @@ pub fn is_zero(source: &[u8], token: SignificantToken) -> bool
     matches!(token.inner.kind, TokenKind::Number) && word_of(source, token) == b"0".as_slice()
 }
 
-/// The tokens from a place on.
+/// Returns the tokens from an index to the end.
 pub fn rest_from(tokens: &[SignificantToken], at: usize) -> &[SignificantToken]
     requires { at ≤ length tokens.now }
     ensures { result.now ≡ drop at tokens.now }
@@ -77,7 +80,7 @@ pub fn rest_from(tokens: &[SignificantToken], at: usize) -> &[SignificantToken]
     &tokens[at..]
 }
 
-/// The token at a place, if there is one.
+/// Returns the token at an index, if there is one.
 pub fn token_at(tokens: &[SignificantToken], at: usize) -> Option<SignificantToken>
     ensures value { result ≡ slice_get tokens.now at }
     ensures within { IfSome result (λ token. at < length tokens.now) }
@@ -88,7 +91,7 @@ pub fn token_at(tokens: &[SignificantToken], at: usize) -> Option<SignificantTok
     }
 }
 
-/// Whether a name with this text stands at a place.
+/// Whether the token at an index is a name with this text.
 pub fn word_at(source: &[u8], word: &[u8], tokens: &[SignificantToken], at: usize) -> bool
     ensures value { result ≡ stands at (is_word source.now word.now) tokens.now }
     ensures within { IsTrue result → at < length tokens.now }
@@ -99,7 +102,7 @@ pub fn word_at(source: &[u8], word: &[u8], tokens: &[SignificantToken], at: usiz
     }
 }
 
-/// Whether an operator or a bracket with this text stands at a place.
+/// Whether the token at an index is an operator or a bracket with this text.
 pub fn op_at(source: &[u8], op: &[u8], tokens: &[SignificantToken], at: usize) -> bool
     ensures value { result ≡ stands at (is_op source.now op.now) tokens.now }
     ensures within { IsTrue result → at < length tokens.now }
@@ -110,7 +113,7 @@ pub fn op_at(source: &[u8], op: &[u8], tokens: &[SignificantToken], at: usize) -
     }
 }
 
-/// Whether a name stands at a place.
+/// Whether the token at an index is a name.
 pub fn name_at(tokens: &[SignificantToken], at: usize) -> bool
     ensures value { result ≡ stands at is_name tokens.now }
     ensures within { IsTrue result → at < length tokens.now }
@@ -121,7 +124,7 @@ pub fn name_at(tokens: &[SignificantToken], at: usize) -> bool
     }
 }
 
-/// The significant tokens of a source.
+/// Returns the significant tokens of a source.
 pub fn significant_tokens(
     alloc: Global,
     tokens: &[Token],

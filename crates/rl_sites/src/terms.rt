@@ -1,4 +1,4 @@
-// The flags of an argument of terms with `|` between them.
+//! The flags that an argument gives, which consists of terms separated by `|`.
 ghost use Rattle.std.specs.Prelude.{◌≡◌, ◌≤◌, ◌&&◌, codes, length, take, not, position};
 ghost use Rattle.std.specs.List.{prefix_len};
 ghost use Rattle.rl_sites.specs.Significant.{is_op};
@@ -13,7 +13,7 @@ use crate::names::{Names, flag_aliased, flag_named, is_module};
 use crate::significant::{SignificantToken, is_op, is_zero, rest_from};
 use rl_pattern::Flags;
 
-/// No flag is set.
+/// Returns flags of which none is set.
 pub fn no_flags() -> Flags
     ensures { result ≡ no_flags }
 {
@@ -64,7 +64,7 @@ fn with_flag(flag: Flag, flags: Flags) -> Flags
     }
 }
 
-/// What a term of one token sets: the number `0`, or an alias of a flag's name.
+/// Returns the flag that a term of one token sets. Such a term is the number `0` or an alias of a flag.
 fn lone_term(source: &[u8], names: &Names<'_>, token: SignificantToken) -> Option<Flag>
     requires { IsMeant source.now names.now.aliases.items names.now.meanings.entries }
     ensures { result ≡ lone_term source.now names.now.aliases.items token }
@@ -88,7 +88,7 @@ fn is_dotted(
     is_module(source, names, token) && is_op(source, b".", dot)
 }
 
-/// What a term of three tokens sets: an alias of the module, `.` and a flag's name.
+/// Returns the flag that a term of three tokens sets. Such a term is an alias of the module, `.` and a flag's name.
 fn dotted_term(
     source: &[u8],
     names: &Names<'_>,
@@ -106,7 +106,7 @@ fn dotted_term(
     }
 }
 
-/// What the tokens set, if they are a term.
+/// Returns the flag that the tokens set, if they are a term.
 #[tactic(auto, using(crate::proofs::TermFacts::terms))]
 fn term(source: &[u8], names: &Names<'_>, tokens: &[SignificantToken]) -> Option<Flag>
     requires { IsMeant source.now names.now.aliases.items names.now.meanings.entries }
@@ -125,7 +125,7 @@ fn bar_place(source: &[u8], tokens: &[SignificantToken]) -> Option<usize>
     tokens.iter().position(|token| is_op(source, b"|", *token))
 }
 
-/// How many tokens stand before the first `|`.
+/// Returns the number of tokens before the first `|`.
 #[tactic(auto, using(crate::proofs::TermFacts::runs))]
 fn bar_size(source: &[u8], tokens: &[SignificantToken]) -> usize
     ensures value { result ≡ prefix_len (λ token. not (is_bar source.now token)) tokens.now }
@@ -134,7 +134,7 @@ fn bar_size(source: &[u8], tokens: &[SignificantToken]) -> usize
     bar_place(source, tokens).unwrap_or(tokens.len())
 }
 
-/// The first tokens.
+/// Returns the first `size` tokens.
 fn first(tokens: &[SignificantToken], size: usize) -> &[SignificantToken]
     requires { size ≤ length tokens.now }
     ensures { result.now ≡ take size tokens.now }
@@ -142,14 +142,15 @@ fn first(tokens: &[SignificantToken], size: usize) -> &[SignificantToken]
     &tokens[..size]
 }
 
-/// At most the first four tokens, which are one more than a term has.
+/// Returns the first four tokens, or all of them if there are fewer. A term has at most three.
 fn front(tokens: &[SignificantToken]) -> &[SignificantToken]
     ensures { result.now ≡ take 4 tokens.now }
 {
     &tokens[..tokens.len().min(4)]
 }
 
-/// The flags of an argument of one or more terms with `|` between them; unknown where it is anything else.
+/// Returns the flags of an argument that consists of one or more terms separated by `|`. For any other argument they are
+/// unknown.
 #[tactic(auto, using(crate::proofs::TermFacts::steps), unfolding(crate::specs::Flags::flags_by))]
 pub fn flags_by(source: &[u8], names: &Names<'_>, argument: &[SignificantToken]) -> SiteFlags
     requires { IsMeant source.now names.now.aliases.items names.now.meanings.entries }

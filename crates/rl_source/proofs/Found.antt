@@ -1,4 +1,4 @@
--- The first element that passes a test, found one after another.
+-- The first item that satisfies a test, found by testing one item after another.
 use Rattle.std.proofs.Common.{◌≡◌, ℕ, ◌+◌, ◌<◌, Bool, true, false, cond, List, [], ◌∷◌, Some, None, length, take, drop, get_or, take-append-drop, drop-cons, suc, sym, ap, ◌∙◌}
 use Rattle.std.specs.Prelude.{find}
 use Rattle.std.specs.Option.{option_or}

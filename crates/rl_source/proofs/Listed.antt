@@ -35,7 +35,7 @@ folder_once nodes path (Some (held.Folder listed)) children none at e =
     let once = found_once nodes path (held.Folder listed) none at in cc
 folder_once nodes path (Some held.Other) children none at e = cc
 
--- a copy of the children that the map has lists them
+-- A copy of a folder's children in the map lists them.
 Lists-copy : (nodes : List Node) (path : List ℕ) (children found : List Child) → is_double nodes ≡ false
     → children_at nodes path ≡ Some children → found ≡ children → Lists children found
 Lists-copy nodes path children found single at e =

@@ -1,11 +1,11 @@
--- A text that is written piece by piece: what was taken, and what is left.
+-- Writing a text piece by piece: what was taken, and what is left.
 use Rattle.std.proofs.Common.{◌≡◌, ℕ, ◌-◌, ◌<◌, ◌≤◌, List, [], ◌++◌, length, take, drop, Option, Some, None, refl, sym, ap, ◌∙◌, append_assoc, take-append-drop, length-append, length-drop, arith}
 use Rattle.std.proofs.Math.Seq.{take-append_seam, take-length}
 use Rattle.std.specs.Io.KnownBytes.{Appends, Keeps}
 use Rattle.std.proofs.KnownBytes.{Appends-nil, Appends-trans, Appends-kept}
 use Rattle.rl_source.specs.Written.{GainsLess}
 
--- a sink gained the text's front, which is what stands before the rest, and its count didn't fall
+-- A sink received the part of the text before `rest`, and its fault count didn't decrease.
 pub record Progress (old now : Option (List ℕ)) (before after : ℕ) (text rest : List ℕ) : Type 0 where
   pub done : List ℕ
   pub parts : text ≡ done ++ rest
@@ -15,7 +15,7 @@ pub record Progress (old now : Option (List ℕ)) (before after : ℕ) (text res
 pub Progress-none : (old : Option (List ℕ)) (before : ℕ) (text : List ℕ) → Progress old old before before text text
 Progress-none old before text = record { done = []; parts = refl; gained = Appends-nil old; later = omega arith }
 
--- what `&rest[n..]` is
+-- What `&rest[n..]` is.
 take_rest : (rest : List ℕ) (n : ℕ) → take (length rest - n) (drop n rest) ≡ drop n rest
 take_rest rest n = ap (λ k. take k (drop n rest)) (sym (length-drop n rest)) ∙ take-length (drop n rest)
 
@@ -29,7 +29,7 @@ Progress-more old now new before after later text rest n p gains rises = record 
   later = omega (arith, p.later);
 }
 
--- what was taken so far is a front of the text, and a shorter one
+-- What was taken so far is a proper prefix of the text.
 pub GainsLess-some : (old new : Option (List ℕ)) (text done rest : List ℕ) → text ≡ done ++ rest → 0 < length rest → Appends old new done → GainsLess old new text
 GainsLess-some None new text done rest parts left gained = tt
 GainsLess-some (Some x) None text done rest parts left gained = absurd gained

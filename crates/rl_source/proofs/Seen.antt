@@ -1,4 +1,4 @@
--- Lemmas on names that stand twice, and on a set of the names that were seen so far.
+-- Lemmas about names that occur twice, and about a set of the names seen so far.
 use Rattle.std.proofs.Common.{◌≡◌, ℕ, ◌+◌, ◌<◌, Bool, true, false, ◌||◌, not, cond, List, [], ◌∷◌, ◌++◌, length, take, drop, get_or, subst, take-append-drop, refl, sym, ap, ◌∙◌, Bor, ⊎_elim}
 use Rattle.std.specs.List.{list_any}
 use Rattle.std.specs.Str.{bytes_eq}
@@ -14,11 +14,11 @@ use Rattle.std.proofs.lemmas.Map.Text.{is_eq-slice_cmp}
 use Rattle.std.proofs.lemmas.Slice.Eq.{bytes_eq-Decides}
 use Rattle.rl_source.specs.Distinct.{has_double}
 
--- the order of texts
+-- The order of texts.
 abbrev pub text_order : Bor (List ℕ) → Bor (List ℕ) → Ordering
 text_order x y = slice_cmp nat_cmp x.now y.now
 
--- the set has the keys of xs, which all differ
+-- The set holds the keys of `xs`, which are all different.
 pub record Seen {X : Type 0} (key : X → List ℕ) (xs : List X) (seen : BTreeSet (Bor (List ℕ))) : Type 0 where
   pub each : (q : Bor (List ℕ)) → contains text_order seen q ≡ list_any (λ x. bytes_eq (key x) q.now) xs
   pub once : has_double key xs ≡ false
@@ -87,11 +87,11 @@ Seen-double key xs x rest seen t s e present =
     (has_double-push key xs x
     ∙ ap (λ a. a || has_double key xs) (ap (λ n. list_any (λ y. bytes_eq (key y) n) xs) (sym e) ∙ sym (s.each t) ∙ present))
 
--- the element at i, put behind those before it
+-- The first `i` items and the item at `i` are the first `i + 1` items.
 take_item : {X : Type 0} (xs : List X) (i : ℕ) (x : X) → i < length xs → x ≡ get_or xs i x → take (i + 1) xs ≡ take i xs ++ x ∷ []
 take_item xs i x h e = take_more xs i x h ∙ ap (λ y. take i xs ++ y ∷ []) (sym e)
 
--- a turn of the loop that saw a new key
+-- A round of the loop that saw a new key.
 pub Seen-turn : {X : Type 0} (key : X → List ℕ) (xs : List X) (i : ℕ) (x : X) (seen new : BTreeSet (Bor (List ℕ))) (t : Bor (List ℕ)) (added : Bool)
     → i < length xs → x ≡ get_or xs i x → t.now ≡ key x → Seen key (take i xs) seen
     → added ≡ not (contains text_order seen t) → added ≡ true → Updates text_order seen new t true
@@ -100,7 +100,7 @@ Seen-turn key xs i x seen new t added h is e s tells new_key u =
     subst (λ zs. Seen key zs new) (sym (take_item xs i x h is))
     (Seen-more key (take i xs) x seen new t s u e (not-true _ (sym tells ∙ new_key)))
 
--- a turn of the loop that met a key again
+-- A round of the loop that met a key again.
 pub Seen-met : {X : Type 0} (key : X → List ℕ) (xs : List X) (i : ℕ) (x : X) (seen : BTreeSet (Bor (List ℕ))) (t : Bor (List ℕ)) (added : Bool)
     → i < length xs → x ≡ get_or xs i x → t.now ≡ key x → Seen key (take i xs) seen
     → added ≡ not (contains text_order seen t) → added ≡ false

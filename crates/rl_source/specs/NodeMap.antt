@@ -1,4 +1,4 @@
--- The finite map from paths that a list of nodes is.
+-- A list of nodes as a finite map from paths.
 use Rattle.std.specs.Prelude.{ℕ, List, Option, Some, None, option_map, option_and_then, find, bytes_eq}
 use Rattle.rl_source.specs.declared.nodes.Kind.{Kind}
 use Rattle.rl_source.specs.declared.nodes.Kind.TheVariants as kind
@@ -7,32 +7,36 @@ use Rattle.rl_source.specs.declared.nodes.Held.{Held}
 use Rattle.rl_source.specs.declared.nodes.Held.TheVariants as held
 use Rattle.rl_source.specs.declared.nodes.Node.{Node}
 
--- what stands at a path
+-- What is at a path. The first node with that path counts.
 abbrev pub held_at : List Node → List ℕ → Option Held
 held_at nodes path = option_map (λ n. n.held) (find (λ n. bytes_eq n.path path) nodes)
 
+-- The kind of what is at a path.
 abbrev pub kind_of : Held → Kind
 kind_of (held.File content) = kind.File
 kind_of (held.Folder children) = kind.Folder
 kind_of held.Other = kind.Other
 
--- the children of a folder
+-- The children of a folder, or `None` for anything else.
 abbrev pub children_of : Held → Option (List Child)
 children_of (held.File content) = None
 children_of (held.Folder children) = Some children
 children_of held.Other = None
 
--- the bytes of a file
+-- The bytes of a file, or `None` for anything else.
 abbrev pub bytes_of : Held → Option (List ℕ)
 bytes_of (held.File content) = Some content
 bytes_of (held.Folder children) = None
 bytes_of held.Other = None
 
+-- The kind of what is at a path, or `None` if nothing is there.
 abbrev pub kind_at : List Node → List ℕ → Option Kind
 kind_at nodes path = option_map kind_of (held_at nodes path)
 
+-- The children of the folder at a path, or `None` if no folder is there.
 abbrev pub children_at : List Node → List ℕ → Option (List Child)
 children_at nodes path = option_and_then children_of (held_at nodes path)
 
+-- The bytes of the file at a path, or `None` if no file is there.
 abbrev pub bytes_at : List Node → List ℕ → Option (List ℕ)
 bytes_at nodes path = option_and_then bytes_of (held_at nodes path)

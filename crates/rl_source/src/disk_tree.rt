@@ -9,13 +9,13 @@ use std::io::{ErrorKind, Read};
 use std::marker::Model;
 use std::{fs, io};
 
-/// The type of the runtime that `main` is given.
+/// The type of the runtime that `main` receives.
 pub type Runtime = HostRuntime;
 
-/// A tree over the file system. It tells no map and no trail.
+/// A tree over the file system. It reveals neither its map nor its trail to contracts.
 ///
-/// A symbolic link is of kind [`Kind::Other`], so it is neither read nor listed. A folder in which a name isn't UTF-8
-/// has no listing. Each error of the system but out of memory is a fault.
+/// A symbolic link is of kind [`Kind::Other`], so it is neither read nor listed. A folder that contains a name that isn't
+/// UTF-8 can't be listed. Every error of the system except running out of memory counts as a fault.
 #[derive(Drop)]
 pub struct DiskTree<'r> {
     rt: &'r Runtime,
@@ -25,7 +25,7 @@ pub struct DiskTree<'r> {
 impl<'r> Model for DiskTree<'r> {
     ghost use Rattle.std.specs.Prelude.{ℕ};
 
-    // how many faults there were
+    // the number of faults
     ghost Value = { ℕ };
 
     ghost view = { λ t. t.faults };
@@ -34,14 +34,14 @@ impl<'r> Model for DiskTree<'r> {
 impl<'r> DiskTree<'r> {
     ghost use Rattle.rl_source.specs.Asked.{HasTreeCause, CountsFailed};
 
-    /// A tree over the file system that this runtime reaches.
+    /// Creates a tree over the file system that this runtime can reach.
     pub fn new(rt: &'r Runtime) -> DiskTree<'r>
         ensures { result ≡ 0 }
     {
         DiskTree { rt, faults: 0 }
     }
 
-    /// The answer of a call, with its fault counted.
+    /// Turns the answer of the system into that of a call, and counts a fault if there was one.
     fn settle<T: Drop>(&mut self, answer: io::Result<T>) -> Result<T, TreeError>
         ensures ok { IfOk answer (λ value. result ≡ Ok value) }
         ensures failed { IfErr answer
@@ -110,6 +110,7 @@ impl<'r> Tree for DiskTree<'r> {
     }
 }
 
+/// Returns the kind that belongs to a file type. Only plain files and folders have a kind of their own.
 fn kind_of(found: FileType) -> Kind {
     if found.is_file() {
         Kind::File
@@ -120,11 +121,12 @@ fn kind_of(found: FileType) -> Kind {
     }
 }
 
+/// Returns the kind of what is at a path. Doesn't follow a symbolic link.
 fn kind_on_disk(rt: &Runtime, path: &str) -> io::Result<Kind> {
     Ok(kind_of(fs::symlink_metadata(rt, path)?.file_type()))
 }
 
-/// The entry as a child of its folder.
+/// Returns the entry as a child of its folder.
 fn child_of(rt: &Runtime, entry: &DirEntry) -> io::Result<Child> {
     let name = String::from_str(rt.alloc(), entry.file_name())?;
     match entry.file_type() {
@@ -139,7 +141,7 @@ fn child_of(rt: &Runtime, entry: &DirEntry) -> io::Result<Child> {
     }
 }
 
-/// Puts an entry of the listing at the end of the children.
+/// Appends an entry of the listing to the children.
 fn add_entry(
     rt: &Runtime,
     entry: io::Result<DirEntry>,
@@ -152,7 +154,7 @@ fn add_entry(
     Ok(())
 }
 
-/// Puts the entries of a folder at the end of the children.
+/// Appends the entries of a folder to the children.
 fn list_folder(rt: &Runtime, path: &str, children: &mut Vec<Child>) -> io::Result<()> {
     for entry in fs::read_dir(rt, path)? {
         add_entry(rt, entry, children)?;
@@ -160,6 +162,7 @@ fn list_folder(rt: &Runtime, path: &str, children: &mut Vec<Child>) -> io::Resul
     Ok(())
 }
 
+/// Returns the children of the folder at a path.
 fn children_on_disk(rt: &Runtime, path: &str) -> io::Result<Vec<Child>> {
     if kind_on_disk(rt, path)? != Kind::Folder {
         return Err(io::Error::from(ErrorKind::NotADirectory));
@@ -174,19 +177,20 @@ fn children_on_disk(rt: &Runtime, path: &str) -> io::Result<Vec<Child>> {
     }
 }
 
-/// The room for so many bytes of a file of this length, of at most `at_most`, and for one more, so that a read that finds the
-/// end needs no more room.
+/// Returns how much room to reserve for reading at most `at_most` bytes of a file with this length. There is room for one
+/// byte more, so that the read that finds the end of the file needs no further memory.
 fn room_for(length: u64, at_most: usize) -> usize {
     (length.min(at_most as u64) as usize).saturating_add(1)
 }
 
-/// Puts the first `at_most` bytes of a file, or all of them where there are fewer, at the end of the bytes.
+/// Appends the first `at_most` bytes of a file to the bytes, or all of them if there are fewer.
 fn add_bytes(rt: &Runtime, path: &str, at_most: usize, bytes: &mut Vec<u8>) -> io::Result<()> {
     let file = fs::open(rt, path)?;
     file.take(at_most as u64).read_to_end(bytes)?;
     Ok(())
 }
 
+/// Returns the first `at_most` bytes of the plain file at a path.
 fn bytes_on_disk(rt: &Runtime, path: &str, at_most: usize) -> io::Result<Vec<u8>> {
     let found = fs::symlink_metadata(rt, path)?;
     if kind_of(found.file_type()) != Kind::File {

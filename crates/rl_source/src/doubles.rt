@@ -1,4 +1,4 @@
-//! Whether a list of nodes is a map: whether a path, or the name of a child of one folder, stands there twice.
+//! Whether a list of nodes is a map: no path occurs twice, and neither does the name of a child in one folder.
 ghost use Rattle.std.specs.Prelude.{◌≡◌, IfOk};
 ghost use Rattle.rl_source.specs.Distinct.{has_double, names_twice, is_double};
 
@@ -7,7 +7,7 @@ use rl_lists::OutOfMemory;
 use std::alloc::Global;
 use std::collections::BTreeSet;
 
-/// Whether two nodes have one path.
+/// Whether two nodes have the same path.
 fn paths_repeat(alloc: Global, nodes: &[Node]) -> Result<bool, OutOfMemory>
     ensures { IfOk result (λ found. found ≡ has_double (λ n. n.path) nodes.now) }
 {
@@ -20,7 +20,7 @@ fn paths_repeat(alloc: Global, nodes: &[Node]) -> Result<bool, OutOfMemory>
     Ok(false)
 }
 
-/// Whether two children have one name.
+/// Whether two children have the same name.
 fn names_repeat(alloc: Global, children: &[Child]) -> Result<bool, OutOfMemory>
     ensures { IfOk result (λ found. found ≡ has_double (λ c. c.name) children.now) }
 {
@@ -33,7 +33,7 @@ fn names_repeat(alloc: Global, children: &[Child]) -> Result<bool, OutOfMemory>
     Ok(false)
 }
 
-/// Whether this is a folder with two children of one name.
+/// Whether this is a folder in which two children have the same name.
 fn names_twice(alloc: Global, held: &Held) -> Result<bool, OutOfMemory>
     ensures { IfOk result (λ found. found ≡ names_twice held.now) }
 {
@@ -43,7 +43,7 @@ fn names_twice(alloc: Global, held: &Held) -> Result<bool, OutOfMemory>
     }
 }
 
-/// Whether two nodes have one path, or a folder has two children of one name.
+/// Whether two nodes have the same path, or two children of one folder have the same name.
 pub(crate) fn is_double(alloc: Global, nodes: &[Node]) -> Result<bool, OutOfMemory>
     ensures { IfOk result (λ found. found ≡ is_double nodes.now) }
 {

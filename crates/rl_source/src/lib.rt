@@ -1,22 +1,22 @@
-//! The world outside as two traits: [`Tree`], a tree of files that can be asked, and [`Sink`], which takes bytes.
+//! The outside world as two traits: [`Tree`] is a tree of files that can be queried, and [`Sink`] takes bytes.
 //!
-//! [`DiskTree`] and [`StdSink`] stand over the file system and over a writer such as standard output. [`MemTree`] and
-//! [`MemSink`] are fakes in memory, and a test can say which of their calls fail. The crates above work with any tree and any
-//! sink, so that their contracts hold for the real outside and for the fakes alike. [`write_all`] offers a text to a sink
-//! until all of it is taken.
+//! [`DiskTree`] is a tree over the file system, and [`StdSink`] is a sink over a writer such as standard output.
+//! [`MemTree`] and [`MemSink`] are fakes in memory; a test can say which of their calls fail. The crates above work with
+//! any tree and any sink, so their contracts hold for the real world and for the fakes alike. [`write_all`] offers a text
+//! to a sink until all of it is taken.
 //!
 //! # What is proved
 //!
-//! A tree may tell its map of files, and the trail of the calls that were made on it. Where it does, each answer is the
-//! map's, no call changes the map, and each call is noted in the trail with a mark if it failed. A call that ran out of
-//! memory isn't noted. A failure comes only where the count of faults rose or stands at its last value. Of a sink that tells
-//! its bytes: [`write_all`] appends the whole text, or fails and leaves a proper part of it. No contract says what a disk
-//! holds, for a [`DiskTree`] tells neither a map nor a trail.
+//! A tree may reveal to contracts its map of files and the trail of the calls made on it. If it does, every answer agrees
+//! with the map, no call changes the map, and every call is added to the trail, with a mark if it failed. A call that ran
+//! out of memory isn't added. A call fails only if the fault count increased or is saturated. If a sink reveals its bytes,
+//! [`write_all`] appends the whole text, or it fails and only a proper prefix of the text was appended. No contract says
+//! what is on a disk, because a [`DiskTree`] reveals neither a map nor a trail.
 //!
 //! # Example
 //!
 //! ```
-//! // a folder `d` with the files `a`, which holds `one`, and `b`, which holds `two two`
+//! // a folder `d` with a file `a` that contains `one`, and a file `b` that contains `two two`
 //! tree.read("d/b", 5); // Ok: the bytes `two t`
 //! tree.kind("e"); // Err(TreeError::Failed)
 //! tree.faults(); // 1

@@ -1,4 +1,4 @@
-//! A sink over memory, whose writes can be made short and can be made to fail.
+//! A sink in memory, whose writes can be made short and can be made to fail.
 ghost use Rattle.std.specs.Prelude.{◌≡◌, ◌<◌, ◌≤◌, [], true, false, length, Some, Ok, IfOk, IsErr, vec_len, vec_capacity};
 ghost use Rattle.std.specs.Io.KnownBytes.{WriteAppends};
 ghost use Rattle.rl_source.specs.Faults.{HasCause};
@@ -11,9 +11,9 @@ use std::marker::Model;
 
 /// A sink that keeps what is written to it, with room for a fixed number of bytes.
 ///
-/// Writes with a piece that isn't empty are numbered from 1. Such a write fails where its number was given as one that
-/// is to fail, or where no room is left; every other one takes the least of the step, the piece's length and the room
-/// that is left. No write takes memory.
+/// The writes of nonempty pieces are numbered from 1. Such a write fails if its number is one of those that were chosen to
+/// fail, or if no room is left. Any other write takes as many bytes as possible, limited by the step, the length of the
+/// piece and the room that is left. No write allocates memory.
 #[derive(Drop)]
 pub struct MemSink {
     bytes: Vec<u8>,
@@ -40,11 +40,11 @@ impl Model for MemSink {
 }
 
 impl MemSink {
-    /// An empty sink with room for `room` bytes, whose writes take at most `step` bytes, and in which the writes with
-    /// these numbers fail.
+    /// Creates an empty sink with room for `room` bytes, whose writes take at most `step` bytes. The writes with the
+    /// numbers in `failing` fail.
     ///
     /// # Errors
-    /// [`OutOfMemory`] where there was no memory for the room.
+    /// [`OutOfMemory`] if there is no memory for the room.
     pub fn new(
         alloc: Global,
         step: usize,
@@ -72,7 +72,7 @@ impl MemSink {
         })
     }
 
-    /// The bytes so far.
+    /// Returns the bytes written so far.
     pub fn bytes(&self) -> &[u8]
         ensures { result.now ≡ self.now.bytes }
     {

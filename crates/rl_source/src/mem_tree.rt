@@ -1,4 +1,4 @@
-//! A tree over memory, whose calls can be made to fail.
+//! A tree in memory, whose calls can be made to fail.
 ghost use Rattle.std.specs.Prelude.{◌≡◌, [], true, false, take, Some, None, is_some, IfOk, IsSomeAnd, IsErr, IsErrOf, OnOk, OnErr, ◌∷◌, ◌++◌};
 ghost use Rattle.rl_source.specs.Told.{after};
 ghost use Rattle.rl_source.specs.Distinct.{Lists, is_double};
@@ -11,12 +11,12 @@ use rl_lists::OutOfMemory;
 use std::alloc::{AllocError, AllocFailed, Global};
 use std::marker::Model;
 
-/// Why a [`MemTree`] wasn't made.
+/// Why a [`MemTree`] couldn't be created.
 #[derive(Clone, Copy, Debug, PartialEq, Eq)]
 pub enum MemTreeError {
-    /// Two nodes have one path, or a folder has two children of one name.
+    /// Two nodes have the same path, or two children of one folder have the same name.
     DoublePath,
-    /// Out of memory.
+    /// There was not enough memory.
     OutOfMemory,
 }
 
@@ -30,11 +30,11 @@ impl From<OutOfMemory> for MemTreeError {
     }
 }
 
-/// A tree over a list of nodes. It tells its map, which is that list, and its trail.
+/// A tree over a list of nodes. It reveals its map, which is that list, and its trail.
 ///
-/// Its calls are numbered together from 1, by their place in the trail. A call fails where its number was given as one
-/// that is to fail, or where the map has no answer for it. A call that answers [`TreeError::OutOfMemory`] isn't in the
-/// trail. It is made for tests: each call looks through the nodes from the first one on.
+/// All its calls are numbered from 1 by their place in the trail. A call fails if its number is one of those that were
+/// chosen to fail, or if the map has no answer for it. A call that returns [`TreeError::OutOfMemory`] isn't in the trail.
+/// The tree is made for tests: each call searches the nodes from the first one on.
 #[derive(Drop)]
 pub struct MemTree {
     alloc: Global,
@@ -59,11 +59,11 @@ impl MemTree {
     ghost use Rattle.rl_source.specs.MemTreeState.{MemTreeState, call_fails, after_call, failed_calls};
     ghost use Rattle.rl_source.specs.Asked.{call_of, noted, HasTreeCause};
 
-    /// A tree of these nodes, in which the calls with these numbers fail. No call was made on it yet.
+    /// Creates a tree of these nodes, with an empty trail. The calls with the numbers in `failing` fail.
     ///
     /// # Errors
-    /// [`MemTreeError::DoublePath`] where two nodes have one path, or a folder has two children of one name;
-    /// [`MemTreeError::OutOfMemory`] when out of memory.
+    /// - [`MemTreeError::DoublePath`] if two nodes have the same path, or two children of one folder have the same name.
+    /// - [`MemTreeError::OutOfMemory`] if there is not enough memory.
     pub fn new(alloc: Global, nodes: Nodes, failing: Vec<u64>) -> Result<MemTree, MemTreeError>
         ensures ok { IfOk result
             (λ tree. tree ≡ record { nodes = nodes; failing = failing.items; trail = [] }) }
@@ -81,14 +81,14 @@ impl MemTree {
         })
     }
 
-    /// Whether the next call is to fail, whatever it asks.
+    /// Whether the next call was chosen to fail, whatever it asks.
     fn call_fails(&self) -> bool
         ensures { result ≡ call_fails self.now }
     {
         self.failing.contains(&(self.trail.len() as u64 + 1))
     }
 
-    /// Puts a call into the trail.
+    /// Adds a call to the trail.
     fn note(&mut self, name: CallName, path: &str, failed: bool) -> Result<(), OutOfMemory>
         ensures ok { OnOk result (self.new ≡ record self.old {
           trail = self.old.trail ++ call_of name path.now failed ∷ [];
@@ -100,7 +100,7 @@ impl MemTree {
         Ok(())
     }
 
-    /// Puts a call into the trail, and answers with what was found. Where nothing was, the call failed.
+    /// Adds a call to the trail and returns what was found. If nothing was found, the call failed.
     fn answer<T: Drop>(
         &mut self,
         name: CallName,

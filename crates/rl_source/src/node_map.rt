@@ -1,10 +1,10 @@
-//! Look-ups in a list of nodes.
+//! Lookups in a list of nodes.
 ghost use Rattle.std.specs.Prelude.{◌≡◌, option_copied, option_map};
 ghost use Rattle.rl_source.specs.NodeMap.{held_at, kind_at, children_at, bytes_at};
 
 use crate::nodes::{Child, Held, Kind, Node};
 
-/// What stands at a path.
+/// Returns what is at a path.
 fn held_at<'a>(nodes: &'a [Node], path: &str) -> Option<&'a Held>
     ensures { option_copied result ≡ held_at nodes.now path.now }
 {
@@ -16,7 +16,7 @@ fn held_at<'a>(nodes: &'a [Node], path: &str) -> Option<&'a Held>
     None
 }
 
-/// The kind of what stands at a path.
+/// Returns the kind of what is at a path.
 pub(crate) fn kind_at(nodes: &[Node], path: &str) -> Option<Kind>
     ensures { result ≡ kind_at nodes.now path.now }
 {
@@ -26,7 +26,7 @@ pub(crate) fn kind_at(nodes: &[Node], path: &str) -> Option<Kind>
     }
 }
 
-/// The children of the folder at a path.
+/// Returns the children of the folder at a path.
 pub(crate) fn children_at<'a>(nodes: &'a [Node], path: &str) -> Option<&'a [Child]>
     ensures { option_map (λ c. c.now) result ≡ children_at nodes.now path.now }
 {
@@ -36,7 +36,7 @@ pub(crate) fn children_at<'a>(nodes: &'a [Node], path: &str) -> Option<&'a [Chil
     }
 }
 
-/// The bytes of the file at a path.
+/// Returns the bytes of the file at a path.
 pub(crate) fn bytes_at<'a>(nodes: &'a [Node], path: &str) -> Option<&'a [u8]>
     ensures { option_map (λ c. c.now) result ≡ bytes_at nodes.now path.now }
 {

@@ -1,11 +1,11 @@
-//! Paths and names, what stands at a path, and the calls of a tree.
+//! Paths and names, what can be at a path, and the calls of a tree.
 ghost use Rattle.std.specs.Prelude.{◌≡◌, ℕ, List, IfOk, string_bytes};
 
 use rl_lists::{Items, OutOfMemory};
 use std::alloc::{AllocError, Global};
 use std::marker::Model;
 
-/// A path, or the name of a child: a text, which contracts see as the list of its bytes.
+/// A path, or the name of a child. Contracts see it as the list of its bytes.
 #[derive(Drop)]
 pub struct Name {
     text: String,
@@ -18,17 +18,17 @@ impl Model for Name {
 }
 
 impl Name {
-    /// The name with this text.
+    /// Creates a name from a string.
     pub fn from_string(text: String) -> Name
         ensures { result ≡ string_bytes text }
     {
         Name { text }
     }
 
-    /// The name with a copy of this text.
+    /// Creates a name from a copy of this text.
     ///
     /// # Errors
-    /// [`OutOfMemory`] where there was no memory for the copy.
+    /// [`OutOfMemory`] if there is no memory for the copy.
     pub fn from_text(alloc: Global, text: &str) -> Result<Name, OutOfMemory>
         ensures { IfOk result (λ name. name ≡ text.now) }
     {
@@ -36,14 +36,14 @@ impl Name {
         Ok(Name { text })
     }
 
-    /// The text.
+    /// Returns the text.
     pub fn as_str(&self) -> &str
         ensures { result.now ≡ self.now }
     {
         self.text.as_str()
     }
 
-    /// The text, by value.
+    /// Returns the text as a string of its own.
     pub fn into_string(self) -> String
         ensures { string_bytes result ≡ self }
     {
@@ -60,7 +60,7 @@ impl Clone for Name {
     }
 }
 
-/// What stands at a path: a file, a folder, or anything else, as a symbolic link, a device or a pipe.
+/// The kind of what is at a path: a file, a folder, or anything else, such as a symbolic link, a device or a pipe.
 #[derive(Clone, Copy, Debug, PartialEq, Eq)]
 pub enum Kind {
     File,
@@ -68,7 +68,7 @@ pub enum Kind {
     Other,
 }
 
-/// One entry of a folder.
+/// An entry of a folder.
 #[derive(Drop)]
 pub struct Child {
     pub name: Name,
@@ -96,7 +96,7 @@ pub type Children = Items<Child>;
 /// The nodes of a tree.
 pub type Nodes = Items<Node>;
 
-/// What a node holds.
+/// What is at a path, with its contents.
 #[derive(Drop)]
 pub enum Held {
     File(Content),
@@ -107,7 +107,7 @@ pub enum Held {
 impl Held {
     ghost use Rattle.rl_source.specs.NodeMap.{kind_of};
 
-    /// The kind of what stands there.
+    /// Returns the kind.
     pub fn kind(&self) -> Kind
         ensures { result ≡ kind_of self.now }
     {
@@ -119,14 +119,14 @@ impl Held {
     }
 }
 
-/// A path with what stands there.
+/// A path, and what is there.
 #[derive(Drop)]
 pub struct Node {
     pub path: Name,
     pub held: Held,
 }
 
-/// The three calls of a tree.
+/// The three kinds of calls of a tree.
 #[derive(Clone, Copy)]
 pub enum CallName {
     Kind,
@@ -134,7 +134,7 @@ pub enum CallName {
     Read,
 }
 
-/// A call that a tree answered: the call's name, the path that it asked for, and whether it answered
+/// A call that a tree has answered: its name, the path that it asked about, and whether it returned
 /// [`TreeError::Failed`](crate::TreeError::Failed).
 #[derive(Drop)]
 pub struct Call {

@@ -1,29 +1,29 @@
-//! What a sink takes, and a whole text written to it.
+//! Sinks, and writing a whole text to one.
 ghost use Rattle.std.specs.Prelude.{◌≡◌, ℕ, ◌<◌, ◌≤◌, List, [], length, Option, Ok, IfOk, OnOk, OnErr};
 ghost use Rattle.std.specs.Io.KnownBytes.{Appends, WriteAppends};
 ghost use Rattle.rl_source.specs.Faults.{HasCause};
 ghost use Rattle.rl_source.specs.Written.{GainsLess};
 
-/// A sink took nothing of what it was offered.
+/// The error of a sink that took none of the bytes offered to it.
 #[derive(Clone, Copy, Debug, PartialEq, Eq)]
 pub struct SinkFailed;
 
-/// What bytes can be written to. It may tell the bytes so far.
+/// Something that bytes can be written to. It may reveal the bytes written so far to contracts.
 pub trait Sink {
-    // The bytes so far, where the sink tells them.
+    // The bytes written so far, if the sink reveals them.
     ghost bytes: { Self → Option (List ℕ) };
-    // How many faults there were. It stands still at its last value.
+    // The number of faults. It saturates at its largest value.
     ghost fault_count: { Self → ℕ };
 
-    /// How many writes failed so far, up to `u64::MAX`.
+    /// Returns the number of writes that failed so far, at most `u64::MAX`.
     fn faults(&self) -> u64
         ensures { result ≡ fault_count self.now };
 
-    /// Takes at least one byte of a piece that isn't empty, from its front, and answers how many. Of an empty piece it
-    /// takes nothing and answers 0.
+    /// Takes at least one byte from the front of a nonempty piece, and returns how many. Takes nothing of an empty piece,
+    /// and returns 0.
     ///
     /// # Errors
-    /// [`SinkFailed`] where the sink couldn't take a byte; the bytes so far are unchanged then.
+    /// [`SinkFailed`] if the sink couldn't take a byte. The bytes written so far are unchanged then.
     fn write(&mut self, piece: &[u8]) -> Result<usize, SinkFailed>
         ensures some { 0 < length piece.now → IfOk result (λ n. 0 < n) }
         ensures bound { IfOk result (λ n. n ≤ length piece.now) }
@@ -32,10 +32,10 @@ pub trait Sink {
         ensures cause { HasCause (fault_count self.old) (fault_count self.new) result };
 }
 
-/// Writes a whole text: all of it is offered first, and then what wasn't taken, until all is taken.
+/// Writes a whole text. Offers all of it first, and then whatever hasn't been taken yet, until everything is taken.
 ///
 /// # Errors
-/// [`SinkFailed`] where a write failed; the sink has a prefix of the text then, and not all of it.
+/// [`SinkFailed`] if a write failed. The sink has received a proper prefix of the text then.
 pub fn write_all<O: Sink>(out: &mut O, text: &[u8]) -> Result<(), SinkFailed>
     ensures ok { OnOk result (Appends (O.bytes out.old) (O.bytes out.new) text.now) }
     ensures err { OnErr result (GainsLess (O.bytes out.old) (O.bytes out.new) text.now) }

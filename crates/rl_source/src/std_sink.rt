@@ -10,7 +10,7 @@ use std::io;
 use std::io::{ErrorKind, Write};
 use std::marker::Model;
 
-/// A sink over a writer, as standard output. It tells what its writer tells.
+/// A sink over a writer such as standard output. It reveals to contracts what its writer reveals.
 #[derive(Drop)]
 pub struct StdSink<W: Write> {
     writer: W,
@@ -24,7 +24,7 @@ impl<W: Write> Model for StdSink<W> {
 }
 
 impl<W: Write> StdSink<W> {
-    /// A sink over this writer.
+    /// Creates a sink over this writer.
     pub fn new(writer: W) -> StdSink<W>
         ensures { result ≡ record { writer = writer; faults = 0 } }
     {
@@ -41,7 +41,8 @@ impl<W: Write> Sink for StdSink<W> {
         self.faults
     }
 
-    /// A writer that takes nothing of a piece that isn't empty has failed, as one that answers an error.
+    /// Writes to the writer. If the writer takes nothing of a nonempty piece, the write fails, just as if the writer had
+    /// returned an error.
     fn write(&mut self, piece: &[u8]) -> Result<usize, SinkFailed>
         ensures some { 0 < length piece.now → IfOk result (λ n. 0 < n) }
         ensures bound { IfOk result (λ n. n ≤ length piece.now) }
@@ -63,7 +64,7 @@ impl<W: Write> Sink for StdSink<W> {
     }
 }
 
-/// One write, tried again where it was interrupted.
+/// Writes once, and tries again if the write was interrupted.
 fn write_patiently<W: Write>(writer: &mut W, piece: &[u8]) -> io::Result<usize>
     ensures bound { WritesAtMost result piece.now }
     ensures bytes { WriteAppends (W.contents writer.old) (W.contents writer.new) result piece.now }

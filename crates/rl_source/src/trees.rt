@@ -1,4 +1,4 @@
-//! What a tree of files answers.
+//! Trees of files.
 ghost use Rattle.std.specs.Prelude.{◌≡◌, ℕ, take, Option, IfOk, IfSome, IsSomeAnd, Some};
 ghost use Rattle.rl_source.specs.Told.{Told, after};
 
@@ -9,9 +9,9 @@ use std::alloc::{AllocError, AllocFailed};
 /// Why a call of a tree has no answer.
 #[derive(Clone, Copy, Debug, PartialEq, Eq)]
 pub enum TreeError {
-    /// The tree couldn't answer: nothing of the kind that was asked for stands at the path, or the outside failed.
+    /// The tree couldn't answer: nothing of the requested kind is at the path, or the outside world failed.
     Failed,
-    /// Out of memory.
+    /// There was not enough memory.
     OutOfMemory,
 }
 
@@ -45,49 +45,52 @@ impl<T: Drop> From<AllocFailed<T>> for TreeError {
     }
 }
 
-/// A tree of files that can be asked.
+/// A tree of files that can be queried.
 ///
-/// It may tell its map from paths to what stands there, and with it the trail of the calls so far. No call changes the
-/// map. An answer is the map's, where the map is told; where the map has none, the call answers
+/// It may reveal to contracts its map from paths to what is there, together with the trail of the calls so far. No call
+/// changes the map. If the map is revealed, every answer agrees with it, and a call for which the map has no answer returns
 /// [`TreeError::Failed`].
 pub trait Tree {
     ghost use Rattle.rl_source.specs.Asked.{noted, HasTreeCause};
     ghost use Rattle.rl_source.specs.NodeMap.{kind_at, children_at, bytes_at};
     ghost use Rattle.rl_source.specs.Distinct.{Lists};
 
-    // The map and the trail, where the tree tells them: both or neither.
+    // The map and the trail, if the tree reveals them. It reveals both or neither.
     ghost told: { Self → Option Told };
-    // How many faults there were. It stands still at its last value.
+    // The number of faults. It saturates at its largest value.
     ghost fault_count: { Self → ℕ };
 
-    /// How many calls failed so far, up to `u64::MAX`.
+    /// Returns the number of calls that failed so far, at most `u64::MAX`.
     fn faults(&self) -> u64
         ensures { result ≡ fault_count self.now };
 
-    /// What stands at a path.
+    /// Returns the kind of what is at a path.
     ///
     /// # Errors
-    /// [`TreeError::Failed`] where the tree couldn't answer; [`TreeError::OutOfMemory`] when out of memory.
+    /// - [`TreeError::Failed`] if the tree couldn't answer.
+    /// - [`TreeError::OutOfMemory`] if there is not enough memory.
     fn kind(&mut self, path: &str) -> Result<Kind, TreeError>
         ensures told { told self.new ≡ after (noted CallName.Kind path.now result) (told self.old) }
         ensures answer { IfOk result (λ found. IfSome (told self.old)
             (λ t. kind_at t.nodes path.now ≡ Some found)) }
         ensures cause { HasTreeCause (fault_count self.old) (fault_count self.new) result };
 
-    /// The children of a folder, in some order, each name once.
+    /// Returns the children of a folder, in any order, each name once.
     ///
     /// # Errors
-    /// [`TreeError::Failed`] where the tree couldn't answer; [`TreeError::OutOfMemory`] when out of memory.
+    /// - [`TreeError::Failed`] if the tree couldn't answer.
+    /// - [`TreeError::OutOfMemory`] if there is not enough memory.
     fn children(&mut self, path: &str) -> Result<Vec<Child>, TreeError>
         ensures told { told self.new ≡ after (noted CallName.Children path.now result) (told self.old) }
         ensures answer { IfOk result (λ found. IfSome (told self.old)
             (λ t. IsSomeAnd (children_at t.nodes path.now) (λ children. Lists children found.items))) }
         ensures cause { HasTreeCause (fault_count self.old) (fault_count self.new) result };
 
-    /// The first `at_most` bytes of a file, or all of them where there are fewer.
+    /// Returns the first `at_most` bytes of a file, or all of them if there are fewer.
     ///
     /// # Errors
-    /// [`TreeError::Failed`] where the tree couldn't answer; [`TreeError::OutOfMemory`] when out of memory.
+    /// - [`TreeError::Failed`] if the tree couldn't answer.
+    /// - [`TreeError::OutOfMemory`] if there is not enough memory.
     fn read(&mut self, path: &str, at_most: usize) -> Result<Vec<u8>, TreeError>
         ensures told { told self.new ≡ after (noted CallName.Read path.now result) (told self.old) }
         ensures answer { IfOk result (λ bytes. IfSome (told self.old)

@@ -8,3 +8,4 @@ pub mod CodeLaws
 pub mod ClosedLaws
 pub mod HitLaws
 pub mod AnswerLaws
+pub mod SightLaws

@@ -27,8 +27,12 @@ use std::alloc::Global;
 pub enum SameFinds {
     /// They do, as the relation shows.
     Same(SpanRelation),
-    /// They don't: on the text they find different matches from the place on.
-    Differ { text: Codes, from: u32 },
+    /// They don't: on the text they find different matches from the place on; the flag says that these may not be empty.
+    Differ {
+        text: Codes,
+        from: u32,
+        advance: bool,
+    },
     /// More pairs than the limit are reached, so it isn't known.
     Exceeded,
 }
@@ -105,7 +109,11 @@ fn seen_apart(
     }
     let differ = is_difference(alloc, machine, text.as_slice(), advance, from as usize);
     match differ {
-        Ok(true) => Ok(SameFinds::Differ { text, from }),
+        Ok(true) => Ok(SameFinds::Differ {
+            text,
+            from,
+            advance,
+        }),
         Ok(false) | Err(StepError::Outside) => Ok(SameFinds::Exceeded),
         Err(StepError::OutOfMemory) => Err(SpansError::OutOfMemory),
     }

@@ -15,7 +15,7 @@ use rl_marks::{GroupSpan, MOST_GROUPS};
 use std::alloc::Global;
 
 /// The span that is held of a group, if one is.
-fn span_held(held: &[GroupSpan], number: u32) -> Option<(u32, u32)>
+pub(crate) fn span_held(held: &[GroupSpan], number: u32) -> Option<(u32, u32)>
     ensures { result ≡ held_span number held.now }
 {
     for span in held {

@@ -149,7 +149,7 @@ fn later(place: u32, stop: Option<Caps>, found: Option<Hit>) -> Option<Hit>
 }
 
 /// The place as a number of a thread list.
-fn place_of(index: usize) -> Result<u32, StepError>
+pub(crate) fn place_of(index: usize) -> Result<u32, StepError>
     ensures { IfOk result (λ p. p ≡ index) }
 {
     match u32::try_from(index) {

@@ -1,4 +1,4 @@
--- The tree of a pattern over a universe is over it.
+-- The tree of a pattern over a universe uses only codes of the universe.
 use Rattle.std.proofs.Common.{ℕ, zero, suc, ◌-◌, Bool, true, false, List, [], ◌∷◌, ◌++◌, Option, None, Some, replicate, arith}
 use Rattle.std.proofs.lemmas.Bool.{ltb-true}
 use Rattle.std.proofs.lemmas.Bool.Decides.{nat_tests}
@@ -18,7 +18,7 @@ use Rattle.rl_syntax.specs.IsPattern.{IsPart, AreParts, AreBranches, IsPattern}
 use Rattle.rl_syntax.specs.Lowering.{in_turn, one_of, option_of, options, tail_of, times, guard_of, lowered, items_lowered, branches_lowered}
 use Rattle.rl_syntax.specs.Modes.{is_code, trailed, sought, wrapped, tree_in}
 
--- each of the trees is over the universe
+-- Each of the trees uses only codes of the universe.
 abbrev AllOver : Universe → List Tree → Type 0
 AllOver u [] = Unit {0}
 AllOver u (t ∷ ts) = IsOver u t × AllOver u ts
@@ -106,6 +106,6 @@ wrapped-over u Fullmatch leading trailing t p = p
 wrapped-over u Match leading trailing t p = trailed-over u trailing t p
 wrapped-over u Search leading trailing t p = sought-over u leading (trailed trailing t) (trailed-over u trailing t p)
 
--- the tree of a pattern over a universe is over it, in each mode
+-- The tree of a pattern over a universe uses only codes of the universe, in every mode.
 pub tree-over : (u : Universe) (mode : Mode) (leading : Bool) (trailing : Trail) (body : PatTree) → IsPattern u body → IsOver u (tree_in mode u leading trailing body)
 tree-over u mode leading trailing body h = wrapped-over u mode leading trailing (lowered body) (part-over u body h.parts)

@@ -1,4 +1,4 @@
--- A tree that is built of trees without guards has none.
+-- A tree that is built from trees without guards has no guard.
 use Rattle.std.proofs.Common.{ℕ, zero, suc, ◌-◌, Bool, true, false, List, [], ◌∷◌, ◌++◌, replicate, Option, Some, None}
 use Rattle.rl_syntax.specs.Tree.{Tree}
 use Rattle.rl_syntax.specs.Lowering.{in_turn, one_of, option_of, options, tail_of, times}

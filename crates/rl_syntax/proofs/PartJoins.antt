@@ -1,4 +1,4 @@
--- The trees of items and of branches joined one by one, from the last one on.
+-- Joining the trees of items and of branches one by one, from the last one on.
 use Rattle.std.proofs.Common.{◌≡◌, List, [], ◌∷◌, ◌++◌, refl, sym, ap, ◌∙◌}
 use Rattle.rl_syntax.specs.declared.span.Span.{Span}
 use Rattle.rl_syntax.specs.declared.pat.Pat.{Pat}
@@ -19,7 +19,7 @@ branch_trees-last : (cs : List Branch) (b : Branch) (us : List Tree) → branch_
 branch_trees-last [] b us = refl
 branch_trees-last (c ∷ cs) b us = ap (λ ts. lowered (branch_tree c).1 ∷ ts) (branch_trees-last cs b us)
 
--- the last item joined with what follows it
+-- The last item, joined with what follows it.
 pub in_turn-item : (ps qs : List Pat) (p : Pat) (r : Tree) (us : List Tree) (all : Tree) → ps ≡ qs ++ p ∷ [] → r ≡ in_turn (lowered (pat_of p) ∷ us)
     → in_turn (item_trees ps ++ us) ≡ all → in_turn (item_trees qs ++ r ∷ []) ≡ all
 in_turn-item ps qs p r us all e f g =
@@ -29,7 +29,7 @@ in_turn-item ps qs p r us all e f g =
     ∙ sym (ap (λ x. in_turn (item_trees x ++ us)) e)
     ∙ g
 
--- the last branch joined with those after it
+-- The last branch, joined with those after it.
 pub one_of-branch : (bs cs : List Branch) (b : Branch) (r : Tree) (us : List Tree) (all : Tree) → bs ≡ cs ++ b ∷ [] → r ≡ one_of (lowered (branch_tree b).1 ∷ us)
     → one_of (branch_trees bs ++ us) ≡ all → one_of (branch_trees cs ++ r ∷ []) ≡ all
 one_of-branch bs cs b r us all e f g =
@@ -39,6 +39,6 @@ one_of-branch bs cs b r us all e f g =
     ∙ sym (ap (λ x. one_of (branch_trees x ++ us)) e)
     ∙ g
 
--- the tree of a branch is that of its body
+-- The tree of a branch is the tree of its body.
 pub branch-body : (b : Branch) → pat_of b.body ≡ (branch_tree b).1
 branch-body b = sym (ap (λ x. x.1) (fold_out-Branch PatTree (Span × PatTree) layer_of branch_of b))

@@ -1,4 +1,4 @@
--- The sizes of parts of patterns, one after another and as branches.
+-- The sizes of sequences and of choices in patterns.
 use Rattle.std.proofs.Common.{◌≡◌, ℕ, suc, List, [], ◌∷◌, length, map, refl, ap, ◌∙◌}
 use Rattle.std.specs.List.{sum_by}
 use Rattle.std.proofs.lemmas.List.Recursion.{is_sum_by}
@@ -36,12 +36,12 @@ length-branches (b ∷ bs) = ap suc (length-branches bs)
 nodes-branches : (bs : List Branch) → all_nodes (branch_trees bs) ≡ sum_by branch_nodes bs
 nodes-branches = is_sum_by (λ bs. all_nodes (branch_trees bs)) branch_nodes refl (λ _ _. refl)
 
--- the size of items one after another, from those of each
+-- The size of a sequence, from the sizes of its items.
 pub size-items : (ps : List Pat) → size (in_turn (items_lowered (items_of (map pat_of ps)))) ≡ joined_nodes (length ps) (sum_by part_nodes ps)
 size-items ps =
     size-in_turn (item_trees ps) ∙ ap (λ k. joined_nodes k (all_nodes (item_trees ps))) (length-items ps) ∙ ap (joined_nodes (length ps)) (nodes-items ps)
 
--- the size of one of several branches, from those of each
+-- The size of a choice, from the sizes of its branches.
 pub size-branches : (bs : List Branch) → size (one_of (branches_lowered (branches_of (map branch_tree bs)))) ≡ joined_nodes (length bs) (sum_by branch_nodes bs)
 size-branches bs =
     size-one_of (branch_trees bs) ∙ ap (λ k. joined_nodes k (all_nodes (branch_trees bs))) (length-branches bs) ∙ ap (joined_nodes (length bs)) (nodes-branches bs)

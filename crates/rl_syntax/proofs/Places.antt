@@ -1,4 +1,5 @@
--- A tree without guards spans the same codes wherever they stand, so trees of one language span the same places.
+-- A tree without guards spans the same codes wherever they are in a text. So trees with the same language span the same
+-- positions.
 use Rattle.std.proofs.Common.{◌≡◌, ◌⊎◌, ℕ, zero, suc, ◌+◌, ◌-◌, ◌<◌, ◌≤◌, Bool, true, false, List, [], ◌∷◌, length, Option, Some, None, refl, sym, ap, ◌∙◌, subst, arith, IsTrue, slice_get, true≢false, get_or}
 use Rattle.std.proofs.lemmas.Option.{slice_get_within, slice_get-get_or, get_or_from_slice_get}
 use mathlib.Core.Logic.{inl, inr, ⊎_elim}
@@ -15,7 +16,7 @@ use Rattle.rl_syntax.specs.Language.{Rounds, stop, again, Spans}
 use Rattle.rl_syntax.specs.SameSpans.{Unguarded, OneLanguage, SamePlaces}
 use Rattle.rl_syntax.proofs.Stars.{spans_le}
 
--- codes of a text: n of them from a place on
+-- A part of a text: `n` codes from a position on.
 cut : ℕ → ℕ → List ℕ → List ℕ
 cut i n [] = []
 cut zero zero (c ∷ w) = []
@@ -43,7 +44,7 @@ cut_none i [] = refl
 cut_none zero (c ∷ w) = refl
 cut_none (suc i) (c ∷ w) = cut_none i w
 
--- what is spanned is within the text
+-- What is spanned is within the text.
 rounds_in : {R : ℕ → ℕ → Type 0} (n : ℕ) → ((i j : ℕ) → R i j → (i ≡ j) ⊎ (j ≤ n)) → {i j : ℕ} → Rounds R i j → (i ≡ j) ⊎ (j ≤ n)
 rounds_in n f stop = inl refl
 rounds_in n f (again {i = i} {k = k} {j = j} l r h) =
@@ -120,7 +121,7 @@ one_way u s t us ut f w is i j h =
     let back : Spans t w (i + 0) (i + n) = spans_move v w 0 i n (λ k l. let z : 0 + k ≡ k = omega arith in ap (slice_get v) z ∙ cut_at i n k w l) t ut 0 n (omega arith) (omega arith) (subst (Spans t v (0 + 0)) (sym zero_n) in_t) in
     subst (λ m. Spans t w m j) (sym e0) (subst (Spans t w (i + 0)) (sym en) back)
 
--- trees without guards that span the same texts span the same places
+-- Trees without guards that match the same texts span the same positions.
 pub same_places : (u : Universe) (s t : Tree) → Unguarded s → Unguarded t → OneLanguage u s t → SamePlaces u s t
 same_places u s t us ut h w is i j = (one_way u s t us ut (λ v x. (h v x).0) w is i j, one_way u t s ut us (λ v x. (h v x).1) w is i j)
 
@@ -136,7 +137,7 @@ sought_places : (u z : Universe) (leading : Bool) (s t : Tree) → SamePlaces u 
 sought_places u z true s t h = h
 sought_places u z false s t h = let any = many (one (is_code z)) false in both_places u any any s t (λ w is i j. (λ x. x, λ x. x)) h
 
--- and so they do in every mode
+-- They do so in every mode.
 pub wrapped_places : (u z : Universe) (mode : Mode) (leading : Bool) (trail : Trail) (s t : Tree) → SamePlaces u s t → SamePlaces u (wrapped mode z leading trail s) (wrapped mode z leading trail t)
 wrapped_places u z Fullmatch leading trail s t h = h
 wrapped_places u z Match leading trail s t h = trail_places u trail s t h

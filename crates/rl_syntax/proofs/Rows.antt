@@ -1,4 +1,4 @@
--- Worked rows of the cost, computed from the definitions.
+-- Worked examples of costs, computed from the definitions.
 use Rattle.std.proofs.Common.{◌≡◌, ◌==◌, ℕ, Bool, true, false, List, [], ◌∷◌, None, Some, refl}
 use Rattle.rl_ranges.specs.Named.{is_named, is_between}
 use Rattle.rl_ranges.specs.declared.universe.Universe.TheVariants.{Str}
@@ -12,7 +12,7 @@ use Rattle.rl_syntax.specs.Cost.{cost, matched, all_tests}
 use Rattle.rl_syntax.specs.Lowering.{times}
 use Rattle.rl_syntax.specs.Modes.{wrapped, ending_of, is_code}
 
--- a code's own set
+-- The set of a single code.
 abbrev only : ℕ → Tree
 only code = one (λ c. c == code)
 
@@ -22,14 +22,14 @@ a = only 97
 abbrev b : Tree
 b = only 98
 
--- in the mode of a search without anchors
+-- The cost in search mode, without anchors.
 abbrev sought_cost : Tree → List ℕ → ℕ
 sought_cost t w = cost (wrapped Search Str false NoTrail t) (ending_of Search NoTrail) w
 
 abbrev sought_match : Tree → List ℕ → Bool
 sought_match t w = matched (wrapped Search Str false NoTrail t) (ending_of Search NoTrail) w
 
--- the empty pattern
+-- The empty pattern.
 empty_pattern : (cost empty AtEnd [] ≡ 2) × (matched empty AtEnd [] ≡ true)
 unfolding all_tests
 empty_pattern = (refl, refl)
@@ -65,19 +65,19 @@ counted : (cost (times 2 (Some 3) true a) AtEnd (97 ∷ 97 ∷ 97 ∷ 97 ∷ [])
 unfolding all_tests is_in
 counted = (refl, refl, refl)
 
--- `b` in search, `a$` in match and as fullmatch
+-- `b` in search, `a$` in match and in fullmatch
 modes : (sought_cost b (97 ∷ 98 ∷ []) ≡ 5) × (cost (wrapped Match Str false Dollar a) (ending_of Match Dollar) (97 ∷ 10 ∷ []) ≡ 5)
     × (cost (wrapped Fullmatch Str false Dollar a) (ending_of Fullmatch Dollar) (97 ∷ 10 ∷ []) ≡ 3)
 unfolding all_tests is_in is_code
 modes = (refl, refl, refl)
 
--- `a\b`, `\b` and `\B` with the ASCII words
+-- `a\b`, `\b` and `\B` with ASCII words
 boundaries : (cost (both a (guard (Word true))) AtEnd (97 ∷ []) ≡ 3) × (cost (both a (guard (Word true))) AtEnd (97 ∷ 97 ∷ []) ≡ 2)
     × (cost (guard (Word true)) AtEnd [] ≡ 1) × (cost (guard (NotWord true)) AtEnd [] ≡ 2)
 unfolding all_tests is_in is_word is_named is_between holds
 boundaries = (refl, refl, refl, refl)
 
--- the search of `\bb`, and of `^b` with MULTILINE
+-- `\bb`, and `^b` with MULTILINE, in search
 guards_in_search : (sought_cost (both (guard (Word true)) b) (97 ∷ 98 ∷ 32 ∷ 98 ∷ []) ≡ 8) × (sought_match (both (guard (Word true)) b) (97 ∷ 98 ∷ 32 ∷ 98 ∷ []) ≡ true)
     × (sought_cost (both (guard LineStart) b) (97 ∷ 10 ∷ 98 ∷ []) ≡ 6)
 unfolding all_tests is_in is_word is_named is_between holds is_code

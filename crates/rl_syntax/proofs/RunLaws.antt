@@ -1,11 +1,11 @@
--- Laws of the run of a tree: where its ends lie, and that the rounds of `many` need no count.
+-- Laws about the run of a tree: where its ends are, and that the rounds of `many` need no counter.
 use Rattle.std.proofs.Common.{◌≡◌, ℕ, zero, suc, ◌+◌, ◌-◌, ◌<◌, ◌≤◌, Bool, true, false, List, [], ◌∷◌, ◌++◌, length, slice_get, nat_lt, if◌then◌else◌, refl, sym, ap, ◌∙◌, arith, append_assoc}
 use Rattle.std.proofs.lemmas.Bool.{cond_both, ltb-true}
 use Rattle.rl_syntax.specs.Guards.{is_in, holds_at}
 use Rattle.rl_syntax.specs.Tree.{Tree, empty, one, guard, both, either, many}
 use Rattle.rl_syntax.specs.Run.{Step, test, end, onward, one_more, rounds, run}
 
--- each end of the steps is at a place that has the property
+-- Each end among the steps is at a position with the property.
 abbrev pub Ends : (ℕ → Type 0) → List Step → Type 0
 Ends P [] = Unit {0}
 Ends P (test ∷ l) = Ends P l
@@ -30,13 +30,13 @@ pub Ends-one_more : (P : ℕ → Type 0) (greedy : Bool) (j : ℕ) (l : List Ste
 Ends-one_more P true j l p q = Ends-append P l (end j ∷ []) q (p, tt)
 Ends-one_more P false j l p q = (p, q)
 
--- two ways on that agree at each end give the same steps
+-- Two continuations that agree at every end give the same steps.
 pub onward-same : (P : ℕ → Type 0) (next other : ℕ → List Step) → ((j : ℕ) → P j → next j ≡ other j) → (l : List Step) → Ends P l → onward l next ≡ onward l other
 onward-same P next other f [] p = refl
 onward-same P next other f (test ∷ l) p = ap (λ m. test ∷ m) (onward-same P next other f l p)
 onward-same P next other f (end j ∷ l) p = ap (λ m. m ++ onward l next) (f j p.0) ∙ ap (λ m. other j ++ m) (onward-same P next other f l p.1)
 
--- where each end is kept, the steps are the same
+-- If every end is kept, the steps don't change.
 pub onward-kept : (l : List Step) → onward l (λ j. end j ∷ []) ≡ l
 onward-kept [] = refl
 onward-kept (test ∷ l) = ap (λ m. test ∷ m) (onward-kept l)
@@ -52,11 +52,11 @@ onward-onward next last [] = refl
 onward-onward next last (test ∷ l) = ap (λ n. test ∷ n) (onward-onward next last l)
 onward-onward next last (end j ∷ l) = onward-append last (next j) (onward l next) ∙ ap (λ n. onward (next j) last ++ n) (onward-onward next last l)
 
--- the choices are the same where their first sides are, when taken
+-- Two choices are equal if their first sides are equal whenever they are taken.
 pub either_way : (i j : ℕ) (x y z : List Step) → (i < j → x ≡ y) → ◌≡◌ {A = List Step} (if nat_lt i j then x else z) (if nat_lt i j then y else z)
 either_way i j x y z f = cond_both (nat_lt i j) x z (λ v. v ≡ (if nat_lt i j then y else z)) (λ e. f (ltb-true i j e) ∙ ap (λ b. if b then y else z) (sym e)) (λ e. ap (λ b. if b then y else z) (sym e))
 
--- a run from `i` ends at `i` or further on, and no further than the text
+-- A run from `i` ends at `i` or later, and not after the end of the text.
 abbrev pub Goes : List ℕ → ℕ → ℕ → Type 0
 Goes w i j = (i ≤ j) × (i < j → j ≤ length w)
 
@@ -80,7 +80,7 @@ module _ (w : List ℕ) (body : ℕ → List Step) (goes : (i : ℕ) → Ends (G
       (λ e. (p, tt)))
       (body i) (goes i))
 
-  -- the rounds are the same by any count that is large enough
+  -- The rounds are the same for every counter that is large enough.
   pub rounds-same : (greedy : Bool) (n m i : ℕ) → length w ≤ n + i → length w ≤ m + i → rounds body greedy n i ≡ rounds body greedy m i
   rounds-same greedy zero zero i p q = refl
   rounds-same greedy zero (suc m) i p q =
@@ -99,7 +99,7 @@ module _ (w : List ℕ) (body : ℕ → List Step) (goes : (i : ℕ) → Ends (G
       (λ lt. rounds-same greedy n m j (omega arith) (omega arith)))
       (body i) (goes i))
 
--- each end of a run from `i` is at `i` or further on, and no further than the text
+-- Each end of a run from `i` is at `i` or later, and not after the end of the text.
 pub run_goes : (t : Tree) (w : List ℕ) (i : ℕ) → Ends (Goes w i) (run t w i)
 run_goes empty w i = ((omega arith, λ h. omega arith), tt)
 run_goes (one set) w i =
@@ -114,8 +114,8 @@ run_goes (both e f) w i =
 run_goes (either e f) w i = Ends-append (Goes w i) (run e w i) (run f w i) (run_goes e w i) (run_goes f w i)
 run_goes (many e greedy) w i = rounds_go w (run e w) (run_goes e w) greedy (length w - i) i
 
--- the rule of `many`: each end of the body further on is followed by the whole again, an end at the same place is kept, and
--- one more end stands where the flag says
+-- The rule of `many`: each end of the body that lies further on is followed by the whole loop again, an end at the same
+-- position is kept, and the flag says where one more end is.
 pub run-many : (e : Tree) (greedy : Bool) (w : List ℕ) (i : ℕ)
     → run (many e greedy) w i ≡ one_more greedy (end i) (onward (run e w i) (λ j. if nat_lt i j then run (many e greedy) w j else end j ∷ []))
 run-many e greedy w i =

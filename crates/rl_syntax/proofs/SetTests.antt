@@ -1,4 +1,4 @@
--- The sets of the line feed and of every code.
+-- The sets of the line feed and of all codes.
 use Rattle.std.proofs.Common.{◌≡◌, ℕ, ◌-◌, List, ap, ◌∙◌, arith}
 use Rattle.std.proofs.lemmas.Bool.Decides.{nat_tests}
 use Rattle.rl_ranges.specs.declared.universe.Universe.{Universe}

@@ -1,4 +1,4 @@
--- Stars under stars span what one star spans. Trees that span alike may stand for one another in every place of a tree.
+-- Nested stars span what a single star spans. Trees that span the same may replace each other anywhere in a tree.
 use Rattle.std.proofs.Common.{◌≡◌, ◌⊎◌, ℕ, zero, suc, ◌-◌, ◌≤◌, Bool, true, false, ◌==◌, List, [], ◌∷◌, ◌++◌, replicate, Option, Some, None, sym, subst, arith}
 use Rattle.std.proofs.lemmas.Bool.{eqb-true, eqb-false, cases_Bool}
 use mathlib.Core.Logic.{inl, inr, ⊎_elim}
@@ -12,7 +12,7 @@ rounds_le : {R : ℕ → ℕ → Type 0} {i j : ℕ} → Rounds R i j → i ≤ 
 rounds_le stop = omega arith
 rounds_le (again l r h) = omega (arith, l, rounds_le h)
 
--- a span goes forward
+-- A span never goes backward.
 pub spans_le : (t : Tree) (w : List ℕ) (i j : ℕ) → Spans t w i j → i ≤ j
 spans_le empty w i j h = omega (arith, h)
 spans_le (one set) w i j h = omega (arith, h.1)
@@ -30,7 +30,7 @@ rounds_map : {R S : ℕ → ℕ → Type 0} → ((i j : ℕ) → R i j → S i j
 rounds_map f stop = stop
 rounds_map f (again {i = i} {k = k} l r h) = again l (f i k r) (rounds_map f h)
 
--- the same from a step that may stand still
+-- The same, after a step that may stay at its position.
 step_on : {R : ℕ → ℕ → Type 0} {i k j : ℕ} → i ≤ k → R i k → Rounds R k j → Rounds R i j
 step_on {R} {i} {k} {j} l r h = ⊎_elim (λ (z : (i == k) ≡ true). subst (λ m. Rounds R m j) (sym (eqb-true i k z)) h) (λ (z : (i == k) ≡ false). again (omega (arith, l, eqb-false i k z)) r h) (cases_Bool (i == k))
 
@@ -60,7 +60,7 @@ maybe_flat (again l (inr e) h) = absurd (omega (arith, l, e))
 once_more : {R : ℕ → ℕ → Type 0} (i j : ℕ) → R i j → i ≤ j → Rounds R i j
 once_more i j r l = step_on l r stop
 
--- an option spans what its tree does, or nothing
+-- An option spans what its tree spans, or nothing.
 option_to : (greedy : Bool) (t : Tree) (w : List ℕ) (i j : ℕ) → Spans (option_of greedy t) w i j → Maybe (Spans t w) i j
 option_to true t w i j h = h
 option_to false t w i j (inl e) = inr e
@@ -71,14 +71,14 @@ option_from true t w i j h = h
 option_from false t w i j (inl h) = inr h
 option_from false t w i j (inr e) = inl e
 
--- the four star equations
+-- The four star equations.
 pub stars : (l : ℕ) (m : Option ℕ) (least : ℕ) (most : Option ℕ) (inner outer : Bool) (t : Tree) → AllowedPair l m least most → SameSpans (times least most outer (times l m inner t)) (times least most outer t)
 stars l m least most inner outer t any_in_any w i j = (λ h. rounds_flat h, λ h. rounds_map (λ a b r. once_more a b r (spans_le t w a b r)) h)
 stars l m least most inner outer t some_in_any w i j = (λ h. plus_flat (spans_le t w) h, λ h. rounds_map (plus_of (spans_le t w)) h)
 stars l m least most inner outer t option_in_any w i j = (λ h. maybe_flat (rounds_map (option_to inner t w) h), λ h. rounds_map (λ a b r. option_from inner t w a b (inl r)) h)
 stars l m least most inner outer t some_in_some w i j = (λ (k, (n, r, rs), h). (n, r, rounds_join rs (plus_flat (spans_le t w) h)), λ (k, r, rs). (j, (k, r, rs), stop))
 
--- congruence
+-- Congruence.
 pub same_refl : (t : Tree) → SameSpans t t
 same_refl t w i j = (λ h. h, λ h. h)
 

@@ -13,7 +13,7 @@ one_of-last [] t us = refl
 one_of-last (s ∷ []) t us = refl
 one_of-last (s ∷ r ∷ ts) t us = ap (either s) (one_of-last (r ∷ ts) t us)
 
--- the trees as one tree, where there is one
+-- The trees as a single tree, if there are any.
 abbrev pub joined : List Tree → List Tree
 joined [] = []
 joined (t ∷ ts) = in_turn (t ∷ ts) ∷ []
@@ -34,11 +34,11 @@ joined-tail : (greedy : Bool) (t : Tree) (least : ℕ) (most : Option ℕ) → j
 joined-tail greedy t least None = refl
 joined-tail greedy t least (Some most) = joined-options greedy t (most - least)
 
--- no copy yet in front
+-- There is no copy in front yet.
 pub joined-start : (greedy : Bool) (t : Tree) (least : ℕ) (most : Option ℕ) (us : List Tree) → us ≡ tail_of greedy t least most → us ≡ joined (tail_of greedy t least most)
 joined-start greedy t least most us e = e ∙ sym (joined-tail greedy t least most)
 
--- one more copy in front
+-- One more copy in front.
 pub joined-copy : (n : ℕ) (t r : Tree) (us tail : List Tree) → us ≡ joined (replicate n t ++ tail) → r ≡ in_turn (t ∷ us) → r ∷ [] ≡ joined (replicate (n + 1) t ++ tail)
 joined-copy n t r us tail e f =
     ap (λ x. x ∷ []) f
@@ -46,7 +46,7 @@ joined-copy n t r us tail e f =
     ∙ joined-cons t (replicate n t ++ tail)
     ∙ ap (λ m. joined (replicate m t ++ tail)) (sym (add-one n))
 
--- one more copy in front of those that may be left out
+-- One more copy in front of the optional ones.
 pub options-copy : (n : ℕ) (greedy : Bool) (t r : Tree) (us : List Tree) → us ≡ options greedy t n → r ≡ option_of greedy (in_turn (t ∷ us)) → r ∷ [] ≡ options greedy t (n + 1)
 options-copy n greedy t r us e f =
     ap (λ x. x ∷ []) f

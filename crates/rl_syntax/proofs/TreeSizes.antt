@@ -5,12 +5,12 @@ use Rattle.rl_syntax.specs.Tree.{Tree, size, capped}
 use Rattle.rl_syntax.specs.Lowering.{in_turn, one_of, option_of, options, tail_of, times}
 use Rattle.rl_syntax.specs.Counting.{joined_nodes}
 
--- the nodes of all the trees
+-- The number of nodes of all trees together.
 abbrev pub all_nodes : List Tree → ℕ
 all_nodes [] = 0
 all_nodes (t ∷ ts) = size t + all_nodes ts
 
--- the trees one after another have their nodes and those that join them
+-- The trees in sequence have their own nodes and those that join them.
 pub size-in_turn : (ts : List Tree) → size (in_turn ts) ≡ joined_nodes (length ts) (all_nodes ts)
 size-in_turn [] = refl
 size-in_turn (t ∷ []) = omega arith
@@ -21,12 +21,12 @@ size-one_of [] = refl
 size-one_of (t ∷ []) = omega arith
 size-one_of (t ∷ u ∷ us) = let e : size (one_of (u ∷ us)) ≡ joined_nodes (length (u ∷ us)) (all_nodes (u ∷ us)) = size-one_of (u ∷ us) in omega arith
 
--- the nodes of the trees, and one for each of them
+-- The nodes of the trees, plus one for each tree.
 abbrev pub weight : List Tree → ℕ
 weight [] = 0
 weight (t ∷ ts) = suc (size t) + weight ts
 
--- joined, they have one node less
+-- Joined, they have one node less.
 abbrev pub less_one : ℕ → ℕ
 less_one zero = 1
 less_one (suc n) = n
@@ -60,7 +60,7 @@ weight-options greedy t (suc (suc k)) =
     let g : suc (suc k) * (size t + 3) ≡ (size t + 3) + suc k * (size t + 3) = grind arith in
     omega arith
 
--- what the copies after the least number weigh
+-- The weight of the copies after the required ones.
 abbrev pub tail_weight : ℕ → Option ℕ → ℕ → ℕ
 tail_weight least None nodes = nodes + 2
 tail_weight least (Some most) nodes = (most - least) * (nodes + 3)
@@ -74,7 +74,7 @@ size-times least most greedy t =
     size-weight (replicate least t ++ tail_of greedy t least most)
     ∙ ap less_one (weight-copies least t (tail_of greedy t least most) ∙ ap (λ n. least * (size t + 1) + n) (weight-tail greedy t least most))
 
--- a number past the greatest stays past it when it is less one
+-- A number above the cap is still capped when it is one less.
 capped-less_one : (n : ℕ) → 18446744073709551615 < n → capped (less_one n) ≡ 18446744073709551615
 capped-less_one zero h = absurd (omega arith)
 capped-less_one (suc n) h = omega arith
@@ -88,7 +88,7 @@ past_copies zero (suc k) y s h p q =
     let e : suc k * (s + y) ≡ (s + y) + k * (s + y) = grind arith in
     omega arith
 
--- copies of a capped size have the same capped size
+-- Copies of a tree with a capped size have the same capped size.
 pub capped-copies : (a k y s : ℕ) → 0 < y → capped (less_one (a * (capped s + 1) + k * (capped s + y))) ≡ capped (less_one (a * (s + 1) + k * (s + y)))
 capped-copies a k y s p =
     ⊎_elim (λ h.

@@ -1,7 +1,9 @@
--- Pairs of an inner quantifier and an outer one of which the outer one alone spans as much. Greedy and lazy ones count alike.
+-- Pairs of an inner and an outer quantifier in which the inner one is redundant: with the outer one only, the same is
+-- spanned. Greedy and lazy quantifiers aren't distinguished.
 use Rattle.std.specs.Prelude.{ℕ, Option, None, Some}
 
--- the least and the greatest number of the inner quantifier, then those of the outer one
+-- The two pairs of bounds are those of nested quantifiers that may be merged: minimum and maximum of the inner one, then of
+-- the outer one. `None` as a maximum means unbounded.
 pub data AllowedPair : ℕ → Option ℕ → ℕ → Option ℕ → Type 0 where
   any_in_any : AllowedPair 0 None 0 None
   some_in_any : AllowedPair 1 None 0 None

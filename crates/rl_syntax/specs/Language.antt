@@ -1,14 +1,15 @@
--- Language. A tree spans two places of a text where it may match the codes between them. A text is in the language of a tree
--- that spans its start and its end. These are the regular languages of any textbook, with guards.
+-- Languages. A tree spans two positions of a text if it can match the characters between them. A text is in the tree's
+-- language if the tree spans its start and its end. These are the regular languages of any textbook, with guards added.
 use Rattle.std.specs.Prelude.{◌≡◌, ℕ, suc, ◌<◌, ◌⊎◌, IsTrue, List, slice_get}
 use Rattle.rl_syntax.specs.Guards.{is_in, holds_at}
 use Rattle.rl_syntax.specs.Tree.{Tree, empty, one, guard, both, either, many}
 
--- from place to place by any number of steps of `R` that each go forward
+-- `R` leads from the first position to the second in any number of rounds, each of which moves forward.
 pub data Rounds (R : ℕ → ℕ → Type 0) : ℕ → ℕ → Type 0 where
   stop : {i : ℕ} → Rounds R i i
   again : {i k j : ℕ} → i < k → R i k → Rounds R k j → Rounds R i j
 
+-- The tree can match the characters of the text `w` from position `i` up to position `j`.
 abbrev pub Spans : Tree → List ℕ → ℕ → ℕ → Type 0
 Spans empty w i j = i ≡ j
 Spans (one set) w i j = IsTrue (is_in set (slice_get w i)) × (suc i ≡ j)

@@ -1,5 +1,5 @@
--- Lowering. A pattern's tree: a class is its set, items in turn nest to the right, and so do branches; a group is its body; a
--- repeat is copies of its body, and anchors and boundaries are guards.
+-- Lowering: the tree of a pattern. A class becomes its set, sequences and choices nest to the right, a group becomes its
+-- body, a repeat becomes copies of its body, and anchors and word boundaries become guards.
 use Rattle.std.specs.Prelude.{ℕ, zero, suc, ◌-◌, Bool, true, false, List, [], ◌∷◌, ◌++◌, Option, None, Some, replicate, if◌then◌else◌}
 use Rattle.rl_syntax.specs.declared.anchors.AnchorKind.{AnchorKind}
 use Rattle.rl_syntax.specs.declared.anchors.AnchorKind.TheVariants.{Caret, TextStart, Dollar, TextEnd}
@@ -8,50 +8,51 @@ use Rattle.rl_syntax.specs.declared.anchors.Guard.TheVariants.{Start, LineStart,
 use Rattle.rl_syntax.specs.Tree.{Tree, empty, one, guard, both, either, many}
 use Rattle.rl_syntax.specs.PatTree.{PatTree, PatTrees, BranchTrees, nothing, class, seq, choice, repeat, group, anchor, boundary, outside, no_items, item, no_branches, branch}
 
--- trees one after another; none is nothing
+-- The trees one after another, nested to the right. An empty list gives the empty tree.
 abbrev pub in_turn : List Tree → Tree
 in_turn [] = empty
 in_turn (t ∷ []) = t
 in_turn (t ∷ u ∷ us) = both t (in_turn (u ∷ us))
 
--- one of the trees, the earlier ones tried first
+-- A choice between the trees, in which earlier ones are tried first. An empty list gives the empty tree.
 abbrev pub one_of : List Tree → Tree
 one_of [] = empty
 one_of (t ∷ []) = t
 one_of (t ∷ u ∷ us) = either t (one_of (u ∷ us))
 
--- the tree or nothing; a greedy one tries the tree first
+-- The optional tree. If the flag is `true` (greedy), the tree is tried before nothing.
 abbrev pub option_of : Bool → Tree → Tree
 option_of true t = either t empty
 option_of false t = either empty t
 
--- up to so many copies, each of which is left out only with those after it: no tree where there is none, else one
+-- Up to `k` optional copies of the tree, each nested in the one before it, as a list of at most one tree. The list is empty
+-- if `k` is 0.
 abbrev pub options : Bool → Tree → ℕ → List Tree
 options greedy t zero = []
 options greedy t (suc k) = option_of greedy (in_turn (t ∷ options greedy t k)) ∷ []
 
--- what follows the least number of copies
+-- What follows the required copies of a repeat: a loop if there is no maximum, otherwise the optional copies.
 abbrev pub tail_of : Bool → Tree → ℕ → Option ℕ → List Tree
 tail_of greedy t least None = many t greedy ∷ []
 tail_of greedy t least (Some most) = options greedy t (most - least)
 
--- the tree from a least up to a greatest number of times
+-- The tree repeated `least` to `most` times.
 abbrev pub times : ℕ → Option ℕ → Bool → Tree → Tree
 times least most greedy t = in_turn (replicate least t ++ tail_of greedy t least most)
 
--- the guard of an anchor; the flag is MULTILINE. A `$` without it is in no body.
+-- The guard of an anchor. The flag is MULTILINE. A `$` without MULTILINE never occurs in a body.
 abbrev pub guard_of : AnchorKind → Bool → Guard
 guard_of Caret multiline = if multiline then LineStart else Start
 guard_of TextStart multiline = Start
 guard_of Dollar multiline = LineEnd
 guard_of TextEnd multiline = AtTextEnd
 
--- the guard of a boundary; the flags say that it is a `\B`, and that words are the ASCII ones
+-- The guard of a word boundary. The flags say whether it is `\B` and whether words are ASCII words.
 abbrev pub boundary_guard : Bool → Bool → Guard
 boundary_guard negated ascii = if negated then NotWord ascii else Word ascii
 
 abbrev mutual
-  -- the tree of a pattern. A feature that isn't judged is in no body.
+  -- The tree of a pattern. A feature that isn't judged never occurs in a body.
   pub lowered : PatTree → Tree
   lowered (nothing span) = empty
   lowered (class span set) = one set
@@ -63,10 +64,12 @@ abbrev mutual
   lowered (boundary span negated ascii) = guard (boundary_guard negated ascii)
   lowered (outside span what) = empty
 
+  -- The trees of the items, in order.
   pub items_lowered : PatTrees → List Tree
   items_lowered no_items = []
   items_lowered (item p ps) = lowered p ∷ items_lowered ps
 
+  -- The trees of the branches, in order.
   pub branches_lowered : BranchTrees → List Tree
   branches_lowered no_branches = []
   branches_lowered (branch span p bs) = lowered p ∷ branches_lowered bs

@@ -1,4 +1,5 @@
--- Patterns as trees. A pattern is seen as the tree of its parts with their places, in which a class is the test of its codes.
+-- Patterns as trees. Contracts see a pattern as the tree of its parts with their positions, in which a class is the test of
+-- its characters.
 use Rattle.std.specs.Prelude.{ℕ, Bool, List, [], ◌∷◌, Option}
 use Rattle.rl_ranges.specs.Codes.{has}
 use Rattle.rl_syntax.specs.declared.span.Span.{Span}
@@ -9,45 +10,49 @@ use Rattle.rl_syntax.specs.declared.pat.Pat.TheOpen as Open
 use Rattle.rl_syntax.specs.declared.pat.Pat.TheFolds.{fold-Pat}
 
 mutual
+  -- A pattern or a part of one.
   pub data PatTree : Type 0 where
-    -- a branch without an item
+    -- An empty branch.
     nothing : Span → PatTree
-    -- one code of a set
+    -- One character of a set.
     class : Span → (ℕ → Bool) → PatTree
-    -- items one after another
+    -- A sequence of items.
     seq : Span → PatTrees → PatTree
-    -- one of several branches
+    -- A choice between branches.
     choice : Span → BranchTrees → PatTree
-    -- the body from a least up to a greatest number of times, with the span of the quantifier; the flag says that it is greedy
+    -- The body repeated between a minimum and a maximum number of times. The second span is the quantifier's, and the flag
+    -- says whether it is greedy.
     repeat : Span → Span → ℕ → Option ℕ → Bool → PatTree → PatTree
-    -- a group; the flag says that it captures
+    -- A group. The flag says whether it captures.
     group : Span → Bool → PatTree → PatTree
-    -- an anchor, and whether MULTILINE is in force
+    -- An anchor, and whether MULTILINE is in force.
     anchor : Span → AnchorKind → Bool → PatTree
-    -- a boundary; the flags say that it is a `\B`, and that words are the ASCII ones
+    -- A word boundary. The flags say whether it is `\B` and whether words are ASCII words.
     boundary : Span → Bool → Bool → PatTree
-    -- a feature that isn't judged
+    -- A feature that isn't judged.
     outside : Span → Feature → PatTree
 
+  -- A sequence of items.
   pub data PatTrees : Type 0 where
     no_items : PatTrees
     item : PatTree → PatTrees → PatTrees
 
+  -- The branches of a choice, each with its span.
   pub data BranchTrees : Type 0 where
     no_branches : BranchTrees
     branch : Span → PatTree → BranchTrees → BranchTrees
 
--- a list of items
+-- Turns a list of items into a sequence.
 abbrev pub items_of : List PatTree → PatTrees
 items_of [] = no_items
 items_of (p ∷ ps) = item p (items_of ps)
 
--- a list of branches, each with its span
+-- Turns a list of branches, each with its span, into the branches of a choice.
 abbrev pub branches_of : List (Span × PatTree) → BranchTrees
 branches_of [] = no_branches
 branches_of (b ∷ bs) = branch b.0 b.1 (branches_of bs)
 
--- one layer of the program's value
+-- The tree of the program's value, given the trees of its parts.
 abbrev pub layer_of : Open.Pat-F PatTree (Span × PatTree) → PatTree
 layer_of (Open.Pat-F.Nothing span) = nothing span
 layer_of (Open.Pat-F.Class span set) = class span (has set)
@@ -59,9 +64,10 @@ layer_of (Open.Pat-F.Anchor span kind multiline) = anchor span kind multiline
 layer_of (Open.Pat-F.Boundary span negated ascii) = boundary span negated ascii
 layer_of (Open.Pat-F.Outside span what) = outside span what
 
+-- The span and the body of the program's branch.
 abbrev pub branch_of : Open.Branch-F PatTree (Span × PatTree) → Span × PatTree
 branch_of b = (b.span, b.body)
 
--- the tree that the program's value is
+-- The tree that contracts see in place of the program's value.
 abbrev pub pat_of : Pat → PatTree
 pat_of = fold-Pat PatTree (Span × PatTree) layer_of branch_of

@@ -1,34 +1,36 @@
--- Run. What a backtracking matcher does on a text from a place on, in order: each test of a code against a set, and each
--- place at which the tree has ended. This is the matcher of Weideman, van der Merwe, Berglund and Watson (2016), as a
--- recursion on the tree. A round of `many` that took no code isn't followed by another.
+-- Runs: what a backtracking matcher does on a text from a position on, in order. It tests characters against sets, and it
+-- notes each position at which the tree has ended. This is the matcher of Weideman, van der Merwe, Berglund and Watson
+-- (2016), written as a recursion on the tree. A round of `many` that consumed no character isn't followed by another.
 use Rattle.std.specs.Prelude.{ℕ, zero, suc, ◌-◌, Bool, true, false, nat_lt, List, [], ◌∷◌, ◌++◌, length, slice_get, if◌then◌else◌}
 use Rattle.rl_syntax.specs.Guards.{is_in, holds_at}
 use Rattle.rl_syntax.specs.Tree.{Tree, empty, one, guard, both, either, many}
 
+-- A step of a run.
 pub data Step : Type 0 where
-  -- a code, or the text's end, is tested against a set
+  -- The character at the current position, or the end of the text, is tested against a set.
   test : Step
-  -- the tree has ended at a place
+  -- The tree has ended at this position.
   end : ℕ → Step
 
--- the steps with each end replaced by what follows from its place
+-- The steps, with each end replaced by the steps that follow from its position.
 abbrev pub onward : List Step → (ℕ → List Step) → List Step
 onward [] next = []
 onward (test ∷ steps) next = test ∷ onward steps next
 onward (end j ∷ steps) next = next j ++ onward steps next
 
--- one more item: at the end where the flag is true, and in front where it is false
+-- The list with one more item: at the end if the flag is `true`, in front if it is `false`.
 abbrev pub one_more : {A : Type 0} → Bool → A → List A → List A
 one_more true x l = l ++ x ∷ []
 one_more false x l = x ∷ l
 
--- at most so many rounds of the body and one more, from a place on
+-- The run of a loop from position `i` on: at most `n` rounds of the body, and one more.
 abbrev pub rounds : (ℕ → List Step) → Bool → ℕ → ℕ → List Step
 rounds body greedy zero i = one_more greedy (end i) (body i)
 rounds body greedy (suc n) i =
     one_more greedy (end i) (onward (body i) (λ j. if nat_lt i j then rounds body greedy n j else end j ∷ []))
 
--- the run of a tree on a text from a place on. As each round of `many` takes a code, the codes that are left bound the rounds.
+-- The run of the tree on the text `w` from position `i` on. Each round of `many` consumes a character, so the number of
+-- characters left bounds the rounds.
 abbrev pub run : Tree → List ℕ → ℕ → List Step
 run empty w i = end i ∷ []
 run (one set) w i = test ∷ (if is_in set (slice_get w i) then end (suc i) ∷ [] else [])

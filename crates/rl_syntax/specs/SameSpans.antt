@@ -1,24 +1,24 @@
--- What two trees span alike: the same places of every text, the same places of every text of a universe, or the same texts of a
--- universe, which is one language.
+-- Three ways in which trees can be equivalent: they span the same positions of every text, the same positions of every text
+-- of a universe, or the same whole texts of a universe (one language).
 use Rattle.std.specs.Prelude.{ℕ, List, length, ◌↔◌}
 use Rattle.rl_ranges.specs.declared.universe.Universe.{Universe}
 use Rattle.rl_ranges.specs.Text.{IsText}
 use Rattle.rl_syntax.specs.Tree.{Tree, empty, one, guard, both, either, many}
 use Rattle.rl_syntax.specs.Language.{Spans}
 
--- the same places of every text
+-- The trees span the same positions of every text.
 abbrev pub SameSpans : Tree → Tree → Type 0
 SameSpans s t = (w : List ℕ) (i j : ℕ) → Spans s w i j ↔ Spans t w i j
 
--- the same places of every text of the universe
+-- The trees span the same positions of every text of the universe.
 abbrev pub SamePlaces : Universe → Tree → Tree → Type 0
 SamePlaces u s t = (w : List ℕ) → IsText u w → (i j : ℕ) → Spans s w i j ↔ Spans t w i j
 
--- the same texts of the universe
+-- The trees have the same language over the universe: they match the same whole texts.
 abbrev pub OneLanguage : Universe → Tree → Tree → Type 0
 OneLanguage u s t = (w : List ℕ) → IsText u w → Spans s w 0 (length w) ↔ Spans t w 0 (length w)
 
--- no guard is in the tree
+-- The tree contains no guard.
 abbrev pub Unguarded : Tree → Type 0
 Unguarded empty = Unit {0}
 Unguarded (one set) = Unit {0}

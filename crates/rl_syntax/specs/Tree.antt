@@ -1,4 +1,4 @@
--- Trees. A lowered pattern is a tree of the operators of the Python `re` manual, in which a set is the test of its codes.
+-- Trees. A lowered pattern is a tree of the operators of Python's `re`, in which a set is the test of its characters.
 use Rattle.std.specs.Prelude.{ℕ, suc, ◌+◌, ◌<◌, Bool, IsTrue, List, [], ◌∷◌, ◌++◌, min}
 use Rattle.rl_ranges.specs.Codes.{has}
 use Rattle.rl_ranges.specs.Text.{code_count}
@@ -7,21 +7,22 @@ use Rattle.rl_syntax.specs.declared.anchors.Guard.{Guard}
 use Rattle.rl_syntax.specs.declared.re.Re.{Re, Empty, One, Both', Either', Many', Guard as GuardRe}
 use Rattle.rl_syntax.specs.Guards.{sets_named}
 
+-- A lowered pattern.
 pub data Tree : Type 0 where
-  -- nothing
+  -- Matches the empty text.
   empty : Tree
-  -- one code of a set
+  -- Matches one character of the set.
   one : (ℕ → Bool) → Tree
-  -- a test of the place
+  -- Tests the position.
   guard : Guard → Tree
-  -- the one and then the other
+  -- The first tree, then the second.
   both : Tree → Tree → Tree
-  -- the one or the other, the first tried first
+  -- Either tree. The first one is tried first.
   either : Tree → Tree → Tree
-  -- any number of times; the flag says that one more is tried before none
+  -- The tree any number of times. If the flag is `true` (greedy), one more repetition is tried before stopping.
   many : Tree → Bool → Tree
 
--- the tree that the program's value is
+-- The tree that contracts see in place of the program's value.
 abbrev pub tree_of : Re → Tree
 tree_of Empty = empty
 tree_of (One set) = one (has set)
@@ -30,7 +31,7 @@ tree_of (Both' p e q f) = both (tree_of e) (tree_of f)
 tree_of (Either' p e q f) = either (tree_of e) (tree_of f)
 tree_of (Many' p e greedy) = many (tree_of e) greedy
 
--- the number of nodes
+-- The number of nodes of the tree.
 abbrev pub size : Tree → ℕ
 size empty = 1
 size (one set) = 1
@@ -39,11 +40,11 @@ size (both e f) = suc (size e + size f)
 size (either e f) = suc (size e + size f)
 size (many e greedy) = suc (size e)
 
--- a number as far as the program's numbers of 64 bits go
+-- The number, or 2^64 - 1 if it is larger.
 abbrev pub capped : ℕ → ℕ
 capped n = min n 18446744073709551615
 
--- the number of places, which are the tree's sets, counted from left to right
+-- The number of sets in the tree. The places of a tree are its sets, numbered from left to right.
 abbrev pub places : Tree → ℕ
 places empty = 0
 places (one set) = 1
@@ -52,7 +53,7 @@ places (both e f) = places e + places f
 places (either e f) = places e + places f
 places (many e greedy) = places e
 
--- the sets of the places, from left to right
+-- The sets in the tree, from left to right.
 abbrev pub sets_in : Tree → List (ℕ → Bool)
 sets_in empty = []
 sets_in (one set) = set ∷ []
@@ -61,7 +62,7 @@ sets_in (both e f) = sets_in e ++ sets_in f
 sets_in (either e f) = sets_in e ++ sets_in f
 sets_in (many e greedy) = sets_in e
 
--- the guards, from left to right
+-- The guards in the tree, from left to right.
 abbrev pub guards_in : Tree → List Guard
 guards_in empty = []
 guards_in (one set) = []
@@ -70,7 +71,7 @@ guards_in (both e f) = guards_in e ++ guards_in f
 guards_in (either e f) = guards_in e ++ guards_in f
 guards_in (many e greedy) = guards_in e
 
--- the sets that the guards name, from left to right
+-- The sets that the tree's guards use, from left to right.
 abbrev pub guard_sets : Tree → List (ℕ → Bool)
 guard_sets empty = []
 guard_sets (one set) = []
@@ -79,16 +80,16 @@ guard_sets (both e f) = guard_sets e ++ guard_sets f
 guard_sets (either e f) = guard_sets e ++ guard_sets f
 guard_sets (many e greedy) = guard_sets e
 
--- the set lies in the universe
+-- The set holds only codes of the universe.
 abbrev pub LiesIn : Universe → (ℕ → Bool) → Type 0
 LiesIn universe set = (code : ℕ) → IsTrue (set code) → code < code_count universe
 
--- each set of the list lies in the universe
+-- Each set of the list holds only codes of the universe.
 abbrev pub AllLieIn : Universe → List (ℕ → Bool) → Type 0
 AllLieIn universe [] = Unit {0}
 AllLieIn universe (set ∷ sets) = LiesIn universe set × AllLieIn universe sets
 
--- the tree's sets, and the sets that its guards name, lie in the universe
+-- The tree's sets, and the sets that its guards use, hold only codes of the universe.
 abbrev pub IsOver : Universe → Tree → Type 0
 IsOver universe empty = Unit {0}
 IsOver universe (one set) = LiesIn universe set

@@ -1,4 +1,4 @@
-//! Anchors, and the tests of a place of a text that trees keep of them.
+//! Anchors, and the guards that trees keep of them.
 
 /// An anchor as it is written.
 #[derive(Clone, Copy)]
@@ -16,18 +16,18 @@ pub enum AnchorKind {
 /// The anchors at the end of a pattern.
 #[derive(Clone, Copy, PartialEq, Eq)]
 pub enum Trail {
-    /// There is none.
+    /// There are none.
     None,
-    /// `$` alone, which also holds before a last line feed.
+    /// Only `$`. It also matches before a line feed that ends the text.
     Dollar,
-    /// `\Z` is among them.
+    /// `\Z`, possibly along with `$`.
     End,
 }
 
-/// A test of a place of a text, which reads no code of it.
+/// A test of a position in a text. It reads no character.
 #[derive(Clone, Copy)]
 pub enum Guard {
-    /// The text starts here: `\A`, and `^` without MULTILINE.
+    /// The text starts here: `\A`, or `^` without MULTILINE.
     Start,
     /// A line starts here: `^` with MULTILINE.
     LineStart,
@@ -35,8 +35,8 @@ pub enum Guard {
     LineEnd,
     /// The text ends here: `\Z`.
     TextEnd,
-    /// A word starts or ends here: `\b`. The flag says that words are the ASCII ones.
+    /// A word starts or ends here: `\b`. If the flag is `true`, words are ASCII words.
     Word(bool),
-    /// No word starts or ends here: `\B`. The flag says that words are the ASCII ones.
+    /// No word starts or ends here: `\B`. If the flag is `true`, words are ASCII words.
     NotWord(bool),
 }

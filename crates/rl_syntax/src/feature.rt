@@ -1,34 +1,34 @@
-//! What a pattern may hold that isn't judged.
+//! Features of patterns that aren't judged.
 
-/// A feature of Python's `re` that no pattern here may hold. Of two features at one place the one that stands first in this
-/// list is named.
+/// A feature of Python's `re` that excludes a pattern from judgement. If two features occur at the same position, the one
+/// listed first here is reported.
 #[derive(Clone, Copy, Debug, PartialEq, Eq)]
 pub enum Feature {
     /// The flag LOCALE.
     Locale,
-    /// Flags that exclude one another.
+    /// Flags that exclude each other.
     FlagClash,
-    /// A second group of one name.
+    /// A second group with the same name.
     DuplicateName,
-    /// An escape of a code that is too large.
+    /// An escape for a code point that is too large.
     CodeTooLarge,
-    /// A range of a class with its greater code first.
+    /// A range in a class whose first code is greater than its last.
     ReversedRange,
-    /// A number of a quantifier that is too large.
+    /// A repeat count that is too large.
     RepeatTooLarge,
-    /// A quantifier whose greatest number is below its least.
+    /// A quantifier whose maximum is less than its minimum.
     RepeatOrder,
-    /// A quantifier that gives nothing back, as `a*+`.
+    /// A possessive quantifier, such as `a*+`.
     Possessive,
-    /// A reference to what a group matched, as `\1` or `(?P=name)`.
+    /// A reference to what a group matched, such as `\1` or `(?P=name)`.
     Backreference,
-    /// A group that looks ahead or behind, as `(?=a)`.
+    /// A lookahead or lookbehind, such as `(?=a)`.
     Lookaround,
-    /// A choice by whether a group matched, `(?(1)a|b)`.
+    /// A conditional, such as `(?(1)a|b)`.
     Conditional,
-    /// A group that is tried once, `(?>a)`.
+    /// An atomic group, such as `(?>a)`.
     Atomic,
-    /// A code by its Unicode name, `\N{..}`.
+    /// A character given by its Unicode name, `\N{..}`.
     NamedEscape,
     /// A `$` without MULTILINE that isn't at the end of the pattern.
     InnerAnchor,

@@ -1,17 +1,17 @@
 //! Patterns as they are written, the trees that they are lowered to, and what both mean: languages, runs and costs.
 //!
-//! A [`Pattern`] has the parts of a pattern with their places; its outer anchors are taken off and noted apart. [`lower`]
-//! makes of it, in a [`Mode`] such as `search`, a [`Lowered`]: a [`Re`], which is a tree of six forms, and an [`Ending`],
-//! which says where a match may end. [`size_after`] counts the nodes beforehand. [`Verdict`], [`Family`] and [`Suggestion`]
-//! are what the crates above find out about a pattern.
+//! A [`Pattern`] holds the parts of a pattern with their positions. Its outer anchors are removed and noted separately.
+//! [`lower`] turns it, in a [`Mode`] such as `search`, into a [`Lowered`]: a [`Re`], which is a tree of six kinds of nodes,
+//! and an [`Ending`], which says where a match may end. [`size_after`] counts the nodes beforehand. [`Verdict`], [`Family`]
+//! and [`Suggestion`] are what the crates above find out about a pattern.
 //!
 //! # What is proved
 //!
-//! The tree is the one that the definition gives, and [`LowerError::TooLarge`] comes exactly where it would have more than
-//! 4,000 nodes, before any of it is built. Above all this crate defines what every promise on patterns speaks of: which
-//! places of a text a tree spans, the run of the backtracking matcher of Weideman and others (2016), and the cost, which
-//! counts the tests of that run up to the first hit. The module [`laws`] has the rule of repetition and the equations of
-//! stars.
+//! The tree is the one that the definition gives. [`LowerError::TooLarge`] is returned if and only if the tree would have
+//! more than 4,000 nodes, before any of it is built. This crate also defines what every promise about patterns refers to:
+//! which positions of a text a tree spans, the run of the backtracking matcher of Weideman and others (2016), and the cost,
+//! which counts the tests of that run up to the first hit. The module [`laws`] states the rule of repetition and the star
+//! equations.
 //!
 //! # Example
 //!

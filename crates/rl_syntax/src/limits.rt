@@ -1,4 +1,4 @@
-//! The limits on what is judged and compared. What passes one of them is answered by its name.
+//! The limits on what is judged and compared. If a limit is exceeded, the answer names it.
 
 ghost use Rattle.std.specs.Prelude.{◌≡◌};
 ghost use Rattle.rl_syntax.specs.declared.limits.TheConstants.{
@@ -9,22 +9,25 @@ ghost use Rattle.rl_syntax.specs.declared.limits.TheConstants.{
   MOST_SET_PAIRS,
 };
 
-/// The most nodes of a tree. A larger one isn't built from a pattern, and neither judged nor compared.
+/// The maximum number of nodes of a tree. A larger tree isn't built from a pattern, and it is neither judged nor compared.
 pub const MOST_NODES: u64 = 4_000;
 
-/// The most items of a list of a tree, and so the most moves of a state on a letter. With more there is no automaton.
+/// The maximum length of a tree's lists of items, and so the maximum number of moves from one state on one letter. If a
+/// list is longer, there is no automaton.
 pub const MOST_MOVES: usize = 256;
 
-/// The most counted sets of an automaton. With more a pattern isn't judged.
+/// The maximum number of counted sets of an automaton. A pattern with more isn't judged.
 pub const MOST_COUNTED_SETS: u32 = 20_000;
 
-/// The most live pairs of an automaton that a caller may allow. With more than the caller allows a pattern isn't judged.
+/// The largest limit on live pairs that a caller may set. A pattern whose automaton has more than the caller's limit isn't
+/// judged.
 pub const MOST_PAIRS: u32 = 1_000;
 
-/// The most set pairs that a caller may let a comparison look at. Where more are reached, it says so.
+/// The largest limit on set pairs that a caller may set for a comparison. A comparison that reaches more than the caller's
+/// limit reports it.
 pub const MOST_SET_PAIRS: u32 = 20_000;
 
-/// The numbers of the limits.
+/// Says which numbers the limits are.
 pub fn limits_are()
     ensures nodes { MOST_NODES ≡ 4000 }
     ensures moves { MOST_MOVES ≡ 256 }

@@ -1,4 +1,4 @@
-//! Lowering: from a pattern in a mode to its tree.
+//! Lowering: the step from a pattern in a mode to its tree.
 
 ghost use Rattle.std.specs.Prelude.{◌≡◌, ℕ, ◌<◌, ◌≤◌, false, [], ◌∷◌, map, IfOk, IfErr};
 ghost use Rattle.rl_syntax.specs.declared.re.LowerError.TheVariants as error;
@@ -21,11 +21,12 @@ use rl_lists::OutOfMemory;
 use rl_ranges::{CodeSet, Universe};
 use std::alloc::Global;
 
-/// The pattern's tree in the mode, and where a match may end.
+/// Builds the pattern's tree in a mode, and says where a match may end.
 ///
 /// # Errors
-/// [`LowerError::TooLarge`] where the tree would have more than [`MOST_NODES`], which is found before any of it is built;
-/// [`LowerError::OutOfMemory`] where there was no memory for it.
+/// - [`LowerError::TooLarge`] if the tree would have more than [`MOST_NODES`] nodes. This is found before any of it is
+///   built.
+/// - [`LowerError::OutOfMemory`] if there is no memory for the tree.
 pub fn lower(alloc: Global, p: &Pattern, mode: Mode) -> Result<Lowered, LowerError>
     ensures tree { IfOk result (λ l. tree_of l.tree ≡ pattern_tree p.now mode) }
     ensures ending { IfOk result (λ l. l.ending ≡ pattern_ending p.now mode) }
@@ -41,7 +42,7 @@ pub fn lower(alloc: Global, p: &Pattern, mode: Mode) -> Result<Lowered, LowerErr
     Ok(Lowered { tree, ending })
 }
 
-/// The pattern's tree in the mode, however large.
+/// Builds the pattern's tree in a mode, however large it is.
 fn tree_in_mode(alloc: Global, p: &Pattern, mode: Mode) -> Result<Re, OutOfMemory>
     ensures { IfOk result (λ re. tree_of re ≡ pattern_tree p.now mode) }
 {
@@ -56,7 +57,7 @@ fn tree_in_mode(alloc: Global, p: &Pattern, mode: Mode) -> Result<Re, OutOfMemor
     }
 }
 
-/// Where a match may end in the mode.
+/// Returns where a match may end in the mode.
 fn ending_in_mode(mode: Mode, trailing: Trail) -> Ending
     ensures { result ≡ ending_of mode trailing }
 {
@@ -66,7 +67,8 @@ fn ending_in_mode(mode: Mode, trailing: Trail) -> Ending
     }
 }
 
-/// The tree, if it could be built, with what the trailing anchor lets stand after it: a last line feed where it is `$` alone.
+/// Appends what the trailing anchor allows after the tree: a final line feed if the anchor is only `$`. Passes a failure
+/// on.
 fn with_trail(
     alloc: Global,
     trailing: Trail,
@@ -80,7 +82,7 @@ fn with_trail(
     }
 }
 
-/// The tree of a line feed or nothing, nothing tried first.
+/// Builds the tree for an optional line feed that prefers to match nothing.
 fn last_line_feed(alloc: Global) -> Result<Re, OutOfMemory>
     ensures { IfOk result (λ re. tree_of re ≡ Tree.either Tree.empty (Tree.one is_line_feed)) }
 {
@@ -88,7 +90,7 @@ fn last_line_feed(alloc: Global) -> Result<Re, OutOfMemory>
     Re::either(alloc, Re::Empty, line_feed)
 }
 
-/// The tree, if it could be built, after any codes of the universe, as few as it can, unless it is held to the start.
+/// Prepends as few characters as possible to the tree, unless a leading anchor ties it to the start. Propagates a failure.
 fn after_any(
     alloc: Global,
     universe: Universe,
@@ -104,7 +106,7 @@ fn after_any(
     }
 }
 
-/// The tree of any codes of the universe, as few as it can.
+/// Builds the tree for any number of characters of the universe, as few as possible.
 fn any_codes(alloc: Global, universe: Universe) -> Result<Re, OutOfMemory>
     ensures { IfOk result (λ re. tree_of re ≡ Tree.many (Tree.one (is_code universe)) false) }
 {
@@ -112,7 +114,7 @@ fn any_codes(alloc: Global, universe: Universe) -> Result<Re, OutOfMemory>
     Re::many(alloc, any, false)
 }
 
-/// The tree of a part of a pattern.
+/// Builds the tree of a part of a pattern.
 #[cycle(lowering)]
 fn lower_part(alloc: Global, part: &Pat) -> Result<Re, OutOfMemory>
     ensures { IfOk result (λ re. tree_of re ≡ lowered (pat_of part.now)) }
@@ -139,7 +141,7 @@ fn lower_part(alloc: Global, part: &Pat) -> Result<Re, OutOfMemory>
     }
 }
 
-/// The tree of items one after another.
+/// Builds the tree of a sequence of items.
 #[cycle(lowering)]
 fn lower_items(alloc: Global, items: &[Pat]) -> Result<Re, OutOfMemory>
     ensures { IfOk result (λ re. tree_of re ≡ in_turn (items_lowered (items_of (map pat_of items.now)))) }
@@ -155,7 +157,7 @@ fn lower_items(alloc: Global, items: &[Pat]) -> Result<Re, OutOfMemory>
     Ok(whole(rest))
 }
 
-/// The tree of one of several branches.
+/// Builds the tree of a choice between branches.
 #[cycle(lowering)]
 fn lower_branches(alloc: Global, branches: &[Branch]) -> Result<Re, OutOfMemory>
     ensures { IfOk result (λ re. tree_of re ≡ one_of (branches_lowered (branches_of (map branch_tree branches.now)))) }
@@ -171,7 +173,7 @@ fn lower_branches(alloc: Global, branches: &[Branch]) -> Result<Re, OutOfMemory>
     Ok(whole(rest))
 }
 
-/// The tree of a part repeated. The part is lowered anew for each copy.
+/// Builds the tree of a repeated part. The part is lowered again for each copy.
 #[cycle(lowering)]
 fn lower_repeat(
     alloc: Global,
@@ -199,7 +201,8 @@ fn lower_repeat(
     Ok(whole(rest))
 }
 
-/// The tree of up to so many copies of a part, each of which is left out only with those after it. There is none of no copy.
+/// Builds the tree of up to `count` optional copies of a part, each nested in the one before it. Returns `None` if `count`
+/// is 0.
 #[cycle(lowering)]
 fn lower_options(
     alloc: Global,
@@ -221,14 +224,14 @@ fn lower_options(
     Ok(rest)
 }
 
-/// The tree that is held, or nothing.
+/// Returns the tree, or the empty tree if there is none.
 fn whole(rest: Option<Re>) -> Re
     ensures { tree_of result ≡ in_turn (held rest) }
 {
     rest.unwrap_or(Re::Empty)
 }
 
-/// The tree, if it could be built, any number of times.
+/// Repeats the tree any number of times. Propagates a failure.
 fn any_number(
     alloc: Global,
     tree: Result<Re, OutOfMemory>,
@@ -242,7 +245,7 @@ fn any_number(
     Ok(Some(Re::many(alloc, tree, greedy)?))
 }
 
-/// The tree, if it could be built, and what follows it if something does.
+/// Returns the tree, followed by `rest` if there is one. Propagates a failure.
 fn followed(
     alloc: Global,
     first: Result<Re, OutOfMemory>,
@@ -256,7 +259,7 @@ fn followed(
     }
 }
 
-/// The one tree and then the other, if both could be built.
+/// Returns the first tree followed by the second. Propagates a failure of either.
 fn joined(
     alloc: Global,
     first: Result<Re, OutOfMemory>,
@@ -276,7 +279,7 @@ fn joined(
     Re::both(alloc, first, second)
 }
 
-/// The tree, if it could be built, or the other if there is one.
+/// Returns a choice that tries the tree first and then `rest`, or only the tree if there is no rest. Propagates a failure.
 fn preferred(
     alloc: Global,
     first: Result<Re, OutOfMemory>,
@@ -294,7 +297,7 @@ fn preferred(
     }
 }
 
-/// The tree, if it could be built, or nothing; a greedy one tries the tree first.
+/// Makes the tree optional. A greedy option tries the tree first, a lazy one tries nothing first. Propagates a failure.
 fn optional(alloc: Global, tree: Result<Re, OutOfMemory>, greedy: bool) -> Result<Re, OutOfMemory>
     ensures { (t : Tree) → IfOk tree (λ re. tree_of re ≡ t) → IfOk result (λ re. tree_of re ≡ option_of greedy t) }
 {
@@ -308,7 +311,7 @@ fn optional(alloc: Global, tree: Result<Re, OutOfMemory>, greedy: bool) -> Resul
     }
 }
 
-/// The guard of an anchor that stands in a body.
+/// Returns the guard of an anchor within a body.
 fn anchor_guard(kind: AnchorKind, multiline: bool) -> Guard
     ensures { result ≡ guard_of kind multiline }
 {
@@ -320,7 +323,7 @@ fn anchor_guard(kind: AnchorKind, multiline: bool) -> Guard
     }
 }
 
-/// The guard of a boundary.
+/// Returns the guard of a word boundary.
 fn boundary_guard(negated: bool, ascii: bool) -> Guard
     ensures { result ≡ guard_of_boundary negated ascii }
 {

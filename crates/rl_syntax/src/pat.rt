@@ -6,31 +6,31 @@ use crate::span::Span;
 use rl_lists::Items;
 use rl_ranges::CodeSet;
 
-/// A pattern, or a part of one, with the places of its codes.
+/// A pattern or a part of one, with the positions of its characters.
 #[cycle(pat)]
 #[derive(Drop)]
 pub enum Pat {
-    /// A branch without an item.
+    /// An empty branch.
     Nothing {
         span: Span,
     },
-    /// One code of a set.
+    /// One character of a set.
     Class {
         span: Span,
         set: CodeSet,
     },
-    /// Items one after another.
+    /// A sequence of items.
     Seq {
         span: Span,
         items: Pats,
     },
-    /// One of several branches, the earlier ones tried first.
+    /// A choice between branches. Earlier branches are tried first.
     Choice {
         span: Span,
         branches: Branches,
     },
-    /// The body from `min` up to `max` times; without a `max` there is no bound. A greedy one tries more times first.
-    /// `mark` is the span of the quantifier, the `?` that makes it lazy included.
+    /// The body repeated `min` to `max` times, or without an upper bound if there is no `max`. A greedy repeat tries more
+    /// repetitions first. `mark` is the span of the quantifier, including the `?` that makes it lazy.
     Repeat {
         span: Span,
         mark: Span,
@@ -45,13 +45,13 @@ pub enum Pat {
         captures: bool,
         body: Box<Pat>,
     },
-    /// An anchor, and whether MULTILINE is in force at it.
+    /// An anchor, and whether MULTILINE is in force there.
     Anchor {
         span: Span,
         kind: AnchorKind,
         multiline: bool,
     },
-    /// A boundary of a word, `\b`, or where `negated` none, `\B`. `ascii` says that words are the ASCII ones.
+    /// A word boundary `\b`, or `\B` if `negated` is set. If `ascii` is set, words are ASCII words.
     Boundary {
         span: Span,
         negated: bool,
@@ -64,13 +64,13 @@ pub enum Pat {
     },
 }
 
-/// A branch of a choice, with the span of all between its delimiters.
+/// A branch of a choice.
 #[cycle(pat)]
 #[derive(Drop)]
 pub struct Branch {
-    /// The codes between the branch's delimiters.
+    /// The span of everything between the branch's delimiters.
     pub span: Span,
-    /// What the branch is.
+    /// What the branch consists of.
     pub body: Pat,
 }
 

@@ -1,4 +1,4 @@
-//! Patterns with their outer anchors taken off.
+//! Patterns whose outer anchors have been removed.
 
 ghost use Rattle.std.specs.Prelude.{◌≡◌};
 ghost use Rattle.rl_syntax.specs.PatTree.{pat_of};
@@ -8,7 +8,7 @@ use crate::anchors::Trail;
 use crate::pat::Pat;
 use rl_ranges::Universe;
 
-/// A pattern that can be judged: its body, the outer anchors that were taken off it, and the universe of its codes.
+/// A pattern that can be judged: its body, the outer anchors that were removed from it, and the universe of its characters.
 #[derive(Drop)]
 pub struct Pattern {
     body: Pat,
@@ -21,7 +21,7 @@ pub struct Pattern {
 impl Pattern {
     ghost use Rattle.rl_syntax.specs.Pattern.{body_of, is_anchored, trail_of, universe_of};
 
-    /// The pattern of a body and its outer anchors.
+    /// Creates the pattern from a body and its outer anchors.
     pub fn new(body: Pat, leading: bool, trailing: Trail, universe: Universe) -> Pattern
         requires { IsPattern universe (pat_of body) }
         ensures body { body_of result ≡ pat_of body }
@@ -37,7 +37,7 @@ impl Pattern {
         }
     }
 
-    /// The body, without the outer anchors.
+    /// Returns the body, without the outer anchors.
     pub fn body(&self) -> &Pat
         ensures same { pat_of result.now ≡ body_of self.now }
         ensures judged { IsPattern (universe_of self.now) (body_of self.now) }
@@ -52,14 +52,14 @@ impl Pattern {
         self.leading
     }
 
-    /// The trailing anchor.
+    /// Returns the trailing anchor.
     pub fn trailing(&self) -> Trail
         ensures { result ≡ trail_of self.now }
     {
         self.trailing
     }
 
-    /// The universe of the pattern's codes.
+    /// Returns the universe of the pattern's characters.
     pub fn universe(&self) -> Universe
         ensures { result ≡ universe_of self.now }
     {

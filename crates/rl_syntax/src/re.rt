@@ -8,28 +8,28 @@ use rl_lists::OutOfMemory;
 use rl_ranges::CodeSet;
 use std::alloc::Global;
 
-/// A lowered pattern, as a tree of the operators of Python's `re`.
+/// A lowered pattern: a tree of the operators of Python's `re`.
 #[derive(Drop)]
 pub enum Re {
-    /// Nothing, which spans no code.
+    /// Matches the empty text.
     Empty,
-    /// One code of a set.
+    /// Matches one character of the set.
     One(CodeSet),
-    /// A test of the place.
+    /// Tests the position.
     Guard(Guard),
-    /// The one and then the other.
+    /// The first tree, then the second.
     Both(Box<Re>, Box<Re>),
-    /// The one or the other, the first one tried first.
+    /// Either tree. The first one is tried first.
     Either(Box<Re>, Box<Re>),
-    /// Any number of times; where the flag is true, one more is tried before none.
+    /// The body any number of times. If the flag is `true`, one more repetition is tried before stopping.
     Many(Box<Re>, bool),
 }
 
 impl Re {
-    /// The one tree and then the other.
+    /// Creates the tree of `first` followed by `second`.
     ///
     /// # Errors
-    /// [`OutOfMemory`] where there was no memory for a node; both trees are dropped then.
+    /// [`OutOfMemory`] if there is no memory for a node. Both trees are dropped then.
     pub fn both(alloc: Global, first: Re, second: Re) -> Result<Re, OutOfMemory>
         ensures { IfOk result (λ tree. tree_of tree ≡ Tree.both (tree_of first) (tree_of second)) }
     {
@@ -37,10 +37,10 @@ impl Re {
         Ok(Re::Both(first, second))
     }
 
-    /// The one tree or the other, the first one tried first.
+    /// Creates a choice that tries `first` before `second`.
     ///
     /// # Errors
-    /// [`OutOfMemory`] where there was no memory for a node; both trees are dropped then.
+    /// [`OutOfMemory`] if there is no memory for a node. Both trees are dropped then.
     pub fn either(alloc: Global, first: Re, second: Re) -> Result<Re, OutOfMemory>
         ensures { IfOk result (λ tree. tree_of tree ≡ Tree.either (tree_of first) (tree_of second)) }
     {
@@ -48,7 +48,7 @@ impl Re {
         Ok(Re::Either(first, second))
     }
 
-    /// Both trees, each in a box.
+    /// Puts each of the two trees in a box.
     fn boxed(alloc: Global, first: Re, second: Re) -> Result<(Box<Re>, Box<Re>), OutOfMemory>
         ensures { IfOk result (λ boxes. (boxes.0.value ≡ first) × (boxes.1.value ≡ second)) }
     {
@@ -63,10 +63,10 @@ impl Re {
         Ok((first, second))
     }
 
-    /// The tree any number of times. A greedy one tries one more before none.
+    /// Creates a loop: the body any number of times. A greedy loop tries one more repetition before stopping.
     ///
     /// # Errors
-    /// [`OutOfMemory`] where there was no memory for a node; the tree is dropped then.
+    /// [`OutOfMemory`] if there is no memory for a node. The body is dropped then.
     pub fn many(alloc: Global, body: Re, greedy: bool) -> Result<Re, OutOfMemory>
         ensures { IfOk result (λ tree. tree_of tree ≡ Tree.many (tree_of body) greedy) }
     {
@@ -74,7 +74,7 @@ impl Re {
         Ok(Re::Many(body, greedy))
     }
 
-    /// The number of nodes, or 2^64 - 1 where there are more.
+    /// Returns the number of nodes, or 2^64 - 1 if there are more.
     pub fn nodes(&self) -> u64
         ensures { result ≡ capped (size (tree_of self.now)) }
     {
@@ -89,7 +89,7 @@ impl Re {
     }
 }
 
-/// The tree in a box.
+/// Puts the tree in a box.
 fn in_box(alloc: Global, tree: Re) -> Result<Box<Re>, OutOfMemory>
     ensures { IfOk result (λ b. b.value ≡ tree) }
 {
@@ -99,24 +99,24 @@ fn in_box(alloc: Global, tree: Re) -> Result<Box<Re>, OutOfMemory>
 /// How a pattern is matched against a text.
 #[derive(Clone, Copy, Debug, PartialEq, Eq)]
 pub enum Mode {
-    /// The whole text.
+    /// The whole text must match.
     Fullmatch,
-    /// From the text's start.
+    /// The match must begin at the start of the text.
     Match,
-    /// From any place of the text.
+    /// The match may begin anywhere in the text.
     Search,
 }
 
 /// Where a match may end.
 #[derive(Clone, Copy)]
 pub enum Ending {
-    /// At the text's end.
+    /// Only at the end of the text.
     AtEnd,
-    /// At any place.
+    /// Anywhere.
     Anywhere,
 }
 
-/// A lowered pattern in a mode: its tree, and where a match may end.
+/// A pattern lowered in a mode.
 #[derive(Drop)]
 pub struct Lowered {
     /// The tree.
@@ -130,7 +130,7 @@ pub struct Lowered {
 pub enum LowerError {
     /// The tree would have more than 4,000 nodes.
     TooLarge,
-    /// Out of memory.
+    /// There was not enough memory.
     OutOfMemory,
 }
 

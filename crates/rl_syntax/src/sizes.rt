@@ -13,8 +13,8 @@ use crate::pat::{Branch, Pat};
 use crate::pattern::Pattern;
 use crate::re::Mode;
 
-/// The number of nodes of the pattern's tree in the mode, or 2^64 - 1 where there are more. The tree isn't built, and no
-/// memory is taken.
+/// Returns the number of nodes of the pattern's tree in a mode, or 2^64 - 1 if there are more. The tree isn't built, and no
+/// memory is allocated.
 pub fn size_after(p: &Pattern, mode: Mode) -> u64
     ensures { result ≡ capped (size (pattern_tree p.now mode)) }
 {
@@ -33,7 +33,7 @@ pub fn size_after(p: &Pattern, mode: Mode) -> u64
     }
 }
 
-/// The size of a tree with what the trailing anchor lets stand after it.
+/// Returns the size of a tree together with what the trailing anchor allows after it.
 fn trailed_size(trailing: Trail, body: u64) -> u64
     ensures { (t : Tree) → body ≡ capped (size t) → result ≡ capped (size (trailed trailing t)) }
 {
@@ -43,7 +43,7 @@ fn trailed_size(trailing: Trail, body: u64) -> u64
     }
 }
 
-/// The size of a part of a pattern.
+/// Returns the size of the tree of a part of a pattern.
 #[cycle(size)]
 fn part_size(part: &Pat) -> u64
     ensures { result ≡ capped (size (lowered (pat_of part.now))) }
@@ -61,7 +61,7 @@ fn part_size(part: &Pat) -> u64
     }
 }
 
-/// The size of items one after another.
+/// Returns the size of the tree of a sequence of items.
 #[cycle(size)]
 fn items_size(items: &[Pat]) -> u64
     ensures { result ≡ capped (size (in_turn (items_lowered (items_of (map pat_of items.now))))) }
@@ -73,7 +73,7 @@ fn items_size(items: &[Pat]) -> u64
     joined_size(items.len(), nodes)
 }
 
-/// The size of one of several branches.
+/// Returns the size of the tree of a choice between branches.
 #[cycle(size)]
 fn branches_size(branches: &[Branch]) -> u64
     ensures { result ≡ capped (size (one_of (branches_lowered (branches_of (map branch_tree branches.now))))) }
@@ -85,7 +85,8 @@ fn branches_size(branches: &[Branch]) -> u64
     joined_size(branches.len(), nodes)
 }
 
-/// The size of so many trees joined, which have so many nodes together.
+/// Returns the size of `count` trees joined into one, where `nodes` is the sum of their sizes. If `count` is 0, this is the
+/// empty tree.
 fn joined_size(count: usize, nodes: u64) -> u64
     ensures { (n : ℕ) → nodes ≡ capped n → result ≡ capped (joined_nodes count n) }
 {
@@ -96,7 +97,7 @@ fn joined_size(count: usize, nodes: u64) -> u64
     }
 }
 
-/// The size of a tree repeated.
+/// Returns the size of a repeated tree, where `body` is the size of the tree.
 fn repeated_size(min: u32, max: Option<u32>, body: u64) -> u64
     ensures { (greedy : Bool) (t : Tree) → body ≡ capped (size t) → result ≡ capped (size (times min max greedy t)) }
 {
@@ -110,7 +111,7 @@ fn repeated_size(min: u32, max: Option<u32>, body: u64) -> u64
     if nodes == 0 { 1 } else { saturated(nodes - 1) }
 }
 
-/// The number, or 2^64 - 1 where it is larger.
+/// Returns the number, or 2^64 - 1 if it is larger.
 fn saturated(number: u128) -> u64
     ensures { result ≡ capped number }
 {

@@ -1,13 +1,13 @@
-//! Places in a pattern.
+//! Positions in a pattern.
 
 use rl_lists::Items;
 
-/// The codes of a pattern from one place up to another, which it leaves out. Places are code numbers from 0.
+/// A range of positions in a pattern, in code points counted from 0.
 #[derive(Clone, Copy, PartialEq, Eq)]
 pub struct Span {
-    /// The place of the first code.
+    /// The position of the first code point.
     pub from: u32,
-    /// The place after the last code.
+    /// The position after the last code point.
     pub upto: u32,
 }
 

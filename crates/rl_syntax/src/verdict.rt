@@ -6,50 +6,51 @@ use rl_lists::{Codes, Items};
 /// A list of texts.
 pub type Texts = Items<Codes>;
 
-/// A family of texts: a head, a pump, a head, .., a head. Its text for a number `k` has each pump `k` times.
+/// A family of attack strings. Heads and pumps alternate, beginning and ending with a head. The string for a number `k`
+/// repeats each pump `k` times.
 #[derive(Drop)]
 pub struct Family {
-    /// What stands before, between and after the pumps: one more than there are pumps.
+    /// The parts before, between and after the pumps. There is one more of them than there are pumps.
     pub heads: Texts,
-    /// What is repeated.
+    /// The parts that are repeated.
     pub pumps: Texts,
 }
 
 /// A limit on what is judged.
 #[derive(Clone, Copy, Debug, PartialEq, Eq)]
 pub enum Limit {
-    /// Of the nodes of the tree.
+    /// The number of nodes of the tree.
     Size,
-    /// Of the letters.
+    /// The number of letters.
     Letters,
-    /// Of the moves of a state on a letter.
+    /// The number of moves from one state on one letter.
     Moves,
-    /// Of the counted sets.
+    /// The number of counted sets.
     Sets,
-    /// Of the live pairs.
+    /// The number of live pairs.
     Pairs,
 }
 
-/// How the cost of a pattern grows with the length of the text.
+/// How the worst cost of a pattern grows with the length of the text.
 #[derive(Drop)]
 pub enum Verdict {
-    /// As this power of it, which the family reaches.
+    /// As this power of the length. The family's strings reach that growth.
     Degree(u32, Family),
-    /// As a power of two of the family's number.
+    /// Exponentially. The cost on the family's string for `k` is at least 2^k.
     Expo(Family),
-    /// It wasn't found: this limit was passed.
+    /// Unknown, because this limit was exceeded.
     Undecided(Limit),
 }
 
 /// A simpler pattern that matches the same texts.
 #[derive(Drop)]
 pub struct Suggestion {
-    /// The simpler pattern; none where nothing was dropped or merged.
+    /// The simpler pattern, or `None` if nothing was dropped or merged.
     pub text: Option<Codes>,
     /// The branches that were dropped.
     pub dropped: Spans,
-    /// The quantifiers that were taken out.
+    /// The quantifiers that were removed.
     pub merged: Spans,
-    /// The branches whose test passed its limit.
+    /// The branches whose test exceeded its limit.
     pub passed: Spans,
 }

@@ -1,8 +1,9 @@
 -- Laws of the pairs of a trial by the numbers of their sets, in the order in which they are found.
 use Rattle.std.proofs.Common.{◌≡◌, ◌∙◌, ℕ, suc, ◌+◌, ◌<◌, ◌≤◌, ◌⊎◌, inl, inr, List, [], ◌∷◌, ◌++◌, length, get_or, map, Bool, true, false, ◌||◌, cond, eqb, eqb-true, eq-eqb, refl, sym, ap, ap₂, subst, arith}
 use Rattle.std.specs.List.{list_any}
-use Rattle.std.proofs.lemmas.Bool.{cases_lt, and_parts, and_from}
+use Rattle.std.proofs.lemmas.Bool.{cases_lt, and_parts, and_from, or_left, or_right}
 use Rattle.std.proofs.lemmas.List.{length_push, length-append, length-map, get_or-map, get_or_push, get_or_append_left, map-append}
+use Rattle.std.proofs.lemmas.List.Folds.{list_any-append}
 use Rattle.rl_prio.specs.Automaton.{Automaton, letters_count}
 use Rattle.rl_sets.specs.Live.{below}
 use Rattle.rl_sets.specs.Walk.{Walk, set_at, IsMadeFor}
@@ -111,6 +112,28 @@ push-more : (found ps : List SetPair) (p : SetPair) → with_more found (ps ++ p
 push-more found [] p = refl
 push-more found (q ∷ ps) p = push-more (with_one found q) ps p
 
+one-twice : (found : List SetPair) (p : SetPair) → with_one (with_one found p) p ≡ with_one found p
+one-twice found p = by (list_any (same_pair p) found) refl
+  where
+    by : (b : Bool) → list_any (same_pair p) found ≡ b → with_one (cond b found (found ++ p ∷ [])) p ≡ cond b found (found ++ p ∷ [])
+    by true e = ap (λ (b : Bool). cond b found (found ++ p ∷ [])) e
+    by false e =
+        let there : list_any (same_pair p) (found ++ p ∷ []) ≡ true =
+        list_any-append (same_pair p) found (p ∷ []) ∙ or_right (list_any (same_pair p) found) (same_pair p p || false) (or_left (same_pair p p) false (same-pairs p p refl)) in
+        ap (λ (b : Bool). cond b (found ++ p ∷ []) ((found ++ p ∷ []) ++ p ∷ [])) there
+
+-- a letter with the next pair of the letter before adds none
+more-skipped : (found : List SetPair) (on : ℕ → SetPair) (l : ℕ) → on l ≡ on (suc l) → with_more found (map on (below (suc l))) ≡ with_more found (map on (below (suc (suc l))))
+more-skipped found on l same =
+    let first = with_more found (map on (below l)) in
+    let one : with_more found (map on (below (suc l))) ≡ with_one first (on l) = ap (with_more found) (map-append on (below l) (l ∷ [])) ∙ push-more found (map on (below l)) (on l) in
+    let two : with_more found (map on (below (suc (suc l)))) ≡ with_one (with_more found (map on (below (suc l)))) (on (suc l)) =
+    ap (with_more found) (map-append on (below (suc l)) (suc l ∷ [])) ∙ push-more found (map on (below (suc l))) (on (suc l)) in
+    one
+    ∙ sym (one-twice first (on l))
+    ∙ ap₂ (λ (x : List SetPair) (p : SetPair). with_one x p) (sym one) same
+    ∙ sym two
+
 -- the next pairs on the first letters were put behind
 pub record IsFollowing (a : Automaton) (keep : List Bool) (v w : Walk) (keys more : List Key) (place letters : ℕ) : Type 0 where
   pub grown : IsGrown a v w
@@ -152,6 +175,20 @@ module _ (a : Automaton) (keep : List Bool) (v w : Walk) (keys more : List Key) 
             ∙ sym (push-more (pairs_in v keys) nexts (on letters))
             ∙ ap (with_more (pairs_in v keys)) (sym all)
             ∙ ap (λ (n : ℕ). with_more (pairs_in v keys) (map on (below n))) one;
+      }
+
+  pub following-skip : (l : ℕ) → letters ≡ suc l → trim_on a keep (pair_at v keys place) l ≡ trim_on a keep (pair_at v keys place) (suc l) → IsFollowing a keep v w keys more place (letters + 1)
+  following-skip l e same =
+      let on = trim_on a keep (pair_at v keys place) in
+      let next : suc (suc l) ≡ letters + 1 = omega (arith, e) in
+      record {
+        grown = f.grown;
+        are = f.are;
+        pairs =
+            f.pairs
+            ∙ ap (λ (n : ℕ). with_more (pairs_in v keys) (map on (below n))) e
+            ∙ more-skipped (pairs_in v keys) on l same
+            ∙ ap (λ (n : ℕ). with_more (pairs_in v keys) (map on (below n))) next;
       }
 
   pub following-done : letters ≡ letters_count a → pairs_in w more ≡ with_more (pairs_in v keys) (trim_nexts a keep (pair_at v keys place))
@@ -205,6 +242,11 @@ pairs-start a w keys done count c e =
 
 pub walked-judged : (a b : Automaton) (v w : Walk) → b ≡ a → IsGrown b v w → IsClosedTo a v 0 (length v.sets) → IsClosedTo a w 0 (length w.sets)
 walked-judged a b v w e g c = closed-longer a v w 0 (subst (λ (x : Automaton). IsGrown x v w) e g) c
+
+-- the next pairs of one on the first letters were put behind, and the row holds true for sets alone that are found so
+pub record IsExpanding (a : Automaton) (keep : List Bool) (v w : Walk) (keys more : List Key) (row : List Bool) (place letters : ℕ) : Type 0 where
+  pub following : IsFollowing a keep v w keys more place letters
+  pub arrived : AreArrived keep w more row
 
 -- the first pairs, up to a place, were looked at
 pub record IsJudging (a : Automaton) (keep : List Bool) (v w : Walk) (keys : List Key) (row : List Bool) (limit place : ℕ) : Type 0 where

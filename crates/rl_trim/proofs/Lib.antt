@@ -5,10 +5,12 @@ pub mod OrderLaws
 pub mod TrimOrder
 pub mod LookLaws
 pub mod SetLaws
+pub mod EndLaws
 pub mod ClosingLaws
 pub mod HolderLaws
 pub mod PairLaws
 pub mod KeyOrder
+pub mod ChangeLaws
 pub mod ArrivedLaws
 pub mod CoverLaws
 pub mod ApartLaws

@@ -1,11 +1,9 @@
 -- The pairs of a trial on one automaton have the order of the set pairs of the whole tree and of the tree without the branch: a
 -- trimmed set, its states numbered anew, is the set of the smaller tree, and different sets stay different.
-use Rattle.std.proofs.Common.{◌≡◌, ◌∙◌, ℕ, zero, suc, ◌<◌, ◌≤◌, ◌⊎◌, inl, inr, List, [], ◌∷◌, length, get_or, map, filter, All, Any, Bool, true, nat_lt, refl, sym, ap, ap₂, subst, arith}
+use Rattle.std.proofs.Common.{◌≡◌, ◌∙◌, ℕ, zero, suc, ◌<◌, ◌≤◌, ◌⊎◌, inl, inr, List, [], ◌∷◌, length, get_or, map, All, Any, Bool, true, refl, sym, ap, ap₂, subst, arith}
 use Rattle.std.specs.List.{list_all}
-use Rattle.std.proofs.lemmas.Bool.{cases_lt, and_parts, and_from, lt-ltb, ltb-true}
-use Rattle.std.proofs.lemmas.List.Elements.{All-nil, All-push, All-map, All-filter}
-use Rattle.std.proofs.lemmas.List.Folds.{list_all-map}
-use Rattle.std.proofs.lemmas.List.Sums.{list_all-from_AllPass, AllPass-from_list_all}
+use Rattle.std.proofs.lemmas.Bool.{cases_lt, and_parts, and_from}
+use Rattle.std.proofs.lemmas.List.Elements.{All-nil, All-push, All-map}
 use Rattle.rl_ranges.specs.declared.universe.Universe.{Universe}
 use Rattle.rl_ranges.specs.Text.{code_count}
 use Rattle.rl_syntax.specs.Tree.{Tree, guards_in}
@@ -15,11 +13,12 @@ use Rattle.rl_prio.specs.States.{accepting}
 use Rattle.rl_prio.proofs.BuildLemmas.{some_codes}
 use Rattle.rl_sets.specs.Live.{below, image}
 use Rattle.rl_equiv.specs.declared.pair.SetPair.{SetPair}
-use Rattle.rl_equiv.specs.SetPairs.{joint_sets, first_pair, differs, set_pairs}
+use Rattle.rl_equiv.specs.SetPairs.{joint_sets, first_pair, differs, rises, set_pairs}
 use Rattle.rl_equiv.specs.Numbering.{found_after, first_ones, NoneDiffers}
 use Rattle.rl_equiv.specs.Bases.{TellsNoMore, IsBase}
 use Rattle.rl_equiv.specs.internal.Machines.{all_proper}
 use Rattle.rl_equiv.proofs.ReaderLaws.{reads}
+use Rattle.rl_equiv.proofs.RiseLaws.{rises-parts, rises-cons, rises-lower, rises-filter}
 use Rattle.rl_trim.specs.declared.judgement.Judgement.{Judgement}
 use Rattle.rl_trim.specs.declared.judgement.Judgement.TheVariants.{Equal, Apart, Passed}
 use Rattle.rl_trim.specs.Judged.{IsJudged, IsFound}
@@ -66,7 +65,7 @@ lifted-one keep p q k l e =
 
 -- ---- pairs that a trial finds
 
--- the second set holds kept states alone, and both hold no other states than the start and those of places
+-- the second set has only kept states; both rise and have no other states than the start and those of places
 record Fits (a : Automaton) (keep : List Bool) (p : SetPair) : Type 0 where
   pub kept : list_all (is_kept keep) p.second ≡ true
   pub first_proper : all_proper a p.first ≡ true
@@ -76,18 +75,14 @@ pub all-below : (P : ℕ → Type 0) (n : ℕ) → ((l : ℕ) → l < n → P l)
 all-below P zero each = All-nil P
 all-below P (suc n) each = All-push P (below n) n (all-below P n (λ l lt. each l (omega arith))) (each n (omega arith))
 
-filtered : (p q : ℕ → Bool) (xs : List ℕ) → list_all q xs ≡ true → list_all q (filter p xs) ≡ true
-filtered p q xs e = list_all-from_AllPass q (filter p xs) (All-filter p (λ x. q x ≡ true) xs (AllPass-from_list_all q xs e))
-
--- the new numbers of kept states before a bound are before that of the bound
-sunk-below : (keep : List Bool) (m n : ℕ) (xs : List ℕ) → sunk keep m ≡ n → list_all (is_kept keep) xs ≡ true → list_all (λ q. nat_lt q m) xs ≡ true → list_all (λ q. nat_lt (sunk keep q) n) xs ≡ true
-sunk-below keep m n [] e k l = refl
-sunk-below keep m n (x ∷ xs) e k l =
+-- kept states that rise between two bounds do so by their new numbers too
+sunk-rise : (keep : List Bool) (low high : ℕ) (xs : List ℕ) → list_all (is_kept keep) xs ≡ true → rises low high xs ≡ true → rises (sunk keep low) (sunk keep high) (map (sunk keep) xs) ≡ true
+sunk-rise keep low high [] k e = refl
+sunk-rise keep low high (x ∷ xs) k e =
     let p = and_parts (is_kept keep x) (list_all (is_kept keep) xs) k in
-    let q = and_parts (nat_lt x m) (list_all (λ y. nat_lt y m) xs) l in
-    and_from (nat_lt (sunk keep x) n) (list_all (λ y. nat_lt (sunk keep y) n) xs)
-    (lt-ltb (sunk keep x) n (omega (arith, sunk-less keep x m p.0 (ltb-true x m q.0), e)))
-    (sunk-below keep m n xs e p.1 q.1)
+    let q = rises-parts low high x xs e in
+    rises-cons (sunk keep low) (sunk keep high) (sunk keep x) (map (sunk keep) xs) (sunk-rises keep low x q.0) (sunk-less keep x high p.0 q.1)
+    (subst (λ (n : ℕ). rises n (sunk keep high) (map (sunk keep) xs) ≡ true) (sunk-next keep x p.0) (sunk-rise keep (suc x) high xs p.1 q.2))
 
 pub trim-nexts : (a : Automaton) (keep : List Bool) (p : SetPair) → (trim_pairs a keep).nexts p ≡ trim_nexts a keep p
 unfolding trim_pairs
@@ -100,7 +95,7 @@ trim-differs a keep p = refl
 module _ (u : Universe) (a : Automaton) (s t : Tree) (keep : List Bool) (base : IsBase u t a) (fewer : TellsNoMore t s) (are : AreSunk (joint_sets t s) (code_count u) keep s t) where
   first-fits : Fits a keep first_pair
   first-fits =
-      let proper : all_proper a (0 ∷ []) ≡ true = and_from (nat_lt 0 (accepting_state a)) true (lt-ltb 0 (accepting_state a) (omega (arith, base.whole.three_states))) refl in
+      let proper : all_proper a (0 ∷ []) ≡ true = rises-cons 0 (accepting_state a) 0 [] (omega arith) (omega (arith, base.whole.three_states)) refl in
       record { kept = refl; first_proper = proper; second_proper = proper }
 
   on-letter : (set : List ℕ) (letter : ℕ) → letter < letters_count a → all_proper a (image a set letter) ≡ true
@@ -110,7 +105,7 @@ module _ (u : Universe) (a : Automaton) (s t : Tree) (keep : List Bool) (base : 
   next-fits p letter lt = record {
     kept = trimmed-kept keep (image a p.second letter);
     first_proper = on-letter p.first letter lt;
-    second_proper = filtered (is_kept keep) (λ q. nat_lt q (accepting_state a)) (image a p.second letter) (on-letter p.second letter lt);
+    second_proper = rises-filter (is_kept keep) 0 (accepting_state a) (image a p.second letter) (on-letter p.second letter lt);
   }
 
   nexts-fit : (p : SetPair) → Fits a keep p → All (Fits a keep) ((trim_pairs a keep).nexts p)
@@ -132,11 +127,12 @@ module _ (u : Universe) (a : Automaton) (s t : Tree) (keep : List Bool) (base : 
   proper-carried p h =
       let n = code_count u in
       let acc = accepting-joint u a s t keep base fewer are in
-      let low : list_all (λ q. nat_lt q (accepting t n)) p.second ≡ true = subst (λ (k : ℕ). list_all (λ q. nat_lt q k) p.second ≡ true) acc h.second_proper in
-      and_from (list_all (λ q. nat_lt q (accepting t n)) p.first) (list_all (λ q. nat_lt q (accepting s n)) (map (sunk keep) p.second))
-      (subst (λ (k : ℕ). list_all (λ q. nat_lt q k) p.first ≡ true) acc h.first_proper)
-      (list_all-map (λ q. nat_lt q (accepting s n)) (sunk keep) p.second
-      ∙ sunk-below keep (accepting t n) (accepting s n) p.second (accepting-sunk (joint_sets t s) n keep s t are) h.kept low)
+      let rising : rises 0 (accepting t n) p.second ≡ true = subst (λ (k : ℕ). rises 0 k p.second ≡ true) acc h.second_proper in
+      let under : sunk keep (accepting t n) ≡ accepting s n = accepting-sunk (joint_sets t s) n keep s t are in
+      and_from (rises 0 (accepting t n) p.first) (rises 0 (accepting s n) (map (sunk keep) p.second))
+      (subst (λ (k : ℕ). rises 0 k p.first ≡ true) acc h.first_proper)
+      (rises-lower 0 (sunk keep 0) (accepting s n) (map (sunk keep) p.second) (omega arith)
+      (subst (λ (k : ℕ). rises (sunk keep 0) k (map (sunk keep) p.second) ≡ true) under (sunk-rise keep 0 (accepting t n) p.second h.kept rising)))
 
   -- the order of the trial's pairs is that of the set pairs
   pub trim-order : (k : ℕ) → map (lifted keep) (found_after (trim_pairs a keep) k) ≡ found_after (set_pairs u t s) k

@@ -1,4 +1,4 @@
--- What a trial of a branch tells, by the first set pairs of the trees with the branch and without it.
+-- The result of a trial of a branch, by the first set pairs of the trees with the branch and without it.
 use Rattle.std.specs.Prelude.{◌≡◌, ℕ, ◌≤◌, true, List, length, Any}
 use Rattle.rl_equiv.specs.declared.pair.SetPair.{SetPair}
 use Rattle.rl_equiv.specs.SetPairs.{SetPairs, differs}
@@ -15,13 +15,13 @@ IsJudged d limit Equal = (relation : List SetPair) × AreAll d limit relation
 IsJudged d limit Apart = Any (λ p. differs d p ≡ true) (first_ones d limit)
 IsJudged d limit Passed = AreMore d limit
 
--- the same by the order of the set pairs alone
+-- the same, stated only with the order of the set pairs
 abbrev pub IsFound : SetPairs → ℕ → Judgement → Type 0
 IsFound d limit Equal = (length (found_after d limit) ≤ limit) × NoneDiffers d limit
 IsFound d limit Apart = Any (λ p. differs d p ≡ true) (first_ones d limit)
 IsFound d limit Passed = AreMore d limit
 
--- what a judgement tells of two languages
+-- what a judgement says about two languages
 abbrev pub IsTold : Universe → Tree → Tree → Judgement → Type 0
 IsTold u s t Equal = SameLanguage u s t
 IsTold u s t Apart = Unit {0}

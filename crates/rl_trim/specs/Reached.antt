@@ -1,4 +1,4 @@
--- The sets of states that are reached from the start of an automaton, which trials keep from branch to branch.
+-- The sets of states reached from the start of an automaton. Trials share them from branch to branch.
 use Rattle.std.specs.Prelude.{◌≡◌, ℕ, ◌<◌, ◌≤◌, Bool, true, false, List, [], ◌∷◌, length, slice_index_or, Option, None, Some, All}
 use Rattle.rl_prio.specs.Automaton.{Automaton, letters_count}
 use Rattle.rl_sets.specs.Live.{holds, image}
@@ -12,7 +12,7 @@ pub record HasImage (a : Automaton) (w : Walk) (count k letter : ℕ) : Type 0 w
   pub inside : number < count
   pub is : set_at w number ≡ image a (set_at w k) letter
 
--- the start is the first set of the walk, and the images of the first `done` sets are among the first `count`
+-- the start is the first set of the walk, and the images of the first `done` sets are among the first `count` sets
 pub record IsClosedTo (a : Automaton) (w : Walk) (done count : ℕ) : Type 0 where
   pub made : IsMadeFor w a
   pub some : 0 < count
@@ -21,31 +21,31 @@ pub record IsClosedTo (a : Automaton) (w : Walk) (done count : ℕ) : Type 0 whe
   pub start : set_at w 0 ≡ 0 ∷ []
   pub images : (k letter : ℕ) → k < done → letter < letters_count a → HasImage a w count k letter
 
--- a table has it that a set holds a state
+-- a table says that a set holds a state
 abbrev pub IsNoted : List (List Bool) → ℕ → ℕ → Type 0
 IsNoted table q k = slice_index_or (slice_index_or table q []) k false ≡ true
 
--- the table has it for each state which of the first sets hold it
+-- the table says for each state which of the first sets hold it
 pub record AreHolders (a : Automaton) (w : Walk) (count : ℕ) (table : List (List Bool)) : Type 0 where
   pub high : length table ≡ a.states
   pub wide : All (λ row. length row ≡ count) table
   pub noted : (k q : ℕ) → k < count → q < a.states → holds (set_at w k) q ≡ true → IsNoted table q k
 
--- the first sets are all those that are reached from the start
+-- the first sets are exactly those reached from the start
 pub record AreReached (a : Automaton) (w : Walk) (r : Reached) : Type 0 where
   pub closed : IsClosedTo a w r.count r.count
   pub holders : AreHolders a w r.count r.holders
 
--- a walk begins with the start, and its first sets are those that are reached from it where these are known
+-- a walk begins with the start; if the sets reached from the start are known, they are its first sets
 abbrev pub IsStored : Automaton → Walk → Option Reached → Type 0
 IsStored a w None = IsClosedTo a w 0 (length w.sets)
 IsStored a w (Some r) = AreReached a w r
 
--- the sets are the automaton's
+-- the store belongs to the automaton
 abbrev pub IsStore : Automaton → Store → Type 0
 IsStore a s = IsStored a s.walk s.reached
 
--- there are no sets, or they are the automaton's
+-- there is no store, or it belongs to the automaton
 abbrev pub IsStoreIf : Automaton → Option Store → Type 0
 IsStoreIf a None = Unit {0}
 IsStoreIf a (Some s) = IsStore a s

@@ -1,4 +1,5 @@
 -- Definitions for the contracts of private functions. No public contract reaches them.
+pub mod Changing
 pub mod Noting
 pub mod Orders
 pub mod Quick

@@ -1,12 +1,12 @@
-//! Sets of states without those of a branch.
+//! Sets of states with the states of a branch left out.
 
-ghost use Rattle.std.specs.Prelude.{◌≡◌, ◌<◌, ◌≤◌, length, All, IfOk, OnOk};
+ghost use Rattle.std.specs.Prelude.{◌≡◌, ◌<◌, ◌≤◌, false, length, slice_index_or, All, IfOk, OnOk};
 ghost use Rattle.std.specs.List.{list_any};
 ghost use Rattle.rl_prio.specs.Automaton.{letters_count};
 ghost use Rattle.rl_sets.specs.Live.{holds, image};
 ghost use Rattle.rl_sets.specs.Walk.{set_at, IsMadeFor};
 ghost use Rattle.rl_trim.specs.internal.Sunk.{is_kept as is_kept_in};
-ghost use Rattle.rl_trim.specs.internal.Trims.{trimmed, trim_on, set_ends, trim_differs};
+ghost use Rattle.rl_trim.specs.internal.Trims.{trimmed, trim_on, state_ends as state_ends_in, AreEnding, set_ends, trim_differs};
 ghost use Rattle.rl_trim.specs.internal.Quick.{IsGrown, IsNumbered, IsInside, IsKeyOf, AreGone, pair_of};
 
 use crate::key::Key;
@@ -18,14 +18,18 @@ use std::alloc::Global;
 /// A branch that is left out of an automaton.
 #[derive(Drop)]
 pub(crate) struct Branch<'a> {
-    alloc: Global,
+    /// The allocator.
+    pub alloc: Global,
     /// The automaton.
     pub automaton: &'a Prio,
-    /// For each place whether it is kept.
+    /// For each place, whether it is kept.
     pub keep: &'a [bool],
     /// The states that aren't kept.
     gone: Vec<u32>,
+    /// For each state, whether the end letter leads it to the accepting state.
+    ending: Vec<bool>,
     ghost are_gone: { AreGone keep.now automaton.now.states gone.items },
+    ghost are_ending: { AreEnding automaton.now automaton.now.states ending.items },
 }
 
 /// Whether a state is kept.
@@ -55,6 +59,44 @@ fn gone_of(alloc: Global, keep: &[bool], states: u32) -> Result<Vec<u32>, OutOfM
     Ok(gone)
 }
 
+/// Whether the end letter leads a state to the accepting state.
+fn state_ends(a: &Prio, state: u32) -> bool
+    requires { state < a.now.states }
+    ensures { result ≡ state_ends_in a.now state }
+{
+    let accepting = a.accepting();
+    for target in a.moves(state, a.letters().count()) {
+        if *target == accepting {
+            return true;
+        }
+    }
+    false
+}
+
+/// For each state, whether the end letter leads it to the accepting state.
+fn ending_of(alloc: Global, a: &Prio) -> Result<Vec<bool>, OutOfMemory>
+    ensures { IfOk result (λ v. AreEnding a.now a.now.states v.items) }
+{
+    let mut ending = Vec::new(alloc);
+    for state in 0..a.states() {
+        ending.push(state_ends(a, state))?;
+    }
+    Ok(ending)
+}
+
+/// Whether the flag of one of the states is set.
+fn any_flagged(flags: &[bool], states: &[u32]) -> bool
+    requires { All (λ q. q < length flags.now) states.now }
+    ensures { result ≡ list_any (λ q. slice_index_or flags.now q false) states.now }
+{
+    for state in states {
+        if flags[*state as usize] {
+            return true;
+        }
+    }
+    false
+}
+
 /// The members that are kept.
 fn kept_of(alloc: Global, keep: &[bool], members: &Members) -> Result<Vec<u32>, OutOfMemory>
     ensures { IfOk result (λ v. v.items ≡ trimmed keep.now members.now) }
@@ -68,7 +110,7 @@ fn kept_of(alloc: Global, keep: &[bool], members: &Members) -> Result<Vec<u32>, 
     Ok(kept)
 }
 
-/// Whether a set holds one of some states.
+/// Whether a set holds one of the given states.
 fn touches(walk: &SetWalk, states: &[u32], set: u32) -> bool
     requires set_in { set < length walk.now.sets }
     requires states_in { All (λ q. q < walk.now.kept.states) states.now }
@@ -92,19 +134,8 @@ pub(crate) fn step(walk: &mut SetWalk, a: &Prio, set: u32, letter: u32) -> Resul
     walk.step(a, set, letter)
 }
 
-/// Whether the end letter leads a set to the accepting state.
-fn ends(walk: &mut SetWalk, a: &Prio, set: u32) -> Result<bool, SetsError>
-    requires made { IsMadeFor walk.old a.now }
-    requires set_in { set < length walk.old.sets }
-    ensures ends { IfOk result (λ ended. ended ≡ set_ends a.now (set_at walk.old set)) }
-    ensures grown { OnOk result (IsGrown a.now walk.old walk.new) }
-{
-    let number = step(walk, a, set, a.letters().count())?;
-    Ok(walk.holds(number, a.accepting()))
-}
-
 impl<'a> Branch<'a> {
-    /// The branch of the places that aren't kept.
+    /// The branch made up of the places that aren't kept.
     pub(crate) fn new(
         alloc: Global,
         automaton: &'a Prio,
@@ -113,16 +144,21 @@ impl<'a> Branch<'a> {
         ensures automaton { IfOk result (λ b. b.automaton.now ≡ automaton.now) }
         ensures keep { IfOk result (λ b. b.keep.now ≡ keep.now) }
     {
-        let gone = gone_of(alloc, keep, automaton.states())?;
+        let ending = ending_of(alloc, automaton)?;
+        let Ok(gone) = gone_of(alloc, keep, automaton.states()) else {
+            drop(ending);
+            return Err(OutOfMemory);
+        };
         Ok(Branch {
             alloc,
             automaton,
             keep,
             gone,
+            ending,
         })
     }
 
-    /// The number of a set without the states that aren't kept.
+    /// The number of a set with the states that aren't kept left out.
     pub(crate) fn trim(&self, walk: &mut SetWalk, set: u32) -> Result<u32, SetsError>
         requires made { IsMadeFor walk.old self.now.automaton.now }
         requires set_in { set < length walk.old.sets }
@@ -159,18 +195,29 @@ impl<'a> Branch<'a> {
         Ok(Key { first, second })
     }
 
-    /// Whether the end letter leads one set of a pair alone to the accepting state.
-    pub(crate) fn differs(&self, walk: &mut SetWalk, key: Key) -> Result<bool, SetsError>
-        requires made { IsMadeFor walk.old self.now.automaton.now }
-        requires inside { IsInside walk.old key }
-        ensures differs { IfOk result (λ told. told ≡ trim_differs self.now.automaton.now (pair_of walk.old key)) }
-        ensures grown { OnOk result (IsGrown self.now.automaton.now walk.old walk.new) }
+    /// Whether the end letter leads a set to the accepting state.
+    fn ends(&self, walk: &SetWalk, set: u32) -> Result<bool, OutOfMemory>
+        requires made { IsMadeFor walk.now self.now.automaton.now }
+        requires set_in { set < length walk.now.sets }
+        ensures { IfOk result (λ ended. ended ≡ set_ends self.now.automaton.now (set_at walk.now set)) }
+    {
+        // Reading the number of states shows that it is a whole automaton.
+        let _states = self.automaton.states();
+        let members = walk.members(set)?;
+        Ok(any_flagged(&self.ending, members.as_slice()))
+    }
+
+    /// Whether the end letter leads exactly one set of a pair to the accepting state.
+    pub(crate) fn differs(&self, walk: &SetWalk, key: Key) -> Result<bool, OutOfMemory>
+        requires made { IsMadeFor walk.now self.now.automaton.now }
+        requires inside { IsInside walk.now key }
+        ensures { IfOk result (λ told. told ≡ trim_differs self.now.automaton.now (pair_of walk.now key)) }
     {
         if key.first == key.second {
             return Ok(false);
         }
-        let first = ends(walk, self.automaton, key.first)?;
-        let second = ends(walk, self.automaton, key.second)?;
+        let first = self.ends(walk, key.first)?;
+        let second = self.ends(walk, key.second)?;
         Ok(first != second)
     }
 }

@@ -1,4 +1,4 @@
-//! Which sets hold a state of a branch.
+//! Finds the sets that hold a state of a branch.
 
 ghost use Rattle.std.specs.Prelude.{◌≡◌, ◌<◌, ◌≤◌, length, All, IfOk};
 ghost use Rattle.rl_sets.specs.Walk.{IsMadeFor};
@@ -23,7 +23,7 @@ fn note(table: &mut BitTable, states: &[u32], set: u32)
     }
 }
 
-/// For each state, which of the first sets of a walk hold it.
+/// For each state, which of the first `count` sets of a walk hold it.
 pub(crate) fn holders_of(
     alloc: Global,
     a: &Prio,
@@ -56,7 +56,7 @@ fn chosen_states(alloc: Global, branch: &Branch) -> Result<BitRow, OutOfMemory>
     Ok(chosen)
 }
 
-/// Which of the first sets of a walk hold a state that isn't kept.
+/// Which of the first `count` sets of a walk hold a state that isn't kept.
 pub(crate) fn touched_sets(
     alloc: Global,
     branch: &Branch,

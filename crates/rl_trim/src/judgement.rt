@@ -1,12 +1,12 @@
-//! What a trial of a branch tells.
+//! The result of a trial of a branch.
 
-/// What a trial of a branch tells of the languages of the tree with the branch and without it.
+/// What a trial of a branch finds out about the languages of the tree with the branch and without it.
 #[derive(Clone, Copy)]
 pub enum Judgement {
-    /// They are equal.
+    /// The languages are equal.
     Equal,
-    /// They differ.
+    /// The languages differ.
     Apart,
-    /// The trial passed its limit.
+    /// The trial needed more set pairs than its limit allows.
     Passed,
 }

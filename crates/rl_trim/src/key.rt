@@ -6,7 +6,7 @@ ghost use Rattle.rl_trim.specs.internal.Quick.{IsPut};
 use indexmap::IndexSet;
 use rl_lists::OutOfMemory;
 
-/// A pair of sets by their numbers in a walk.
+/// A pair of sets, given by their numbers in a walk.
 #[derive(Clone, Copy, PartialEq, Eq, Hash)]
 pub(crate) struct Key {
     /// The number of the set of the whole tree.
@@ -15,17 +15,17 @@ pub(crate) struct Key {
     pub second: u32,
 }
 
-/// How a set or a pair of sets was found: the place of the one whose next it is, and the letter. One that wasn't found so has its
-/// own place.
+/// How a set or a pair of sets was found: as the next one of an earlier one, on a letter. A set or pair that wasn't found this way
+/// has its own place as its parent.
 #[derive(Clone, Copy)]
 pub(crate) struct Way {
-    /// The place.
+    /// The place of the earlier one.
     pub parent: usize,
     /// The letter.
     pub letter: u32,
 }
 
-/// Appends a pair unless it is there, and answers whether it wasn't.
+/// Appends a pair unless it is already there. Returns whether it was appended.
 pub(crate) fn put(keys: &mut IndexSet<Key>, key: Key) -> Result<bool, OutOfMemory>
     ensures { OnOk result (IsPut keys.old.keys keys.new.keys key) }
 {

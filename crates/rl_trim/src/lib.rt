@@ -1,21 +1,21 @@
 //! Quick trials of branches: whether a pattern matches the same texts without some of its branches.
 //!
-//! A tree without a branch has the automaton of the whole tree without the states of the branch's places. So a [`Trimmer`]
-//! builds one automaton, and keeps the sets of states that earlier trials found. [`Trimmer::judge`] takes which places are
-//! kept and searches the pairs of sets with and without the branch: in any order where the limit allows it, and else breadth
-//! first. It returns a [`Judgement`], or `None` where a trial has no room; the caller then compares both trees with
-//! `rl_equiv`. This crate is there for speed alone.
+//! Removing a branch from a tree removes the states of the branch's places from its automaton. So a [`Trimmer`] builds the
+//! automaton once, and keeps the sets of states that earlier trials found. [`Trimmer::judge`] is told which places to keep, and
+//! searches the pairs of sets with and without the branch: in any order if the limit allows it, otherwise breadth first. It
+//! returns a [`Judgement`], or `None` if there is no room for the trial; the caller then compares both trees with `rl_equiv`.
+//! This crate exists only for speed.
 //!
 //! # What is proved
 //!
-//! Where [`Trimmer::judge`] returns a judgement, it is what the search through the set pairs of both trees finds under the
-//! limit, and trees that are called equal span the same texts. This holds of trees without guards, and of branches that can't
-//! span the empty text. Where it returns `None`, nothing is said.
+//! If [`Trimmer::judge`] returns a judgement, it is the one that the search through the set pairs of both trees finds under the
+//! limit, and trees that are judged equal span the same texts. This holds for trees without guards and for branches that can't
+//! span the empty text. Nothing is claimed if it returns `None`.
 //!
 //! # Example
 //!
 //! ```
-//! // the tree is that of `ab|ac|ab`, whose six places are numbered from left to right
+//! // the tree of `ab|ac|ab`, whose six places are numbered from left to right
 //! trimmer.judge(alloc, &[false, false, true, true, true, true], 100)?; // Some(Judgement::Equal)
 //! trimmer.judge(alloc, &[true, true, false, false, true, true], 100)?; // Some(Judgement::Apart)
 //! ```
@@ -24,6 +24,7 @@
 #![tactic(auto)]
 
 mod branch;
+mod changes;
 mod holders;
 mod judgement;
 mod key;

@@ -1,4 +1,4 @@
-//! The pairs of a trial in the order of the set pairs of both trees, which tells what a plain trial would.
+//! Trials that look at pairs in the order of the set pairs of both trees, and so have the result of a plain comparison.
 
 ghost use Rattle.std.specs.Prelude.{◌≡◌, ◌<◌, ◌⊎◌, ◌∷◌, [], ℕ, true, false, length, replicate, slice_index_or, IfOk, OnOk};
 ghost use Rattle.rl_prio.specs.Automaton.{letters_count};
@@ -8,9 +8,11 @@ ghost use Rattle.rl_trim.specs.Judged.{IsFound};
 ghost use Rattle.rl_trim.specs.internal.Trims.{trim_on, trim_nexts, trim_differs, trim_pairs};
 ghost use Rattle.rl_trim.specs.internal.Quick.{IsGrown, IsInside, no_key, pair_of, pair_at};
 ghost use Rattle.rl_trim.specs.declared.store.TheConstants.{MOST_SETS};
+ghost use Rattle.rl_trim.specs.internal.Changing.{AreChanges, AreChangesIf};
 ghost use Rattle.rl_trim.specs.internal.Orders.{with_key, pairs_in, AreKeys, AreArrived};
 
 use crate::branch::{Branch, step};
+use crate::changes::{Changes, changes_on, changes_or, is_changed};
 use crate::judgement::Judgement;
 use crate::key::Key;
 use crate::store::MOST_SETS;
@@ -20,17 +22,23 @@ use rl_lists::OutOfMemory;
 use rl_sets::{SetWalk, SetsError};
 use std::alloc::Global;
 
-/// The pairs that are found, in the order in which they were found.
+/// From how many letters on it is worth finding out on which of them states move differently than on the letter before.
+const MANY_LETTERS: u32 = 16;
+
+/// The number of first places whose next pairs are found on every letter.
+const PLAIN_PLACES: usize = 100;
+
+/// The pairs found so far, in the order in which they were found.
 #[derive(Drop)]
 pub(crate) struct Order {
     /// The pairs.
     pub keys: IndexSet<Key>,
-    /// The sets that were found with themselves without the branch, as the next ones of one set with itself.
+    /// The sets whose pair with themselves without the branch was found as the next pair of a set with itself.
     pub arrived: BitRow,
 }
 
 impl Order {
-    /// The first pair.
+    /// Only the first pair.
     pub(crate) fn new(alloc: Global) -> Result<Order, OutOfMemory>
         ensures keys { IfOk result (λ o. o.keys.keys ≡ no_key ∷ []) }
         ensures arrived { IfOk result (λ o. o.arrived ≡ replicate MOST_SETS false) }
@@ -49,7 +57,7 @@ impl Order {
         Ok(Order { keys, arrived })
     }
 
-    /// Whether a set was found with itself without the branch.
+    /// Whether a set's pair with itself without the branch is noted as found.
     fn has_arrived(&self, set: u32) -> bool
         ensures { result ≡ true → slice_index_or self.now.arrived set false ≡ true }
     {
@@ -59,7 +67,7 @@ impl Order {
         self.arrived.get(set as usize)
     }
 
-    /// Notes that a set was found with itself without the branch.
+    /// Notes that a set's pair with itself without the branch was found.
     fn note(&mut self, set: u32)
         ensures arrived { (k : ℕ) → slice_index_or self.new.arrived k false ≡ true → (slice_index_or self.old.arrived k false ≡ true) ⊎ (k ≡ set) }
         ensures keys { self.new.keys ≡ self.old.keys }
@@ -70,7 +78,7 @@ impl Order {
         self.arrived.set(set as usize, true);
     }
 
-    /// Appends a pair unless it is there.
+    /// Appends a pair unless it is already there.
     fn put(&mut self, key: Key) -> Result<(), OutOfMemory>
         ensures keys { OnOk result (self.new.keys.keys ≡ with_key self.old.keys.keys key) }
         ensures arrived { self.new.arrived ≡ self.old.arrived }
@@ -79,7 +87,7 @@ impl Order {
         Ok(())
     }
 
-    /// Appends the next pair of one set with itself, on a letter, unless it is there. A set that is noted is passed over at once.
+    /// Appends the next pair of a set with itself, on a letter, unless it is already there. A noted set is skipped at once.
     fn visit_whole(
         &mut self,
         branch: &Branch,
@@ -108,7 +116,7 @@ impl Order {
         Ok(())
     }
 
-    /// Appends the next pair of the one at a place, on a letter, unless it is there.
+    /// Appends the next pair of the one at a place, on a letter, unless it is already there.
     fn visit(
         &mut self,
         branch: &Branch,
@@ -135,8 +143,13 @@ impl Order {
         Ok(())
     }
 
-    /// Appends the next pairs of the one at a place, the letters in order.
-    fn expand(&mut self, branch: &Branch, walk: &mut SetWalk, place: usize) -> Result<(), SetsError>
+    /// Appends the next pairs of the one at a place, letter by letter in order.
+    fn expand_each(
+        &mut self,
+        branch: &Branch,
+        walk: &mut SetWalk,
+        place: usize,
+    ) -> Result<(), SetsError>
         requires keys { AreKeys branch.now.automaton.now walk.old self.old.keys.keys }
         requires arrived { AreArrived branch.now.keep.now walk.old self.old.keys.keys self.old.arrived }
         requires place_in { place < length self.old.keys.keys }
@@ -152,24 +165,77 @@ impl Order {
         Ok(())
     }
 
-    /// Whether the pair at a place shows a difference.
-    fn differs(&self, branch: &Branch, walk: &mut SetWalk, place: usize) -> Result<bool, SetsError>
-        requires keys { AreKeys branch.now.automaton.now walk.old self.now.keys.keys }
-        requires arrived { AreArrived branch.now.keep.now walk.old self.now.keys.keys self.now.arrived }
-        requires place_in { place < length self.now.keys.keys }
+    /// The same, using the letters on which states move differently than on the letter before. On every other letter the next
+    /// pair is that of the letter before, so it is skipped.
+    fn expand_changed(
+        &mut self,
+        branch: &Branch,
+        walk: &mut SetWalk,
+        changes: &Changes,
+        place: usize,
+    ) -> Result<(), SetsError>
+        requires changes { AreChanges branch.now.automaton.now changes.now }
+        requires keys { AreKeys branch.now.automaton.now walk.old self.old.keys.keys }
+        requires arrived { AreArrived branch.now.keep.now walk.old self.old.keys.keys self.old.arrived }
+        requires place_in { place < length self.old.keys.keys }
         ensures grown { OnOk result (IsGrown branch.now.automaton.now walk.old walk.new) }
-        ensures keys { OnOk result (AreKeys branch.now.automaton.now walk.new self.now.keys.keys) }
-        ensures arrived { OnOk result (AreArrived branch.now.keep.now walk.new self.now.keys.keys self.now.arrived) }
-        ensures pairs { OnOk result (pairs_in walk.new self.now.keys.keys ≡ pairs_in walk.old self.now.keys.keys) }
-        ensures differs { IfOk result (λ told. told ≡ trim_differs branch.now.automaton.now (pair_at walk.old self.now.keys.keys place)) }
+        ensures keys { OnOk result (AreKeys branch.now.automaton.now walk.new self.new.keys.keys) }
+        ensures arrived { OnOk result (AreArrived branch.now.keep.now walk.new self.new.keys.keys self.new.arrived) }
+        ensures pairs { OnOk result (pairs_in walk.new self.new.keys.keys
+            ≡ with_more (pairs_in walk.old self.old.keys.keys) (trim_nexts branch.now.automaton.now branch.now.keep.now (pair_at walk.old self.old.keys.keys place))) }
+    {
+        let key = self.keys[place];
+        let changed = changes_on(branch.alloc, changes, branch.automaton, walk, key)?;
+        for letter in 0..branch.automaton.letters().count() {
+            if is_changed(&changed, letter) {
+                self.visit(branch, walk, place, letter)?;
+            }
+        }
+        Ok(())
+    }
+
+    /// The same. At the first places and for few letters, the next pairs are found on every letter; after that, only on letters
+    /// on which states move differently than on the letter before.
+    fn expand(
+        &mut self,
+        branch: &Branch,
+        walk: &mut SetWalk,
+        changes: &mut Option<Changes>,
+        place: usize,
+    ) -> Result<(), SetsError>
+        requires changes { AreChangesIf branch.now.automaton.now changes.old }
+        requires keys { AreKeys branch.now.automaton.now walk.old self.old.keys.keys }
+        requires arrived { AreArrived branch.now.keep.now walk.old self.old.keys.keys self.old.arrived }
+        requires place_in { place < length self.old.keys.keys }
+        ensures grown { OnOk result (IsGrown branch.now.automaton.now walk.old walk.new) }
+        ensures keys { OnOk result (AreKeys branch.now.automaton.now walk.new self.new.keys.keys) }
+        ensures arrived { OnOk result (AreArrived branch.now.keep.now walk.new self.new.keys.keys self.new.arrived) }
+        ensures pairs { OnOk result (pairs_in walk.new self.new.keys.keys
+            ≡ with_more (pairs_in walk.old self.old.keys.keys) (trim_nexts branch.now.automaton.now branch.now.keep.now (pair_at walk.old self.old.keys.keys place))) }
+        ensures changes { OnOk result (AreChangesIf branch.now.automaton.now changes.new) }
+    {
+        if place < PLAIN_PLACES || branch.automaton.letters().count() < MANY_LETTERS {
+            return self.expand_each(branch, walk, place);
+        }
+        let known = changes_or(branch.alloc, branch.automaton, changes.take())?;
+        let expanded = self.expand_changed(branch, walk, &known, place);
+        drop(changes.replace(known));
+        expanded
+    }
+
+    /// Whether the pair at a place shows a difference.
+    fn differs(&self, branch: &Branch, walk: &SetWalk, place: usize) -> Result<bool, OutOfMemory>
+        requires keys { AreKeys branch.now.automaton.now walk.now self.now.keys.keys }
+        requires place_in { place < length self.now.keys.keys }
+        ensures { IfOk result (λ told. told ≡ trim_differs branch.now.automaton.now (pair_at walk.now self.now.keys.keys place)) }
     {
         let key = self.keys[place];
         let told = branch.differs(walk, key)?;
         Ok(told)
     }
 
-    /// What the first pairs show, `limit` at most: they are looked at one after another, no further than to the first one that shows
-    /// a difference. Once there are more than the limit no further ones are looked for.
+    /// Looks at the first `limit` pairs one after another, up to the first one that shows a difference. Once more than `limit`
+    /// pairs are found, no further ones are searched for.
     pub(crate) fn judge(
         &mut self,
         branch: &Branch,
@@ -182,6 +248,7 @@ impl Order {
         ensures found { IfOk result (IsFound (trim_pairs branch.now.automaton.now branch.now.keep.now) limit) }
         ensures grown { OnOk result (IsGrown branch.now.automaton.now walk.old walk.new) }
     {
+        let mut changes = None;
         for place in 0..limit {
             if place == self.keys.len() {
                 return Ok(Judgement::Equal);
@@ -190,7 +257,7 @@ impl Order {
                 return Ok(Judgement::Apart);
             }
             if self.keys.len() <= limit {
-                self.expand(branch, walk, place)?;
+                self.expand(branch, walk, &mut changes, place)?;
             }
         }
         if self.keys.len() > limit {

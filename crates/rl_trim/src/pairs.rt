@@ -1,4 +1,4 @@
-//! The pairs of sets that cover all that a whole automaton and the one without a branch reach.
+//! Finds pairs of sets that cover everything the whole automaton and the one without a branch reach.
 
 ghost use Rattle.std.specs.Prelude.{◌≡◌, ◌+◌, ◌<◌, true, None, length, IfOk, OnOk};
 ghost use Rattle.rl_prio.specs.Automaton.{letters_count};
@@ -15,23 +15,23 @@ use rl_lists::OutOfMemory;
 use rl_sets::{SetWalk, SetsError};
 use std::alloc::Global;
 
-/// The most pairs that are looked at.
+/// The most pairs to look at.
 const MOST_PAIRS: usize = 10_000;
 
-/// The pairs that are found, in any order. A set that is reached from the start, with itself, isn't put among them: it shows no
-/// difference, and its next pairs are such sets without the branch.
+/// The pairs found so far, in any order. The pair of a set reached from the start with itself isn't stored: it shows no
+/// difference, and its next pairs are sets reached from the start, each paired with itself without the branch.
 #[derive(Drop)]
 pub(crate) struct Pairs {
     /// How many sets are reached from the start.
     pub count: u32,
-    /// The pairs. The first ones are the sets that hold a state of the branch, each with itself without the branch.
+    /// The pairs. The first ones are the sets that hold a state of the branch, each paired with itself without the branch.
     pub keys: IndexSet<Key>,
-    /// How each of them was found.
+    /// How each pair was found.
     pub ways: Vec<Way>,
 }
 
 impl Pairs {
-    /// Appends a pair unless it is there.
+    /// Appends a pair unless it is already there.
     fn add(&mut self, key: Key, place: usize, letter: u32) -> Result<(), OutOfMemory>
         ensures put { OnOk result (IsPut self.old.keys.keys self.new.keys.keys key) }
         ensures count { self.new.count ≡ self.old.count }
@@ -45,7 +45,7 @@ impl Pairs {
         Ok(())
     }
 
-    /// Appends a set with itself without the branch, if it holds a state of it.
+    /// Appends the pair of a set and that set without the branch, if the set holds a state of the branch.
     fn plant(
         &mut self,
         branch: &Branch,
@@ -72,7 +72,7 @@ impl Pairs {
         Ok(())
     }
 
-    /// The sets that are reached from the start and hold a state of the branch, each with itself without it.
+    /// The sets that are reached from the start and hold a state of the branch, each paired with itself without the branch.
     pub(crate) fn new(
         alloc: Global,
         branch: &Branch,
@@ -97,7 +97,7 @@ impl Pairs {
         Ok(pairs)
     }
 
-    /// Appends the next pair of the one at a place, on a letter, unless it is there or is one set with itself.
+    /// Appends the next pair of the one at a place, on a letter, unless it is already there or pairs a set with itself.
     fn visit(
         &mut self,
         branch: &Branch,
@@ -123,7 +123,7 @@ impl Pairs {
         Ok(())
     }
 
-    /// Appends the next pairs of the one at a place, the letters in order.
+    /// Appends the next pairs of the one at a place, letter by letter in order.
     fn expand(&mut self, branch: &Branch, walk: &mut SetWalk, place: usize) -> Result<(), SetsError>
         requires pairs { ArePairs branch.now.automaton.now branch.now.keep.now walk.old self.old.count self.old.keys.keys }
         requires place_in { place < length self.old.keys.keys }
@@ -138,7 +138,7 @@ impl Pairs {
         Ok(())
     }
 
-    /// Looks at the pair at a place: one that shows a difference isn't expanded.
+    /// Looks at the pair at a place, and appends its next pairs unless it shows a difference.
     fn look(&mut self, branch: &Branch, walk: &mut SetWalk, place: usize) -> Result<(), SetsError>
         requires pairs { ArePairs branch.now.automaton.now branch.now.keep.now walk.old self.old.count self.old.keys.keys }
         requires place_in { place < length self.old.keys.keys }
@@ -148,15 +148,14 @@ impl Pairs {
         ensures count { self.new.count ≡ self.old.count }
     {
         let key = self.keys[place];
-        let apart = branch.differs(walk, key)?;
-        if apart {
+        if branch.differs(walk, key)? {
             return Ok(());
         }
         self.expand(branch, walk, place)?;
         Ok(())
     }
 
-    /// Looks at all pairs, and answers true; where there are too many, it answers false.
+    /// Looks at all pairs. Returns false if there are too many.
     pub(crate) fn grow(&mut self, branch: &Branch, walk: &mut SetWalk) -> Result<bool, SetsError>
         requires { ArePairs branch.now.automaton.now branch.now.keep.now walk.old self.old.count self.old.keys.keys }
         ensures grown { OnOk result (IsGrown branch.now.automaton.now walk.old walk.new) }
@@ -174,21 +173,18 @@ impl Pairs {
         Ok(false)
     }
 
-    /// The place of a pair that shows a difference, if there is one.
+    /// The place of the first pair that shows a difference, if there is one.
     pub(crate) fn apart(
         &self,
         branch: &Branch,
-        walk: &mut SetWalk,
-    ) -> Result<Option<usize>, SetsError>
-        requires { ArePairs branch.now.automaton.now branch.now.keep.now walk.old self.now.count self.now.keys.keys }
-        ensures grown { OnOk result (IsGrown branch.now.automaton.now walk.old walk.new) }
-        ensures none { IfOk result (λ place. place ≡ None
-            → NoneApart branch.now.automaton.now walk.old self.now.keys.keys (length self.now.keys.keys)) }
+        walk: &SetWalk,
+    ) -> Result<Option<usize>, OutOfMemory>
+        requires { ArePairs branch.now.automaton.now branch.now.keep.now walk.now self.now.count self.now.keys.keys }
+        ensures { IfOk result (λ place. place ≡ None → NoneApart branch.now.automaton.now walk.now self.now.keys.keys (length self.now.keys.keys)) }
     {
         for place in 0..self.keys.len() {
             let key = self.keys[place];
-            let apart = branch.differs(walk, key)?;
-            if apart {
+            if branch.differs(walk, key)? {
                 return Ok(Some(place));
             }
         }

@@ -1,5 +1,5 @@
-//! Trials whose pairs are found in any order, which takes fewer of them. Where they and the sets that are reached from the start
-//! are no more than the limit, they tell what those in order tell.
+//! Trials that look at pairs in any order, and so at fewer of them. If the pairs and the sets reached from the start together don't
+//! exceed the limit, such a trial has the same result as one in order.
 
 ghost use Rattle.std.specs.Prelude.{IfOk, OnOk, IfSome};
 ghost use Rattle.rl_trim.specs.Judged.{IsFound};
@@ -17,7 +17,7 @@ use crate::word::{leads_apart, word_to};
 use rl_sets::{SetWalk, SetsError};
 use std::alloc::Global;
 
-/// What the pairs tell once all of them are looked at, if that is something.
+/// The result after looking at all pairs, if they decide the trial.
 fn judge_pairs(
     alloc: Global,
     branch: &Branch,
@@ -45,7 +45,7 @@ fn judge_pairs(
     Ok(None)
 }
 
-/// What a quick trial tells, if it tells something.
+/// The result of a quick trial, if it decides the trial.
 pub(crate) fn quick_trial(
     alloc: Global,
     branch: &Branch,

@@ -1,4 +1,4 @@
-//! The sets of states of an automaton that trials share.
+//! The sets of states that trials on one automaton share.
 
 ghost use Rattle.std.specs.Prelude.{◌+◌, ◌<◌, length, IfOk, OnOk};
 ghost use Rattle.rl_prio.specs.Automaton.{letters_count};
@@ -13,38 +13,42 @@ use rl_prio::Prio;
 use rl_sets::{SetWalk, SetsError};
 use std::alloc::Global;
 
-/// The most sets that a walk may have.
+/// The most sets in a walk.
 pub(crate) const MOST_SETS: u32 = 60_000;
 
-/// The most sets that are reached from the start. Where there are more, quick trials don't pay.
+/// The most sets reached from the start. If there are more, quick trials aren't worth it.
 pub(crate) const MOST_REACHED: u32 = 10_000;
 
-/// The most pairs that trials in order look at before the sets that are reached from the start are searched for once more.
+/// The most sets that a walk may have when a trial in order begins. If there are more, the trial could run out of room and would
+/// have to start again.
+const MOST_SHARED: u32 = 30_000;
+
+/// How many pairs trials in order may look at before the sets reached from the start are searched for again.
 const MOST_LOOKED: usize = 200_000;
 
-/// The sets that are reached from the start, which are the first ones of a walk.
+/// The sets reached from the start. They are the first sets of a walk.
 #[derive(Drop)]
 pub(crate) struct Reached {
-    /// How many they are.
+    /// How many there are.
     pub count: u32,
-    /// For each state, which of them hold it.
+    /// For each state, which of these sets hold it.
     pub holders: BitTable,
-    /// How each of them was found.
+    /// How each of these sets was found.
     pub ways: Vec<Way>,
 }
 
-/// The sets that trials have made.
+/// The sets that trials have found so far.
 #[derive(Drop)]
 pub(crate) struct Store {
-    /// The walk that has them.
+    /// The walk that holds them.
     pub walk: SetWalk,
-    /// Those that are reached from the start, unless there are too many.
+    /// Those reached from the start, unless there are too many.
     pub reached: Option<Reached>,
-    /// How many pairs trials in order may still look at before these are searched for once more.
+    /// How many pairs trials in order may still look at before these are searched for again.
     pub patience: usize,
 }
 
-/// A walk that has the start alone.
+/// A walk that holds only the start.
 fn begin(alloc: Global, a: &Prio) -> Result<SetWalk, SetsError>
     ensures { IfOk result (λ w. IsClosedTo a.now w 0 (length w.sets)) }
 {
@@ -60,7 +64,7 @@ fn begin(alloc: Global, a: &Prio) -> Result<SetWalk, SetsError>
     }
 }
 
-/// Appends the image of a set on a letter unless it is there, and keeps how it was found.
+/// Appends the image of a set on a letter unless it is already there, and notes how it was found.
 fn step(
     walk: &mut SetWalk,
     ways: &mut Vec<Way>,
@@ -84,7 +88,7 @@ fn step(
     Ok(())
 }
 
-/// Appends the images of a set, the letters in order.
+/// Appends the images of a set, letter by letter in order.
 fn expand(walk: &mut SetWalk, ways: &mut Vec<Way>, a: &Prio, set: u32) -> Result<(), SetsError>
     requires closed { IsClosedTo a.now walk.old set (length walk.old.sets) }
     requires set_in { set < length walk.old.sets }
@@ -96,7 +100,7 @@ fn expand(walk: &mut SetWalk, ways: &mut Vec<Way>, a: &Prio, set: u32) -> Result
     Ok(())
 }
 
-/// The sets that are reached from the start, found by a walk that has the start alone; none where there are as many as said.
+/// Finds all sets reached from the start. Returns `None` if there are `most` or more. The walk must hold only the start.
 fn reach(
     alloc: Global,
     a: &Prio,
@@ -127,7 +131,7 @@ fn reach(
 }
 
 impl Store {
-    /// The start alone.
+    /// Only the start.
     pub(crate) fn begun(alloc: Global, a: &Prio) -> Result<Store, SetsError>
         ensures { IfOk result (IsStore a.now) }
     {
@@ -139,8 +143,8 @@ impl Store {
         })
     }
 
-    /// The sets that are reached from the start where they are no more than the states, or else the first of them: then trials in
-    /// order are mostly the quicker ones.
+    /// The sets reached from the start if there are fewer of them than states, otherwise only the first of them. If there are more,
+    /// trials in order are usually faster.
     ///
     /// # Errors
     /// Those of [`Store::closed`].
@@ -150,7 +154,8 @@ impl Store {
         Store::closed(alloc, a, a.states(), MOST_LOOKED)
     }
 
-    /// These sets, or where trials in order have looked at many pairs, those that are reached from the start.
+    /// These sets, or sets to start anew with: only the start if there is little room left for trials in order, and the sets reached
+    /// from the start after trials in order have looked at many pairs.
     ///
     /// # Errors
     /// Those of [`Store::closed`].
@@ -158,6 +163,10 @@ impl Store {
         requires { IsStore a.now self }
         ensures { IfOk result (IsStore a.now) }
     {
+        if self.reached.is_none() && self.walk.len() > MOST_SHARED {
+            drop(self);
+            return Store::begun(alloc, a);
+        }
         if self.patience > 0 || self.walk.len() > MOST_REACHED {
             return Ok(self);
         }
@@ -165,11 +174,10 @@ impl Store {
         Store::closed(alloc, a, MOST_REACHED, usize::MAX)
     }
 
-    /// The sets that are reached from the start, or the first of them where there are as many as said.
+    /// The sets reached from the start, or only the first of them if there are `most` or more.
     ///
     /// # Errors
-    /// [`SetsError::Sets`] where there are more than a walk may have, and [`SetsError::OutOfMemory`] where there was no memory
-    /// for them.
+    /// [`SetsError::Sets`] if there are more than a walk can hold, and [`SetsError::OutOfMemory`] if there was no memory for them.
     fn closed(alloc: Global, a: &Prio, most: u32, patience: usize) -> Result<Store, SetsError>
         ensures { IfOk result (IsStore a.now) }
     {

@@ -1,4 +1,4 @@
-//! What a tree without some of its branches spans.
+//! Compares a tree with the same tree without some of its branches.
 
 ghost use Rattle.std.specs.Prelude.{◌≡◌, length, [], IfOk, OnOk, IfSome};
 ghost use Rattle.rl_ranges.specs.declared.universe.Universe.{Universe as AnyUniverse};
@@ -25,11 +25,11 @@ use rl_syntax::{Ending, Re};
 use std::alloc::Global;
 use std::marker::Model;
 
-/// The automaton of a tree as fullmatch, on which trials of its branches are run one after another.
+/// The automaton of a tree, matched whole, on which trials of its branches run one after another.
 #[derive(Drop)]
 pub struct Trimmer {
     automaton: Prio,
-    /// The sets that trials have made, unless there was no room for them.
+    /// The sets that trials have found so far, unless there was no room for them.
     store: Option<Store>,
 }
 
@@ -44,7 +44,7 @@ impl Model for Trimmer {
     ghost invariant = { λ t. IsStoreIf t.automaton t.store };
 }
 
-/// The sets of an automaton that are reached from the start, if there is room for them.
+/// The sets of an automaton reached from the start, if there is room for them.
 fn close(alloc: Global, a: &Prio) -> Result<Option<Store>, OutOfMemory>
     ensures { IfOk result (IsStoreIf a.now) }
 {
@@ -55,7 +55,7 @@ fn close(alloc: Global, a: &Prio) -> Result<Option<Store>, OutOfMemory>
     }
 }
 
-/// What the pairs in their order tell.
+/// The result of a trial that looks at the pairs in order.
 fn trial_in_order(
     alloc: Global,
     branch: &Branch,
@@ -74,7 +74,7 @@ fn trial_in_order(
     found
 }
 
-/// What a trial tells: a quick one, or else one in order.
+/// The result of a trial: of a quick one if that decides, otherwise of one in order.
 fn trial_of(
     alloc: Global,
     branch: &Branch,
@@ -95,7 +95,7 @@ fn trial_of(
     trial_in_order(alloc, branch, &mut store.walk, &mut store.patience, limit)
 }
 
-/// What a trial tells of an automaton without the states of the places that aren't kept.
+/// The result of a trial of an automaton without the states of the places that aren't kept.
 fn trial_on(
     alloc: Global,
     store: &mut Store,
@@ -112,7 +112,7 @@ fn trial_on(
     Ok(found)
 }
 
-/// The same, and the sets with those that it has made.
+/// The result of such a trial, and the sets with those that it found.
 fn judge_on(
     alloc: Global,
     store: Store,
@@ -134,7 +134,7 @@ fn judge_on(
     }
 }
 
-/// The same over sets of its own.
+/// The same, starting with no sets from earlier trials.
 fn judge_afresh(
     alloc: Global,
     a: &Prio,
@@ -156,7 +156,7 @@ fn judge_afresh(
     }
 }
 
-/// The same over the sets of earlier trials, or where there is no room for more of them over sets of its own.
+/// The same with the sets of earlier trials, or without them if there is no room for more sets.
 fn judge_if_room(
     alloc: Global,
     store: Option<Store>,
@@ -179,10 +179,10 @@ fn judge_if_room(
 }
 
 impl Trimmer {
-    /// The automaton of a tree that passes no limit.
+    /// Builds the automaton of a tree within the limits.
     ///
     /// # Errors
-    /// [`OutOfMemory`] where there was no memory for it.
+    /// [`OutOfMemory`] if there was no memory for it.
     pub fn new(alloc: Global, tree: &Re, u: Universe) -> Result<Trimmer, OutOfMemory>
         requires inside { IsOver u (tree_of tree.now) }
         requires within { IsWithin u (tree_of tree.now) }
@@ -203,11 +203,11 @@ impl Trimmer {
         }
     }
 
-    /// What a trial tells of the languages of the tree and of the tree without the branches whose places aren't kept: the very
-    /// answer of a trial of both trees. It answers `None` where the automaton has more sets than a trial has room for.
+    /// Compares the languages of the tree and of the tree without the branches whose places aren't kept. The result is the same
+    /// as that of a trial that builds both trees. It is `None` if the automaton has more sets than a trial has room for.
     ///
     /// # Errors
-    /// [`OutOfMemory`] where there was no memory for the trial.
+    /// [`OutOfMemory`] if there was no memory for the trial.
     pub fn judge(
         &mut self,
         alloc: Global,

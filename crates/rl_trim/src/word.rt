@@ -12,8 +12,7 @@ use rl_lists::OutOfMemory;
 use rl_sets::{SetWalk, SetsError};
 use std::alloc::Global;
 
-/// Appends the letters by which the one at a place was found, the last one first, and answers the place of the one that they begin
-/// at.
+/// Appends the letters by which the set or pair at a place was found, last letter first. Returns the place that they start from.
 fn trace(back: &mut Vec<u32>, ways: &[Way], place: usize) -> Result<usize, OutOfMemory> {
     let mut at = place;
     while at < ways.len() && ways[at].parent < at {
@@ -23,7 +22,7 @@ fn trace(back: &mut Vec<u32>, ways: &[Way], place: usize) -> Result<usize, OutOf
     Ok(at)
 }
 
-/// The word by which the pair at a place was found: that of the set which its pairs begin at, and theirs.
+/// The word by which the pair at a place was found: the word of the set that the search started from, then that of the pair.
 pub(crate) fn word_to(
     alloc: Global,
     sets: &[Way],

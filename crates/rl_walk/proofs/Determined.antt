@@ -1,4 +1,4 @@
--- A map, what is left to do, the paths met and the marks of the calls determine a walk.
+-- A map, the steps left to do, the paths met and the marks of the calls determine a walk.
 use Rattle.std.proofs.Common.{◌≡◌, ℕ, ◌+◌, false, List, [], ◌∷◌, ◌++◌, take, Some, refl, ap, subst, ◌∙◌, arith}
 use Rattle.std.specs.Prelude.{IsSomeAnd}
 use Rattle.rl_lists.specs.declared.limits.TheConstants.{MOST_BYTES}

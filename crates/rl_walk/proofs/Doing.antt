@@ -34,7 +34,7 @@ pub on_ok : {T E A B : Type 0} (r : Result T E) → (A → B) → OnOk r A → O
 on_ok (Ok x) f a = f a
 on_ok (Err e) f a = tt
 
--- the fact that a map's answer gives
+-- The fact that an answer of the map gives.
 pub some_answer : {A : Type 0} (P : A → Type 0) (o : Option A) → IsSomeAnd o P → (x : A) × (o ≡ Some x) × P x
 some_answer P None h = absurd h
 some_answer P (Some x) h = (x, refl, h)
@@ -42,7 +42,7 @@ some_answer P (Some x) h = (x, refl, h)
 told_answer : (P : Told → Type 0) (o : Option Told) (t : Told) → IfSome o P → o ≡ Some t → P t
 told_answer P o t h e = subst (λ x. IfSome x P) e h
 
--- trails one after another
+-- Trails one after another.
 after-none : (o : Option Told) → after [] o ≡ o
 after-none None = refl
 after-none (Some t) = ap (λ (l : List Call). Some (record t { trail = l })) (append-nil t.trail)
@@ -51,14 +51,14 @@ after-more : (first second : List Call) (o : Option Told) → after second (afte
 after-more first second None = refl
 after-more first second (Some t) = ap (λ (l : List Call). Some (record t { trail = l })) (append_assoc t.trail first second)
 
--- the counts
+-- Fault counts.
 rose-later : (a b c : ℕ) → Rose a b → b ≤ c → Rose a c
 rose-later a b c r l = omega arith
 
 pub rose-earlier : (a b c : ℕ) → a ≤ b → Rose b c → Rose a c
 rose-earlier a b c l r = omega arith
 
--- nothing was done
+-- Nothing was done.
 pub Does-none : (m : Moment) (met : Paths) (was : List Visit → Type 0) → Does [] m m met met was was
 Does-none m met was = record {
   calls = [];
@@ -78,7 +78,7 @@ begins-more nodes first second m1 m2 m3 c1 c2 v1 v2 a b = record {
       (a.then (second ++ rest) (c2 ++ calls) (v2 ++ visits) (b.then rest calls visits w));
 }
 
--- the map stays
+-- The map stays the same.
 same_map : (calls : List Call) (old new : Option Told) (t : Told) → new ≡ after calls old → old ≡ Some t → new ≡ Some (record t { trail = t.trail ++ calls })
 same_map calls old new t e s = e ∙ ap (after calls) s
 
@@ -100,17 +100,17 @@ Does-more {first} {second} {a} {b} {c} {m1} {m2} {m3} {w1} {w2} {w3} d e l k = r
       (or_cases (has_unreadable d.visits) (has_unreadable e.visits) (sym (list_any-append is_unreadable d.visits e.visits) ∙ h));
 }
 
--- the visit that the visitor was told of, under its path's other name
+-- The visit that the visitor received, given under another name of its path.
 pub told-visit : (was now : List Visit → Type 0) (visit same : Visit) → ((visits : List Visit) → was visits → now (visits ++ visit ∷ [])) → visit ≡ same
     → (visits : List Visit) → was visits → now (visits ++ same ∷ [])
 told-visit was now visit same h e visits w = subst (λ v. now (visits ++ v ∷ [])) e (h visits w)
 
--- the trail after two parts
+-- The trail after two parts.
 trail-more : (first second : List Call) (old mid new : Option Told) → mid ≡ after first old → new ≡ after second mid → new ≡ after (first ++ second) old
 trail-more first second old mid new e k = k ∙ ap (after second) e ∙ after-more first second old
 
 module _ (path : List ℕ) (met next : Paths) (added : Bool) (says : added ≡ not (is_met path met)) (goes : next ≡ with_path met path) where
-  -- what was met is passed over
+  -- A file or folder that was met before is skipped.
   pub file-again : (m : Moment) (was : List Visit → Type 0) → added ≡ false → Does (file path ∷ []) m m met next was was
   file-again m was old = record {
     calls = [];
@@ -267,14 +267,14 @@ module _ (path : List ℕ) where
     cause = λ h. rose-earlier old.faults mid.faults new.faults later (d.cause h);
   }
 
--- a child that is passed over
+-- A child that is skipped.
 pub file-passed : (kind : Kind) (name path : List ℕ) (level : ℕ) → kind ≡ kinds.File → has_source_name name ≡ false → child_steps kind name path level ≡ []
 file-passed kind name path level e f = ap (λ k. child_steps k name path level) e ∙ ap (λ b. if b then file path ∷ [] else []) f
 
 pub Does-nothing : (steps : List Step) (m : Moment) (met : Paths) (was : List Visit → Type 0) → steps ≡ [] → Does steps m m met met was was
 Does-nothing steps m met was e = subst (λ (ss : List Step). Does ss m m met met was was) (sym e) (Does-none m met was)
 
--- the steps of the children, one more child
+-- The steps for the children, with one more child.
 pub steps_below-more : (path : List ℕ) (level : ℕ) (children : List Child) (child : Child)
     → steps_below path level (children ++ child ∷ []) ≡ steps_below path level children ++ child_steps child.kind child.name (path_below path child.name) (level + 1)
 steps_below-more path level [] child = append-nil _
@@ -282,7 +282,7 @@ steps_below-more path level (c ∷ cs) child =
     ap (λ (l : List Step). child_steps c.kind c.name (path_below path c.name) (level + 1) ++ l) (steps_below-more path level cs child)
     ∙ sym (append_assoc (child_steps c.kind c.name (path_below path c.name) (level + 1)) (steps_below path level cs) (child_steps child.kind child.name (path_below path child.name) (level + 1)))
 
--- the whole walk
+-- The whole walk.
 pub Walked-done : (paths : List (List ℕ)) (old new : Moment) (met : Paths) (was now : List Visit → Type 0)
     → Does (map named paths) old new [] met was now → Walked old new paths was now
 Walked-done paths old new met was now d = record {
@@ -298,13 +298,13 @@ Walked-done paths old new met was now d = record {
   cause = d.cause;
 }
 
--- a visit at the end of a call
+-- A visit at the end of a call.
 pub on_visit : {T E D : Type 0} (r : Result T E) (was now : List Visit → Type 0) (visit same : Visit)
     → OnOk r ((visits : List Visit) → was visits → now (visits ++ visit ∷ [])) → visit ≡ same
     → (((visits : List Visit) → was visits → now (visits ++ same ∷ [])) → D) → OnOk r D
 on_visit r was now visit same h e f = on_ok r (λ told. f (told-visit was now visit same told e)) h
 
--- one more turn of the loop over the children
+-- One more round of the loop over the children.
 pub children-turn : (path : List ℕ) (level : ℕ) (children : List Child) (i : ℕ) (child : Child) (below : List ℕ) {a b c : Moment} {m1 m2 m3 : Paths} {w1 w2 w3 : List Visit → Type 0}
     → i < length children → child ≡ get_or children i child → below ≡ path_below path child.name
     → Does (steps_below path level (take i children)) a b m1 m2 w1 w2 → Does (child_steps child.kind child.name below (level + 1)) b c m2 m3 w2 w3
@@ -318,7 +318,7 @@ children-turn path level children i child below {a} {b} {c} {m1} {m2} {m3} {w1} 
     ∙ ap (steps_below path level) (sym (take_more children i child within)) in
     subst (λ (ss : List Step). Does ss a c m1 m3 w1 w3) turn (Does-more d e l k)
 
--- one more turn of the loop over the paths
+-- One more round of the loop over the paths.
 pub named-turn : (paths : List (Bor (List ℕ))) (i : ℕ) (d : Bor (List ℕ)) {a b c : Moment} {m1 m2 m3 : Paths} {w1 w2 w3 : List Visit → Type 0}
     → i < length paths
     → Does (map named (map (λ p. p.now) (take i paths))) a b m1 m2 w1 w2 → Does (named (get_or paths i d).now ∷ []) b c m2 m3 w2 w3
@@ -331,7 +331,7 @@ named-turn paths i d {a} {b} {c} {m1} {m2} {m3} {w1} {w2} {w3} within done_so_fa
     ∙ ap (λ (l : List (Bor (List ℕ))). map named (map (λ (q : Bor (List ℕ)). q.now) l)) (sym (take_more paths i d within)) in
     subst (λ (ss : List Step). Does ss a c m1 m3 w1 w3) turn (Does-more done_so_far next l k)
 
--- after the last turn
+-- After the last round.
 pub walked-all : (paths : List (Bor (List ℕ))) (i : ℕ) {old new : Moment} {met : Paths} {was now : List Visit → Type 0} → i ≡ length paths
     → Does (map named (map (λ p. p.now) (take i paths))) old new [] met was now → Walked old new (map (λ p. p.now) paths) was now
 walked-all paths i {old} {new} {met} {was} {now} all d =

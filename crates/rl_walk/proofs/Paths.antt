@@ -8,7 +8,7 @@ use Rattle.std.proofs.lemmas.List.{map_push}
 use Rattle.indexmap.specs.IndexSet.{insert_key}
 use Rattle.rl_walk.specs.Steps.{is_met, with_path}
 
--- a text is in the set where its bytes are among the paths
+-- A text is in the set if and only if its bytes are among the paths.
 pub is_met-keys : (text : String Global) (keys : List (String Global)) → is_met (string_bytes text) (map string_bytes keys) ≡ list_any (string_eq text) keys
 is_met-keys text [] = refl
 is_met-keys text (key ∷ keys) = ap (λ b. bytes_eq (string_bytes text) (string_bytes key) || b) (is_met-keys text keys)
@@ -28,7 +28,7 @@ with_path-set text path keys new_keys met e m new =
     ∙ ap (λ ms. if is_met path met then ms else ms ++ string_bytes text ∷ []) m
     ∙ ap (λ p. if is_met path met then met else met ++ p ∷ []) e
 
--- a path that goes in as a new one, and one that was met
+-- A path that is added because it is new, and one that was met before.
 pub met-new : (path : List ℕ) (met : List (List ℕ)) (added : Bool) → added ≡ not (is_met path met) → added ≡ true → is_met path met ≡ false
 met-new path met added e new = by (is_met path met) (sym e ∙ new)
   where

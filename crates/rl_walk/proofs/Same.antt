@@ -1,4 +1,4 @@
--- The children of a folder have one order by name.
+-- The children of a folder have only one order by name.
 use Rattle.std.proofs.Common.{◌≡◌, ℕ, zero, suc, ◌+◌, ◌<◌, Bool, true, false, ◌||◌, List, [], ◌∷◌, length, get_or, ◌⊎◌, inl, inr, refl, sym, ap, subst, ◌∙◌, arith}
 use Rattle.std.specs.Prelude.{bytes_eq, IsPermutation, Contains}
 use Rattle.std.specs.List.{list_any, AllByRecursion, IsDistinct}
@@ -17,7 +17,7 @@ use Rattle.rl_source.specs.Distinct.{has_double}
 use Rattle.rl_source.specs.declared.nodes.Child.{Child}
 use Rattle.rl_walk.specs.Children.{by_name, IsInOrder}
 
--- the names of two children are equal
+-- The names of two children are equal.
 abbrev same_name : Child → Child → Bool
 same_name x y = bytes_eq y.name x.name
 
@@ -60,7 +60,7 @@ strict children (x ∷ xs) once order =
     rises (get_or (x ∷ xs) k x) (get_or (x ∷ xs) (k + 1) x) (order.rising k x (omega arith) within)
     (apart_from_distinct same_name (x ∷ xs) k (k + 1) x apart (omega arith) within))
 
--- membership, by recursion
+-- Membership, by recursion on the list.
 abbrev In : Child → List Child → Type 0
 In z [] = ⊥
 In z (x ∷ xs) = (z ≡ x) ⊎ In z xs

@@ -1,4 +1,4 @@
--- What a walk has to do, and the paths that it met.
+-- The steps that a walk has to do, and the paths that it has met.
 use Rattle.std.specs.Prelude.{ℕ, ◌+◌, Bool, List, [], ◌∷◌, ◌++◌, if◌then◌else◌, bytes_eq}
 use Rattle.std.specs.List.{list_any}
 use Rattle.rl_source.specs.declared.nodes.Kind.{Kind}
@@ -6,40 +6,40 @@ use Rattle.rl_source.specs.declared.nodes.Kind.TheVariants as kind
 use Rattle.rl_source.specs.declared.nodes.Child.{Child}
 use Rattle.rl_walk.specs.Children.{path_below, has_source_name}
 
--- a thing that a walk has to do
+-- A step that a walk has to do.
 pub data Step : Type 0 where
-  -- to ask what stands at a path that it was given
+  -- find out what is at a path that the walk was given
   named : List ℕ → Step
-  -- to read a file
+  -- read a file
   file : List ℕ → Step
-  -- to enter a folder, which stands so many levels below the path that the walk was given
+  -- enter a folder that is this many levels below the path that the walk was given
   folder : List ℕ → ℕ → Step
-  -- to tell that a path that it was given is neither a file nor a folder
+  -- report that a path that the walk was given is neither a file nor a folder
   other : List ℕ → Step
 
--- what is to be done with a path that the walk was given, once its kind is known
+-- The step for a path that the walk was given, once its kind is known.
 abbrev pub step_for : Kind → List ℕ → Step
 step_for kind.File path = file path
 step_for kind.Folder path = folder path 0
 step_for kind.Other path = other path
 
--- what is to be done with a child of this kind, name, path and level: a source is read, a folder is entered, and all else
--- is passed over
+-- The steps for a child with this kind, name, path and level: a source file is read, a folder is entered, and everything
+-- else is skipped.
 abbrev pub child_steps : Kind → List ℕ → List ℕ → ℕ → List Step
 child_steps kind.File name path level = if has_source_name name then file path ∷ [] else []
 child_steps kind.Folder name path level = folder path level ∷ []
 child_steps kind.Other name path level = []
 
--- what is to be done with the children of a folder, given the folder's path and its level
+-- The steps for the children of a folder, given the folder's path and level.
 abbrev pub steps_below : List ℕ → ℕ → List Child → List Step
 steps_below path level [] = []
 steps_below path level (child ∷ children) =
     child_steps child.kind child.name (path_below path child.name) (level + 1) ++ steps_below path level children
 
--- the path was met
+-- Whether the walk has met the path.
 abbrev pub is_met : List ℕ → List (List ℕ) → Bool
 is_met path met = list_any (bytes_eq path) met
 
--- the paths met, with one more
+-- The paths met, with this one added if it is new.
 abbrev pub with_path : List (List ℕ) → List ℕ → List (List ℕ)
 with_path met path = if is_met path met then met else met ++ path ∷ []

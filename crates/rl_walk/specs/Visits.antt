@@ -17,13 +17,13 @@ use Rattle.rl_walk.specs.Children.{IsInOrder}
 use Rattle.rl_walk.specs.Steps.{Step, named, file, folder, other, step_for, steps_below, is_met}
 use Rattle.rl_walk.specs.declared.walking.TheConstants.{MOST_LEVELS}
 
--- Over this map, with these things left to do and these paths met, a walk makes these calls of the tree and these visits.
--- A call holds its mark, which says whether it failed; so the map, what is left to do, the paths met and the marks of the
--- calls determine the calls and the visits.
+-- Over this map, with these steps left to do and these paths met, a walk makes these calls of the tree and these visits.
+-- Each call has a mark that says whether it failed. So the map, the steps, the paths met and the marks of the calls
+-- determine the calls and the visits.
 pub data IsWalk (nodes : List Node) : List Step → List (List ℕ) → List Call → List Visit → Type 0 where
-  -- nothing is left to do
+  -- Nothing is left to do.
   done : {met : List (List ℕ)} → IsWalk nodes [] met [] []
-  -- the kind of a given path is asked for, each time that it is given
+  -- The kind of a given path is queried, each time that it is given.
   unknown : {path : List ℕ} {rest : List Step} {met : List (List ℕ)} {calls : List Call} {visits : List Visit}
       → IsWalk nodes rest met calls visits
       → IsWalk nodes (named path ∷ rest) met (call_of call.Kind path true ∷ calls) (Unreadable path ∷ visits)
@@ -34,7 +34,7 @@ pub data IsWalk (nodes : List Node) : List Step → List (List ℕ) → List Cal
   not_plain : {path : List ℕ} {rest : List Step} {met : List (List ℕ)} {calls : List Call} {visits : List Visit}
       → IsWalk nodes rest met calls visits
       → IsWalk nodes (other path ∷ rest) met calls (NotPlain path ∷ visits)
-  -- a file that was met is passed over; another one is met and read
+  -- A file that was met before is skipped. Any other file is met now, and read.
   file_again : {path : List ℕ} {rest : List Step} {met : List (List ℕ)} {calls : List Call} {visits : List Visit}
       → is_met path met ≡ true
       → IsWalk nodes rest met calls visits
@@ -48,7 +48,7 @@ pub data IsWalk (nodes : List Node) : List Step → List (List ℕ) → List Cal
       → bytes_at nodes path ≡ Some content
       → IsWalk nodes rest (met ++ path ∷ []) calls visits
       → IsWalk nodes (file path ∷ rest) met (call_of call.Read path false ∷ calls) (Source path (take (MOST_BYTES + 1) content) ∷ visits)
-  -- a folder that was met is passed over; another one is met, and entered where it isn't too deep
+  -- A folder that was met before is skipped. Any other folder is met now, and entered unless it is too deep.
   folder_again : {path : List ℕ} {level : ℕ} {rest : List Step} {met : List (List ℕ)} {calls : List Call} {visits : List Visit}
       → is_met path met ≡ true
       → IsWalk nodes rest met calls visits
@@ -63,7 +63,7 @@ pub data IsWalk (nodes : List Node) : List Step → List (List ℕ) → List Cal
       → level ≤ MOST_LEVELS
       → IsWalk nodes rest (met ++ path ∷ []) calls visits
       → IsWalk nodes (folder path level ∷ rest) met (call_of call.Children path true ∷ calls) (Unreadable path ∷ visits)
-  -- the children come in the order of their names, before what was left to do
+  -- The children come in the order of their names, before the steps that were left to do.
   listed : {path : List ℕ} {level : ℕ} {rest : List Step} {met : List (List ℕ)} {calls : List Call} {visits : List Visit} {children sorted : List Child}
       → is_met path met ≡ false
       → level ≤ MOST_LEVELS
@@ -72,29 +72,31 @@ pub data IsWalk (nodes : List Node) : List Step → List (List ℕ) → List Cal
       → IsWalk nodes (steps_below path level sorted ++ rest) (met ++ path ∷ []) calls visits
       → IsWalk nodes (folder path level ∷ rest) met (call_of call.Children path false ∷ calls) visits
 
+-- Whether the visit reports that a call failed.
 abbrev pub is_unreadable : Visit → Bool
 is_unreadable (Unreadable path) = true
 is_unreadable _ = false
 
--- a call failed
+-- Whether some call failed.
 abbrev pub has_failed : List Call → Bool
 has_failed calls = list_any (λ c. c.failed) calls
 
--- a visit says so
+-- Whether some visit reports that a call failed.
 abbrev pub has_unreadable : List Visit → Bool
 has_unreadable visits = list_any is_unreadable visits
 
--- a tree as it is at some moment: its map and its trail, where it tells them, and its count of faults
+-- A tree at some moment: its map and its trail, if it reveals them, and its fault count.
 pub record Moment : Type 0 where
   pub told : Option Told
   pub faults : ℕ
 
+-- The current moment of a tree, given what it reveals and its fault count.
 abbrev pub moment_of : {T : Type 0} → (T → Option Told) → (T → ℕ) → T → Moment
 moment_of told faults tree = record { told = told tree; faults = faults tree }
 
--- Between the two moments the tree was walked from the paths on. Where it tells its map and its trail, the trail went on by
--- the calls of the walk, and these are its visits. The visitor was told of them in this order: `before` and `now` say what
--- it was told at the two moments.
+-- Between the two moments the tree was walked, beginning at the paths. If it reveals its map and its trail, the calls of
+-- the walk were added to the trail, and these are its visits. The visitor has received them in this order: `before` and
+-- `now` say what it had received at the two moments.
 pub record Walked (old new : Moment) (paths : List (List ℕ)) (before now : List Visit → Type 0) : Type 0 where
   pub calls : List Call
   pub visits : List Visit

@@ -1,2 +1,2 @@
--- Definitions for the contracts of private functions. No public contract reaches them.
+-- Definitions for the contracts of private functions. No public contract uses them.
 pub mod Parts

@@ -1,4 +1,4 @@
-//! The children of a folder: their order, their paths, and which names sources have.
+//! The children of a folder: their order, their paths, and which names source files have.
 ghost use Rattle.std.specs.Prelude.{◌≡◌, IfOk, string_bytes};
 ghost use Rattle.rl_walk.specs.Children.{path_below, slash_after, has_source_name, IsInOrder};
 
@@ -6,14 +6,14 @@ use rl_lists::OutOfMemory;
 use rl_source::Child;
 use std::alloc::Global;
 
-/// Whether a name ends in `.py`.
+/// Whether the name ends in `.py`.
 pub(crate) fn has_source_name(name: &str) -> bool
     ensures { result ≡ has_source_name name.now }
 {
     name.as_bytes().ends_with(b".py")
 }
 
-/// What stands between a folder's path and the name of a child: a slash, unless the path ends in one.
+/// Returns what separates a folder's path from the name of a child: a slash, or nothing if the path already ends in one.
 fn slash_after(folder: &str) -> &'static str
     ensures { result.now ≡ slash_after folder.now }
 {
@@ -24,7 +24,7 @@ fn slash_after(folder: &str) -> &'static str
     }
 }
 
-/// The path of a child.
+/// Returns the path of a child.
 pub(crate) fn path_below(alloc: Global, folder: &str, name: &str) -> Result<String, OutOfMemory>
     ensures { IfOk result (λ path. string_bytes path ≡ path_below folder.now name.now) }
 {
@@ -34,7 +34,7 @@ pub(crate) fn path_below(alloc: Global, folder: &str, name: &str) -> Result<Stri
     Ok(path)
 }
 
-/// The children in the order of the bytes of their names.
+/// Sorts the children by the bytes of their names.
 pub(crate) fn in_order(mut children: Vec<Child>) -> Result<Vec<Child>, OutOfMemory>
     ensures { IfOk result (λ sorted. IsInOrder children.items sorted.items) }
 {

@@ -1,4 +1,4 @@
-//! The paths that a walk met so far.
+//! The paths that a walk has met so far.
 ghost use Rattle.std.specs.Prelude.{◌≡◌, List, ℕ, [], not, IfOk, OnOk};
 ghost use Rattle.rl_walk.specs.Steps.{is_met, with_path};
 
@@ -7,7 +7,7 @@ use rl_lists::OutOfMemory;
 use std::alloc::Global;
 use std::marker::Model;
 
-/// The paths that a walk met, which contracts see as the list of their texts, the first one first.
+/// The paths that a walk has met. Contracts see it as the list of their texts, in the order in which they were met.
 #[derive(Drop)]
 pub(crate) struct Met {
     alloc: Global,
@@ -23,7 +23,7 @@ impl Model for Met {
 }
 
 impl Met {
-    /// No path was met yet.
+    /// Creates an empty set: no path has been met yet.
     pub(crate) fn new(alloc: Global) -> Met
         ensures { result ≡ [] }
     {
@@ -33,7 +33,7 @@ impl Met {
         }
     }
 
-    /// Meets a path, and says whether it wasn't met before.
+    /// Adds a path, and returns whether it is new.
     pub(crate) fn add(&mut self, path: &str) -> Result<bool, OutOfMemory>
         ensures added { IfOk result (λ new. new ≡ not (is_met path.now self.old)) }
         ensures met { OnOk result (self.new ≡ with_path self.old path.now) }

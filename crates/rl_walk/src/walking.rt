@@ -13,18 +13,19 @@ use rl_lists::{MOST_BYTES, OutOfMemory};
 use rl_source::{Child, Content, Kind, Name, Tree, TreeError};
 use std::alloc::Global;
 
-/// How many bytes of a source are read at most: one more than it may have, which shows that it is too long.
+/// The maximum number of bytes to read of a source. It is one more than a source may have, which is enough to see that a
+/// source is too long.
 const MOST_READ: usize = MOST_BYTES + 1;
 
-/// The most levels that a folder may stand below the path that the walk was given. A deeper one isn't entered.
+/// The maximum depth of a folder, in levels below the path that the walk was given. A deeper folder isn't entered.
 pub const MOST_LEVELS: u32 = 64;
 
-/// The number of the limit: 64 levels.
+/// Says which number the limit is: 64 levels.
 pub fn limits_are()
     ensures levels { MOST_LEVELS ≡ 64 }
 {}
 
-/// Reads a file, unless it was met.
+/// Reads a file, unless the walk has met it before.
 fn take_file<T: Tree, V: Visitor>(
     alloc: Global,
     path: &str,
@@ -54,7 +55,7 @@ fn take_file<T: Tree, V: Visitor>(
     }
 }
 
-/// Enters a folder at a level, unless it was met or is too deep.
+/// Enters a folder at a level, unless the walk has met it before or it is too deep.
 #[cycle(folders)]
 fn enter<T: Tree, V: Visitor>(
     alloc: Global,
@@ -90,7 +91,7 @@ fn enter<T: Tree, V: Visitor>(
     }
 }
 
-/// Takes the children of a folder at a level in turn.
+/// Takes the children of a folder at a level one after another.
 #[cycle(folders)]
 fn take_children<T: Tree, V: Visitor>(
     alloc: Global,
@@ -115,7 +116,7 @@ fn take_children<T: Tree, V: Visitor>(
     Ok(())
 }
 
-/// Takes a child that stands at a path, at a level.
+/// Takes a child with its path and its level.
 #[cycle(folders)]
 fn take_child<T: Tree, V: Visitor>(
     alloc: Global,
@@ -175,16 +176,16 @@ fn take_named<T: Tree, V: Visitor>(
     }
 }
 
-/// Walks over a tree, depth first, from each of the paths in turn, and tells the visitor of each visit.
+/// Walks over a tree, depth first, from each of the paths in turn. The visitor receives each visit.
 ///
 /// A path that is a file is read, whatever its name. A path that is a folder is entered. The children of a folder are taken
 /// in the order of the bytes of their names: files whose names end in `.py` are read, folders are entered in their place,
-/// and all else is passed over. A folder more than [`MOST_LEVELS`] below the path isn't entered. A file or a folder whose
-/// path text was met before in this walk is passed over. After a call that failed the walk goes on. At most one byte more
-/// than [`MOST_BYTES`] of a file is read.
+/// and everything else is skipped. A folder more than [`MOST_LEVELS`] levels below the path isn't entered. A file or folder
+/// is skipped if the walk has met the same path text before. After a call that failed, the walk goes on. At most
+/// [`MOST_BYTES`] bytes and one more are read of a file.
 ///
 /// # Errors
-/// [`OutOfMemory`] when out of memory; the walk ends then, and the tree may have been read.
+/// [`OutOfMemory`] if there is not enough memory. The walk ends then, and the tree may have been read in part.
 pub fn walk<T: Tree, V: Visitor>(
     alloc: Global,
     paths: &[&str],

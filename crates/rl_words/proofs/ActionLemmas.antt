@@ -1,4 +1,4 @@
--- Actions refuse other numbers of arguments than their own.
+-- Actions refuse any other number of arguments than their own.
 use Rattle.std.proofs.Common.{◌≡◌, ◌≢◌, List, [], ◌∷◌, None, Bor, length, refl}
 use Rattle.clap.specs.Walk.{Text, texts}
 use Rattle.rl_words.specs.Given.{asked_with}

@@ -1,4 +1,4 @@
--- What doubtful words ask for, each decided by computation. Nothing cites these lemmas: they review the definitions.
+-- What doubtful words ask for, each decided by computation. No proof uses these lemmas: they review the definitions.
 use Rattle.std.proofs.Common.{◌≡◌, [], ◌∷◌, Option, Some, None, codes, refl}
 use Rattle.clap.proofs.OnLiterals.{clap_on_literals}
 use Rattle.rl_words.specs.Call.{Asked, Call, Chosen, check, class, compare, cost, prove, sample, verify}
@@ -18,11 +18,11 @@ no_options = record { values = nothing; settings = None; baseline = None }
 abbrev with_options : Asked → Chosen → Option Call
 with_options action options = Some (record { action = action; options = options })
 
--- an action without options
+-- An action without options.
 abbrev plain : Asked → Option Call
 plain action = with_options action no_options
 
--- an action with settings
+-- An action with settings.
 abbrev with_values : Asked → PartialSettings → Option Call
 with_values action values = with_options action (record no_options { values = values })
 
@@ -86,7 +86,7 @@ cost_three : given_by (codes "cost" ∷ codes "a" ∷ codes "b" ∷ codes "c" �
 unfolding clap_on_literals relint_app rows_given given_by
 cost_three = refl
 
--- an empty pattern and an empty text are arguments
+-- An empty pattern and an empty text are arguments.
 cost_empty : given_by (codes "cost" ∷ [] ∷ [] ∷ []) ≡ plain (cost [] [])
 unfolding clap_on_literals relint_app rows_given given_by
 cost_empty = refl
@@ -157,7 +157,7 @@ seed_minus : given_by (codes "sample" ∷ codes "-5" ∷ codes "1" ∷ []) ≡ N
 unfolding clap_on_literals relint_app rows_given given_by
 seed_minus = refl
 
--- ---- where options stand, and how
+-- ---- where and how options may be given
 
 mode_after_equals : given_by (codes "cost" ∷ codes "a*" ∷ codes "aa" ∷ codes "--mode=match" ∷ []) ≡ with_values (cost (codes "a*") (codes "aa")) (record nothing { mode = Some mode.Match })
 unfolding clap_on_literals relint_app rows_given given_by
@@ -245,7 +245,7 @@ version_option : given_by (codes "--version" ∷ []) ≡ None
 unfolding clap_on_literals relint_app rows_given given_by
 version_option = refl
 
--- a lone dash is an argument as any other word
+-- A single dash is an argument like any other word.
 dash_is_argument : given_by (codes "class" ∷ codes "-" ∷ []) ≡ plain (class (codes "-"))
 unfolding clap_on_literals relint_app rows_given given_by
 dash_is_argument = refl
@@ -258,7 +258,7 @@ after_dashes : given_by (codes "class" ∷ codes "--" ∷ codes "-a" ∷ []) ≡
 unfolding clap_on_literals relint_app rows_given given_by
 after_dashes = refl
 
--- after `--` every word is an argument, a second `--` too
+-- After `--`, every word is an argument, even a second `--`.
 dashes_twice : given_by (codes "cost" ∷ codes "--" ∷ codes "-a" ∷ codes "--" ∷ []) ≡ plain (cost (codes "-a") (codes "--"))
 unfolding clap_on_literals relint_app rows_given given_by
 dashes_twice = refl

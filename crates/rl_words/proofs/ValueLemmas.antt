@@ -1,4 +1,4 @@
--- A numeral that doesn't fit 32 bits lies above each range of such numbers.
+-- A numeral that doesn't fit in 32 bits is above every range of such numbers.
 use Rattle.std.proofs.Common.{◌≡◌, ◌<◌, ◌^◌, ◌&&◌, ℕ, Bool, true, cond, length, leb, None, Some, Err, inl, inr, arith, rules}
 use Rattle.std.specs.Char.{is_ascii_digit}
 use Rattle.std.specs.List.{list_all}

@@ -1,4 +1,4 @@
--- The command line as one simple command, and what a list of words gives under it.
+-- The command line as one simple command, and what the command finds in a list of words.
 use Rattle.std.specs.Prelude.{List, [], ◌∷◌, Option, Some, None, true, codes, if◌then◌else◌}
 use Rattle.std.specs.List.{fold}
 use Rattle.clap.specs.Lexer.{usize_max}
@@ -7,34 +7,34 @@ use Rattle.clap.specs.Simple.{App, matches_of, new_app, new_rule, on_top, with_r
 use Rattle.clap.specs.Faults.{fault_of}
 use Rattle.clap.specs.declared.builder.action.ArgAction.TheVariants.{Set}
 
--- the argument ACTION, which has to be there
+-- The argument ACTION, which is required.
 abbrev pub action_rule : Rule
 action_rule = record (new_rule (codes "action")) { required = true }
 
--- the argument ARGS after it, of any number of values
+-- The arguments after ACTION, of which there may be any number.
 abbrev pub args_rule : Rule
 args_rule = record (new_rule (codes "args")) {
   range = Some (record { start_inclusive = 0; end_inclusive = usize_max });
 }
 
--- an option `--name` of one value, which may stand once
+-- An option `--name` that takes one value. It may be given at most once.
 abbrev pub option_rule : Text → Rule
 option_rule name = record (new_rule name) { long = Some name; action = Some Set }
 
--- no program's name stands before the words, and there is no `--help`
+-- The command without its arguments. The words don't begin with the program's name, and there is no `--help`.
 abbrev pub bare_app : App
 bare_app = on_top (λ s. record s { disable_help_flag = true })
     (on_top (λ s. record s { no_binary_name = true }) (new_app (codes "relint")))
 
--- the command with options of one value
+-- The command with options of these names added, each of which takes one value.
 abbrev pub with_options : App → List Text → App
 with_options app names = fold (λ app name. with_rule app (option_rule name)) app names
 
--- the command with its arguments and its seven options
+-- The command with its arguments and its seven options.
 unfoldable pub relint_app : App
 relint_app = with_options (with_rule (with_rule bare_app action_rule) args_rule)
     (codes "mode" ∷ codes "format" ∷ codes "max-degree" ∷ codes "max-pairs" ∷ codes "settings" ∷ codes "report" ∷ codes "baseline" ∷ [])
 
--- what was found for each argument and option, where the command takes the words
+-- What the command finds for each argument and option, or `None` if it doesn't accept the words.
 unfoldable pub rows_given : List Text → Option (List Row)
 rows_given words = if is_empty (fault_of relint_app words) then Some (matches_of relint_app words) else None

@@ -1,4 +1,4 @@
--- Which words are a valid call, and what they ask for.
+-- Which words are a valid call, and what a valid call asks for.
 use Rattle.std.specs.Prelude.{◌&&◌, not, List, [], ◌∷◌, Option, Some, None, codes, if◌then◌else◌, unwrap_or}
 use Rattle.std.specs.List.{list_all}
 use Rattle.std.specs.Str.{bytes_eq}
@@ -15,6 +15,7 @@ use Rattle.rl_words.specs.declared.words.PartialSettings.{PartialSettings}
 
 -- ---- ACTION with its arguments
 
+-- The action that the word names.
 abbrev pub action_name_of : Text → Option ActionName
 action_name_of word = if bytes_eq word (codes "check") then Some name.Check
     else (if bytes_eq word (codes "class") then Some name.Class
@@ -25,8 +26,8 @@ action_name_of word = if bytes_eq word (codes "check") then Some name.Check
     else (if bytes_eq word (codes "compare") then Some name.Compare
     else None))))))
 
--- An action with its arguments. `check` takes at least one path, none of them empty; SEED and COUNT have one to ten digits; FILE
--- isn't empty
+-- The action with this name and these arguments, or `None` if it doesn't take them. `check` takes at least one path, and
+-- none may be empty; SEED and COUNT have one to ten digits; FILE isn't empty.
 abbrev pub asked_with : ActionName → List Text → Option Asked
 asked_with name.Check paths = if not (is_empty paths) && list_all is_filled paths then Some (check paths) else None
 asked_with name.Class (pattern ∷ []) = Some (class pattern)
@@ -38,6 +39,7 @@ asked_with name.Verify (pattern ∷ file ∷ []) = if is_filled file then Some (
 asked_with name.Compare (first ∷ second ∷ []) = Some (compare first second)
 asked_with _ _ = None
 
+-- The action that the words ask for, or `None` if they don't name one that takes its arguments.
 abbrev pub action_given : List Row → Option Asked
 action_given rows = do
   word ← first_of (codes "action") rows
@@ -46,11 +48,11 @@ action_given rows = do
 
 -- ---- the options
 
--- what an option gives, where its value isn't refused
+-- What an option gives: `Some None` if it isn't given, and `None` if its value is refused.
 abbrev pub given : {A : Type 0} → Text → (Text → Option A) → List Row → Option (Option A)
 given name read rows = optional read (first_of name rows)
 
--- a number of an option has one to six digits
+-- The settings that the options give, or `None` if a value is refused. The numbers have one to six digits.
 abbrev pub settings_given : List Row → Option PartialSettings
 settings_given rows = do
   Some (record {
@@ -61,6 +63,7 @@ settings_given rows = do
     report = (← given (codes "report") (number_of 6 REPORT_VERSIONS) rows);
   })
 
+-- All options that are given, or `None` if a value is refused.
 abbrev pub options_given : List Row → Option Chosen
 options_given rows = do
   Some (record {
@@ -71,10 +74,11 @@ options_given rows = do
 
 -- ---- the whole call
 
+-- The whole call, or `None` if its action or an option is refused.
 abbrev pub call_given : List Row → Option Call
 call_given rows = do
   Some (record { action = (← action_given rows); options = (← options_given rows) })
 
--- what the words ask for, where they are a valid call
+-- What the words ask for, or `None` if they aren't a valid call.
 unfoldable pub given_by : List Text → Option Call
 given_by words = rows_given words >>= call_given

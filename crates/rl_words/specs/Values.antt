@@ -1,4 +1,4 @@
--- The values of options and the numbers of `sample`, by the texts that stand for them.
+-- The values of options and the numbers of `sample`, and the texts that denote them.
 use Rattle.std.specs.Prelude.{◌==◌, ◌&&◌, ℕ, Bool, not, Option, Some, None, codes}
 use Rattle.std.specs.Prelude.{if◌then◌else◌, length, nat_le, option_and_then, option_map}
 use Rattle.std.specs.Char.{is_ascii_digit}
@@ -12,29 +12,34 @@ use Rattle.rl_words.specs.declared.words.ModeWord.TheVariants as mode
 use Rattle.rl_words.specs.declared.words.FormatWord.{FormatWord}
 use Rattle.rl_words.specs.declared.words.FormatWord.TheVariants as format
 
+-- Whether the text isn't empty.
 abbrev pub is_filled : Text → Bool
 is_filled text = not (length text == 0)
 
--- one to `digits` ASCII digits
+-- Whether the text consists of one to `digits` ASCII digits.
 abbrev pub is_numeral : ℕ → Text → Bool
 is_numeral digits text =
     is_filled text && (nat_le (length text) digits && list_all is_ascii_digit text)
 
+-- Whether the number is in the range.
 abbrev pub is_within : NumberRange → ℕ → Bool
 is_within range number = nat_le range.low number && nat_le number range.high
 
--- the number in the range that one to `digits` ASCII digits write
+-- The number that the text denotes, or `None` if it doesn't consist of one to `digits` ASCII digits or the number isn't in
+-- the range.
 abbrev pub number_of : ℕ → NumberRange → Text → Option ℕ
 number_of digits range text =
     let number = digits_value 10 text in
     if is_numeral digits text && is_within range number then Some number else None
 
+-- The mode that the word names.
 abbrev pub mode_of : Text → Option ModeWord
 mode_of word = if bytes_eq word (codes "fullmatch") then Some mode.Fullmatch
     else (if bytes_eq word (codes "match") then Some mode.Match
     else (if bytes_eq word (codes "search") then Some mode.Search
     else None))
 
+-- The format that the word names.
 abbrev pub format_of : Text → Option FormatWord
 format_of word = if bytes_eq word (codes "text") then Some format.Text
     else (if bytes_eq word (codes "brief") then Some format.Brief
@@ -42,18 +47,18 @@ format_of word = if bytes_eq word (codes "text") then Some format.Text
     else (if bytes_eq word (codes "sarif") then Some format.Sarif
     else None)))
 
--- a path isn't empty
+-- The path, or `None` if it is empty.
 abbrev pub path_of : Text → Option Text
 path_of path = if is_filled path then Some path else None
 
 -- ---- values that may be left out
 
--- what follows from a value, where there is one; a `do` block is a chain of these
+-- Passes a value, if there is one, on to a function. A `do` block is a chain of these.
 infixl 10 ◌>>=◌
 abbrev pub ◌>>=◌ : {A B : Type 0} → Option A → (A → Option B) → Option B
 o >>= f = option_and_then f o
 
--- no value where none is given, else what it stands for; `None` where it is refused
+-- Reads a value that may be missing: `Some None` if it is missing, and `None` if it is refused.
 abbrev pub optional : {V A : Type 0} → (V → Option A) → Option V → Option (Option A)
 optional read None = Some None
 optional read (Some value) = option_map Some (read value)

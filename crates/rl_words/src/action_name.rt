@@ -1,4 +1,4 @@
-//! The names of actions.
+//! The names of the actions.
 
 /// The name of an action.
 #[derive(Clone, Copy)]

@@ -12,7 +12,7 @@ use crate::{Action, ActionName, COUNTS, SEEDS};
 use rl_lists::{Items, OutOfMemory};
 use std::alloc::Global;
 
-/// The action of a word.
+/// Returns the action that a word names.
 pub(crate) fn action_name_of(word: &str) -> Option<ActionName>
     ensures { result ≡ action_name_of word.now }
 {
@@ -28,20 +28,21 @@ pub(crate) fn action_name_of(word: &str) -> Option<ActionName>
     }
 }
 
-// Whether no text is empty.
+/// Whether none of the texts is empty.
 fn are_filled(texts: &[&str]) -> bool
     ensures { result ≡ list_all is_filled (map (λ s. s.now) texts.now) }
 {
     texts.iter().all(|text| !text.is_empty())
 }
 
-// Whether there is a path, and no path is empty.
+/// Whether there is at least one path, and no path is empty.
 fn are_paths(paths: &[&str]) -> bool
     ensures { result ≡ (not (is_empty (texts paths.now)) && list_all is_filled (texts paths.now)) }
 {
     !paths.is_empty() && are_filled(paths)
 }
 
+/// Returns `check` with these paths, or `None` if it doesn't take them.
 fn check_of<'a>(alloc: Global, paths: &[&'a str]) -> Result<Option<Action<'a>>, OutOfMemory>
     ensures value { IfOk result (λ a. option_map asked a ≡ asked_with name.Check (texts paths.now)) }
     ensures ranges { IfOk result (λ a. IfSome a (λ action. HasActionRanges (asked action))) }
@@ -53,7 +54,7 @@ fn check_of<'a>(alloc: Global, paths: &[&'a str]) -> Result<Option<Action<'a>>, 
     Ok(Some(Action::Check { paths }))
 }
 
-// SEED and COUNT.
+/// Returns `sample` with SEED and COUNT, or `None` if one of them isn't a number in its range.
 fn sample_of<'a>(seed: &str, count: &str) -> Option<Action<'a>>
     ensures value { option_map asked result ≡ asked_with name.Sample (seed.now ∷ count.now ∷ []) }
     ensures ranges { IfSome result (λ action. HasActionRanges (asked action)) }
@@ -63,7 +64,7 @@ fn sample_of<'a>(seed: &str, count: &str) -> Option<Action<'a>>
     Some(Action::Sample { seed, count })
 }
 
-// FILE isn't empty.
+/// Returns `verify` with PATTERN and FILE, or `None` if FILE is empty.
 fn verify_of<'a>(pattern: &'a str, file: &'a str) -> Option<Action<'a>>
     ensures value { option_map asked result ≡ asked_with name.Verify (pattern.entry.now ∷ file.entry.now ∷ []) }
     ensures ranges { IfSome result (λ action. HasActionRanges (asked action)) }
@@ -74,7 +75,7 @@ fn verify_of<'a>(pattern: &'a str, file: &'a str) -> Option<Action<'a>>
     Some(Action::Verify { pattern, file })
 }
 
-// The action of this name with one argument.
+/// Returns the action with this name and one argument, or `None` if it doesn't take that.
 fn asked_of_one<'a>(action: ActionName, argument: &'a str) -> Option<Action<'a>>
     requires { action ≢ name.Check }
     ensures value { option_map asked result ≡ asked_with action (argument.entry.now ∷ []) }
@@ -87,7 +88,7 @@ fn asked_of_one<'a>(action: ActionName, argument: &'a str) -> Option<Action<'a>>
     }
 }
 
-// The action of this name with two arguments.
+/// Returns the action with this name and two arguments, or `None` if it doesn't take those.
 fn asked_of_two<'a>(action: ActionName, first: &'a str, second: &'a str) -> Option<Action<'a>>
     requires { action ≢ name.Check }
     ensures value { option_map asked result
@@ -106,7 +107,7 @@ fn asked_of_two<'a>(action: ActionName, first: &'a str, second: &'a str) -> Opti
     }
 }
 
-// The action of this name, which takes no paths, with these arguments.
+/// Returns the action with this name, which must not be `check`, and these arguments, or `None` if it doesn't take them.
 fn asked_without_paths<'a>(action: ActionName, args: &[&'a str]) -> Option<Action<'a>>
     requires { action ≢ name.Check }
     ensures value { option_map asked result ≡ asked_with action (texts args.now) }
@@ -120,7 +121,7 @@ fn asked_without_paths<'a>(action: ActionName, args: &[&'a str]) -> Option<Actio
     }
 }
 
-/// The action of this name with these arguments, or `None` where it doesn't take them.
+/// Returns the action with this name and these arguments, or `None` if it doesn't take them.
 pub(crate) fn asked_with<'a>(
     alloc: Global,
     name: ActionName,

@@ -1,4 +1,4 @@
-//! The command that the words are read by, in `clap`'s terms.
+//! The command that reads the words, in the terms of `clap`.
 ghost use Rattle.std.specs.Prelude.{◌≡◌, ◌≤◌, Some, None, false, length, map, IfOk, IsErrOf, option_map};
 ghost use Rattle.std.specs.String.{string_bytes};
 ghost use Rattle.clap.specs.Walk.{all_of, first_of, rows_of, rule_of, texts};
@@ -13,6 +13,7 @@ use clap::error::ErrorKind;
 use clap::{Arg, ArgAction, ArgMatches, Command};
 use std::alloc::{AllocError, Global};
 
+/// The names of the options.
 const OPTIONS: [&str; 7] = [
     "mode",
     "format",
@@ -23,7 +24,7 @@ const OPTIONS: [&str; 7] = [
     "baseline",
 ];
 
-// The argument ACTION.
+/// Returns the argument ACTION.
 fn action_argument<'a>(alloc: Global) -> Arg<'a>
     ensures rule { rule_of result ≡ action_rule }
     ensures local { result.global ≡ false }
@@ -31,7 +32,7 @@ fn action_argument<'a>(alloc: Global) -> Arg<'a>
     Arg::new(alloc, "action").required(true)
 }
 
-// The arguments after ACTION.
+/// Returns the arguments after ACTION.
 fn args_argument<'a>(alloc: Global) -> Arg<'a>
     ensures rule { rule_of result ≡ args_rule }
     ensures local { result.global ≡ false }
@@ -39,7 +40,7 @@ fn args_argument<'a>(alloc: Global) -> Arg<'a>
     Arg::new(alloc, "args").num_args(0..)
 }
 
-// An option of one value.
+/// Returns an option that takes one value.
 fn option_argument<'a>(alloc: Global, name: &'a str) -> Arg<'a>
     ensures rule { rule_of result ≡ option_rule name.entry.now }
     ensures local { result.global ≡ false }
@@ -47,7 +48,7 @@ fn option_argument<'a>(alloc: Global, name: &'a str) -> Arg<'a>
     Arg::new(alloc, name).long(name).action(ArgAction::Set)
 }
 
-// The command before its arguments.
+/// Returns the command without its arguments.
 fn bare_command<'a>(alloc: Global) -> Command<'a>
     ensures { app_of result ≡ bare_app }
 {
@@ -56,7 +57,7 @@ fn bare_command<'a>(alloc: Global) -> Command<'a>
         .disable_help_flag(true)
 }
 
-// The arguments of the command, and options of these names.
+/// Returns the arguments of the command, and options with these names.
 fn arguments_and_options<'a>(
     alloc: Global,
     names: &[&'static str],
@@ -74,7 +75,7 @@ fn arguments_and_options<'a>(
     Ok(arguments)
 }
 
-// The command with its arguments and its seven options.
+/// Returns the command with its arguments and its seven options.
 fn relint_command<'a>(alloc: Global) -> Result<Command<'a>, AllocError>
     ensures { IfOk result (λ c. app_of c ≡ relint_app) }
 {
@@ -83,10 +84,11 @@ fn relint_command<'a>(alloc: Global) -> Result<Command<'a>, AllocError>
     bare_command(alloc).args(arguments)
 }
 
-/// What the words give under the command.
+/// Applies the command to the words.
 ///
 /// # Errors
-/// [`WordsError::Invalid`] where the command doesn't take the words; [`WordsError::OutOfMemory`].
+/// - [`WordsError::Invalid`] if the command doesn't accept the words.
+/// - [`WordsError::OutOfMemory`] if there is not enough memory.
 pub(crate) fn matches_given<'a>(
     alloc: Global,
     words: &'a [String],
@@ -105,7 +107,8 @@ pub(crate) fn matches_given<'a>(
     }
 }
 
-// Every refusal by the command but that of memory says that the words aren't a valid call.
+/// Returns the error for a refusal by the command. Every refusal except running out of memory means that the words aren't a
+/// valid call.
 fn error_of(kind: ErrorKind) -> WordsError
     ensures memory { kind ≡ ErrorKind.OutOfMemory → result ≡ WordsError.OutOfMemory }
 {
@@ -115,14 +118,14 @@ fn error_of(kind: ErrorKind) -> WordsError
     }
 }
 
-/// The first value of an argument or an option.
+/// Returns the first value of an argument or option.
 pub(crate) fn value_of<'a>(matches: &ArgMatches<'a>, name: &str) -> Option<&'a str>
     ensures { option_map (λ s. s.now) result ≡ first_of name.now (rows_of (found_of matches.now)) }
 {
     matches.get_str(name)
 }
 
-/// All values of an argument or an option, in order, where there are any.
+/// Returns all values of an argument or option, in order, or `None` if there are none.
 pub(crate) fn values_of<'m, 'a>(matches: &'m ArgMatches<'a>, name: &str) -> Option<&'m [&'a str]>
     ensures { option_map (λ s. texts s.now) result
         ≡ all_of name.now (rows_of (found_of matches.entry.now)) }

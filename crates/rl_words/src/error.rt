@@ -1,10 +1,10 @@
-//! Why words were not read.
+//! Why words couldn't be read.
 
-/// Why words were not read.
+/// Why words couldn't be read.
 #[derive(Clone, Copy)]
 pub enum WordsError {
     /// The words aren't a valid call.
     Invalid,
-    /// Out of memory.
+    /// There was not enough memory.
     OutOfMemory,
 }

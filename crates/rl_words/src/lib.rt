@@ -1,4 +1,14 @@
-//! The words of the command line: which of them are a valid call, and what such a call asks for.
+//! The words of the command line: which of them are a valid call, and what a valid call asks for.
+//!
+//! [`read_words`] takes the words after the program's name and returns [`Words`]: an [`Action`] with its arguments, and the
+//! [`Options`] that were given. [`usage_text`] is the text to print if the words aren't a valid call.
+//!
+//! # What is proved
+//!
+//! The result is the call that the definitions read from the words, and its numbers are in their ranges.
+//! [`WordsError::Invalid`] is returned only if the words aren't a valid call.
+//!
+//! Read `specs/Call.antt` and `specs/Given.antt` first, then `specs/Values.antt` and `specs/Command.antt`.
 #![tactic(auto)]
 
 mod action_name;

@@ -1,4 +1,4 @@
-//! The options, read from what the command found.
+//! The options, taken from what the command found.
 ghost use Rattle.std.specs.Prelude.{◌≡◌, IfSome, option_map, codes};
 ghost use Rattle.clap.specs.Walk.{first_of, rows_of};
 ghost use Rattle.clap.specs.Matches.{found_of};
@@ -14,9 +14,7 @@ use crate::{
 };
 use clap::ArgMatches;
 
-// In each of these `Some(None)` says that the option isn't given, and `None` that its value is
-// refused.
-
+/// Reads `--mode`. `Some(None)` means that the option isn't given, `None` that its value is refused.
 fn mode_given(matches: &ArgMatches) -> Option<Option<ModeWord>>
     ensures { result ≡ given (codes "mode") mode_of (rows_of (found_of matches.now)) }
 {
@@ -26,6 +24,7 @@ fn mode_given(matches: &ArgMatches) -> Option<Option<ModeWord>>
     }
 }
 
+/// Reads `--format`. `Some(None)` means that the option isn't given, `None` that its value is refused.
 fn format_given(matches: &ArgMatches) -> Option<Option<FormatWord>>
     ensures { result ≡ given (codes "format") format_of (rows_of (found_of matches.now)) }
 {
@@ -35,6 +34,8 @@ fn format_given(matches: &ArgMatches) -> Option<Option<FormatWord>>
     }
 }
 
+/// Reads an option whose value is a number in a range. `Some(None)` means that the option isn't given, `None` that its
+/// value is refused.
 fn number_given(matches: &ArgMatches, name: &str, range: NumberRange) -> Option<Option<u32>>
     ensures value { result ≡ given name.now (number_of 6 range) (rows_of (found_of matches.now)) }
     ensures range { IfSome result (λ n. IfSome n (IsWithin range)) }
@@ -45,6 +46,7 @@ fn number_given(matches: &ArgMatches, name: &str, range: NumberRange) -> Option<
     }
 }
 
+/// Reads an option whose value is a path. `Some(None)` means that the option isn't given, `None` that its value is refused.
 fn path_given<'a>(matches: &ArgMatches<'a>, name: &str) -> Option<Option<&'a str>>
     ensures { option_map (option_map (λ p. p.now)) result
         ≡ given name.now path_of (rows_of (found_of matches.now)) }
@@ -55,6 +57,7 @@ fn path_given<'a>(matches: &ArgMatches<'a>, name: &str) -> Option<Option<&'a str
     }
 }
 
+/// Reads the options that are settings, or returns `None` if a value is refused.
 fn settings_given(matches: &ArgMatches) -> Option<PartialSettings>
     ensures value { result ≡ settings_given (rows_of (found_of matches.now)) }
     ensures ranges { IfSome result AreInRange }
@@ -68,7 +71,7 @@ fn settings_given(matches: &ArgMatches) -> Option<PartialSettings>
     })
 }
 
-/// The options, or `None` where a value is refused.
+/// Reads all options, or returns `None` if a value is refused.
 pub(crate) fn options_given<'a>(matches: &ArgMatches<'a>) -> Option<Options<'a>>
     ensures value { option_map chosen result ≡ options_given (rows_of (found_of matches.now)) }
     ensures ranges { IfSome result (λ options. AreInRange options.values) }

@@ -1,4 +1,4 @@
-//! The ranges of the numbers that options, settings files and `sample` take.
+//! The ranges of the numbers in options, settings files and the arguments of `sample`.
 ghost use Rattle.std.specs.Prelude.{◌≡◌};
 ghost use Rattle.rl_words.specs.Values.{is_within};
 ghost use Rattle.rl_words.specs.declared.ranges.TheConstants.{COUNTS, MAX_DEGREES, MAX_PAIRS, REPORT_VERSIONS, SEEDS};
@@ -10,31 +10,31 @@ pub struct NumberRange {
     pub high: u32,
 }
 
-/// What `--max-degree` takes.
+/// The values of `--max-degree`.
 pub const MAX_DEGREES: NumberRange = NumberRange {
     low: 0,
     high: 999_999,
 };
 
-/// What `--max-pairs` takes.
+/// The values of `--max-pairs`.
 pub const MAX_PAIRS: NumberRange = NumberRange { low: 1, high: 1000 };
 
-/// What `--report` takes.
+/// The values of `--report`.
 pub const REPORT_VERSIONS: NumberRange = NumberRange { low: 1, high: 2 };
 
-/// What SEED may be.
+/// The values of SEED.
 pub const SEEDS: NumberRange = NumberRange {
     low: 0,
     high: 2_147_483_647,
 };
 
-/// What COUNT may be.
+/// The values of COUNT.
 pub const COUNTS: NumberRange = NumberRange {
     low: 1,
     high: 20_000,
 };
 
-/// The numbers of the ranges.
+/// Says which numbers the ranges consist of.
 pub fn limits_are()
     ensures degrees { MAX_DEGREES ≡ record { low = 0; high = 999999 } }
     ensures pairs { MAX_PAIRS ≡ record { low = 1; high = 1000 } }
@@ -44,7 +44,7 @@ pub fn limits_are()
 {}
 
 impl NumberRange {
-    /// Whether the number lies in the range.
+    /// Whether the number is in the range.
     pub fn has(self, number: u32) -> bool
         ensures { result ≡ is_within self number }
     {

@@ -14,7 +14,7 @@ use clap::ArgMatches;
 use rl_lists::OutOfMemory;
 use std::alloc::Global;
 
-// The action, or `None` where the arguments don't ask for one.
+/// Reads the action, or returns `None` if the arguments don't name one that takes them.
 fn action_given<'a>(
     alloc: Global,
     matches: &ArgMatches<'a>,
@@ -35,7 +35,7 @@ fn action_given<'a>(
     }
 }
 
-// The call. It is invalid where the arguments or an option's value are refused.
+/// Reads the whole call. It is invalid if the arguments or the value of an option are refused.
 fn call_given<'a>(alloc: Global, matches: &ArgMatches<'a>) -> Result<Words<'a>, WordsError>
     ensures ok { IfOk result (λ w. call_given (rows_of (found_of matches.now)) ≡ Some (said w)) }
     ensures ranges { IfOk result (λ w. HasRanges (said w)) }
@@ -52,11 +52,11 @@ fn call_given<'a>(alloc: Global, matches: &ArgMatches<'a>) -> Result<Words<'a>, 
     }
 }
 
-/// What the words after the program's name ask for.
+/// Reads the words after the program's name.
 ///
 /// # Errors
-/// [`WordsError::Invalid`] exactly where the words aren't a valid call;
-/// [`WordsError::OutOfMemory`] when out of memory.
+/// - [`WordsError::Invalid`] if and only if the words aren't a valid call.
+/// - [`WordsError::OutOfMemory`] if there is not enough memory.
 pub fn read_words<'a>(alloc: Global, words: &'a Vec<String>) -> Result<Words<'a>, WordsError>
     ensures ok { IfOk result (λ w. given_by (map string_bytes words.entry.now.items)
         ≡ Some (said w)) }

@@ -1,4 +1,4 @@
-//! The values of options and the numbers of `sample`, by the texts that stand for them.
+//! The values of options and the numbers of `sample`, and the texts that denote them.
 ghost use Rattle.std.specs.Prelude.{◌≡◌, IfSome, option_map};
 ghost use Rattle.std.specs.Char.{is_ascii_digit};
 ghost use Rattle.std.specs.List.{list_all};
@@ -7,21 +7,22 @@ ghost use Rattle.rl_words.specs.Values.{format_of, is_numeral, mode_of, number_o
 
 use crate::{FormatWord, ModeWord, NumberRange};
 
-// Whether each byte is an ASCII digit.
+/// Whether every byte is an ASCII digit.
 fn has_digits_only(text: &str) -> bool
     ensures { result ≡ list_all is_ascii_digit text.now }
 {
     text.bytes().all(|byte| byte.is_ascii_digit())
 }
 
-// One to `digits` ASCII digits.
+/// Whether the text consists of one to `digits` ASCII digits.
 fn is_numeral(digits: usize, text: &str) -> bool
     ensures { result ≡ is_numeral digits text.now }
 {
     !text.is_empty() && text.len() <= digits && has_digits_only(text)
 }
 
-/// The number in the range that one to `digits` ASCII digits write.
+/// Returns the number that the text denotes, or `None` if it doesn't consist of one to `digits` ASCII digits or the number
+/// isn't in the range.
 pub(crate) fn number_of(digits: usize, range: NumberRange, text: &str) -> Option<u32>
     ensures value { result ≡ number_of digits range text.now }
     ensures range { IfSome result (IsWithin range) }
@@ -36,7 +37,7 @@ pub(crate) fn number_of(digits: usize, range: NumberRange, text: &str) -> Option
     }
 }
 
-/// The mode of a word.
+/// Returns the mode that a word names.
 pub fn mode_of(word: &str) -> Option<ModeWord>
     ensures { result ≡ mode_of word.now }
 {
@@ -48,7 +49,7 @@ pub fn mode_of(word: &str) -> Option<ModeWord>
     }
 }
 
-/// The layout of a word.
+/// Returns the format that a word names.
 pub fn format_of(word: &str) -> Option<FormatWord>
     ensures { result ≡ format_of word.now }
 {
@@ -61,7 +62,7 @@ pub fn format_of(word: &str) -> Option<FormatWord>
     }
 }
 
-/// The path that an option names.
+/// Returns the path, or `None` if it is empty.
 pub(crate) fn path_of<'a>(path: &'a str) -> Option<&'a str>
     ensures { option_map (λ p. p.now) result ≡ path_of path.entry.now }
 {

@@ -1,7 +1,7 @@
-//! What a valid call asks for. Each text is borrowed from the words.
+//! What a valid call asks for. All texts are borrowed from the words.
 use rl_lists::Items;
 
-/// The words of `--mode`.
+/// The values of `--mode`.
 #[derive(Clone, Copy)]
 pub enum ModeWord {
     Fullmatch,
@@ -9,7 +9,7 @@ pub enum ModeWord {
     Search,
 }
 
-/// The words of `--format`.
+/// The values of `--format`.
 #[derive(Clone, Copy)]
 pub enum FormatWord {
     Text,
@@ -18,12 +18,12 @@ pub enum FormatWord {
     Sarif,
 }
 
-/// The settings that options or a settings file give.
+/// The settings that the options or a settings file give.
 #[derive(Clone, Copy)]
 pub struct PartialSettings {
-    /// What `--mode` says, or the key `compile-as`.
+    /// The value of `--mode`, or of the key `compile-as`.
     pub mode: Option<ModeWord>,
-    /// The layout.
+    /// The format of the report.
     pub format: Option<FormatWord>,
     /// The greatest degree that isn't a finding, from 0 to 999999.
     pub max_degree: Option<u32>,
@@ -38,29 +38,29 @@ pub struct PartialSettings {
 pub struct Options<'a> {
     /// The settings among them.
     pub values: PartialSettings,
-    /// The path of the settings file, not empty.
+    /// The path of the settings file. It isn't empty.
     pub settings: Option<&'a str>,
-    /// The path of the baseline file, not empty.
+    /// The path of the baseline file. It isn't empty.
     pub baseline: Option<&'a str>,
 }
 
-/// Paths of a tree, none of them empty.
+/// Paths of a tree, none of which is empty.
 pub type Paths<'a> = Items<&'a str>;
 
-/// The action with its arguments.
+/// An action with its arguments.
 #[derive(Drop)]
 pub enum Action<'a> {
-    /// Judges the sources at the paths, of which there is at least one.
+    /// Judges the sources at the paths. There is at least one path.
     Check { paths: Paths<'a> },
     /// Judges one pattern.
     Class { pattern: &'a str },
     /// Counts the steps of a pattern on a text.
     Cost { pattern: &'a str, text: &'a str },
-    /// Judges a source of made-up patterns; `seed` from 0 to 2147483647, `count` from 1 to 20000.
+    /// Judges a source with made-up patterns. `seed` is from 0 to 2147483647, and `count` is from 1 to 20000.
     Sample { seed: u32, count: u32 },
     /// Writes the certificate of a pattern's verdict.
     Prove { pattern: &'a str },
-    /// Judges the certificate in `file`, a path that isn't empty.
+    /// Checks the certificate in `file`, a path that isn't empty.
     Verify { pattern: &'a str, file: &'a str },
     /// Compares the languages of two patterns.
     Compare { first: &'a str, second: &'a str },

@@ -1,9 +1,9 @@
-//! Runs the worked rows over files and outputs in memory.
+//! Runs the worked rows with files and outputs in memory.
 //!
-//! The rows are in the files `*.toml` of the folder that it runs in; `README.md` beside them says what a row holds.
-//! For each row that can't be read, and for each that isn't answered as it says, a line is printed, and last how many rows fail.
-//! How many were run stands on standard error. The status is 0 where no row fails, 1 where one does or there is none, and 2
-//! where the files can't be read.
+//! The rows are in the `*.toml` files of the current folder; the `README.md` beside them explains what a row contains. The
+//! program prints a line for each row that can't be read or whose answer is wrong, and at the end the number of rows that fail.
+//! It writes the number of rows that were run to standard error. Its status is 0 if no row fails, 1 if a row fails or there are
+//! no rows, and 2 if the files can't be read.
 #![tactic(auto)]
 
 use rl_lint::relint_main;
@@ -34,7 +34,7 @@ impl Program for Relint {
     }
 }
 
-/// How many rows there were, and how many of them failed.
+/// The number of rows so far, the number of them that failed, and their names.
 #[derive(Drop)]
 struct Tally {
     rows: u64,
@@ -51,13 +51,13 @@ impl Tally {
         }
     }
 
-    /// Prints why a row, or a whole file, fails.
+    /// Prints why a row or a whole file fails.
     fn fail(&mut self, rt: &Runtime, place: &str, failure: &Failure) -> io::Result<()> {
         self.failed = self.failed.saturating_add(1);
         println!(rt; "{place}: {failure}")
     }
 
-    /// Runs a row, and prints why it fails.
+    /// Runs a row and, if it fails, prints why.
     fn tell_row(
         &mut self,
         rt: &Runtime,
@@ -91,7 +91,7 @@ impl Tally {
     }
 }
 
-/// Adds the name of a file, where it is one of rows.
+/// Adds the name of a file if the file contains rows.
 fn add_file_name(rt: &Runtime, name: &str, names: &mut Vec<String>) -> io::Result<()> {
     if name.ends_with(".toml") {
         let name = String::from_str(rt.alloc(), name)?;
@@ -108,7 +108,7 @@ fn add_file_names(rt: &Runtime, names: &mut Vec<String>) -> io::Result<()> {
     Ok(())
 }
 
-/// The names of the files of rows, in order.
+/// Returns the names of the files with rows, in order.
 fn file_names(rt: &Runtime) -> io::Result<Vec<String>> {
     let mut names = Vec::new(rt.alloc());
     add_file_names(rt, &mut names)?;
@@ -129,7 +129,7 @@ fn run_files(rt: &Runtime, names: &Vec<String>) -> io::Result<Tally> {
     Ok(tally)
 }
 
-/// Prints the count, and answers whether there were rows and none failed.
+/// Prints the counts. Returns whether there were rows and none of them failed.
 fn report(rt: &Runtime, tally: &Tally) -> io::Result<bool> {
     let Tally { rows, failed, .. } = tally;
     eprintln!(rt; "{rows} rows were run")?;

@@ -7,7 +7,7 @@ use rl_graph::Multigraph;
 use rl_lists::OutOfMemory;
 use std::alloc::Global;
 
-/// The longest chain of a graph. A graph with a twin has none.
+/// Returns the longest chain of a graph, or `None` for a graph with a twin.
 fn chain_of(alloc: Global, graph: &Multigraph) -> Result<Option<Chain>, OutOfMemory> {
     match twin(alloc, graph)? {
         Some(_) => Ok(None),
@@ -18,7 +18,7 @@ fn chain_of(alloc: Global, graph: &Multigraph) -> Result<Option<Chain>, OutOfMem
     }
 }
 
-/// Whether a chain has no link and no cycle, and so many ranks, each of them 0.
+/// Whether a chain has no link and no cycle, and `states` ranks that are all 0.
 fn is_still(chain: &Chain, states: usize) -> bool {
     chain.links.is_empty()
         && chain.ranks.len() == states

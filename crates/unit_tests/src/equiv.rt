@@ -1,4 +1,5 @@
-//! Tests of `rl_equiv`: one language twice, and two languages, in the way without a baseline.
+//! Tests of `rl_equiv`: one language compared with itself, and two different languages. Both use `same`, which works without a
+//! `Baseline`.
 
 ghost use Rattle.std.specs.Prelude.{◌<◌, ◌≤◌, IfOk};
 ghost use Rattle.rl_syntax.specs.Tree.{tree_of, IsOver};
@@ -10,7 +11,7 @@ use rl_syntax::Re;
 use std::alloc::Global;
 use std::test::Fail;
 
-/// The tree of one code of a range of ASCII.
+/// Returns the tree of one code point from a range of ASCII.
 fn one_of(alloc: Global, first: u32, last: u32) -> Result<Re, OutOfMemory>
     requires order { first ≤ last }
     requires ascii { last < 128 }
@@ -20,7 +21,7 @@ fn one_of(alloc: Global, first: u32, last: u32) -> Result<Re, OutOfMemory>
     Ok(Re::One(set))
 }
 
-/// The tree of `[ab]*`.
+/// Returns the tree of `[ab]*`.
 fn star(alloc: Global) -> Result<Re, OutOfMemory>
     ensures { IfOk result (λ tree. IsOver Universe.Bytes (tree_of tree)) }
 {

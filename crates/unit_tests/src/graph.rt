@@ -1,4 +1,4 @@
-//! A test of `rl_graph`: rows of many moves.
+//! A test of `rl_graph`: rows with many moves.
 
 ghost use Rattle.std.specs.Prelude.{◌≡◌};
 
@@ -6,7 +6,7 @@ use crate::moves::graph_of;
 use rl_graph::Multigraph;
 use rl_lists::OutOfMemory;
 
-/// Whether each of the two states has so many moves, each to itself.
+/// Whether each of the two states has `count` moves, all to itself.
 fn lead_back(g: &Multigraph, count: usize) -> bool
     requires states { g.now.states ≡ 2 }
     requires letters { g.now.letters ≡ 1 }
@@ -20,7 +20,7 @@ fn lead_back(g: &Multigraph, count: usize) -> bool
     true
 }
 
-/// Two rows that grow in turn take no more than a few times the memory of their moves.
+/// Tests that two rows which grow in turn don't use much more memory than their moves need.
 #[test]
 fn many_moves_are_added_in_turn(rt: HostRuntime) -> Result<(), OutOfMemory> {
     let g = graph_of(rt.alloc(), 2, &[(0, 0), (1, 1)], 200_000)?;

@@ -1,4 +1,4 @@
-//! Tests of `rl_lanes`: rows and tables of bits against plain lists, at lengths around those of a word and of eight words.
+//! Tests of `rl_lanes`: rows and tables of bits compared with plain lists, at lengths around one word and eight words.
 
 ghost use Rattle.std.specs.Prelude.{◌≡◌, ◌<◌, All, length, IfOk};
 
@@ -6,17 +6,17 @@ use rl_lanes::{BitRow, BitTable};
 use rl_lists::OutOfMemory;
 use std::alloc::Global;
 
-/// A word and less, one more than a word, the same of eight words, and more.
+/// Lengths up to one more than a word, lengths around eight words, and a greater one.
 const LENGTHS: [usize; 9] = [0, 1, 63, 64, 65, 511, 512, 513, 1_100];
 
-/// Whether a place is one of each so many, of which the last one counts.
+/// Whether a place is the last one of a group of `of` places.
 fn is_nth(i: usize, of: usize) -> bool
     requires { 0 < of }
 {
     i % of == of - 1
 }
 
-/// The row of which one place of each so many holds true.
+/// Returns the row in which the last place of each group of `of` places is true.
 fn nths(alloc: Global, len: usize, of: usize) -> Result<BitRow, OutOfMemory>
     requires { 0 < of }
     ensures { IfOk result (λ row. length row ≡ len) }
@@ -28,7 +28,7 @@ fn nths(alloc: Global, len: usize, of: usize) -> Result<BitRow, OutOfMemory>
     Ok(row)
 }
 
-/// Whether a union of the second and the third places, and their difference, are those of the lists.
+/// Whether the union of the second and third places, and their difference, equal those of the lists.
 fn are_lists(len: usize, union: &BitRow, rest: &BitRow) -> bool
     requires union { length union.now ≡ len }
     requires rest { length rest.now ≡ len }
@@ -44,7 +44,7 @@ fn are_lists(len: usize, union: &BitRow, rest: &BitRow) -> bool
     true
 }
 
-/// Whether that union, that difference and the third places lie to one another as the lists do.
+/// Whether the union, the difference and the third places are related as the lists are.
 fn lie(len: usize, union: &BitRow, rest: &BitRow, thirds: &BitRow) -> bool
     requires union { length union.now ≡ len }
     requires rest { length rest.now ≡ len }
@@ -57,8 +57,8 @@ fn lie(len: usize, union: &BitRow, rest: &BitRow, thirds: &BitRow) -> bool
         && rest.is_empty() == (len <= 1)
 }
 
-/// Whether the union of the second and the third places, and their difference, are those of the lists. Both rows hold the second
-/// places.
+/// Whether the union of the second and third places, and their difference, equal those of the lists. Both rows begin with the
+/// second places.
 fn join(
     alloc: Global,
     len: usize,
@@ -75,7 +75,7 @@ fn join(
     Ok(are_counted && lie(len, union, rest, &thirds) && are_lists(len, union, rest))
 }
 
-/// Whether rows of this length join as the lists do.
+/// Whether rows of this length are joined as the lists are.
 fn join_as_lists(alloc: Global, len: usize) -> Result<bool, OutOfMemory> {
     let mut union = nths(alloc, len, 2)?;
     let mut rest = nths(alloc, len, 2)?;
@@ -90,7 +90,7 @@ fn rows_are_as_the_lists(rt: HostRuntime) -> Result<(), OutOfMemory> {
     Ok(())
 }
 
-/// Places of a row of which each 500th holds true, and the next place from there that does.
+/// Places in a row in which every 500th place is true, and the next true place from there.
 const NEXT: [(usize, Option<usize>); 5] = [
     (0, Some(499)),
     (499, Some(499)),
@@ -108,13 +108,13 @@ fn words_of_zeros_are_passed_over(rt: HostRuntime) -> Result<(), OutOfMemory> {
     Ok(())
 }
 
-/// Whether a place of a row of a table holds true. Each fourth row, from the first one on, holds all places, so the three behind it
-/// are within it.
+/// Whether a place in a row of a table is true. Every fourth row, from the first one on, has all places, so the three rows
+/// after it are subsets of it.
 fn is_marked(row: usize, i: usize) -> bool {
     is_nth(i, row % 4 + 1)
 }
 
-/// Puts a value at a place of a table whose rows have `len` places.
+/// Sets a value at a place in a table whose rows have `len` places.
 fn put(table: &mut BitTable, len: usize, row: usize, i: usize, to: bool)
     requires row_in { row < length table.old }
     requires place_in { i < len }
@@ -125,7 +125,7 @@ fn put(table: &mut BitTable, len: usize, row: usize, i: usize, to: bool)
     table.set(row, i, to);
 }
 
-/// A table whose places all hold false.
+/// Returns a table in which all places are false.
 fn empty_table(alloc: Global, rows: usize, len: usize) -> Result<BitTable, OutOfMemory>
     ensures high { IfOk result (λ table. length table ≡ rows) }
     ensures wide { IfOk result (λ table. All (λ row. length row ≡ len) table) }
@@ -134,7 +134,7 @@ fn empty_table(alloc: Global, rows: usize, len: usize) -> Result<BitTable, OutOf
     Ok(table)
 }
 
-/// Makes the marked places of a row of a table hold true, or all of them, and no others.
+/// Sets exactly the marked places in a row of a table, or all of them.
 fn fill_row(table: &mut BitTable, rows: usize, len: usize, row: usize, all: bool)
     requires row_in { row < rows }
     requires high { length table.old ≡ rows }
@@ -147,7 +147,7 @@ fn fill_row(table: &mut BitTable, rows: usize, len: usize, row: usize, all: bool
     }
 }
 
-/// Makes the marked places of a table hold true, or all of them, and no others.
+/// Sets exactly the marked places in a table, or all of them.
 fn fill(table: &mut BitTable, rows: usize, len: usize, all: bool)
     requires high { length table.old ≡ rows }
     requires wide { All (λ r. length r ≡ len) table.old }
@@ -159,7 +159,7 @@ fn fill(table: &mut BitTable, rows: usize, len: usize, all: bool)
     }
 }
 
-/// Whether a place is in the image of a marked table, of whose rows one of each so many is chosen.
+/// Whether a place is in the image of a marked table, if the last row of each group of `of` rows is chosen.
 fn is_joined(rows: usize, of: usize, i: usize) -> bool
     requires { 0 < of }
 {
@@ -184,7 +184,7 @@ fn are_joined(rows: usize, len: usize, of: usize, into: &BitRow) -> bool
     true
 }
 
-/// Whether the image of a marked table is right, in a row that held each place before.
+/// Whether the image of a marked table is right in a row in which every place was true before.
 fn is_image(
     alloc: Global,
     rows: usize,
@@ -202,7 +202,7 @@ fn is_image(
     Ok(are_joined(rows, len, of, &into))
 }
 
-/// A marked table. The runs that were found when all its places held true are gone.
+/// Returns a marked table. The runs that were found while all its places were true no longer apply.
 fn marked_table(alloc: Global, rows: usize, len: usize) -> Result<BitTable, OutOfMemory>
     ensures high { IfOk result (λ table. length table ≡ rows) }
     ensures wide { IfOk result (λ table. All (λ row. length row ≡ len) table) }
@@ -214,7 +214,7 @@ fn marked_table(alloc: Global, rows: usize, len: usize) -> Result<BitTable, OutO
     Ok(table)
 }
 
-/// Whether the image of a marked table is right before its runs are found, and behind that.
+/// Whether the image of a marked table is right both before and after its runs are found.
 fn are_images(alloc: Global, rows: usize, len: usize, of: usize) -> Result<bool, OutOfMemory>
     requires { 0 < of }
 {
@@ -225,8 +225,8 @@ fn are_images(alloc: Global, rows: usize, len: usize, of: usize) -> Result<bool,
     Ok(before && behind)
 }
 
-/// The rows of a table, their length, and of how many rows one is chosen. Where a table stands twice, no row is chosen the second
-/// time.
+/// The number of rows in a table, their length, and the size of the groups of which one row each is chosen. If a table appears
+/// twice, no row is chosen the second time.
 static IMAGES: [(usize, usize, usize); 8] = [
     (3, 70, 2),
     (3, 70, 4),

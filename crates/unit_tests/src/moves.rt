@@ -1,4 +1,4 @@
-//! Graphs that are made of lists of moves.
+//! Graphs that are built from lists of moves.
 
 ghost use Rattle.std.specs.Prelude.{◌≡◌, ◌<◌, IfOk};
 
@@ -6,10 +6,11 @@ use rl_graph::Multigraph;
 use rl_lists::OutOfMemory;
 use std::alloc::Global;
 
-/// A move on the letter 0: from, to.
+/// A move on the letter 0, as a pair of states.
 pub type Move = (u32, u32);
 
-/// The graph of these states and one letter with these moves, so many times over. A move outside the graph is left out.
+/// Returns the graph with these states, one letter and `times` copies of these moves. Moves outside the graph are left out, and
+/// so are moves of a state that already has 1,000,000.
 pub fn graph_of(
     alloc: Global,
     states: u32,
@@ -28,7 +29,7 @@ pub fn graph_of(
     Ok(graph)
 }
 
-/// Adds a move on the letter 0, but where it is outside the graph.
+/// Adds a move on the letter 0, unless it is outside the graph or its state already has 1,000,000 moves.
 fn add(graph: &mut Multigraph, from: u32, to: u32) -> Result<(), OutOfMemory>
     requires { graph.old.letters ≡ 1 }
     ensures states { graph.new.states ≡ graph.old.states }

@@ -8,7 +8,7 @@ use rl_prio::{Prio, PrioError};
 use rl_ranges::Universe;
 use rl_syntax::{Ending, Re};
 
-/// The tree of the empty pattern has the states at its end, accepting and dead.
+/// Tests that the automaton of the empty pattern ends with its dead state, which isn't the accepting one.
 #[test]
 fn the_dead_state_is_the_last_one(rt: HostRuntime) -> Result<(), PrioError> {
     let automaton = Prio::build(rt.alloc(), &Re::Empty, Ending::AtEnd, Universe::Bytes)?;

@@ -1,5 +1,5 @@
-//! Tests of `rl_pylex`: sources that a quick look tells to lack a name, and others. A look that tells nothing is right as well, but
-//! slow: all tokens are read then.
+//! Tests of `rl_pylex`: sources that a quick look shows to lack a name, and others. If a quick look shows nothing, its answer
+//! is still right, but slow, because all tokens are read then.
 
 use rl_pylex::lacks_name;
 use std::alloc::{AllocError, Global};
@@ -40,7 +40,8 @@ fn names_at_a_quick_look(rt: HostRuntime) {
     assert!(rt; lacks_name(b"import re\n", b"regex") && !lacks_name(b"import regex\n", b"regex"));
 }
 
-/// Pieces of a source with other letters around them, and whether the source lacks the name: others, names, and faults.
+/// Pieces to be put between other letters, and whether a quick look shows that the source lacks the name. It doesn't for pieces
+/// with the name or with a fault.
 static PIECES: [(&str, bool); 30] = [
     (" return ", true),
     (" are ", true),
@@ -74,7 +75,7 @@ static PIECES: [(&str, bool); 30] = [
     ("\u{7f}", false),
 ];
 
-/// A piece with so many `x` before it and behind it.
+/// Returns a piece with `before` letters `x` before it and `behind` letters `x` after it.
 fn between(
     alloc: Global,
     before: usize,
@@ -89,7 +90,7 @@ fn between(
     Ok(source)
 }
 
-/// How many `x` of a piece's front were tried when the answer was another one.
+/// Returns the number of letters `x` before the piece with which the answer was wrong, if there is one.
 fn wrong_at(
     alloc: Global,
     piece: &str,
@@ -105,7 +106,7 @@ fn wrong_at(
     Ok(None)
 }
 
-/// A piece at each place of a block, and across two of them.
+/// Tests a piece at each place of a block, and across two blocks.
 #[test]
 fn pieces_in_blocks(rt: HostRuntime) -> Result<(), Fail> {
     for behind in [0, 3, 17, 33] {

@@ -1,9 +1,9 @@
-//! A test of `rl_ranges`: what two sets of codes both hold.
+//! A test of `rl_ranges`: the code points that two sets have in common.
 
 use rl_lists::OutOfMemory;
 use rl_ranges::CodeSet;
 
-/// The meet of `[3-9]` and `[8-20]`.
+/// Tests the intersection of `[3-9]` and `[8-20]`.
 #[test]
 fn a_meet_holds_what_both_do(rt: HostRuntime) -> Result<(), OutOfMemory> {
     let low = CodeSet::range(rt.alloc(), 3, 9)?;

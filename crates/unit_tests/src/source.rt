@@ -9,7 +9,7 @@ use std::alloc::Global;
 use std::test::Fail;
 use std::{fs, io, process};
 
-/// Nodes that are neither files nor folders.
+/// Returns nodes that are neither files nor folders.
 fn nodes(alloc: Global, paths: &[&str]) -> Result<Nodes, OutOfMemory> {
     let mut nodes = Nodes::new(alloc);
     for path in paths {
@@ -20,14 +20,14 @@ fn nodes(alloc: Global, paths: &[&str]) -> Result<Nodes, OutOfMemory> {
     Ok(nodes)
 }
 
-/// The tree of these nodes, whose second call fails.
+/// Returns the tree of these nodes. Its second call fails.
 fn tree(alloc: Global, paths: &[&str]) -> Result<MemTree, MemTreeError> {
     let failing = Vec::from_slice(alloc, &[2]).map_err(OutOfMemory::from)?;
     let nodes = nodes(alloc, paths)?;
     MemTree::new(alloc, nodes, failing)
 }
 
-/// Whether the second call fails by its number, and others where the map has no answer.
+/// Whether the second call fails because of its number, and others because the map has no answer.
 fn fails(tree: &mut MemTree) -> bool {
     tree.kind("a") == Ok(Kind::Other)
         && tree.kind("a") == Err(TreeError::Failed)
@@ -58,7 +58,7 @@ fn a_name_is_its_text(rt: HostRuntime) -> Result<(), OutOfMemory> {
     Ok(())
 }
 
-/// Pieces, and how much of each a sink takes that takes two bytes at a time, whose second write fails.
+/// Pieces, and how much of each a sink takes whose writes take at most two bytes and whose second write fails.
 static PIECES: [(&[u8], Result<usize, SinkFailed>); 4] = [
     (b"abc", Ok(2)),
     (b"c", Err(SinkFailed)),
@@ -75,7 +75,7 @@ fn takes_steps(sink: &mut MemSink) -> bool {
     sink.faults() == 1
 }
 
-/// A sink with room for five bytes.
+/// Tests a sink with room for five bytes.
 #[test]
 fn writes_to_a_sink_fail(rt: HostRuntime) -> Result<(), Fail> {
     let failing = Vec::from_slice(rt.alloc(), &[2])?;
@@ -86,7 +86,7 @@ fn writes_to_a_sink_fail(rt: HostRuntime) -> Result<(), Fail> {
     Ok(())
 }
 
-/// A writer with room for two bytes, which then takes nothing.
+/// Tests a writer with room for two bytes, which takes nothing more after that.
 #[test]
 fn a_full_writer_is_a_fault(rt: HostRuntime) {
     let mut room = [0u8; 2];
@@ -103,7 +103,7 @@ fn are_read(found: Result<Vec<u8>, TreeError>, wanted: &[u8]) -> bool {
     }
 }
 
-/// Whether a file has its first six bytes, and no children.
+/// Whether the path is a file with these first six bytes, and has no children.
 fn is_file(rt: &HostRuntime, path: &str) -> bool {
     let mut tree = DiskTree::new(rt);
     tree.kind(path) == Ok(Kind::File)
@@ -112,7 +112,7 @@ fn is_file(rt: &HostRuntime, path: &str) -> bool {
         && tree.faults() == 1
 }
 
-/// A file of this run's own.
+/// Tests a file that only this run uses.
 #[test]
 fn a_file_on_the_disk(rt: HostRuntime) -> io::Result<()> {
     let path = format!(in rt.alloc(); "rl_source-{}", process::id(rt.process()))?;

@@ -1,4 +1,4 @@
-//! A call of the program over a tree and sinks in memory.
+//! A call of the program with a tree and sinks in memory.
 
 use crate::failure::Failure;
 use crate::program::Program;
@@ -7,10 +7,10 @@ use crate::tree::Places;
 use rl_source::{MemSink, MemTree, Tree};
 use std::alloc::Global;
 
-// How many bytes an output may hold.
+// The number of bytes that an output may hold.
 const ROOM: usize = 1_000_000;
 
-/// What a call answered: its status, what it wrote, and how many calls of the tree failed.
+/// The answer of a call: its status, what it wrote, and the number of failed calls of the tree.
 #[derive(Drop)]
 pub struct Answer {
     pub status: u8,
@@ -59,7 +59,7 @@ fn answer_over<P: Program>(
     }
 }
 
-/// The answer to these words over these files, where these writes to standard output fail, and all other faults come.
+/// Returns the answer to these words with these files. `out` replaces the faults of standard output.
 pub fn answer_with<P: Program>(
     alloc: Global,
     program: &P,
@@ -73,7 +73,7 @@ pub fn answer_with<P: Program>(
     Ok(answer_over(alloc, program, words, tree, out, err))
 }
 
-/// The answer to these words over these files.
+/// Returns the answer to these words with these files and faults.
 pub fn answer_to<P: Program>(
     alloc: Global,
     program: &P,
@@ -84,7 +84,7 @@ pub fn answer_to<P: Program>(
     answer_with(alloc, program, words, places, faults, &faults.out)
 }
 
-/// The answer to these words over these files, where nothing fails.
+/// Returns the answer to these words with these files if nothing fails.
 pub fn plain_answer_to<P: Program>(
     alloc: Global,
     program: &P,

@@ -5,17 +5,17 @@ use rl_source::MemTreeError;
 use std::alloc::{AllocError, AllocFailed, Global};
 use std::fmt;
 
-/// Why a row fails: it can't be read, or it is answered otherwise than it says.
+/// Why a row fails: it can't be read, or the answer isn't the one that it expects.
 #[derive(Drop)]
 pub enum Failure {
-    /// What is wrong with it.
+    /// This is wrong with the row.
     Told(String),
-    /// Out of memory.
+    /// Memory ran out.
     OutOfMemory,
 }
 
 impl Failure {
-    /// The failure that a text tells of, where there was memory for the text.
+    /// Returns the failure that a text describes, or that memory ran out while the text was built.
     pub(crate) fn of(text: Result<String, AllocError>) -> Failure {
         match text {
             Ok(text) => Failure::Told(text),
@@ -23,7 +23,7 @@ impl Failure {
         }
     }
 
-    /// The failure that this text tells of.
+    /// Returns the failure that this text describes.
     pub(crate) fn told(alloc: Global, text: &str) -> Failure {
         Failure::of(String::from_str(alloc, text))
     }
@@ -56,7 +56,7 @@ impl From<OutOfMemory> for Failure {
     }
 }
 
-// The paths of a tree are the keys of a map, so none of them stands there twice.
+// The paths of a tree are the keys of a map, so none of them appears twice.
 impl From<MemTreeError> for Failure {
     fn from(_: MemTreeError) -> Failure {
         Failure::OutOfMemory
@@ -69,7 +69,7 @@ fn differ(alloc: Global, what: &str, got: &[u8], wanted: &[u8]) -> Result<(), Fa
     Err(Failure::of(format!(in alloc; "{what} is {got:?} and should be {wanted:?}")))
 }
 
-/// Refuses bytes that aren't those that should come.
+/// Fails unless the bytes are the expected ones.
 pub fn same(alloc: Global, what: &str, got: &[u8], wanted: &[u8]) -> Result<(), Failure> {
     if got == wanted {
         Ok(())
@@ -78,7 +78,7 @@ pub fn same(alloc: Global, what: &str, got: &[u8], wanted: &[u8]) -> Result<(), 
     }
 }
 
-/// Refuses a number that isn't the one that should come.
+/// Fails unless the number is the expected one.
 pub fn same_number(alloc: Global, what: &str, got: u64, wanted: u64) -> Result<(), Failure> {
     if got == wanted {
         Ok(())

@@ -1,4 +1,4 @@
-//! Families, which no row spells: each is read from the line that shows it, and its texts are to cost what the verdict says.
+//! Families. No row spells them out: each is read from the line that shows it, and its texts must cost what the verdict says.
 
 use crate::answer::{Answer, plain_answer_to};
 use crate::failure::{Failure, same, same_number};
@@ -8,7 +8,7 @@ use crate::text::add_word;
 use crate::tree::Places;
 use std::alloc::{AllocError, Global};
 
-// The number for which the texts of a report's families are tried last.
+// The largest number of repetitions with which the texts of a report's families are tried.
 const GREATEST: u64 = 6;
 
 /// The line of a family, and the verdict on the line before it.
@@ -25,7 +25,7 @@ struct Parted<'a> {
     shown: Vec<Shown<'a>>,
 }
 
-/// The end of a line that names a verdict.
+/// Returns the end of a line, which names a verdict.
 fn verdict_of(line: &str) -> &str {
     let line = line.trim_end_matches('\n');
     match line.rsplit_once(": ") {
@@ -47,7 +47,7 @@ impl<'a> Parted<'a> {
     }
 }
 
-/// The line before this place.
+/// Returns the line before this one.
 fn line_before<'a>(lines: &[&'a str], place: usize) -> &'a str {
     match place.checked_sub(1) {
         Some(before) => lines.get(before).copied().unwrap_or(""),
@@ -68,8 +68,8 @@ fn part<'a>(alloc: Global, output: &'a str, parted: &mut Parted<'a>) -> Result<(
     part_lines(lines.as_slice(), parted)
 }
 
-/// Where the reader of a line stands: between two texts, in one without or with escapes, behind a backslash, or before so many
-/// more digits of a number.
+/// The state of the reader of a line: between two texts, in a text without or with escapes, after a backslash, or in a number,
+/// with the count of digits that are still to come.
 #[derive(Clone, Copy)]
 enum Reading {
     Between,
@@ -85,7 +85,7 @@ fn with_digit(number: u32, c: char) -> u32 {
         .saturating_add(c.to_digit(16).unwrap_or(0))
 }
 
-/// Where the reader stands after a character; `before` is the character before it.
+/// Returns the reader's state after a character; `before` is the character before it.
 fn after(reading: Reading, before: char, c: char) -> Reading {
     match (reading, c) {
         (Reading::Between, '"') if before == 'r' => Reading::Plain,
@@ -105,7 +105,7 @@ fn after(reading: Reading, before: char, c: char) -> Reading {
     }
 }
 
-/// The character of the text that this one ends.
+/// Returns the character of the text that this character completes, if it completes one.
 fn ended_by(reading: Reading, c: char) -> Option<char> {
     match (reading, c) {
         (Reading::Between, _) => None,
@@ -150,7 +150,7 @@ impl Family {
         }
     }
 
-    /// The family of a line.
+    /// Reads the family in a line.
     fn read(alloc: Global, line: &str) -> Result<Family, AllocError> {
         let texts = Vec::new(alloc);
         let mut family = Family { texts };
@@ -177,13 +177,14 @@ impl Family {
         false
     }
 
-    /// Whether it has as many pumps as the verdict says, none of them empty; `degree` names the degree that so many pumps show.
+    /// Whether the family has as many pumps as the verdict requires and none of them is empty; `degree` is the verdict of that
+    /// degree.
     fn fits(&self, verdict: &str, degree: &str) -> bool {
         let is_told = verdict == degree || verdict == "exponential" && self.pumps() == 1;
         is_told && self.texts.len() % 2 == 1 && !self.has_empty_pump()
     }
 
-    /// The text in which each pump stands so many times.
+    /// Returns the text in which each pump is repeated `times` times.
     fn text(&self, alloc: Global, times: u64) -> Result<String, AllocError> {
         let mut text = String::new(alloc);
         for (place, piece) in self.texts.iter().enumerate() {
@@ -195,7 +196,7 @@ impl Family {
         Ok(text)
     }
 
-    /// How many steps that text costs at least.
+    /// Returns the smallest number of steps that this text may cost.
     fn least_steps(&self, verdict: &str, times: u64) -> u64 {
         if verdict == "exponential" {
             power(2, times)
@@ -213,14 +214,14 @@ fn power(base: u64, exponent: u64) -> u64 {
     power
 }
 
-/// The number of a line `steps N matched` or `steps N refused`.
+/// Returns the number in a line `steps N matched` or `steps N refused`.
 fn steps_of(out: &[u8]) -> Option<u64> {
     let line = str::from_utf8(out).ok()?;
     let (number, _) = line.strip_prefix("steps ")?.split_once(' ')?;
     number.parse::<u64>().ok()
 }
 
-/// What the program answers to words of `cost`, which needs no files.
+/// Returns the program's answer to words of `cost`, which needs no files.
 fn answer_of_cost<P: Program>(
     alloc: Global,
     program: &P,
@@ -230,7 +231,8 @@ fn answer_of_cost<P: Program>(
     plain_answer_to(alloc, program, words, &places)
 }
 
-/// The number of steps in what the program answers to these words, or `None` where that is no number that 64 bits hold.
+/// Returns the number of steps in the program's answer to these words, or `None` if the answer has no number that fits in 64
+/// bits.
 fn steps<P: Program>(
     alloc: Global,
     program: &P,
@@ -240,7 +242,7 @@ fn steps<P: Program>(
     Ok(steps_of(answer.out.bytes()))
 }
 
-/// A family that is shown, as it is read.
+/// A family that is shown, after it was read.
 #[derive(Clone, Copy)]
 struct Trial<'a> {
     shown: Shown<'a>,
@@ -249,7 +251,7 @@ struct Trial<'a> {
 }
 
 impl Trial<'_> {
-    /// Adds the words that ask what the text for this number costs.
+    /// Adds the words of a call that asks what the text for this number costs.
     fn add_words(
         self,
         alloc: Global,
@@ -265,7 +267,7 @@ impl Trial<'_> {
         Ok(())
     }
 
-    /// How many steps the text for this number costs.
+    /// Returns the number of steps that the text for this number costs.
     fn steps<P: Program>(
         self,
         alloc: Global,
@@ -309,7 +311,7 @@ impl Trial<'_> {
     }
 }
 
-/// Tries the texts of a family for the numbers up to the greatest.
+/// Tries the texts of a family for all numbers up to the largest.
 fn judge_family<P: Program>(
     alloc: Global,
     program: &P,
@@ -326,7 +328,7 @@ fn judge_family<P: Program>(
     trial.judge(alloc, program, greatest)
 }
 
-/// The mode that words name.
+/// Returns the mode that the words name.
 fn mode_of(words: &Vec<String>) -> &str {
     let mut is_next = false;
     for word in words {
@@ -338,7 +340,7 @@ fn mode_of(words: &Vec<String>) -> &str {
     "fullmatch"
 }
 
-/// Compares an output of `class`, without its family, and tries the family up to this number. The pattern is the last word.
+/// Compares an output of `class` without its family, and tries the family up to this number. The pattern is the last word.
 pub fn judge_class<P: Program>(
     alloc: Global,
     program: &P,

@@ -1,4 +1,5 @@
-//! The fields of a row, by the kinds of their values. What may be long is added to a list; where the field isn't there, nothing is.
+//! The fields of a row, by the types of their values. Values that may be long are added to a list; a field that is missing adds
+//! nothing.
 
 use crate::failure::Failure;
 use crate::text::{add_text, string_of};
@@ -6,22 +7,22 @@ use std::alloc::Global;
 use toml::value::Array;
 use toml::{Table, Value};
 
-/// The failure of a field whose value isn't one that it takes.
+/// Returns the failure for a field with a value of the wrong type or range.
 pub fn refused(alloc: Global, key: &str) -> Failure {
     Failure::of(format!(in alloc; "the value of {key} isn't one that it takes"))
 }
 
-/// The failure of a field that has to be there.
+/// Returns the failure for a required field that is missing.
 fn missing(alloc: Global, key: &str) -> Failure {
     Failure::of(format!(in alloc; "the field {key} is missing"))
 }
 
-/// The failure of a field that isn't known.
+/// Returns the failure for a field that isn't known.
 fn unknown(alloc: Global, key: &str) -> Failure {
     Failure::of(format!(in alloc; "the field {key} isn't known"))
 }
 
-/// Refuses a table with other fields than these.
+/// Refuses a table that has other fields than these.
 pub fn has_only<'a>(alloc: Global, table: &'a Table, keys: &[&'a str]) -> Result<(), Failure> {
     for key in table.keys() {
         if !keys.contains(&key.as_str()) {
@@ -31,6 +32,7 @@ pub fn has_only<'a>(alloc: Global, table: &'a Table, keys: &[&'a str]) -> Result
     Ok(())
 }
 
+/// Adds the bytes of the text in a field, if the field is there.
 pub fn add_bytes_at(
     alloc: Global,
     table: &Table,
@@ -43,6 +45,7 @@ pub fn add_bytes_at(
     }
 }
 
+/// Returns the string in a field, if the field is there.
 pub fn string_at<'a>(
     alloc: Global,
     table: &'a Table,
@@ -55,7 +58,7 @@ pub fn string_at<'a>(
     }
 }
 
-/// The string of a field that has to be there.
+/// Returns the string in a required field.
 pub fn needed_at<'a>(alloc: Global, table: &'a Table, key: &str) -> Result<&'a String, Failure> {
     match table.get(key) {
         Some(Value::String(text)) => Ok(text),
@@ -68,6 +71,7 @@ fn number_of(value: &Value) -> Option<u64> {
     u64::try_from(value.as_integer()?).ok()
 }
 
+/// Returns the number in a field, if the field is there.
 pub fn number_at(alloc: Global, table: &Table, key: &str) -> Result<Option<u64>, Failure> {
     match table.get(key) {
         Some(value) => match number_of(value) {
@@ -78,6 +82,7 @@ pub fn number_at(alloc: Global, table: &Table, key: &str) -> Result<Option<u64>,
     }
 }
 
+/// Whether a field is there and is true.
 pub fn is_set(alloc: Global, table: &Table, key: &str) -> Result<bool, Failure> {
     match table.get(key) {
         Some(Value::Boolean(is_set)) => Ok(*is_set),
@@ -86,7 +91,7 @@ pub fn is_set(alloc: Global, table: &Table, key: &str) -> Result<bool, Failure> 
     }
 }
 
-/// The list at a key.
+/// Returns the list in a field, if the field is there.
 pub fn list_at<'a>(
     alloc: Global,
     table: &'a Table,
@@ -99,6 +104,7 @@ pub fn list_at<'a>(
     }
 }
 
+/// Adds the numbers in a field, if the field is there.
 pub fn add_numbers_at(
     alloc: Global,
     table: &Table,
@@ -124,7 +130,7 @@ fn add_words(alloc: Global, values: &Array, words: &mut Vec<String>) -> Result<(
     Ok(())
 }
 
-/// Adds the words of a field that has to be there.
+/// Adds the words in a required field.
 pub fn add_words_at(
     alloc: Global,
     table: &Table,

@@ -1,4 +1,4 @@
-//! Runs a row, and compares what comes with what the row says.
+//! Running a row, and comparing the results with what the row expects.
 
 use crate::answer::{Answer, answer_to, answer_with, plain_answer_to};
 use crate::failure::{Failure, same, same_number};
@@ -12,7 +12,7 @@ use std::alloc::{AllocError, Global};
 use std::collections::BTreeSet;
 use toml::Value;
 
-/// Refuses a status above 1.
+/// Fails if the status is above 1.
 fn ended_well(alloc: Global, status: u8) -> Result<(), Failure> {
     if status <= 1 {
         return Ok(());
@@ -32,7 +32,7 @@ fn put_output(
     Ok(())
 }
 
-/// Makes a call, and a file of what it wrote.
+/// Makes a call, and makes a file of what it wrote.
 fn put_written<P: Program>(
     alloc: Global,
     program: &P,
@@ -57,7 +57,8 @@ fn put_setting<P: Program>(
     Ok(())
 }
 
-/// Adds the words of `verify` for a certificate of what these words of `prove` name: `verify` stands in the place of `prove`.
+/// Adds the words of a call of `verify` for the certificate that these words of `prove` ask for. `verify` takes the place of
+/// `prove`.
 fn add_words_of_verify(
     alloc: Global,
     words: &Vec<String>,
@@ -70,7 +71,7 @@ fn add_words_of_verify(
     add_word(alloc, "certificate.json", others)
 }
 
-/// Compares a call of `prove`, and makes a file of the certificate that it wrote.
+/// Compares the result of `prove`, and makes a file of the certificate that it wrote.
 fn put_made(alloc: Global, made: &Answer, places: &mut Places) -> Result<(), Failure> {
     same_number(alloc, "the status of prove", u64::from(made.status), 0)?;
     same(alloc, "standard error of prove", made.err.bytes(), &[])?;
@@ -89,7 +90,7 @@ fn put_certificate<P: Program>(
     put_made(alloc, &made, places)
 }
 
-/// Whether an output is one line that begins so.
+/// Whether an output is one line that begins with this text.
 fn is_line(output: &[u8], begins: &str) -> bool {
     let line_ends = output.iter().filter(|&&byte| byte == b'\n').count();
     output.starts_with(begins.as_bytes()) && output.ends_with(b"\n") && line_ends == 1
@@ -112,7 +113,7 @@ fn judge_stdout<P: Program>(
     }
 }
 
-/// Compares all but standard output.
+/// Compares everything except standard output.
 fn judge_rest(alloc: Global, expected: &Expected<'_>, answered: &Answer) -> Result<(), Failure> {
     let stderr = expected.stderr.as_slice();
     same(alloc, "standard error", answered.err.bytes(), stderr)?;
@@ -124,7 +125,7 @@ fn judge_rest(alloc: Global, expected: &Expected<'_>, answered: &Answer) -> Resu
     }
 }
 
-/// Compares what came of the row's call with these words.
+/// Compares the answer to the row's call with these words.
 fn judge_answer<P: Program>(
     alloc: Global,
     program: &P,
@@ -136,7 +137,7 @@ fn judge_answer<P: Program>(
     judge_stdout(alloc, program, words, &row.expected, answered.out.bytes())
 }
 
-/// Makes the row's call with these words, and compares what comes.
+/// Makes the row's call with these words, and compares the answer.
 fn judge_call<P: Program>(
     alloc: Global,
     program: &P,
@@ -148,7 +149,7 @@ fn judge_call<P: Program>(
     judge_answer(alloc, program, row, words, &answered)
 }
 
-/// Compares two answers to the row's call, which are the same.
+/// Compares two answers to the row's call, which must be the same.
 fn judge_answers<P: Program>(
     alloc: Global,
     program: &P,
@@ -162,7 +163,7 @@ fn judge_answers<P: Program>(
     same(alloc, "the second output", second, first)
 }
 
-/// Makes the row's call again.
+/// Makes the row's call a second time, and compares both answers.
 fn judge_again<P: Program>(
     alloc: Global,
     program: &P,
@@ -174,7 +175,7 @@ fn judge_again<P: Program>(
     judge_answers(alloc, program, row, first, &second)
 }
 
-/// Makes the row's call twice.
+/// Makes the row's call twice, and compares both answers.
 fn judge_same<P: Program>(
     alloc: Global,
     program: &P,
@@ -185,7 +186,7 @@ fn judge_same<P: Program>(
     judge_again(alloc, program, row, places, &first)
 }
 
-/// The answer to the row's call where this write to standard output fails, and no other one does.
+/// Returns the answer to the row's call if only this write to standard output fails.
 fn answer_failing<P: Program>(
     alloc: Global,
     program: &P,
@@ -199,7 +200,7 @@ fn answer_failing<P: Program>(
     answer_with(alloc, program, &row.words, places, &row.faults, &out)
 }
 
-/// Compares what came of a call in which a write failed.
+/// Compares the answer to a call in which a write failed.
 fn judge_piece(
     alloc: Global,
     expected: &Expected<'_>,
@@ -210,7 +211,7 @@ fn judge_piece(
     judge_rest(alloc, expected, answered)
 }
 
-/// Makes the call where the write of the byte behind these fails.
+/// Makes the call in which the write of the byte after `cut` fails.
 fn judge_cut<P: Program>(
     alloc: Global,
     program: &P,
@@ -241,7 +242,7 @@ fn judge_cuts<P: Program>(
     Ok(())
 }
 
-/// Makes the call once for each byte that it writes: the write of that byte fails.
+/// Makes the call once for each byte that it writes. In each of these calls the write of that byte fails.
 fn judge_each_write<P: Program>(
     alloc: Global,
     program: &P,
@@ -275,7 +276,7 @@ fn judge_verified<P: Program>(
     judge_made(alloc, program, row, places)
 }
 
-/// Makes the row's calls, and compares what comes.
+/// Makes the row's calls, and compares the answers.
 fn judge_calls<P: Program>(
     alloc: Global,
     program: &P,
@@ -291,7 +292,7 @@ fn judge_calls<P: Program>(
     }
 }
 
-/// Notes the name of a row, which no other row has.
+/// Adds the name of a row. No other row may have the same name.
 fn add_name(alloc: Global, name: &str, names: &mut BTreeSet<String>) -> Result<(), Failure> {
     let name = String::from_str(alloc, name)?;
     if names.insert(name)? {
@@ -307,7 +308,7 @@ fn judge<P: Program>(alloc: Global, program: &P, row: &Row<'_>) -> Result<(), Fa
     judge_calls(alloc, program, row, &mut places)
 }
 
-/// Reads a row, which is empty so far, and runs it.
+/// Reads a row into `row`, which must be empty, and runs it.
 fn read_and_judge<'a, P: Program>(
     alloc: Global,
     program: &P,
@@ -320,11 +321,11 @@ fn read_and_judge<'a, P: Program>(
     judge(alloc, program, row)
 }
 
-/// Reads the row that a value is, adds its name to those of the rows before it, and runs it.
+/// Reads the row that a value holds, adds its name to the names of the rows before it, and runs it.
 ///
 /// # Errors
-/// [`Failure::Told`] where the value is no row, where another row has its name, and where the program answers otherwise than
-/// the row says; [`Failure::OutOfMemory`] when out of memory.
+/// [`Failure::Told`] if the value isn't a row, if another row has the same name, or if the program doesn't answer as the row
+/// expects; [`Failure::OutOfMemory`] if memory runs out.
 pub fn judge_value<P: Program>(
     alloc: Global,
     program: &P,

@@ -1,14 +1,14 @@
-//! Worked rows: each says what one call of a program has to answer. They are read from TOML and run over files and outputs in
+//! Worked rows. Each says what one call of a program must answer. They are read from TOML and run with files and outputs in
 //! memory, where calls and writes can be made to fail.
 //!
-//! [`values_of`] takes the rows out of a file's text, and [`judge_value`] reads one of them, makes its calls of the program and
-//! compares what comes. The program is a [`Program`], so this crate needs no other program than the one that it is handed.
-//! `crates/rows/data/README.md` says what a row holds.
+//! [`values_of`] takes the rows out of a file's text. [`judge_value`] reads one of them, calls the program and compares the
+//! results. The program is a [`Program`], so this crate doesn't depend on any particular one. `crates/rows/data/README.md`
+//! explains what a row contains.
 //!
 //! # What is proved
 //!
-//! Only that each function is safe and returns: nothing panics, and no sum wraps. There are no contracts, since nothing but the
-//! program `rows` uses this crate: what it judges wrongly shows there, as a row that fails or as one that was never run.
+//! Only that each function is safe and returns: nothing panics, and no sum overflows. There are no contracts, because only the
+//! program `rows` uses this crate: if the crate judges wrongly, a row fails there or is never run.
 //!
 //! # Example
 //!

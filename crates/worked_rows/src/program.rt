@@ -3,9 +3,9 @@
 use rl_source::{MemSink, MemTree};
 use std::alloc::Global;
 
-/// A program that is called with words, and finds a tree in memory and two outputs in memory.
+/// A program that is called with words and works on a tree and two outputs in memory.
 pub trait Program {
-    /// Runs the program with these words, and answers its status.
+    /// Runs the program with these words and returns its status.
     fn run(
         &self,
         alloc: Global,

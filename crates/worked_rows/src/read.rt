@@ -1,4 +1,4 @@
-//! The rows of a file.
+//! Reading the rows of a file.
 
 use crate::failure::Failure;
 use crate::fields::{
@@ -36,10 +36,10 @@ const FIELDS: [&str; 20] = [
     "every_call",
 ];
 
-// The fields of a call of `before`.
+// The fields of a call in `before`.
 const FIELDS_OF_CALL: [&str; 2] = ["words", "save"];
 
-// The fields of one of the `families`.
+// The fields of an item in `families`.
 const FIELDS_OF_FAMILY: [&str; 2] = ["pattern", "mode"];
 
 fn document_of(alloc: Global, text: &str) -> Result<Table, Failure> {
@@ -49,11 +49,11 @@ fn document_of(alloc: Global, text: &str) -> Result<Table, Failure> {
     }
 }
 
-/// The values of a file's rows.
+/// Returns the values of a file's rows.
 ///
 /// # Errors
-/// [`Failure::Told`] where the text is no TOML, or has anything beside rows or no rows; [`Failure::OutOfMemory`] when out of
-/// memory.
+/// [`Failure::Told`] if the text isn't TOML, contains anything besides rows, or contains no rows; [`Failure::OutOfMemory`] if
+/// memory runs out.
 pub fn values_of(alloc: Global, text: &str) -> Result<Array, Failure> {
     let mut document = document_of(alloc, text)?;
     match document.remove("row") {
@@ -62,10 +62,10 @@ pub fn values_of(alloc: Global, text: &str) -> Result<Array, Failure> {
     }
 }
 
-/// The file and the name of a row; its number where it has no name.
+/// Returns the file and the name of a row, or the file and the row's number if the row has no name.
 ///
 /// # Errors
-/// [`AllocError`] when out of memory.
+/// [`AllocError`] if memory runs out.
 pub fn name_of(
     alloc: Global,
     file: &str,
@@ -79,7 +79,7 @@ pub fn name_of(
     }
 }
 
-/// Reads the row that a value is into an empty one.
+/// Reads the row that a value holds into an empty one.
 pub fn read_row<'a>(alloc: Global, value: &'a Value, row: &mut Row<'a>) -> Result<(), Failure> {
     match value {
         Value::Table(table) => {
@@ -99,7 +99,7 @@ fn read_fields<'a>(alloc: Global, table: &'a Table, row: &mut Row<'a>) -> Result
     read_expected(alloc, table, &mut row.expected)
 }
 
-/// The table of a list's item, which has only these fields.
+/// Returns the table that an item of a list holds. It may have only these fields.
 fn item<'a>(
     alloc: Global,
     key: &str,

@@ -1,4 +1,4 @@
-//! A worked row, as its file has it. `README.md` beside the files says what each field means.
+//! A worked row, as its file defines it. The `README.md` beside the files explains each field.
 
 use std::alloc::Global;
 
@@ -13,7 +13,7 @@ pub struct Row<'a> {
     pub expected: Expected<'a>,
 }
 
-/// What the row's call finds.
+/// The files that the row's call finds.
 #[derive(Drop)]
 pub struct Setting<'a> {
     pub files: Vec<Placed<'a>>,
@@ -22,14 +22,14 @@ pub struct Setting<'a> {
     pub then: Vec<Placed<'a>>,
 }
 
-/// What stands at this path.
+/// A path, and what is there.
 #[derive(Drop)]
 pub struct Placed<'a> {
     pub path: &'a String,
     pub file: File,
 }
 
-/// What stands at a path.
+/// What is at a path.
 #[derive(Drop)]
 pub enum File {
     Holds(Vec<u8>),
@@ -37,27 +37,27 @@ pub enum File {
     Link,
 }
 
-/// A call before the row's own, whose standard output becomes a file.
+/// A call that comes before the row's own. Its standard output becomes a file.
 #[derive(Drop)]
 pub struct Saved<'a> {
     pub words: Vec<String>,
     pub save: &'a String,
 }
 
-/// Which calls are made with the row's words.
+/// The calls that are made with the row's words.
 #[derive(Clone, Copy)]
 pub enum Calls {
-    /// One.
+    /// One call.
     One,
-    /// Two, which write the same.
+    /// Two calls, which must write the same.
     Same,
-    /// One of `prove`, and one of `verify` with what it wrote.
+    /// A call of `prove`, and a call of `verify` with the certificate that it wrote.
     Verified,
-    /// One for each write of a byte, which fails.
+    /// One call for each byte that is written, in which the write of that byte fails.
     EachWrite,
 }
 
-/// Which calls of the file system and which writes fail.
+/// The calls of the file system and the writes that fail.
 #[derive(Drop)]
 pub struct Faults {
     pub tree: Vec<u64>,
@@ -65,47 +65,47 @@ pub struct Faults {
     pub err: Writes,
 }
 
-/// Which writes to an output fail, and how many bytes a write takes at most.
+/// The writes to an output that fail, and the number of bytes that a write takes at most.
 #[derive(Drop)]
 pub struct Writes {
     pub failing: Vec<u64>,
     pub step: usize,
 }
 
-/// What the row's call has to answer.
+/// What the row's call must answer.
 #[derive(Drop)]
 pub struct Expected<'a> {
-    /// What the standard output has to be, as far as `form` says.
+    /// The expected standard output, as far as `form` requires it.
     pub stdout: Vec<u8>,
     pub form: Form<'a>,
-    /// The families whose lines stand in the standard output, if that is its form.
+    /// The families whose lines standard output contains, if that is its form.
     pub families: Vec<Printed<'a>>,
     pub stderr: Vec<u8>,
     pub status: u8,
     pub tree_faults: Option<u64>,
 }
 
-/// What the standard output has to be.
+/// How standard output is compared.
 #[derive(Clone, Copy)]
 pub enum Form<'a> {
-    /// The bytes.
+    /// It must be these bytes.
     Plain,
-    /// One line that begins so.
+    /// It must be one line that begins with this text.
     Begins(&'a String),
-    /// The bytes and then the family that `class` shows, whose texts are tried up to this number.
+    /// It must be the bytes followed by the family that `class` shows. The texts of the family are tried up to this number.
     WithFamily(u64),
-    /// The bytes with the lines of families among them.
+    /// It must be the bytes with the lines of families among them.
     WithFamilies,
 }
 
-/// A family that is shown: the pattern that it is of, and in which mode.
+/// A family that is shown: the pattern that it belongs to, and the mode.
 #[derive(Clone, Copy)]
 pub struct Printed<'a> {
     pub pattern: &'a str,
     pub mode: &'a str,
 }
 
-/// No write fails.
+/// Returns faults of an output in which no write fails.
 fn all_written(alloc: Global) -> Writes {
     Writes {
         failing: Vec::new(alloc),
@@ -113,7 +113,7 @@ fn all_written(alloc: Global) -> Writes {
     }
 }
 
-/// Nothing fails.
+/// Returns faults in which nothing fails.
 pub fn no_faults(alloc: Global) -> Faults {
     Faults {
         tree: Vec::new(alloc),
@@ -122,7 +122,7 @@ pub fn no_faults(alloc: Global) -> Faults {
     }
 }
 
-/// Nothing is written, and nothing fails.
+/// Returns the expectation that nothing is written and nothing fails.
 fn nothing_expected<'a>(alloc: Global) -> Expected<'a> {
     Expected {
         stdout: Vec::new(alloc),
@@ -134,7 +134,7 @@ fn nothing_expected<'a>(alloc: Global) -> Expected<'a> {
     }
 }
 
-/// The row in which no field is set.
+/// Returns a row in which no field is set.
 pub fn empty_row<'a>(alloc: Global) -> Row<'a> {
     Row {
         name: "",

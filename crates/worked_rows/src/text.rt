@@ -4,7 +4,7 @@ use crate::failure::Failure;
 use std::alloc::{AllocError, Global};
 use toml::{Table, Value};
 
-/// The bytes of a text: a string, or a table that spells a longer one.
+/// Returns the bytes of a text: a string, or a table that spells a longer one.
 pub fn bytes_of(alloc: Global, value: &Value) -> Result<Vec<u8>, Failure> {
     let mut bytes = Vec::new(alloc);
     add_text(alloc, value, &mut bytes)?;
@@ -24,7 +24,7 @@ pub fn add_text(alloc: Global, value: &Value, bytes: &mut Vec<u8>) -> Result<(),
     }
 }
 
-/// The string that a text stands for.
+/// Returns the string that a text spells.
 pub fn string_of(alloc: Global, value: &Value) -> Result<String, Failure> {
     let bytes = bytes_of(alloc, value)?;
     match str::from_utf8(bytes.as_slice()) {
@@ -48,7 +48,7 @@ fn add_part(alloc: Global, value: &Value, bytes: &mut Vec<u8>) -> Result<(), Fai
     }
 }
 
-/// The string at a key.
+/// Returns the string at a key, if there is one.
 fn string_at<'a>(table: &'a Table, key: &str) -> Option<&'a str> {
     match table.get(key) {
         Some(value) => value.as_str(),
@@ -56,7 +56,7 @@ fn string_at<'a>(table: &'a Table, key: &str) -> Option<&'a str> {
     }
 }
 
-/// The number at a key.
+/// Returns the number at a key, if there is one.
 fn number_at(table: &Table, key: &str) -> Option<u32> {
     match table.get(key) {
         Some(value) => u32::try_from(value.as_integer()?).ok(),
@@ -96,7 +96,7 @@ fn add_first(text: &str, first: u32, bytes: &mut Vec<u8>) -> Result<(), Failure>
     Ok(())
 }
 
-/// Adds the characters of these numbers, in order.
+/// Adds the characters with these numbers, in order.
 fn add_characters(alloc: Global, from: u32, upto: u32, bytes: &mut Vec<u8>) -> Result<(), Failure> {
     for number in from..=upto {
         match char::from_u32(number) {
@@ -116,7 +116,7 @@ fn add_character(alloc: Global, character: char, bytes: &mut Vec<u8>) -> Result<
     Ok(())
 }
 
-/// Adds bytes that are written as pairs of digits with blanks between them.
+/// Adds bytes that are written as pairs of hexadecimal digits separated by white space.
 fn add_hex(alloc: Global, hex: &str, bytes: &mut Vec<u8>) -> Result<(), Failure> {
     for pair in hex.split_ascii_whitespace() {
         let Ok(byte) = u8::from_str_radix(pair, 16) else {

@@ -12,14 +12,14 @@ const TOP: &str = ".";
 /// Files by their paths.
 type Files = BTreeMap<String, File>;
 
-/// What stands at the paths below the folder in which a row is run.
+/// The files and folders below the folder in which a row is run.
 #[derive(Drop)]
 pub struct Places {
     alloc: Global,
     files: Files,
 }
 
-/// What stands at a path.
+/// A path, and what is there.
 #[derive(Clone, Copy)]
 struct Place<'a> {
     path: &'a str,
@@ -38,7 +38,7 @@ impl Place<'_> {
         }
     }
 
-    /// It as a child of its folder, in which this is its name.
+    /// Returns this place as a child of its folder, with its name there.
     fn child(self, alloc: Global, name: &str) -> Result<Child, OutOfMemory> {
         let name = Name::from_text(alloc, name)?;
         let kind = self.kind();
@@ -47,7 +47,7 @@ impl Place<'_> {
 }
 
 impl Places {
-    /// The folder, which is empty.
+    /// Returns an empty folder.
     pub fn new(alloc: Global) -> Result<Places, OutOfMemory> {
         let files = Files::new(alloc);
         let mut places = Places { alloc, files };
@@ -61,7 +61,7 @@ impl Places {
         Ok(())
     }
 
-    /// Puts the folder that a path names so far, and goes on to the next name.
+    /// Adds the folder that the path names so far, and goes on to the next name.
     fn put_next(&mut self, above: &mut String, name: &str) -> Result<(), OutOfMemory> {
         if !above.is_empty() {
             self.put(above.as_str(), File::Folder)?;
@@ -71,7 +71,7 @@ impl Places {
         Ok(())
     }
 
-    /// Puts folders above a path.
+    /// Adds the folders above a path.
     fn put_above(&mut self, path: &str) -> Result<(), OutOfMemory> {
         let mut above = String::new(self.alloc);
         for name in path.split('/') {
@@ -85,7 +85,7 @@ impl Places {
         self.put(path, File::Holds(bytes))
     }
 
-    /// Puts a file in the place of what stands at the path.
+    /// Adds a file, which replaces whatever is at the path.
     pub fn put_file(&mut self, path: &str, bytes: &[u8]) -> Result<(), OutOfMemory> {
         self.put_above(path)?;
         self.put_bytes(path, bytes)
@@ -100,7 +100,7 @@ impl Places {
         }
     }
 
-    /// Puts the files of a row.
+    /// Adds the files of a row.
     pub fn put_all(&mut self, files: &Vec<Placed<'_>>) -> Result<(), OutOfMemory> {
         for placed in files {
             self.put_one(placed.path.as_str(), &placed.file)?;
@@ -108,7 +108,7 @@ impl Places {
         Ok(())
     }
 
-    /// Adds what stands at a path, if the path is in this folder.
+    /// Adds what is at a path, if the path is directly in this folder.
     fn add_child(
         &self,
         folder: &str,
@@ -122,7 +122,7 @@ impl Places {
         Ok(())
     }
 
-    /// Adds what stands in a folder. The last name comes first: to put them in order is for the program.
+    /// Adds the content of a folder. The last name comes first, because sorting is the program's task.
     fn add_children(&self, folder: &str, children: &mut Children) -> Result<(), OutOfMemory> {
         for (path, file) in self.files.iter().rev() {
             let path = path.as_str();
@@ -148,7 +148,7 @@ impl Places {
         }
     }
 
-    /// The node of a place, with this spelling of its path.
+    /// Returns the node of a place, with this spelling of its path.
     fn node(&self, spelling: &str, place: Place<'_>) -> Result<Node, OutOfMemory> {
         let path = Name::from_text(self.alloc, spelling)?;
         let held = self.held(place)?;
@@ -164,7 +164,7 @@ impl Places {
         Ok(())
     }
 
-    /// Adds the places at and below a path, which a word spells.
+    /// Adds the places at and below a path that a word spells.
     fn add_below<'a>(
         &'a self,
         word: &str,
@@ -180,8 +180,8 @@ impl Places {
         Ok(())
     }
 
-    /// Adds the places at and below the path that a word spells, as the word spells it: so `./a.py` and `p/` are found where the
-    /// paths are `a.py` and `p`.
+    /// Adds the places at and below the path that a word spells, in the word's spelling: so `./a.py` and `p/` are found
+    /// although the paths are `a.py` and `p`.
     fn add_spelled<'a>(
         &'a self,
         word: &str,
@@ -205,7 +205,7 @@ impl Places {
         Ok(())
     }
 
-    /// Adds all places, as they are spelled in a call with these words.
+    /// Adds all places, as a call with these words spells them.
     fn add_spellings<'a>(
         &'a self,
         words: &Vec<String>,
@@ -240,7 +240,7 @@ impl Places {
         self.add_nodes(&spellings, nodes)
     }
 
-    /// The nodes of a tree with these files, where a call with these words finds them.
+    /// Returns the nodes of a tree with these files, as a call with these words finds them.
     pub fn nodes(&self, words: &Vec<String>) -> Result<Nodes, OutOfMemory> {
         let mut nodes = Nodes::new(self.alloc);
         self.add_all(words, &mut nodes)?;
@@ -248,7 +248,7 @@ impl Places {
     }
 }
 
-/// Adds what stands at a path, by a spelling of the path.
+/// Adds what is at a path, by a spelling of the path.
 fn add_spelling<'a>(
     spelling: String,
     path: &'a str,
@@ -259,7 +259,7 @@ fn add_spelling<'a>(
     Ok(())
 }
 
-/// The folder and the name of a path.
+/// Returns the folder and the name of a path.
 fn parted(path: &str) -> (&str, &str) {
     match path.rsplit_once('/') {
         Some((above, name)) => (above, name),
@@ -267,7 +267,7 @@ fn parted(path: &str) -> (&str, &str) {
     }
 }
 
-/// The name of a path in this folder.
+/// Returns the name of a path if it is directly in this folder.
 fn name_in<'a>(folder: &str, path: &'a str) -> Option<&'a str> {
     let (above, name) = parted(path);
     if above == folder && name != TOP {
@@ -277,7 +277,7 @@ fn name_in<'a>(folder: &str, path: &'a str) -> Option<&'a str> {
     }
 }
 
-/// Adds a name to a path, if it names anything but the folder that it stands in.
+/// Adds a name to a path, unless it names the current folder.
 fn add_name(path: &mut String, name: &str) -> Result<(), OutOfMemory> {
     if name.is_empty() || name == TOP {
         return Ok(());
@@ -289,7 +289,7 @@ fn add_name(path: &mut String, name: &str) -> Result<(), OutOfMemory> {
     Ok(())
 }
 
-/// Adds the names of a word that aren't `.`.
+/// Adds the names in a word, except names `.`.
 fn add_names(path: &mut String, word: &str) -> Result<(), OutOfMemory> {
     for name in word.split('/') {
         add_name(path, name)?;
@@ -297,7 +297,7 @@ fn add_names(path: &mut String, word: &str) -> Result<(), OutOfMemory> {
     Ok(())
 }
 
-/// The path that a word spells, without names `.` and needless slashes.
+/// Returns the path that a word spells, without names `.` and unnecessary slashes.
 fn plain(alloc: Global, word: &str) -> Result<String, OutOfMemory> {
     let mut path = String::new(alloc);
     add_names(&mut path, word)?;
@@ -307,7 +307,7 @@ fn plain(alloc: Global, word: &str) -> Result<String, OutOfMemory> {
     Ok(path)
 }
 
-/// What follows a folder's path in a path at or below it.
+/// Returns the rest of a path after a folder's path, if it is at or below the folder.
 fn below<'a>(folder: &str, path: &'a str) -> Option<&'a str> {
     if folder == path {
         Some("")
@@ -318,7 +318,7 @@ fn below<'a>(folder: &str, path: &'a str) -> Option<&'a str> {
     }
 }
 
-/// A path below a word.
+/// Returns a path below a word.
 fn joined(alloc: Global, word: &str, rest: &str) -> Result<String, OutOfMemory> {
     let mut path = String::from_str(alloc, word)?;
     if !rest.is_empty() && !word.ends_with('/') {

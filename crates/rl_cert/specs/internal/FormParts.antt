@@ -1,4 +1,4 @@
--- Parts of the form of a certificate.
+-- For the contracts of private functions: parts of the form of a certificate.
 use Rattle.std.specs.Prelude.{ℕ, List, Option, option_map, option_and_then, codes}
 use Rattle.serde_json.specs.Data.{Data}
 use Rattle.rl_numbers.specs.declared.double.Double.{Double}
@@ -6,12 +6,12 @@ use Rattle.rl_numbers.specs.declared.triple.Triple.{Triple}
 use Rattle.rl_cert.specs.declared.certificate.Anchor.{Anchor}
 use Rattle.rl_cert.specs.Form.{row_read, anchors_read, doubles_read, triples_read, read_at}
 
--- the anchors and the ranks that are read
+-- The anchors and the ranks of a certificate.
 abbrev pub places_read : Data → Option (List Anchor × List ℕ)
 places_read d =
     option_and_then (λ anchors. option_map (λ ranks. (anchors, ranks)) (read_at row_read (codes "ranks") d)) (read_at anchors_read (codes "anchors") d)
 
--- the doubles and the triples that are read
+-- The doubles and the triples of a certificate.
 abbrev pub numbers_read : Data → Option (List Double × List Triple)
 numbers_read d =
     option_and_then (λ doubles. option_map (λ triples. (doubles, triples)) (read_at triples_read (codes "triples") d)) (read_at doubles_read (codes "doubles") d)

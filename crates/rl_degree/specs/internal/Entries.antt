@@ -1,5 +1,5 @@
--- On which letters the states of a graph are entered: a word for each state, in which each letter has a bit. Letters that are
--- a multiple of 64 apart have one bit. For private clauses.
+-- The letters on which moves lead to the states of a graph: a word for each state, in which each letter has a bit. Letters whose
+-- numbers differ by a multiple of 64 share a bit. For private clauses.
 use Rattle.std.specs.Prelude.{◌≡◌, ℕ, ◌%◌, ◌<◌, List, length, slice_index}
 use Rattle.std.specs.Int.{bit_at}
 use Rattle.rl_graph.specs.Paths.{Has}

@@ -1,5 +1,5 @@
--- The moves of the product of two copies of a graph from pairs that fall: the second state of such a pair is in a lower component
--- than the first. For private clauses.
+-- The product of two copies of a graph, with only the moves of the pairs that fall. A pair falls if its second state is in a lower
+-- component than its first. For private clauses.
 use Rattle.std.specs.Prelude.{◌≡◌, ℕ, ◌*◌, ◌/◌, ◌%◌, ◌<◌, ◌↔◌, Bool, false, not, ◌&&◌, nat_lt, nat_eq, if◌then◌else◌, IsTrue, List, [], length, slice_index, slice_index_or}
 use Rattle.std.specs.Int.Bits.{bit_and}
 use Rattle.rl_graph.specs.Paths.{Reaches, OnCycle}
@@ -10,11 +10,11 @@ use Rattle.rl_graph.specs.Parts.{PartTable, number_of, cycle_of}
 abbrev pub falls : List ℕ → ℕ → ℕ → Bool
 falls levels n x = nat_lt (slice_index levels (x % n)) (slice_index levels (x / n))
 
--- the moves of the pairs that fall; no other pair has one
+-- the moves of the pairs that fall; other pairs have none
 abbrev pub falling_moves : (ℕ → ℕ → List ℕ) → List ℕ → ℕ → ℕ → ℕ → List ℕ
 falling_moves next levels n x l = if falls levels n x then pair_moves next n x l else []
 
--- the states of the pair have a bit in common in their words
+-- the words of the two states share a bit
 abbrev pub shares : List ℕ → ℕ → ℕ → Bool
 shares entries n x = not (nat_eq (bit_and (slice_index entries (x / n)) (slice_index entries (x % n))) 0)
 
@@ -22,16 +22,16 @@ shares entries n x = not (nat_eq (bit_and (slice_index entries (x / n)) (slice_i
 abbrev pub is_walked : List ℕ → List ℕ → ℕ → ℕ → Bool
 is_walked levels entries n x = falls levels n x && shares entries n x
 
--- for each pair below `end` whether it falls and a move may lead to it
+-- for each pair below `end`, whether it falls and a move may lead to it
 pub record AreFlagsUpTo (levels entries : List ℕ) (n end : ℕ) (flags : List Bool) : Type 0 where
   pub size : length flags ≡ end
   pub right : (x : ℕ) → x < end → slice_index_or flags x false ≡ is_walked levels entries n x
 
--- for each pair whether it does
+-- for each pair, whether it falls and a move may lead to it
 abbrev pub AreFlags : List ℕ → List ℕ → ℕ → List Bool → Type 0
 AreFlags levels entries n flags = AreFlagsUpTo levels entries n (n * n) flags
 
--- two of the first `n` states are in one part where each reaches the other; the numbers of the parts are in no order
+-- two of the first `n` states are in one part exactly if each reaches the other; the parts are numbered in no particular order
 pub record IsParted (next : ℕ → ℕ → List ℕ) (n : ℕ) (p : PartTable) : Type 0 where
   pub size : length p.numbers ≡ n
   pub below : (q : ℕ) → q < n → number_of p q < n

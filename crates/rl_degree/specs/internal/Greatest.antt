@@ -1,4 +1,4 @@
--- Longest chains of splits, as one fact.
+-- What is proved of a longest chain of splits.
 use Rattle.std.specs.Prelude.{ℕ, ◌<◌, ◌≤◌, List, length, All, IfSome, IfNone}
 use Rattle.rl_graph.specs.Twins.{Link, ChainFrom}
 use Rattle.rl_degree.specs.declared.chains.Split.{Split}
@@ -11,7 +11,7 @@ pub record AreLongest (next : ℕ → ℕ → List ℕ) (n : ℕ) (links : List 
   pub states : All (IsSplitIn n) links
   pub longest : (s : ℕ) (ms : List Link) → s < n → ChainFrom next s ms → length ms ≤ length links
 
--- the answer: such a chain, the ranks, and a cycle unless there is none
+-- the answer: such a chain, the ranks, and a loop if there is a cycle
 pub record IsGreatest (next : ℕ → ℕ → List ℕ) (n : ℕ) (c : Chain) : Type 0 where
   pub chain : AreLongest next n c.links
   pub ranks : AreRanks next n c.ranks

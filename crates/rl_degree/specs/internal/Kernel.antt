@@ -1,4 +1,4 @@
--- The states that a split may join. For private clauses.
+-- The states that a split may lead from or to. For private clauses.
 use Rattle.std.specs.Prelude.{◌≡◌, ℕ, ◌<◌, true}
 use Rattle.rl_graph.specs.Parts.{PartTable, number_of, cycle_of}
 use Rattle.rl_kernel.specs.Members.{is_member}
@@ -8,11 +8,11 @@ use Rattle.rl_kernel.specs.Seats.{Seats, AreSeats, HoldsUpTo}
 abbrev pub IsOneComponent : PartTable → ℕ → ℕ → Type 0
 IsOneComponent p n k = (q : ℕ) → q < n → cycle_of p q ≡ true → number_of p q ≡ k
 
--- those below `end` that lie on cycles
+-- the states below `end` that lie on cycles
 abbrev pub IsKernelUpTo : PartTable → ℕ → ℕ → Seats → Type 0
 IsKernelUpTo p n end s = HoldsUpTo (cycle_of p) p n end s
 
--- of two states on cycles in different components both are there
+-- two states on cycles in different components are both in the list
 pub record IsKernel (p : PartTable) (n : ℕ) (s : Seats) : Type 0 where
   pub seats : AreSeats p n n s
   pub covers : (r q : ℕ) → r < n → q < n → cycle_of p r ≡ true → cycle_of p q ≡ true → number_of p q < number_of p r

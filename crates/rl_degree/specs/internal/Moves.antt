@@ -17,18 +17,18 @@ pub record IsMoveTable (g : Graph) (letter : ℕ) (rows : List (List Bool)) : Ty
   pub wide : All (λ row. length row ≡ g.states) rows
   pub moves : (q t : ℕ) → (cell rows q t ≡ true) ↔ Has t (edges_of g q letter)
 
--- the rows hold the moves of the states before `end`, and no others
+-- the rows hold all moves of the states before `end`, and nothing that isn't a move
 pub record IsMoveTableUpTo (g : Graph) (letter end : ℕ) (rows : List (List Bool)) : Type 0 where
   pub high : length rows ≡ g.states
   pub wide : All (λ row. length row ≡ g.states) rows
   pub moves : (q t : ℕ) → cell rows q t ≡ true → Has t (edges_of g q letter)
   pub all : (q t : ℕ) → q < end → Has t (edges_of g q letter) → cell rows q t ≡ true
 
--- the letter is one of a move of the graph
+-- some move of the graph is on the letter
 abbrev pub IsUsed : Graph → ℕ → Type 0
 IsUsed g l = (q : ℕ) × (m : ℕ) × (q < g.states) × Has m (edges_of g q l)
 
--- a table for each letter; those of the letters on which the graph of inner moves has a move are right
+-- a table for each letter; it is right if the graph of inner moves has a move on the letter
 pub record AreMoveTables (g inner : Graph) (tables : List (List (List Bool))) : Type 0 where
   pub size : length tables ≡ g.letters
   pub right : (l : ℕ) → l < g.letters → IsUsed inner l → IsMoveTable g l (slice_index_or tables l [])

@@ -9,11 +9,11 @@ use Rattle.rl_degree.specs.declared.ranks.Best.{Best}
 abbrev pub no_best : Best
 no_best = record { rank = 0; from = 0; to = 0 }
 
--- the best of a component
+-- the best chain of a component
 abbrev pub best_at : List Best → ℕ → Best
 best_at bests k = slice_index_or bests k no_best
 
--- the first link of a chain from the state `q`, with one link more than the best of the component that it leads to
+-- the first link of a chain from the state `q`; the chain has one link more than the best chain of the component that it leads to
 pub record IsFirst (next : ℕ → ℕ → List ℕ) (n : ℕ) (p : PartTable) (bests : List Best) (q : ℕ) (b : Best) : Type 0 where
   pub from_in : b.from < n
   pub to_in : b.to < n
@@ -21,7 +21,7 @@ pub record IsFirst (next : ℕ → ℕ → List ℕ) (n : ℕ) (p : PartTable) (
   pub split : HasSplit next b.from b.to
   pub rest : (best_at bests (number_of p b.to)).rank + 1 ≡ b.rank
 
--- the best is that of a chain from the state, and has no more links than there are lower components
+-- the best is a chain from the state, and has no more links than there are lower components
 pub record IsGood (next : ℕ → ℕ → List ℕ) (n : ℕ) (p : PartTable) (bests : List Best) (q : ℕ) (b : Best) : Type 0 where
   pub small : b.rank ≤ number_of p q
   pub chain : (b.rank ≡ 0) ⊎ IsFirst next n p bests q b
@@ -31,7 +31,7 @@ abbrev pub BeatsLetter : (ℕ → ℕ → List ℕ) → PartTable → List Best 
 BeatsLetter next p bests q l d =
     (m : ℕ) → Has m (next q l) → number_of p m < number_of p q → (best_at bests (number_of p m)).rank ≤ d
 
--- no move of the state does
+-- no move of the state leads to a lower component with a better chain
 abbrev pub BeatsMoves : (ℕ → ℕ → List ℕ) → PartTable → List Best → ℕ → ℕ → Type 0
 BeatsMoves next p bests q d = (l : ℕ) → BeatsLetter next p bests q l d
 
@@ -40,14 +40,14 @@ abbrev pub BeatsSplits : (ℕ → ℕ → List ℕ) → ℕ → PartTable → Li
 BeatsSplits next end p bests q d =
     (t : ℕ) → t < end → HasSplit next q t → (best_at bests (number_of p t)).rank + 1 ≤ d
 
--- the best is right for the state: there is a chain of so many links from it, and none with more begins with a move to a
+-- the best is right for the state: there is a chain with that many links from it, and no chain with more begins with a move to a
 -- lower component or with a split
 pub record IsBest (next : ℕ → ℕ → List ℕ) (n : ℕ) (p : PartTable) (bests : List Best) (q : ℕ) (b : Best) : Type 0 where
   pub good : IsGood next n p bests q b
   pub moves : BeatsMoves next p bests q b.rank
   pub splits : BeatsSplits next n p bests q b.rank
 
--- the bests of the components are right for the states of the first `end` components
+-- the best chains are right for the states of the first `end` components
 pub record AreBests (next : ℕ → ℕ → List ℕ) (n : ℕ) (p : PartTable) (end : ℕ) (bests : List Best) : Type 0 where
   pub size : length bests ≡ end
   pub right : (q : ℕ) → q < n → number_of p q < end → IsBest next n p bests q (best_at bests (number_of p q))

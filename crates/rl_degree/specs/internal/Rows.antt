@@ -12,8 +12,8 @@ use Rattle.rl_degree.specs.declared.rows.Step.{Step}
 use Rattle.rl_degree.specs.declared.rows.Found.{Found}
 use Rattle.rl_degree.specs.declared.rows.SplitSearch.{SplitSearch}
 
--- what a search goes over: how many states there are, the moves of the middle state, those of the outer pair, the pairs of
--- the part, and the place of each pair among them
+-- what a search goes over: the number of states, the moves of the middle state, the moves of the outer pair, the pairs of the
+-- part, and the place of each pair among them
 pub record Field : Type 0 where
   pub states : ℕ
   pub next : ℕ → ℕ → List ℕ
@@ -32,8 +32,7 @@ field_of g t part =
       places = (lists_of t.placed).places;
     }
 
--- the lists of a search, whether it keeps its steps, the pair that it is for by its place, and the middle states that it leads
--- from and to
+-- a search: whether it keeps its steps, the place of its pair, the middle states that its word leads from and to, and its lists
 pub record Stand : Type 0 where
   pub keeps : Bool
   pub place : ℕ
@@ -71,25 +70,26 @@ outer_moves d f l = d.pairs (outer_of d f) l
 abbrev pub row_with : ℕ → ℕ → List Bool
 row_with n m = slice_set (replicate n false) m true
 
--- the start: the middle state is seen beside the pair, and waits
-abbrev pub start_stand : Bool → ℕ → ℕ → ℕ → ℕ → ℕ → Stand
-start_stand keeps states pairs place from to =
+-- the start: the middle state was seen beside the pair, and waits in the queue; the states of the row `hopeless` were seen beside
+-- each pair
+abbrev pub start_stand : Bool → List Bool → ℕ → ℕ → ℕ → ℕ → Stand
+start_stand keeps hopeless pairs place from to =
     record {
       keeps = keeps;
       place = place;
       from = from;
       to = to;
-      seen = with_cell (replicate pairs (replicate states false)) place from;
+      seen = with_cell (replicate pairs hopeless) place from;
       steps = [];
-      queue = record { step = 0; place = place; middle = row_with states from } ∷ [];
+      queue = record { step = 0; place = place; middle = row_with (length hopeless) from } ∷ [];
     }
 
--- the words of the steps behind those of the ones before
+-- the words of the steps, after the words of the steps before them
 abbrev pub words_from : List (List ℕ) → List Step → List (List ℕ)
 words_from words [] = words
 words_from words (s ∷ steps) = words_from (words ++ (slice_index_or words s.from [] ++ s.letter ∷ []) ∷ []) steps
 
--- the word of a step: that of the step that it follows, and its letter. The start, the number 0, has the empty word
+-- the word of a step: the word of the step that it follows, and its letter. The start has the number 0 and the empty word
 abbrev pub word_at : List Step → ℕ → List ℕ
 word_at steps k = slice_index_or (words_from ([] ∷ []) steps) k []
 
@@ -97,7 +97,12 @@ word_at steps k = slice_index_or (words_from ([] ∷ []) steps) k []
 abbrev pub IsRooted : List Step → Type 0
 IsRooted steps = (k : ℕ) (s : Step) → k < length steps → (slice_index_or steps k s).from ≤ k
 
--- one more step, where they are kept
+-- the steps tell the word of one of them
+pub record HasWord (steps : List Step) (step : ℕ) : Type 0 where
+  pub rooted : IsRooted steps
+  pub step_in : step ≤ length steps
+
+-- one more step, if steps are kept
 abbrev pub steps_with : ℕ → ℕ → Stand → List Step
 steps_with from letter s = if s.keeps then s.steps ++ record { from = from; letter = letter } ∷ [] else s.steps
 
@@ -105,7 +110,7 @@ steps_with from letter s = if s.keeps then s.steps ++ record { from = from; lett
 abbrev pub number_of_new : Stand → ℕ
 number_of_new s = if s.keeps then length s.steps + 1 else 0
 
--- the middle states of a row that were not seen beside the pair at a place are found there
+-- the middle states of a row that were not seen yet beside the pair at a place are found there
 abbrev pub reached : ℕ → ℕ → ℕ → List Bool → Stand → Stand
 reached from letter place image s =
     record s {
@@ -114,16 +119,16 @@ reached from letter place image s =
       queue = s.queue ++ record { step = number_of_new s; place = place; middle = list_and_not image (slice_index_or s.seen place []) } ∷ [];
     }
 
--- the same unless all of them were seen
+-- nothing changes if all of them were seen, and otherwise the new ones are found
 abbrev pub IsReached : ℕ → ℕ → ℕ → List Bool → Stand → Stand → Type 0
 IsReached from letter place image old new =
     (IsSubset image (slice_index_or old.seen place []) × (new ≡ old)) ⊎ (HasOther image (slice_index_or old.seen place []) × (new ≡ reached from letter place image old))
 
--- the stand with something that is still to be followed
+-- the search before something was taken from its queue
 abbrev pub behind : Found → Stand → Stand
 behind f s = record s { queue = f ∷ s.queue }
 
--- what was found lies in the field, and some word leads to it, that of its step where steps are kept
+-- what was found lies in the field, and some word leads to it; if steps are kept, it is the word of its step
 pub record IsFound (d : Field) (s : Stand) (f : Found) : Type 0 where
   pub place_in : f.place < length d.members
   pub step_in : f.step ≤ length s.steps
@@ -137,12 +142,13 @@ pub record IsFound (d : Field) (s : Stand) (f : Found) : Type 0 where
 abbrev pub Waits : Stand → ℕ → ℕ → Type 0
 Waits s i m = (f : Found) × Has f s.queue × (f.place ≡ i) × (has_middle f m ≡ true)
 
--- what the pair and the middle state move to on a letter was seen, where it stays in the part
+-- whatever the pair and the middle state move to on a letter was seen, if the pair stays in the part
 abbrev pub AreMovesSeen : Field → Stand → ℕ → ℕ → ℕ → Type 0
 AreMovesSeen d s l i m =
     (y k : ℕ) → Has y (d.pairs (slice_index d.members i) l) → is_member d.members d.places y ≡ true → Has k (d.next m l) → cell s.seen (slice_index d.places y) k ≡ true
 
--- where a search stands: what was seen waits, or what it moves to was seen; what is looked for has not been met, unless it waits
+-- a search that is under way: whatever was seen waits, or all that it moves to was seen; what is looked for was not seen, unless
+-- it waits
 pub record IsSearching (d : Field) (s : Stand) : Type 0 where
   pub high : length s.seen ≡ length d.members
   pub wide : (i : ℕ) → i < length d.members → length (slice_index_or s.seen i []) ≡ d.states
@@ -152,7 +158,7 @@ pub record IsSearching (d : Field) (s : Stand) : Type 0 where
   pub settled : (i m : ℕ) → cell s.seen i m ≡ true → Waits s i m ⊎ ((l : ℕ) → AreMovesSeen d s l i m)
   pub goal : cell s.seen s.place s.to ≡ true → Waits s s.place s.to
 
--- how much is left to do: each state that was not seen is found at most once
+-- how much work is left: each state that was not seen is found at most once
 abbrev pub work_of : Stand → ℕ
 work_of s = total (λ row. total (λ b. one (not b)) row) s.seen + length s.queue
 
@@ -171,7 +177,7 @@ pub record IsImage (d : Field) (f : Found) (l : ℕ) (image : List Bool) : Type 
   pub wide : length image ≡ d.states
   pub moves : (k : ℕ) → (slice_index_or image k false ≡ true) ↔ ((m : ℕ) × (has_middle f m ≡ true) × Has k (d.next m l))
 
--- the middle states of a row were seen beside a pair, where that is in the part
+-- the middle states of a row were seen beside a pair, if the pair is in the part
 abbrev pub IsMet : Field → List Bool → Stand → ℕ → Type 0
 IsMet d image s y =
     is_member d.members d.places y ≡ true → (k : ℕ) → slice_index_or image k false ≡ true → cell s.seen (slice_index d.places y) k ≡ true

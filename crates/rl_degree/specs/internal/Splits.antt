@@ -11,12 +11,12 @@ use Rattle.rl_degree.specs.declared.pairs.PairTable.{PairTable}
 abbrev pub HasSplit : (ℕ → ℕ → List ℕ) → ℕ → ℕ → Type 0
 HasSplit next r q = (y : List ℕ) × IsSplit next r q y
 
--- the mark of a part: it tells of each wanted pair of the part whether it is a split
+-- the mark of a part: whether each wanted pair of the part is a split
 abbrev pub IsMark : Graph → PairTable → ℕ → Bool → Type 0
 IsMark g t k b =
     (x : ℕ) → x < t.inner.states * t.inner.states → is_wanted t.kernel.levels.items t.parts t.inner.states x ≡ true → number_of t.parts x ≡ k → IsTrue b ↔ HasSplit (edges_of g) (state_at (seats_of t.kernel) (x / t.inner.states)) (state_at (seats_of t.kernel) (x % t.inner.states))
 
--- a mark for each part; those that are known are right
+-- a mark for each part; known marks are right
 pub record AreMarks (g : Graph) (t : PairTable) (marks : List (Option Bool)) : Type 0 where
   pub size : length marks ≡ t.inner.states * t.inner.states
   pub right : (k : ℕ) (b : Bool) → slice_index_or marks k None ≡ Some b → IsMark g t k b

@@ -1,13 +1,13 @@
--- Where the search for a difference stands. Each of two walks numbers the sets of one automaton; a set pair is found by the
--- numbers of its sets, and keeps the place of the one whose next it is, and the letter.
+-- How far the search for a difference has come. Each of two walks numbers the sets of one automaton, and a set pair is
+-- known by the numbers of its sets. With it are kept the place of the set pair from which it was found, and the letter.
 use Rattle.std.specs.Prelude.{◌≡◌, ◌≢◌, ℕ, suc, ◌<◌, ◌≤◌, ◌⊎◌, List, [], ◌∷◌, ◌++◌, length, map, slice_index_or, slice_get, Option, None, Some, All, Bool, true, false, not, ◌&&◌, nat_lt, if◌then◌else◌}
 use Rattle.rl_prio.specs.Automaton.{Automaton, IsAutomaton, letters_count, accepting_state}
 use Rattle.rl_sets.specs.Live.{image, refuses}
 use Rattle.rl_sets.specs.Walk.{Walk, set_at, set_of, IsMadeFor, IsListed}
 use Rattle.rl_equiv.specs.declared.pair.SetPair.{SetPair}
-use Rattle.rl_equiv.specs.declared.searching.Key.{Key}
+use Rattle.rl_equiv.specs.declared.searching.PairKey.{PairKey}
 use Rattle.rl_equiv.specs.declared.searching.Way.{Way}
-use Rattle.rl_equiv.specs.declared.searching.Search.{Search}
+use Rattle.rl_equiv.specs.declared.searching.PairSearch.{PairSearch}
 use Rattle.rl_equiv.specs.declared.sameness.Sameness.{Sameness}
 use Rattle.rl_equiv.specs.declared.sameness.Sameness.TheVariants.{Equal, Apart, Passed}
 use Rattle.std.proofs.Math.Bool.{beq}
@@ -18,19 +18,20 @@ use Rattle.rl_equiv.specs.SetPairs.{first_pair, SetPairs}
 use Rattle.rl_equiv.specs.Numbering.{Reached, with_reached, reached_after}
 use Rattle.rl_equiv.specs.internal.Machines.{pair_on, all_proper, pairs_of}
 
--- an automaton of a fullmatch: a letter leads no set to the accepting state, and the end letter leads to no other one
+-- An automaton of a tree that is matched whole: no letter leads to the accepting state, and the end letter leads to no
+-- other one.
 pub record IsReader (a : Automaton) : Type 0 where
   pub whole : IsAutomaton a
   pub on_letters : (set : List ℕ) (letter : ℕ) → letter < letters_count a → all_proper a (image a set letter) ≡ true
   pub at_end : (set : List ℕ) → (image a set (letters_count a) ≡ set_of a []) ⊎ (image a set (letters_count a) ≡ set_of a (accepting_state a ∷ []))
 
--- two of them over the same letters
+-- Two such automata over the same letters.
 pub record AreReaders (a b : Automaton) : Type 0 where
   pub first_reads : IsReader a
   pub second_reads : IsReader b
   pub same_letters : letters_count a ≡ letters_count b
 
--- a walk has got the number of a set, which it may have appended
+-- The walk has found the set and its number, or has appended the set.
 pub record Gets (a : Automaton) (old new : Walk) (set : List ℕ) (n : ℕ) : Type 0 where
   pub made : IsMadeFor new a
   pub limit_is : new.limit ≡ old.limit
@@ -40,40 +41,40 @@ pub record State : Type 0 where
   pub limit : ℕ
   pub first : Walk
   pub second : Walk
-  pub keys : List Key
+  pub keys : List PairKey
   pub ways : List Way
 
-abbrev pub state_of : Search → State
+abbrev pub state_of : PairSearch → State
 state_of s = record { limit = s.limit; first = s.first; second = s.second; keys = s.keys.keys; ways = s.ways.items }
 
-abbrev pub no_key : Key
+abbrev pub no_key : PairKey
 no_key = record { first = 0; second = 0 }
 
 abbrev pub no_way : Way
 no_way = record { parent = 0; letter = 0 }
 
-abbrev pub key_at : State → ℕ → Key
+abbrev pub key_at : State → ℕ → PairKey
 key_at s k = slice_index_or s.keys k no_key
 
 abbrev pub way_at : State → ℕ → Way
 way_at s k = slice_index_or s.ways k no_way
 
-abbrev pub pair_of : Walk → Walk → Key → SetPair
+abbrev pub pair_of : Walk → Walk → PairKey → SetPair
 pair_of v w key = record { first = set_at v key.first; second = set_at w key.second }
 
--- the set pairs that are found
+-- The set pairs that were found.
 abbrev pub pairs_in : State → List SetPair
 pairs_in s = map (pair_of s.first s.second) s.keys
 
 abbrev pub pair_at : State → ℕ → SetPair
 pair_at s k = pair_of s.first s.second (key_at s k)
 
--- the words of the ways, each by that of the earlier one
+-- The words of the ways: each is the word of the earlier set pair, and then the letter.
 abbrev pub words_from : List (List ℕ) → List Way → List (List ℕ)
 words_from words [] = words
 words_from words (way ∷ ways) = words_from (words ++ (slice_index_or words way.parent [] ++ way.letter ∷ []) ∷ []) ways
 
--- the first way is that of the first set pair, which no letter leads to
+-- The first way is that of the first set pair, whose word is empty.
 abbrev pub words_of : List Way → List (List ℕ)
 words_of [] = []
 words_of (way ∷ ways) = words_from ([] ∷ []) ways
@@ -84,27 +85,27 @@ word_at s k = slice_index_or (words_of s.ways) k []
 abbrev pub reached_at : State → ℕ → Reached
 reached_at s k = record { pair = pair_at s k; word = word_at s k }
 
--- set pairs with their words
+-- Set pairs with their words.
 abbrev pub reached_of : List SetPair → List (List ℕ) → List Reached
 reached_of [] words = []
 reached_of (p ∷ ps) [] = record { pair = p; word = [] } ∷ reached_of ps []
 reached_of (p ∷ ps) (word ∷ words) = record { pair = p; word = word } ∷ reached_of ps words
 
--- the set pairs that are found, with the words by which they were
+-- The set pairs that were found, with the words by which they were.
 abbrev pub reached_in : State → List Reached
 reached_in s = reached_of (pairs_in s) (words_of s.ways)
 
--- the next one of a reached one on a letter
+-- The next set pair of one that is reached, on a letter, with its word.
 abbrev pub reached_on : Automaton → Automaton → Reached → ℕ → Reached
 reached_on a b r letter = record { pair = pair_on a b r.pair letter; word = r.word ++ letter ∷ [] }
 
--- the set pair is the next one of an earlier one
+-- The set pair at a place is the next one of an earlier one, by the way that was kept.
 pub record IsNext (a b : Automaton) (s : State) (k : ℕ) (way : Way) : Type 0 where
   pub earlier : way.parent < k
   pub small : way.letter < letters_count a
   pub is : pair_at s k ≡ pair_on a b (pair_at s way.parent) way.letter
 
--- the search goes on well
+-- What holds of a search at any time.
 pub record IsSearch (a b : Automaton) (s : State) : Type 0 where
   pub some_limit : 1 ≤ s.limit
   pub low_limit : s.limit ≤ MOST_SET_PAIRS
@@ -118,26 +119,26 @@ pub record IsSearch (a b : Automaton) (s : State) : Type 0 where
   pub start : pair_at s 0 ≡ first_pair
   pub ways : (k : ℕ) → 0 < k → k < length s.keys → IsNext a b s k (way_at s k)
 
--- the search has gone on: what was found stays
+-- The search has gone on: what was found before is still there.
 pub record IsOnward (a b : Automaton) (old new : State) : Type 0 where
   pub search : IsSearch a b new
   pub limit_is : new.limit ≡ old.limit
   pub more : List Reached
   pub grown : reached_in new ≡ reached_in old ++ more
 
--- set pairs with one more, unless they are more than the limit
+-- A list with one more set pair, unless it has more than the limit already.
 abbrev pub with_reached_within : ℕ → List Reached → Reached → List Reached
 with_reached_within limit found r = if nat_lt limit (length found) then found else with_reached found r
 
--- the found ones are all of those, or more than the limit and the first of them
+-- The list that was found is the whole, or it is the first part of it and has more than the limit.
 abbrev pub AreCapped : {X : Type 0} → ℕ → List X → List X → Type 0
 AreCapped {X = X} limit found whole = (found ≡ whole) ⊎ ((limit < length found) × ((more : List X) × (whole ≡ found ++ more)))
 
--- which sets of a set pair are led to the accepting state
+-- The ends of a set pair: which of its sets the end letter leads to the accepting state.
 abbrev pub ends_of : SetPairs → SetPair → Ends
 ends_of d p = record { first = d.ends_first p; second = d.ends_second p }
 
--- one of them alone is
+-- It leads exactly one of them there.
 abbrev pub is_apart : Ends → Bool
 is_apart e = not (beq e.first e.second)
 
@@ -147,7 +148,7 @@ no_ends = record { first = false; second = false }
 abbrev pub ends_in : List Ends → ℕ → Ends
 ends_in seen k = slice_index_or seen k no_ends
 
--- the search has looked at the first set pairs, and has seen their ends
+-- The search has looked at the first set pairs, and these are their ends.
 pub record IsSeen (a b : Automaton) (limit : ℕ) (s : State) (seen : List Ends) : Type 0 where
   pub search : IsSearch a b s
   pub limit_is : s.limit ≡ limit
@@ -156,42 +157,42 @@ pub record IsSeen (a b : Automaton) (limit : ℕ) (s : State) (seen : List Ends)
   pub capped : AreCapped limit (reached_in s) (reached_after (pairs_of a b) (length seen))
   pub are : (k : ℕ) → k < length seen → ends_in seen k ≡ ends_of (pairs_of a b) (pair_at s k)
 
--- it has looked at as many as the limit, or at all
+-- It has looked at as many as the limit, or at all that were found.
 abbrev pub IsThrough : ℕ → State → List Ends → Type 0
 IsThrough limit s seen = (limit ≤ length seen) ⊎ (length s.keys ≤ length seen)
 
--- none of the first ones of those that were seen is apart
+-- None of the first ones is apart.
 abbrev pub AreCalm : List Ends → ℕ → Type 0
 AreCalm seen count = (k : ℕ) → k < count → is_apart (ends_in seen k) ≡ false
 
--- none but the last is apart, and where that isn't it has looked through
+-- None except the last is apart; if the last isn't either, the search has looked at as many as the limit or at all.
 pub record IsSeenApart (limit : ℕ) (s : State) (seen : List Ends) : Type 0 where
   pub before : (k : ℕ) → suc k < length seen → is_apart (ends_in seen k) ≡ false
   pub last : IsThrough limit s seen ⊎ ((k : ℕ) → length seen ≡ suc k → is_apart (ends_in seen k) ≡ true)
 
--- the word leads to the set pair at a place, by the ways that were kept
+-- The ways that were kept give this word for the set pair at a place.
 pub data Leads (ways : List Way) : ℕ → List ℕ → Type 0 where
   start : Leads ways 0 []
   onward : {k : ℕ} {way : Way} {word : List ℕ} → 0 < k → slice_get ways k ≡ Some way → Leads ways way.parent word → Leads ways k (word ++ way.letter ∷ [])
 
--- the sample of a letter
+-- The sample of a letter.
 abbrev pub sample_of : Automaton → ℕ → ℕ
 sample_of a letter = slice_index_or a.table.samples letter 0
 
--- the text has the letters of a word that one of the starts alone refuses
+-- The text spells a word that exactly one of the starts refuses.
 pub record IsApart (a b : Automaton) (text : List ℕ) : Type 0 where
   pub word : List ℕ
   pub small : All (λ letter. letter < letters_count a) word
   pub spelled : text ≡ map (sample_of a) word
   pub apart : refuses a (0 ∷ []) (word ++ letters_count a ∷ []) ≢ refuses b (0 ∷ []) (word ++ letters_count b ∷ [])
 
--- a text that the answer gives is one that sets the automata apart
+-- If the answer has a text, that text tells the automata apart.
 abbrev pub TellsApart : Automaton → Automaton → Sameness → Type 0
 TellsApart a b (Equal relation) = Unit {0}
 TellsApart a b (Apart text) = IsApart a b text
 TellsApart a b Passed = Unit {0}
 
--- the text is that of the first one that was seen with the given ends
+-- The text is that of the first set pair that was seen with these ends; if there is none, none was seen.
 abbrev pub IsFirstText : Automaton → State → List Ends → Bool → Bool → Option (List ℕ) → Type 0
 IsFirstText a s seen x y None = (k : ℕ) → k < length seen → (beq (ends_in seen k).first x && beq (ends_in seen k).second y) ≡ false
 IsFirstText a s seen x y (Some text) =

@@ -1,24 +1,25 @@
--- For private clauses: numbers that a row was put behind, and rows kept apart of which one was put.
+-- For the contracts of private functions: numbers to which a row was appended, and rows stored apart of which one was
+-- set.
 use Rattle.std.specs.Prelude.{◌≡◌, ◌≢◌, ℕ, ◌<◌, ◌≤◌, List, [], ◌++◌, length, slice_range, slice_index_or}
 use Rattle.rl_graph.specs.declared.row_list.Span.{Span}
 use Rattle.rl_graph.specs.Spans.{row_of}
 
--- the numbers are the old ones and perhaps more
+-- `new` begins with `old`.
 abbrev pub IsGrown : List ℕ → List ℕ → Type 0
 IsGrown old new = (more : List ℕ) × (new ≡ old ++ more)
 
--- the span's row is this one, where none is kept apart
+-- The span lies within the numbers, and its row is `row` if nothing is stored apart for it.
 pub record StandsIn (numbers row : List ℕ) (span : Span) : Type 0 where
   pub within : span.end ≤ length numbers
   pub same : row_of numbers [] span ≡ row
 
--- the span has numbers, and they are this row
+-- The span lies within the numbers, is not empty, and its numbers are `row`.
 pub record Holds (numbers row : List ℕ) (span : Span) : Type 0 where
   pub within : span.end ≤ length numbers
   pub filled : span.start < span.end
   pub same : slice_range numbers span.start span.end ≡ row
 
--- the row stands apart at the place, and no other place changed
+-- `new` has `row` at `place`, is the same as `old` elsewhere, and is no longer than it has to be for that place.
 pub record IsPlaced (old new : List (List ℕ)) (place : ℕ) (row : List ℕ) : Type 0 where
   pub here : slice_index_or new place [] ≡ row
   pub elsewhere : (k : ℕ) → k ≢ place → slice_index_or new k [] ≡ slice_index_or old k []

@@ -1,4 +1,4 @@
--- Conditions on verdicts and suggestions, which the steps of an analysis pass on to each other.
+-- Conditions on verdicts and suggestions. Each step of an analysis ensures them for the next step.
 use Rattle.std.specs.Prelude.{◌≡◌, ◌≤◌, ℕ, Bool, true, false, List, All, IfSome, Err}
 use Rattle.rl_ranges.specs.declared.universe.Universe.{Universe}
 use Rattle.rl_ranges.specs.Text.{IsText}
@@ -20,37 +20,37 @@ use Rattle.rl_report.specs.declared.report.Outcome.{Outcome}
 use Rattle.rl_report.specs.Findings.{verdict_of, suggestion_of}
 use Rattle.rl_report.specs.Verdicts.{IsVerdictOf}
 
--- the suggestion's text is one of the universe
+-- The suggested text, if there is one, is a text of the universe.
 abbrev pub IsSuggestionOf : Universe → Suggestion → Type 0
 IsSuggestionOf u s = IfSome s.text (IsText u)
 
--- the texts of the outcome's verdict and suggestion are of the universe
+-- The texts in the outcome's verdict and suggestion are texts of the universe.
 pub record IsOfUniverse (u : Universe) (o : Outcome) : Type 0 where
   pub verdict : IfSome (verdict_of o) (IsVerdictOf u)
   pub suggestion : IfSome (suggestion_of o) (IsSuggestionOf u)
 
--- the span lies in so many codes
+-- The span lies within `count` code points.
 abbrev pub LiesIn : ℕ → Span → Type 0
 LiesIn count span = (span.from ≤ span.upto) × (span.upto ≤ count)
 
--- the branches that the suggestion speaks of lie in so many codes
+-- The branches that the suggestion mentions lie within `count` code points.
 pub record PartsLieIn (count : ℕ) (s : Suggestion) : Type 0 where
   pub dropped : All (LiesIn count) s.dropped
   pub passed : All (LiesIn count) s.passed
 
--- the text is read as a pattern, unless memory runs out
+-- The text is read as a pattern, unless memory runs out.
 abbrev pub IsReadable : Flags → Universe → List ℕ → Type 0
 IsReadable flags u text = (e : PatError) → IsParsed flags u text (Err e) → e ≡ parsing.OutOfMemory
 
--- the suggestion's text is read as a pattern
+-- The suggested text, if there is one, is read as a pattern, unless memory runs out.
 abbrev pub HasReadable : Flags → Universe → Suggestion → Type 0
 HasReadable flags u s = IfSome s.text (IsReadable flags u)
 
--- the body as fullmatch passes no limit
+-- The pattern as `fullmatch` matches it exceeds no limit.
 abbrev pub IsSmallWhole : Pattern → Type 0
 IsSmallWhole p = (l : Limit) → PassesLimit (universe_of p) (pattern_tree p Fullmatch) l → ⊥
 
--- whether a suggestion stands beside the verdict
+-- Whether this verdict comes with a suggestion.
 abbrev pub has_suggestion : Verdict → Bool
 has_suggestion (Undecided Size) = false
 has_suggestion (Undecided Letters) = false

@@ -1,8 +1,8 @@
--- Marks of the targets of moves that are on a rank. For private clauses.
+-- For the contracts of private functions: marks on the targets of moves that have a certain rank.
 use Rattle.std.specs.Prelude.{◌≡◌, ℕ, ◌↔◌, List, Bool, true, false, length, slice_index, slice_index_or}
 use Rattle.rl_graph.specs.Paths.{Has}
 
--- a state is marked where it is one of the targets and on the rank
+-- A state is marked if and only if it is one of the targets and has the rank `own`.
 pub record AreMarks (ranks targets : List ℕ) (own : ℕ) (marks : List Bool) : Type 0 where
   pub size : length marks ≡ length ranks
   pub right : (q : ℕ) → (slice_index_or marks q false ≡ true) ↔ (Has q targets × (slice_index ranks q ≡ own))

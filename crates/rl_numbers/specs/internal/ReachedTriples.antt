@@ -1,4 +1,4 @@
--- The triples that are reached from given ones.
+-- For the contracts of private functions: the triples that are reached from given ones.
 use Rattle.std.specs.Prelude.{◌≡◌, ℕ, ◌*◌, ◌<◌, ◌≤◌, List, length}
 use Rattle.rl_graph.specs.Graph.{Graph, edges_of, IsWhole}
 use Rattle.rl_graph.specs.Parts.{PartTable, IsParts}
@@ -7,14 +7,15 @@ use Rattle.rl_numbers.specs.Listed.{listing}
 use Rattle.rl_numbers.specs.Reached.{IsReach}
 use Rattle.rl_numbers.specs.Triples.{triple_moves, among_moves}
 use Rattle.rl_numbers.specs.declared.triple.Triple.{Triple}
+use Rattle.rl_numbers.specs.declared.numbering.TheConstants.{MOST_TRIPLES}
 
--- the list has the triples that the starts reach, numbered by the parts of the graph of them
+-- The list has exactly the triples that the starts reach, numbered by the parts of the graph of these triples.
 pub record AreReachedTriples (h : Graph) (starts : List ℕ) (l : List Triple) : Type 0 where
   pub keys : List ℕ
   pub parts : PartTable
   pub whole : IsWhole h
   pub reach : IsReach (triple_moves (edges_of h) h.states) starts keys
-  pub few : length keys ≤ 1000000
+  pub few : length keys ≤ MOST_TRIPLES
   pub inside : Each (λ x. x < h.states * h.states * h.states) keys
   pub are_parts : IsParts (among_moves h keys) (length keys) parts
   pub same : l ≡ listing parts h.states 0 keys

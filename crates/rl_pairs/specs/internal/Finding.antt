@@ -1,5 +1,6 @@
--- Where the search for live pairs stands. It goes breadth first from the first pair, the letters of a pair in rising order, the
--- end letter last. A pair is found by its key, its state and the number of its set in the walk.
+-- For the contracts of private functions: the state of the search for live pairs. It goes breadth first from the first pair,
+-- with the letters of each pair in increasing order and the end letter last. A pair is found by its key, which is its state
+-- and the number of its set in the walk.
 use Rattle.std.specs.Prelude.{◌≡◌, ℕ, zero, suc, ◌-◌, ◌+◌, ◌*◌, ◌<◌, ◌≤◌, ◌⊎◌, nat_lt, if◌then◌else◌, List, [], ◌∷◌, ◌++◌, length, take, flat_map, slice_index_or}
 use Rattle.rl_prio.specs.Automaton.{Automaton, letters_count}
 use Rattle.rl_graph.specs.Paths.{Has, Each}
@@ -13,8 +14,8 @@ use Rattle.rl_pairs.specs.LivePairs.{pairs_from, next_pairs, LivePair}
 use Rattle.rl_pairs.specs.PairGraph.{KeptLive, AreFirstSeen, seen_after}
 use Rattle.rl_pairs.specs.internal.Counting.{IsCounting, IsNumberOf, Stands, IsOnward, IsClosed}
 
--- the keys of the pairs that are found, how many there may be, a lead and a rest for each, and a row of targets for each pair
--- and letter that was looked at
+-- The keys of the pairs found, the greatest number of pairs allowed, a lead and a rest for each pair, and a row of targets
+-- for each pair and letter that was looked at.
 pub record Found : Type 0 where
   pub limit : ℕ
   pub keys : List Key
@@ -22,53 +23,60 @@ pub record Found : Type 0 where
   pub rests : List (List ℕ)
   pub rows : List (List ℕ)
 
+-- The lists of the search that the program holds.
 abbrev pub found_of : Finder → Found
 found_of f = record { limit = f.limit; keys = f.keys.keys; leads = f.leads.items; rests = f.rests.items; rows = f.rows }
 
--- the same with one more row
+-- The search with one more row.
 abbrev pub with_row : Found → List ℕ → Found
 with_row f row = record { limit = f.limit; keys = f.keys; leads = f.leads; rests = f.rests; rows = f.rows ++ row ∷ [] }
 
--- the key of the first pair; the empty set is the first one of the walk
+-- The key of the first pair. The empty set is the first set of the walk.
 abbrev pub first_key : Key
 first_key = record { state = 0; set = 0 }
 
+-- The key of the pair with the number `k`.
 abbrev pub key_at : Found → ℕ → Key
 key_at f k = slice_index_or f.keys k first_key
 
+-- The pair that a key describes.
 abbrev pub pair_of : Walk → Key → Pair
 pair_of w key = record { state = key.state; set = set_at w key.set }
 
--- the pair with a number
+-- The pair with the number `k`.
 abbrev pub pair_at : Walk → Found → ℕ → Pair
 pair_at w f k = pair_of w (key_at f k)
 
+-- The lead of the pair with the number `k`, that is, a word that leads to it.
 abbrev pub lead_at : Found → ℕ → List ℕ
 lead_at f k = slice_index_or f.leads k []
 
+-- The rest of the pair with the number `k`, that is, a rest that its set refuses.
 abbrev pub rest_at : Found → ℕ → List ℕ
 rest_at f k = slice_index_or f.rests k []
 
--- how many rows a pair has
+-- The number of rows of a pair: one for each letter and one for the end letter.
 abbrev pub width : Automaton → ℕ
 width a = suc (letters_count a)
 
--- the targets of the moves of a pair on a letter
+-- The targets of the moves of the pair `q` on a letter, if each pair has `wide` rows.
 abbrev pub next_in : ℕ → List (List ℕ) → ℕ → ℕ → List ℕ
 next_in wide rows q letter = if nat_lt letter wide then slice_index_or rows (q * wide + letter) [] else []
 
+-- The targets of the moves of a pair on a letter.
 abbrev pub next_of : Automaton → Found → ℕ → ℕ → List ℕ
 next_of a f = next_in (width a) f.rows
 
--- all targets, in the order in which they were met
+-- All targets, in the order in which they were met.
 abbrev pub flat : List (List ℕ) → List ℕ
 flat rows = flat_map (λ row. row) rows
 
--- the lead of a pair is that of an earlier one with a move to it, and the letter of the move
+-- The lead of the pair is the lead of an earlier pair that has a move to it, followed by the letter of that move.
 abbrev pub IsLed : Automaton → Found → ℕ → Type 0
 IsLed a f k = (i : ℕ) × (letter : ℕ) × (i < k) × Has k (next_of a f i letter) × (lead_at f k ≡ lead_at f i ++ letter ∷ [])
 
--- the pairs that are found are different live pairs, and were numbered by first sight
+-- The invariant of the pairs found: they are different live pairs, numbered in the order in which they were first seen, each
+-- with a word that leads to it and a rest that its set refuses.
 pub record IsFound (a : Automaton) (w : Walk) (f : Found) : Type 0 where
   pub some : 0 < length f.keys
   pub few : length f.keys ≤ f.limit
@@ -86,34 +94,35 @@ pub record IsFound (a : Automaton) (w : Walk) (f : Found) : Type 0 where
   pub seen : AreFirstSeen 1 (flat f.rows)
   pub count : seen_after 1 (flat f.rows) ≡ length f.keys
 
--- the pairs that were found before stay
+-- The pairs found before keep their numbers.
 pub record Stays (old new : Found) : Type 0 where
   pub limit : new.limit ≡ old.limit
   pub longer : length old.keys ≤ length new.keys
   pub same : (k : ℕ) → k < length old.keys → key_at new k ≡ key_at old k
 
--- the row has the numbers of the live ones among pairs, and the sets of the pairs stand in the walk
+-- The row has the numbers of the live ones among the pairs, in order, and the walk has the sets of all these pairs.
 pub record IsRowOf (a : Automaton) (w : Walk) (f : Found) (pairs : List Pair) (row : List ℕ) : Type 0 where
   pub kept : KeptLive a (pair_at w f) pairs row
   pub standing : Each (λ p. Stands w p.set) pairs
 
--- the first rows are those of the moves of the first pairs; a pair was found before its moves were looked at
+-- There are `count` rows, which hold the moves of the first pairs. Each pair was found before its moves were looked at.
 pub record IsMoved (a : Automaton) (w : Walk) (f : Found) (count : ℕ) : Type 0 where
   pub long : length f.rows ≡ count
   pub moves : (q letter : ℕ) → letter ≤ letters_count a → q * width a + letter < count → IsRowOf a w f (next_pairs a (pair_at w f q) letter) (next_of a f q letter)
   pub order : (q : ℕ) → q * width a < count → q < seen_after 1 (flat (take (q * width a) f.rows))
 
--- the set for the move behind moves to the given states
+-- The set for the next move after moves to the given states, if `set` is the set for the first of these moves.
 abbrev pub tried : Automaton → List ℕ → List ℕ → List ℕ
 tried a set [] = set
 tried a set (target ∷ targets) = tried a (joined a target set) targets
 
--- the set for the move `k`, from that for the move before; that for the first move is the image itself
+-- The set for the move `k`, given the set for the move before it. The set for the first move is the image itself.
 abbrev pub set_for : Automaton → List ℕ → ℕ → List ℕ → List ℕ
 set_for a targets zero set = set
 set_for a targets (suc k) set = joined a (slice_index_or targets k 0) set
 
--- the first `k` of the moves to given states were tried, from a walk and pairs on; `first` is the set for the first move
+-- The state of the search while the moves of a pair on a letter are looked at: the first `k` moves to the given states have
+-- been handled, `first` is the set for the first of them, and `set` is the number of the set for the last one.
 pub record IsTrying (a : Automaton) (old w : Walk) (f g : Found) (first targets row : List ℕ) (k set : ℕ) : Type 0 where
   pub onward : IsOnward a old w
   pub found : IsFound a w (with_row g row)
@@ -122,14 +131,14 @@ pub record IsTrying (a : Automaton) (old w : Walk) (f g : Found) (first targets 
   pub row_of : IsRowOf a w g (pairs_from a first (take k targets)) row
   pub number : IsNumberOf w (tried a first (take (k - 1) targets)) set
 
--- the search has gone on
+-- The search has gone on, and `count` rows are made.
 pub record IsFurther (a : Automaton) (old w : Walk) (f g : Found) (count : ℕ) : Type 0 where
   pub onward : IsOnward a old w
   pub found : IsFound a w g
   pub stays : Stays f g
   pub moved : IsMoved a w g count
 
--- the search has come to its end: the moves of all pairs that are found were looked at, and the walk has the images of its sets
+-- The search is complete: the moves of all pairs found were looked at, and the walk has the images of all its sets.
 pub record IsWhole (a : Automaton) (w : Walk) (f : Found) (max_pairs : ℕ) : Type 0 where
   pub counting : IsCounting a w
   pub closed : IsClosed a w (length w.sets) 0
@@ -137,7 +146,7 @@ pub record IsWhole (a : Automaton) (w : Walk) (f : Found) (max_pairs : ℕ) : Ty
   pub moved : IsMoved a w f (length f.keys * width a)
   pub limit : f.limit ≡ max_pairs
 
--- a pair's number was put behind a row if the pair is live
+-- If the pair is live, its number was appended to the row; otherwise the row is unchanged.
 abbrev pub IsNoted : Automaton → Walk → Found → Pair → List ℕ → List ℕ → Type 0
 IsNoted a w f p old new =
     ((IsLive a p.set → ⊥) × (new ≡ old)) ⊎ ((k : ℕ) × IsLive a p.set × (k < length f.keys) × (pair_at w f k ≡ p) × (new ≡ old ++ k ∷ []))

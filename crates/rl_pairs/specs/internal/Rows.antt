@@ -1,15 +1,15 @@
--- For private clauses: the table of pairs that is built of what was found.
+-- For the contracts of private functions: the graph that is built from the pairs found.
 use Rattle.std.specs.Prelude.{◌≡◌, ℕ, length, map}
 use Rattle.rl_sets.specs.Walk.{Walk}
 use Rattle.rl_graph.specs.Graph.{Graph}
 use Rattle.rl_pairs.specs.internal.Finding.{Found, pair_of}
 use Rattle.rl_pairs.specs.PairTable.{PairTable}
 
--- the graph of the rows that were found, one for each pair and letter
+-- The graph of the rows found, one for each pair and letter.
 abbrev pub graph_of_rows : Found → ℕ → Graph
 graph_of_rows f letters = record { states = length f.keys; letters = letters; rows = f.rows }
 
--- the graph of the pairs that were found
+-- The graph `g` is made of the pairs found: their moves, pairs, leads and rests.
 pub record IsBuilt (w : Walk) (f : Found) (letters : ℕ) (g : PairTable) : Type 0 where
   pub graph : g.graph ≡ graph_of_rows f letters
   pub pairs : g.pairs ≡ map (pair_of w) f.keys

@@ -1,4 +1,4 @@
--- What a whole pattern is judged to be: refused, or what is left of it without its outer anchors.
+-- For private contracts: the judgement on a whole pattern. It is refused, or it is left without its outer anchors.
 use Rattle.std.specs.Prelude.{◌≡◌, ℕ, Bool, Some, None, List, [], ◌∷◌}
 use Rattle.std.specs.List.{list_any}
 use Rattle.std.specs.Str.{bytes_eq}
@@ -11,34 +11,38 @@ use Rattle.rl_pattern.specs.internal.Views.{node_of}
 use Rattle.rl_pattern.specs.Tree as t
 use Rattle.rl_pattern.specs.Found as f
 
+-- The name and position as the specification sees them.
 abbrev pub called_of : Called → f.Called
 called_of c = record { place = c.place; name = c.name }
 
+-- The pattern without outer anchors as the specification sees it.
 abbrev pub left_of : Inner → f.Inner
 left_of i = record { body = node_of i.body; leading = i.leading; trail = i.trailing }
 
--- whether a name is among these
+-- Whether the name is one of these.
 abbrev pub is_among : List ℕ → List f.Called → Bool
 is_among n cs = list_any (λ c. bytes_eq n c.name) cs
 
--- \Z where one of two has it
+-- The trailing anchor that two of them amount to: `\Z` if one of them is `\Z`.
 abbrev pub both_trails : f.Trail → f.Trail → f.Trail
 both_trails f.no_trail second = second
 both_trails first second = f.run_of first second
 
--- items without the longest run of leading anchors, and from the end, without that of trailing ones
+-- The items without their longest prefix of leading anchors.
 abbrev pub without_leading : List t.SyntaxNode → List t.SyntaxNode
 without_leading ps = f.without_run f.is_leading ps
 
+-- The items, in reverse order, without their longest prefix of trailing anchors.
 abbrev pub without_trailing : List t.SyntaxNode → List t.SyntaxNode
 without_trailing ps = f.without_run (λ p. f.drops (f.trail_of p)) ps
 
--- the trailing anchor that the first of these items is
+-- The trailing anchor that the first of these items is, if it is one.
 abbrev pub trail_at : List t.SyntaxNode → f.Trail
 trail_at [] = f.no_trail
 trail_at (p ∷ ps) = f.trail_of p
 
--- refused for its first fault; or it has none, and is without its outer anchors
+-- The judgement is right: the pattern is refused because of its first fault, or it has none and its outer anchors are
+-- removed.
 abbrev pub IsJudged : Flags → Bool → t.Whole → Judged → Type 0
 IsJudged call text p (Refused fault) = f.refused call text p ≡ Some fault
 IsJudged call text p (Left i) = (f.refused call text p ≡ None) × (left_of i ≡ f.inner p)

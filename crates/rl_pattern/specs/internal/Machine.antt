@@ -1,5 +1,6 @@
--- The reader of patterns: a machine that takes one code at a time. It is no part of what a pattern is, which the
--- grammar says; it is proved to read what the grammar spells, and the program is this machine.
+-- For private contracts: the reader of patterns, as a machine that takes one code at a time. What a pattern means doesn't
+-- depend on it, only on the grammar. It is proved that the machine reads what the grammar spells, and that the program is
+-- this machine.
 use Rattle.std.specs.Prelude.{ℕ, suc, ◌-◌, Bool, true, false, not, ◌&&◌, ◌||◌, if◌then◌else◌, List, [], ◌∷◌, ◌++◌, Option, Some, None, ◌==◌}
 use Rattle.rl_pattern.specs.declared.flags.Flags.{Flags}
 pub use Rattle.rl_pattern.specs.declared.lex.Answer.{Answer}
@@ -17,7 +18,7 @@ use Rattle.rl_pattern.specs.Tree.{span, Count, Greed, greedy, lazy, possessive, 
 use Rattle.rl_pattern.specs.Codes.{code_of, is, TokenClass, sign, left, right, bar, brace, slash, dot, bracket, times, edge, blank, sharp, plain, Numeral, numeral, low_digit, high_digit, no_digit, is_digit, hex, begins_name, goes_in_name, EscapeClass, slashed, single, kinds, hexes, naming, octal, low, high, edges, no_escape, octal_code, hex_code, is_kind, GroupPrefix, headed, letter, colon, minus, letter_p, sharps, less, greater, condition, looks, no_head, on_letter, off_letter, no_flags, with_letter, joined, inside, splits, with_digit, counts, count_of}
 use Rattle.rl_pattern.specs.Grammar.{outermost}
 
--- the code behind the backslash
+-- Reads the code after a backslash, given its class.
 abbrev pub escape_first : EscapeClass → Answer InEscape Escaped
 escape_first (single c) = ends (code c)
 escape_first (kinds k n) = ends (kind k n)
@@ -29,30 +30,36 @@ escape_first high = goes after_high
 escape_first (edges m) = stops
 escape_first no_escape = stops
 
+-- Reads a hexadecimal digit, of which `still` are missing, including this one.
 abbrev pub hex_next : ℕ → ℕ → Option ℕ → Answer InEscape Escaped
 hex_next still v None = stops
 hex_next still v (Some d) = if still == 1 then ends (hex_code (with_digit 16 v d)) else goes (in_hex (still - 1) (with_digit 16 v d))
 
+-- Reads a code after octal digits. Up to `still` digits may follow, including this one.
 abbrev pub octal_next : ℕ → ℕ → Numeral → Answer InEscape Escaped
 octal_next still v (low_digit d) = if still == 1 then ends (octal_code (with_digit 8 v d)) else goes (in_octal (still - 1) (with_digit 8 v d))
 octal_next still v high_digit = stops
 octal_next still v no_digit = stops
 
+-- Reads the code after a first digit from 1 to 7.
 abbrev pub low_next : ℕ → Numeral → Answer InEscape Escaped
 low_next v (low_digit d) = goes (after_two (with_digit 8 v d))
 low_next v high_digit = ends reference
 low_next v no_digit = stops
 
+-- Reads the code after a first digit 8 or 9.
 abbrev pub high_next : Numeral → Answer InEscape Escaped
 high_next (low_digit d) = ends reference
 high_next high_digit = ends reference
 high_next no_digit = stops
 
+-- Reads the code after two octal digits: a third one makes it an octal escape.
 abbrev pub two_next : ℕ → Numeral → Answer InEscape Escaped
 two_next v (low_digit d) = ends (octal_code (with_digit 8 v d))
 two_next v high_digit = stops
 two_next v no_digit = stops
 
+-- Reads the next code of an escape.
 abbrev pub escape_next : InEscape → ℕ → Answer InEscape Escaped
 escape_next (in_hex still v) c = hex_next still v (hex c)
 escape_next name_brace c = if is "{" c then goes name_begins else stops
@@ -63,7 +70,7 @@ escape_next (after_low v) c = low_next v (numeral c)
 escape_next after_high c = high_next (numeral c)
 escape_next (after_two v) c = two_next v (numeral c)
 
--- what an escape is where the next code doesn't go on with it
+-- What the escape is if the next code doesn't continue it, or `None` if it is incomplete.
 abbrev pub escape_rest : InEscape → Option Escaped
 escape_rest (in_hex still v) = None
 escape_rest name_brace = None
@@ -74,51 +81,58 @@ escape_rest (after_low v) = Some reference
 escape_rest after_high = Some reference
 escape_rest (after_two v) = Some reference
 
+-- Continues the class with these members, in this state.
 abbrev pub in_set : List Member → InSet → Answer Set (List Member)
 in_set ms p = goes (record { before = ms; part = p })
 
+-- The members and one more, which is a single side.
 abbrev pub with_one : List Member → ℕ → ℕ → Escaped → List Member
 with_one ms a j e = ms ++ one (span a j) e ∷ []
 
--- a code that begins a member
+-- Reads the first code of a member.
 abbrev pub side_first : ℕ → List Member → ℕ → Answer Set (List Member)
 side_first i ms c = if is "\\" c then in_set ms (set_slash i) else in_set ms (set_side i (code c))
 
+-- Reads the first code of a further member, or the end of the class.
 abbrev pub member_first : ℕ → List Member → ℕ → Answer Set (List Member)
 member_first i ms c = if is "]" c then ends ms else side_first i ms c
 
--- a code after a side
+-- Reads the code after a side of a member.
 abbrev pub side_next : ℕ → List Member → ℕ → Escaped → ℕ → Answer Set (List Member)
 side_next i ms a e c = if is "-" c then in_set ms (set_dash a i e) else member_first i (with_one ms a i e) c
 
+-- Reads the code after a backslash that begins a member, given the answer of the escape.
 abbrev pub escape_in_set : List Member → ℕ → Answer InEscape Escaped → Answer Set (List Member)
 escape_in_set ms a stops = stops
 escape_in_set ms a (goes x) = in_set ms (set_escape a x)
 escape_in_set ms a (ends e) = in_set ms (set_side a e)
 
--- the same where the escape may have ended before the code
+-- Reads a code within an escape that began a member, given the answer of the escape. The escape may have ended before the
+-- code.
 abbrev pub escape_set_next : ℕ → List Member → ℕ → Answer InEscape Escaped → Option Escaped → ℕ → Answer Set (List Member)
 escape_set_next i ms a stops None c = stops
 escape_set_next i ms a stops (Some e) c = side_next i ms a e c
 escape_set_next i ms a (goes x) o c = in_set ms (set_escape a x)
 escape_set_next i ms a (ends e) o c = in_set ms (set_side a e)
 
--- a range is whole, up to j
+-- Ends a range at position `j`. Its last side can't be a named class.
 abbrev pub range_ends : ℕ → List Member → ℕ → Escaped → Escaped → Answer Set (List Member)
 range_ends j ms a e d = if is_kind d then stops else in_set (ms ++ range (span a j) e d ∷ []) set_next
 
+-- Reads the code after a backslash that follows a `-`, given the answer of the escape.
 abbrev pub escape_in_dash : ℕ → List Member → ℕ → Escaped → Answer InEscape Escaped → Answer Set (List Member)
 escape_in_dash i ms a e stops = stops
 escape_in_dash i ms a e (goes x) = in_set ms (dash_escape a e x)
 escape_in_dash i ms a e (ends d) = range_ends (suc i) ms a e d
 
+-- Reads a code within an escape after a `-`, given the answer of the escape. The escape may have ended before the code.
 abbrev pub escape_dash_next : ℕ → List Member → ℕ → Escaped → Answer InEscape Escaped → Option Escaped → ℕ → Answer Set (List Member)
 escape_dash_next i ms a e stops None c = stops
 escape_dash_next i ms a e stops (Some d) c = if is_kind d then stops else member_first i (ms ++ range (span a i) e d ∷ []) c
 escape_dash_next i ms a e (goes x) o c = in_set ms (dash_escape a e x)
 escape_dash_next i ms a e (ends d) o c = range_ends (suc i) ms a e d
 
--- a code after a side and a - at b
+-- Reads the code after a side and a `-` at position `b`.
 abbrev pub dash_next : ℕ → List Member → ℕ → ℕ → Escaped → ℕ → Answer Set (List Member)
 dash_next i ms a b e c =
     if is "]" c then ends (with_one (with_one ms a b e) b i (code (code_of "-")))
@@ -126,7 +140,7 @@ dash_next i ms a b e c =
     else (if is "\\" c then in_set ms (dash_slash a e)
     else in_set (ms ++ range (span a (suc i)) e (code c) ∷ []) set_next))
 
--- the code at i of a class
+-- Reads the code at `i` of a class. The flag says whether the pattern is a `str`.
 abbrev pub set_step : Bool → ℕ → List Member → InSet → ℕ → Answer Set (List Member)
 set_step text i ms set_first c = side_first i ms c
 set_step text i ms set_next c = member_first i ms c
@@ -137,6 +151,7 @@ set_step text i ms (set_dash a b e) c = dash_next i ms a b e c
 set_step text i ms (dash_slash a e) c = escape_in_dash i ms a e (escape_first (slashed text true c))
 set_step text i ms (dash_escape a e x) c = escape_dash_next i ms a e (escape_next x c) (escape_rest x) c
 
+-- Reads the code after `(?`, given its class.
 abbrev pub quest_next : GroupPrefix → ℕ → Answer InHead GroupStart
 quest_next letter c = goes (letters_on (with_letter no_flags c))
 quest_next colon c = ends (begins_group (scoped no_flags no_flags))
@@ -149,6 +164,7 @@ quest_next greater c = ends (begins_group atomic)
 quest_next condition c = goes asks
 quest_next no_head c = stops
 
+-- Reads the code after `(?<`, given its class.
 abbrev pub behind_next : GroupPrefix → Answer InHead GroupStart
 behind_next looks = ends (begins_group lookaround)
 behind_next letter = stops
@@ -161,6 +177,7 @@ behind_next greater = stops
 behind_next condition = stops
 behind_next no_head = stops
 
+-- Reads the next code of a group's head. The flag says whether the pattern is a `str`.
 abbrev pub head_step : Bool → InHead → ℕ → Answer InHead GroupStart
 head_step text paren c = if is "?" c then goes quest else stops
 head_step text quest c = quest_next (headed c) c
@@ -183,8 +200,8 @@ head_step text (letters_dash f) c = if off_letter c then goes (letters_off f (wi
 head_step text (letters_off f g) c =
     if is ":" c then ends (begins_group (scoped f g)) else (if off_letter c then goes (letters_off f (with_letter g c)) else stops)
 
--- an open body: its group's kind, the places of its parenthesis and of its first code, the place where the open
--- branch begins, the branches before that, and the items of the open branch
+-- A body that is still open: the flags in it, the kind of its group, the positions of its parenthesis, of its start and of
+-- its open branch, the branches before that one, and the items of the open branch.
 pub record Frame : Type 0 where
   pub flags : Flags
   pub kind : Kind
@@ -194,23 +211,23 @@ pub record Frame : Type 0 where
   pub branches : List Branch
   pub items : List SyntaxNode
 
--- an atom that may still take a quantifier, from its place
+-- The last atom with its position, if it may still take a quantifier.
 pub data Last : Type 0 where
   nothing_yet : Last
   an_atom : ℕ → SyntaxNode → Last
 
--- what was read, apart from what the machine is in the middle of
+-- What has been read, apart from what the machine is in the middle of.
 pub record Base : Type 0 where
   pub top : Frame
   pub last : Last
   pub below : List Frame
   pub fronts : List Front
 
--- what the machine is in the middle of. The first place is that of the first code
+-- What the machine is in the middle of. The first number is the position at which it began.
 pub data Lex : Type 0 where
   between line comment : Lex
   in_braces : ℕ → List ℕ → Lex
-  -- an atom from a place, and a quantifier from another
+  -- After an atom and a quantifier. The second position is the quantifier's.
   counted : ℕ → SyntaxNode → ℕ → Count → Lex
   at_slash : ℕ → Lex
   in_escape : ℕ → InEscape → Lex
@@ -218,65 +235,71 @@ pub data Lex : Type 0 where
   set_open : ℕ → Lex
   in_class : ℕ → Bool → Set → Lex
 
+-- The state of the machine: what it has read, and what it is in the middle of.
 pub record State : Type 0 where
   pub base : Base
   pub lex : Lex
 
+-- The state with these two parts.
 abbrev pub at : Base → Lex → State
 at b x = record { base = b; lex = x }
 
--- the items with the last atom
+-- The items, including the last atom if there is one.
 abbrev pub settled : List SyntaxNode → Last → List SyntaxNode
 settled ps nothing_yet = ps
 settled ps (an_atom a p) = ps ++ p ∷ []
 
+-- Replaces the items of the open branch and the last atom.
 abbrev pub put_last : Base → List SyntaxNode → Last → Base
 put_last b ps l = record b { top = record b.top { items = ps }; last = l }
 
--- an atom from a up to here
+-- Adds an atom that began at `a`. It becomes the last atom.
 abbrev pub put : Base → ℕ → SyntaxNode → Base
 put b a p = put_last b (settled b.top.items b.last) (an_atom a p)
 
--- an item that takes no quantifier
+-- Adds an item that takes no quantifier.
 abbrev pub put_item : Base → SyntaxNode → Base
 put_item b p = put_last b (settled b.top.items b.last ++ p ∷ []) nothing_yet
 
+-- Adds a leaf from `a` up to `j`, as the last atom.
 abbrev pub put_leaf : Base → ℕ → ℕ → Leaf → Base
 put_leaf b a j x = put b a (leaf (span a j) b.top.flags x)
 
+-- Adds a literal at `i`.
 abbrev pub put_code : Base → ℕ → ℕ → Base
 put_code b i c = put_leaf b i (suc i) (glyph (code c))
 
--- codes from i on, each a literal
+-- Adds a literal for each code, beginning at `i`.
 abbrev pub put_codes : Base → ℕ → List ℕ → Base
 put_codes b i [] = b
 put_codes b i (c ∷ cs) = put_codes (put_code b i c) (suc i) cs
 
--- a brace at a and the text after it, which are no count
+-- Adds the brace at `a` and the text after it as literals, because they are no repeat count.
 abbrev pub no_count : Base → ℕ → List ℕ → Base
 no_count b a t = put_codes (put_code b a (code_of "{")) (suc a) t
 
--- the atom p from a with the quantifier from q up to j
+-- Adds the atom `p`, which began at `a`, with its quantifier from `q` up to `j`.
 abbrev pub put_repeat : Base → ℕ → SyntaxNode → ℕ → ℕ → Count → Greed → Base
 put_repeat b a p q j n g = put_item b (repeat (span a j) (span q j) n g p)
 
--- a quantifier from q for the last atom
+-- Reads a quantifier that begins at `q`. It needs a last atom.
 abbrev pub count_last : Base → ℕ → Count → Last → Option State
 count_last b q n nothing_yet = None
 count_last b q n (an_atom a p) = Some (at (record b { last = nothing_yet }) (counted a p q n))
 
--- the open branch, up to i, after those before it
+-- All branches of the open body: the earlier ones, and the open one up to position `i`.
 abbrev pub all_branches : Base → ℕ → List Branch
 all_branches b i = b.top.branches ++ branch (span b.top.from i) (settled b.top.items b.last) ∷ []
 
+-- Begins another branch at `j`, after these branches.
 abbrev pub next_branch : Base → ℕ → List Branch → Base
 next_branch b j bs = record b { top = record b.top { from = j; branches = bs; items = [] }; last = nothing_yet }
 
--- a | at i
+-- Reads a `|` at `i`.
 abbrev pub split : Base → ℕ → Option State
 split b i = if splits b.top.kind (all_branches b i) then Some (at (next_branch b (suc i) (all_branches b i)) between) else None
 
--- a group with its parenthesis at a and its body from j on
+-- Opens a group whose parenthesis is at `a` and whose body begins at `j`.
 abbrev pub open_group : Base → ℕ → ℕ → Kind → Base
 open_group b a j k =
     record b {
@@ -285,49 +308,51 @@ open_group b a j k =
       below = record b.top { items = settled b.top.items b.last } ∷ b.below;
     }
 
--- the body of the open group, up to i
+-- The body of the open group up to position `i`.
 abbrev pub body_up_to : Base → ℕ → SyntaxNode
 body_up_to b i = whole_body (span b.top.start i) (all_branches b i)
 
--- the ) at i
+-- Reads a `)` at `i`. It needs an open group.
 abbrev pub close : Base → ℕ → List Frame → Option State
 close b i [] = None
 close b i (f ∷ fs) =
     Some (at (record { top = f; last = an_atom b.top.opened (group (span b.top.opened (suc i)) b.top.kind (body_up_to b i)); below = fs; fronts = b.fronts }) between)
 
+-- Whether the list is empty.
 abbrev pub is_nil {ℓ} : {A : Type ℓ} → List A → Bool
 is_nil [] = true
 is_nil (x ∷ xs) = false
 
+-- Whether there is no last atom.
 abbrev pub is_settled : Last → Bool
 is_settled nothing_yet = true
 is_settled (an_atom a p) = false
 
--- whether a flag group from a may stand here: nothing but flag groups and what is passed over was read, and
--- nothing before the first
+-- Whether a flag group that begins at `a` is at the front of the pattern: only flag groups and ignored text were read
+-- before, and nothing before the first flag group.
 abbrev pub at_front : Base → ℕ → Bool
 at_front b a =
     is_nil b.below && (is_nil b.top.branches && (is_nil b.top.items && (is_settled b.last && (a == 0 || not (is_nil b.fronts)))))
 
--- a flag group from a up to j
+-- Reads a flag group from `a` up to `j`. It must be at the front.
 abbrev pub put_front : Base → ℕ → ℕ → Flags → Option State
 put_front b a j f =
     if at_front b a
     then Some (at (record b { top = record b.top { flags = joined b.top.flags f; start = j; from = j }; fronts = b.fronts ++ record { place = span a j; letters = f } ∷ [] }) between)
     else None
 
--- a head from a up to j
+-- Completes a group's head from `a` up to `j`, given what it begins.
 abbrev pub begin : Base → ℕ → ℕ → GroupStart → Option State
 begin b a j (begins_group k) = Some (at (open_group b a j k) between)
 begin b a j begins_comment = Some (at b comment)
 begin b a j is_reference = Some (at (put_leaf b a j (glyph reference)) between)
 begin b a j (is_front f) = put_front b a j f
 
--- a code that may be passed over
+-- Reads white space or `#`, which is ignored under VERBOSE and a literal otherwise.
 abbrev pub pass_or_put : Base → ℕ → ℕ → Lex → Option State
 pass_or_put b i c x = if b.top.flags.verbose then Some (at b x) else Some (at (put_code b i c) between)
 
--- the code at i, between items
+-- Reads the code at `i` between items, given its class.
 abbrev pub by_sign : ℕ → Base → ℕ → TokenClass → Option State
 by_sign i b c left = Some (at b (in_head i paren))
 by_sign i b c right = close b i b.below
@@ -342,32 +367,35 @@ by_sign i b c blank = pass_or_put b i c between
 by_sign i b c sharp = pass_or_put b i c line
 by_sign i b c plain = Some (at (put_code b i c) between)
 
+-- Reads the code at `i` between items.
 abbrev pub go_on : ℕ → Base → ℕ → Option State
 go_on i b c = by_sign i b c (sign c)
 
--- the } at i of a brace at a
+-- Reads the `}` at `i` of a brace at `a`, given the count that its text spells.
 abbrev pub end_braces : ℕ → Base → ℕ → List ℕ → Option Count → Option State
 end_braces i b a t None = Some (at (put_code (no_count b a t) i (code_of "}")) between)
 end_braces i b a t (Some n) = count_last b a n b.last
 
+-- Reads the code at `i` after a brace at `a` and some text.
 abbrev pub braces_step : ℕ → Base → ℕ → List ℕ → ℕ → Option State
 braces_step i b a t c =
     if is "}" c then end_braces i b a t (count_of t)
     else (if counts c then Some (at b (in_braces a (t ++ c ∷ []))) else go_on i (no_count b a t) c)
 
--- the code after the quantifier from q for the atom from a
+-- Reads the code at `i` after the atom from `a` and the quantifier from `q`.
 abbrev pub counted_step : ℕ → Base → ℕ → SyntaxNode → ℕ → Count → ℕ → Option State
 counted_step i b a p q n c =
     if is "?" c then Some (at (put_repeat b a p q (suc i) n lazy) between)
     else (if is "+" c then Some (at (put_repeat b a p q (suc i) n possessive) between)
     else go_on i (put_repeat b a p q i n greedy) c)
 
+-- Reads the code at `i` after a backslash at `a`, given the answer of the escape.
 abbrev pub escape_begins : ℕ → Base → ℕ → Answer InEscape Escaped → Option State
 escape_begins i b a stops = None
 escape_begins i b a (goes x) = Some (at b (in_escape a x))
 escape_begins i b a (ends e) = Some (at (put_leaf b a (suc i) (glyph e)) between)
 
--- the code behind a backslash at a
+-- Reads the code at `i` after a backslash at `a`, given its class.
 abbrev pub slash_step : ℕ → Base → ℕ → EscapeClass → Option State
 slash_step i b a (edges m) = Some (at (put_item b (mark (span a (suc i)) b.top.flags m)) between)
 slash_step i b a (single c) = escape_begins i b a (escape_first (single c))
@@ -379,13 +407,15 @@ slash_step i b a (low d) = escape_begins i b a (escape_first (low d))
 slash_step i b a high = escape_begins i b a (escape_first high)
 slash_step i b a no_escape = None
 
+-- Reads the code at `i` of an escape that began at `a`, given the answer of the escape, which may have ended before the
+-- code.
 abbrev pub escape_step : ℕ → Base → ℕ → Answer InEscape Escaped → Option Escaped → ℕ → Option State
 escape_step i b a stops None c = None
 escape_step i b a stops (Some e) c = go_on i (put_leaf b a i (glyph e)) c
 escape_step i b a (goes x) o c = Some (at b (in_escape a x))
 escape_step i b a (ends e) o c = Some (at (put_leaf b a (suc i) (glyph e)) between)
 
--- nothing of a head was read but its parenthesis
+-- Whether only the parenthesis of a head has been read.
 abbrev pub behind_paren : InHead → Bool
 behind_paren paren = true
 behind_paren quest = false
@@ -402,28 +432,30 @@ behind_paren (letters_on f) = false
 behind_paren (letters_dash f) = false
 behind_paren (letters_off f g) = false
 
--- a parenthesis with no question mark after it opens a group
+-- Reads a code that doesn't continue a head. If only the parenthesis was read, it opens a capturing group.
 abbrev pub head_stops : ℕ → Base → ℕ → Bool → ℕ → Option State
 head_stops i b a true c = go_on i (open_group b a i capturing) c
 head_stops i b a false c = None
 
+-- Reads the code at `i` of a head that began at `a`, given the answer of the head.
 abbrev pub head_answer : ℕ → Base → ℕ → InHead → Answer InHead GroupStart → ℕ → Option State
 head_answer i b a h stops c = head_stops i b a (behind_paren h) c
 head_answer i b a h (goes h') c = Some (at b (in_head a h'))
 head_answer i b a h (ends o) c = begin b a (suc i) o
 
+-- Reads the code at `i` of a class that began at `a`, given the answer of the class.
 abbrev pub set_answer : ℕ → Base → ℕ → Bool → Answer Set (List Member) → Option State
 set_answer i b a inverse stops = None
 set_answer i b a inverse (goes s) = Some (at b (in_class a inverse s))
 set_answer i b a inverse (ends ms) = Some (at (put_leaf b a (suc i) (members inverse ms)) between)
 
--- the code behind a bracket at a
+-- Reads the code at `i` after a bracket at `a`.
 abbrev pub set_opens : Bool → ℕ → Base → ℕ → ℕ → Option State
 set_opens text i b a c =
     if is "^" c then Some (at b (in_class a true (record { before = []; part = set_first })))
     else set_answer i b a false (set_step text i [] set_first c)
 
--- the code at i, in text or not
+-- Reads the code at `i`. The flag says whether the pattern is a `str`.
 abbrev pub step : Bool → ℕ → Base → Lex → ℕ → Option State
 step text i b between c = go_on i b c
 step text i b line c = if is "\n" c then Some (at b between) else Some (at b line)
@@ -436,37 +468,43 @@ step text i b (in_head a h) c = head_answer i b a h (head_step text h c) c
 step text i b (set_open a) c = set_opens text i b a c
 step text i b (in_class a inverse s) c = set_answer i b a inverse (set_step text i s.before s.part c)
 
+-- Reads the code at `i` in this state.
 abbrev pub step_at : Bool → ℕ → State → ℕ → Option State
 step_at text i s c = step text i s.base s.lex c
 
--- the machine reads codes from i on
+-- The state after reading these codes, of which the first is at `i`, or `None` if the machine can't continue.
 abbrev pub run : Bool → ℕ → Option State → List ℕ → Option State
 run text i None cs = None
 run text i (Some s) [] = Some s
 run text i (Some s) (c ∷ cs) = run text (suc i) (step_at text i s c) cs
 
+-- Applies the function to the value, if there is one.
 abbrev pub and_then : {A B : Type 0} → Option A → (A → Option B) → Option B
 and_then None f = None
 and_then (Some a) f = f a
 
--- reads codes from i on, and asks at the end
+-- The answer to `ask` after reading these codes, of which the first is at `i`. It gets the position and the state at their
+-- end.
 abbrev pub observe : {X : Type 0} → Bool → (ℕ → State → Option X) → ℕ → Option State → List ℕ → Option X
 observe text ask i None cs = None
 observe text ask i (Some s) [] = ask i s
 observe text ask i (Some s) (c ∷ cs) = observe text ask (suc i) (step_at text i s c) cs
 
--- the whole pattern where the codes end at k between items
+-- The whole pattern if it ends at `k` between items, or `None` if a group is open.
 abbrev pub finish_below : ℕ → Base → List Frame → Option Whole
 finish_below k b [] = Some (record { fronts = b.fronts; place = span b.top.start k; body = body_up_to b k })
 finish_below k b (f ∷ fs) = None
 
+-- The whole pattern if it ends at `k` between items.
 abbrev pub finish : ℕ → Base → Option Whole
 finish k b = finish_below k b b.below
 
+-- The whole pattern if it ends at `k` within an escape that began at `a`.
 abbrev pub finish_escape : ℕ → Base → ℕ → Option Escaped → Option Whole
 finish_escape k b a None = None
 finish_escape k b a (Some e) = finish k (put_leaf b a k (glyph e))
 
+-- The whole pattern if it ends at `k` in the middle of this construct, or `None` if it can't end there.
 abbrev pub finish_lex : ℕ → Base → Lex → Option Whole
 finish_lex k b between = finish k b
 finish_lex k b line = finish k b
@@ -479,14 +517,15 @@ finish_lex k b (in_head a h) = None
 finish_lex k b (set_open a) = None
 finish_lex k b (in_class a inverse s) = None
 
+-- The whole pattern if it ends at `k` in this state.
 abbrev pub finish_at : ℕ → State → Option Whole
 finish_at k s = finish_lex k s.base s.lex
 
--- the machine before the first code
+-- The state before the first code.
 abbrev pub start : Flags → State
 start call =
     at (record { top = record { flags = call; kind = outermost; opened = 0; start = 0; from = 0; branches = []; items = [] }; last = nothing_yet; below = []; fronts = [] }) between
 
--- what the machine reads of the codes
+-- The whole pattern that the machine reads from the codes, or `None` if they aren't a pattern.
 abbrev pub reads : Flags → Bool → List ℕ → Option Whole
 reads call text w = observe text finish_at 0 (Some (start call)) w

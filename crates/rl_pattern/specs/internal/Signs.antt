@@ -1,4 +1,4 @@
--- For private clauses: the signs and heads that codes begin with.
+-- For private contracts: the characters that belong to the classes of `Codes.antt`.
 use Rattle.std.specs.Prelude.{◌≡◌, ℕ, true, nat_le, if◌then◌else◌}
 use Rattle.rl_pattern.specs.declared.lex.TokenClass.{TokenClass}
 use Rattle.rl_pattern.specs.declared.lex.TokenClass.TheVariants.{Left as left, Right as right, Bar as bar, Brace as brace, Slash as slash, Dot as dot, Bracket as bracket, Times as times, Edge as edge, Blank as blank, Sharp as sharp, Plain as plain}
@@ -7,7 +7,7 @@ use Rattle.rl_pattern.specs.declared.lex.GroupPrefix.TheVariants.{Letter as lett
 use Rattle.rl_pattern.specs.Tree.{Escaped, code, too_large}
 use Rattle.rl_pattern.specs.Codes.{code_of, on_letter}
 
--- the single code that a sign names
+-- The code is the single character that the class represents. Classes of several characters say nothing.
 abbrev pub SignIs : TokenClass → ℕ → Type 0
 SignIs left c = c ≡ code_of "("
 SignIs right c = c ≡ code_of ")"
@@ -22,7 +22,7 @@ SignIs (edge m) c = Unit {0}
 SignIs blank c = Unit {0}
 SignIs plain c = Unit {0}
 
--- the single code that a sign behind (? names
+-- The code is a character that this class after `(?` represents. `looks` and `no_head` say nothing.
 abbrev pub HeadIs : GroupPrefix → ℕ → Type 0
 HeadIs letter c = on_letter c ≡ true
 HeadIs colon c = c ≡ code_of ":"
@@ -35,6 +35,6 @@ HeadIs condition c = c ≡ code_of "("
 HeadIs looks c = Unit {0}
 HeadIs no_head c = Unit {0}
 
--- what a number is as a code that is at most the greatest
+-- The number as a code, or `too_large` if it is greater than `greatest`.
 abbrev pub code_up_to : ℕ → ℕ → Escaped
 code_up_to greatest n = if nat_le n greatest then code n else too_large

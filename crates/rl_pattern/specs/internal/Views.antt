@@ -1,4 +1,4 @@
--- What the program's values are to the grammar and the machine.
+-- For private contracts: how the grammar and the machine see the program's values.
 use Rattle.std.specs.Prelude.{◌≡◌, ℕ, suc, ◌+◌, List, map, reverse, length, Option, Some, None, if◌then◌else◌, ◌-◌}
 use Rattle.rl_pattern.specs.declared.tree.SyntaxNode.{SyntaxNode}
 use Rattle.rl_pattern.specs.declared.tree.SyntaxNode.TheOpen as Open
@@ -18,7 +18,7 @@ use Rattle.rl_pattern.specs.Codes.{code_of, is, with_digit, least_of, upper_of, 
 use Rattle.rl_pattern.specs.Tree as t
 use Rattle.rl_pattern.specs.internal.Machine as m
 
--- one layer of a node, and a branch
+-- The node of the program's value, given the nodes of its parts.
 abbrev pub node_layer : Open.SyntaxNode-F t.SyntaxNode t.Branch → t.SyntaxNode
 node_layer (Open.SyntaxNode-F.Leaf s f x) = t.leaf s f x
 node_layer (Open.SyntaxNode-F.Assertion s f k) = t.mark s f k
@@ -28,29 +28,37 @@ node_layer (Open.SyntaxNode-F.Nothing s) = t.nothing s
 node_layer (Open.SyntaxNode-F.Seq s ps) = t.seq s (t.nodes ps)
 node_layer (Open.SyntaxNode-F.Choice s bs) = t.choice s (t.branches bs)
 
+-- The branch of the program's value, given its body.
 abbrev pub branch_layer : Open.Branch-F t.SyntaxNode t.Branch → t.Branch
 branch_layer b = record { place = b.place; body = b.body }
 
+-- The node that contracts see in place of the program's value.
 abbrev pub node_of : SyntaxNode → t.SyntaxNode
 node_of = fold-SyntaxNode t.SyntaxNode t.Branch node_layer branch_layer
 
+-- The branch that contracts see in place of the program's value.
 abbrev pub branch_of : Branch → t.Branch
 branch_of = fold-Branch t.SyntaxNode t.Branch node_layer branch_layer
 
+-- The whole pattern that contracts see in place of the program's value.
 abbrev pub whole_of : Whole → t.Whole
 whole_of p = record { fronts = p.fronts; place = p.place; body = node_of p.body }
 
+-- The open body that contracts see in place of the program's value.
 abbrev pub frame_of : Frame → m.Frame
 frame_of f = record { flags = f.flags; kind = f.kind; opened = f.opened; start = f.start; from = f.from; branches = map branch_of f.branches; items = map node_of f.items }
 
+-- The last atom that contracts see in place of the program's value.
 abbrev pub last_of : Last → m.Last
 last_of NothingYet = m.nothing_yet
 last_of (AnAtom a p) = m.an_atom a (node_of p)
 
--- the program keeps the innermost frame below at the end
+-- What has been read, as contracts see it. The program keeps the innermost of the other open bodies last, the machine
+-- first.
 abbrev pub base_of : Base → m.Base
 base_of b = record { top = frame_of b.top; last = last_of b.last; below = map frame_of (reverse b.below.items); fronts = b.fronts }
 
+-- What the reader is in the middle of, as contracts see it.
 abbrev pub lex_of : Lex → m.Lex
 lex_of Between = m.between
 lex_of Line = m.line
@@ -63,15 +71,16 @@ lex_of (InHead a h) = m.in_head a h
 lex_of (SetOpen a) = m.set_open a
 lex_of (InClass a v s) = m.in_class a v s
 
+-- The state of the reader, as contracts see it.
 abbrev pub state_of : State → m.State
 state_of s = record { base = base_of s.base; lex = lex_of s.lex }
 
--- the machine's state, where it goes on: what was read, and what the program is in the middle of then
+-- The machine's next state, if it can continue: what was read, and what the program is in the middle of then.
 abbrev pub state_with : m.Base → Option Lex → Option m.State
 state_with b None = None
 state_with b (Some x) = Some (m.at b (lex_of x))
 
--- the text of a brace goes up to here
+-- If the reader is after a brace, the text of the brace ends at position `i`.
 abbrev pub FitsAt : m.Lex → ℕ → Type 0
 FitsAt (m.in_braces a t) i = i ≡ suc a + length t
 FitsAt m.between i = Unit {0}
@@ -84,13 +93,13 @@ FitsAt (m.in_head a h) i = Unit {0}
 FitsAt (m.set_open a) i = Unit {0}
 FitsAt (m.in_class a v s) i = Unit {0}
 
--- the count that the rest of the text makes of a part
+-- The count that results if the part is followed by the given codes.
 abbrev pub part_rest : CountPart → List ℕ → Option t.Count
 part_rest (Least m) cs = least_of m cs
 part_rest (Upper m) cs = upper_of m cs
 part_rest (Most m n) cs = most_of m n cs
 
--- a part with one code more
+-- The part of a count with one more code, or `None` if the code can't continue it.
 abbrev pub part_next : CountPart → ℕ → Option CountPart
 part_next (Least m) c = if is "," c then Some (Upper m) else Some (Least (with_digit 10 m (c - code_of "0")))
 part_next (Upper m) c = if is "," c then None else Some (Most m (with_digit 10 0 (c - code_of "0")))

@@ -1,9 +1,10 @@
--- Errors of lists as errors of automata.
+-- For the contracts of private functions: errors of lists, translated into errors of automata.
 use Rattle.rl_prio.specs.declared.build.attempts.ListError.{ListError}
 use Rattle.rl_prio.specs.declared.build.attempts.ListError.TheVariants.{TooLong, OutOfMemory}
 use Rattle.rl_prio.specs.declared.error.PrioError.{PrioError}
 use Rattle.rl_prio.specs.declared.error.PrioError.TheVariants.{Moves, OutOfMemory as NoMemory}
 
+-- The error of the automaton for an error of its lists.
 abbrev pub list_error : ListError → PrioError
 list_error TooLong = Moves
 list_error OutOfMemory = NoMemory

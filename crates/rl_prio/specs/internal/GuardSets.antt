@@ -1,5 +1,6 @@
--- Sets of guards, as a flag for each guard. A place of a text shows whether there is a code, whether it is a line feed, and
--- whether it is one of words. From what the two sides of a place show follows which guards hold there.
+-- For the contracts of private functions: sets of guards, as a flag for each guard. Each side of a position in a text shows
+-- whether there is a code, whether it is a line feed, and whether it is a word character. What the two sides show determines
+-- the guards that hold at the position.
 use Rattle.std.specs.Prelude.{ℕ, Bool, true, false, not, ◌||◌, ◌&&◌, ◌==◌, List, [], ◌∷◌, Option, None, Some}
 use Rattle.std.proofs.Math.Bool.{beq}
 use Rattle.rl_syntax.specs.declared.anchors.Guard.{Guard}
@@ -8,6 +9,7 @@ use Rattle.rl_syntax.specs.Guards.{is_word}
 use Rattle.rl_prio.specs.declared.build.guards.Guards.{Guards}
 use Rattle.rl_prio.specs.declared.build.guards.Shown.{Shown}
 
+-- The empty set of guards.
 unfoldable pub no_guards : Guards
 no_guards = record {
   start = false;
@@ -20,6 +22,7 @@ no_guards = record {
   not_ascii_word = false;
 }
 
+-- The set that holds only the guard.
 unfoldable pub only : Guard → Guards
 only Start = record no_guards { start = true }
 only LineStart = record no_guards { line_start = true }
@@ -30,7 +33,7 @@ only (Word true) = record no_guards { ascii_word = true }
 only (NotWord false) = record no_guards { not_word = true }
 only (NotWord true) = record no_guards { not_ascii_word = true }
 
--- the guards of both
+-- The union of the two sets.
 unfoldable pub joined : Guards → Guards → Guards
 joined a b = record {
   start = a.start || b.start;
@@ -43,23 +46,23 @@ joined a b = record {
   not_ascii_word = a.not_ascii_word || b.not_ascii_word;
 }
 
--- the guards of a list
+-- The guards of a list, as a set.
 abbrev pub guard_set : List Guard → Guards
 guard_set [] = no_guards
 guard_set (g ∷ gs) = joined (only g) (guard_set gs)
 
--- whether each guard is one of those that hold
+-- Whether every guard of the set `a` is among the guards that hold.
 unfoldable pub met : Guards → Guards → Bool
 met a holding =
     (not a.start || holding.start) && (not a.line_start || holding.line_start) && (not a.line_end || holding.line_end) && (not a.text_end || holding.text_end)
     && (not a.word || holding.word) && (not a.ascii_word || holding.ascii_word) && (not a.not_word || holding.not_word) && (not a.not_ascii_word || holding.not_ascii_word)
 
--- what a code shows, or that there is none
+-- What a code shows, or what is shown if there is no code.
 unfoldable pub shown : Option ℕ → Shown
 shown None = record { is_code = false; line_feed = false; word = false; ascii_word = false }
 shown (Some code) = record { is_code = true; line_feed = code == 10; word = is_word false code; ascii_word = is_word true code }
 
--- the guards that hold between what is shown before and what is shown next
+-- The guards that hold between what is shown before a position and what is shown next.
 unfoldable pub holding : Shown → Shown → Guards
 holding before next = record {
   start = not before.is_code;

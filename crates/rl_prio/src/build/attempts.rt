@@ -9,9 +9,9 @@ use rl_lists::{Items, OutOfMemory};
 use rl_syntax::MOST_MOVES;
 use std::alloc::{AllocFailed, Global};
 
-/// Why there is no list.
+/// The reason why a list isn't made.
 pub(crate) enum ListError {
-    /// It would have more than [`MOST_MOVES`] items.
+    /// The list would have more than [`MOST_MOVES`] items.
     TooLong,
     /// Out of memory.
     OutOfMemory,
@@ -39,12 +39,12 @@ impl<T: Drop> From<AllocFailed<T>> for ListError {
     }
 }
 
-/// What is tried: after guards the test of a place, or the end.
+/// What a matcher tries if its guards hold: the test of a place, or the end of the tree.
 #[derive(Clone, Copy)]
 pub(crate) enum Attempt {
-    /// The test of a place.
+    /// The guards, and the place to be tested.
     Test(Guards, usize),
-    /// The end.
+    /// The guards before the end of the tree.
     End(Guards),
 }
 
@@ -52,7 +52,7 @@ pub(crate) enum Attempt {
 pub(crate) type AttemptList = Items<Attempt>;
 
 impl Attempt {
-    /// The guards of the attempt.
+    /// Returns the guards of the attempt.
     pub(crate) fn guards(self) -> Guards
         ensures { result ≡ guards_of self }
     {
@@ -62,7 +62,7 @@ impl Attempt {
         }
     }
 
-    /// Whether the attempt has no guard.
+    /// Whether the attempt has no guards.
     fn is_unguarded(self) -> bool
         ensures { result ≡ is_unguarded self }
     {
@@ -76,7 +76,7 @@ impl Attempt {
         matches!(self, Attempt::Test(_, _))
     }
 
-    /// The attempt with more guards in front.
+    /// Returns the attempt with more guards in front.
     pub(crate) fn behind(self, guards: Guards) -> Attempt
         ensures { result ≡ behind guards self }
     {
@@ -94,14 +94,14 @@ pub(crate) fn are_unguarded(attempts: &[Attempt]) -> bool
     attempts.iter().all(|attempt| attempt.is_unguarded())
 }
 
-/// Whether each attempt is the test of a place.
+/// Whether every attempt is the test of a place.
 fn are_tests(attempts: &[Attempt]) -> bool
     ensures { result ≡ list_all is_test attempts.now }
 {
     attempts.iter().all(|attempt| attempt.is_test())
 }
 
-/// Whether the list stays as it is where each end is replaced: it isn't too long, and has no end.
+/// Whether replacing the ends leaves the list as it is: it is short enough and has no end.
 fn stays(attempts: &[Attempt]) -> bool
     ensures same { result ≡ true → (further : List Attempt) → ends_replaced attempts.now further ≡ attempts.now }
     ensures short { result ≡ true → length attempts.now ≤ MOST_MOVES }
@@ -109,10 +109,10 @@ fn stays(attempts: &[Attempt]) -> bool
     attempts.len() <= MOST_MOVES && are_tests(attempts)
 }
 
-/// The empty list, with room for so many attempts, but for no more than [`MOST_MOVES`].
+/// Creates an empty list with capacity for `count` attempts, but for at most [`MOST_MOVES`].
 ///
 /// # Errors
-/// [`OutOfMemory`] where there was no memory for it.
+/// [`OutOfMemory`] if there is not enough memory for it.
 fn with_room(alloc: Global, count: usize) -> Result<AttemptList, OutOfMemory>
     ensures { IfOk result (λ l. l ≡ []) }
 {
@@ -120,10 +120,10 @@ fn with_room(alloc: Global, count: usize) -> Result<AttemptList, OutOfMemory>
     Ok(Items::from_vec(list))
 }
 
-/// The list of one attempt.
+/// Creates a list of one attempt.
 ///
 /// # Errors
-/// [`ListError::OutOfMemory`] where there was no memory for it.
+/// [`ListError::OutOfMemory`] if there is not enough memory for it.
 pub(crate) fn single(alloc: Global, attempt: Attempt) -> Result<AttemptList, ListError>
     ensures list { IfOk result (λ l. l ≡ attempt ∷ []) }
     ensures memory { IfErr result (λ e. e ≡ ListError.OutOfMemory) }
@@ -135,7 +135,8 @@ pub(crate) fn single(alloc: Global, attempt: Attempt) -> Result<AttemptList, Lis
 /// Appends an attempt.
 ///
 /// # Errors
-/// [`ListError::TooLong`] exactly where the list is full, [`ListError::OutOfMemory`] where there was no memory for it.
+/// [`ListError::TooLong`] if the list already has [`MOST_MOVES`] attempts; [`ListError::OutOfMemory`] if there is not enough
+/// memory for another one.
 fn put(list: &mut AttemptList, attempt: Attempt) -> Result<(), ListError>
     ensures put { OnOk result (list.new ≡ list.old ++ attempt ∷ []) }
     ensures short { OnOk result (length list.new ≤ MOST_MOVES) }
@@ -148,11 +149,11 @@ fn put(list: &mut AttemptList, attempt: Attempt) -> Result<(), ListError>
     Ok(())
 }
 
-/// Appends further attempts, each with the guards in front.
+/// Appends the attempts in `further`, each with `guards` in front.
 ///
 /// # Errors
-/// [`ListError::TooLong`] exactly where there would be more than [`MOST_MOVES`], [`ListError::OutOfMemory`] where there was
-/// no memory for them.
+/// [`ListError::TooLong`] if there would be more than [`MOST_MOVES`] attempts; [`ListError::OutOfMemory`] if there is not
+/// enough memory for them.
 pub(crate) fn put_behind(
     list: &mut AttemptList,
     guards: Guards,
@@ -169,11 +170,11 @@ pub(crate) fn put_behind(
     Ok(())
 }
 
-/// Appends an attempt, an end replaced by further attempts.
+/// Appends an attempt. If it is an end, it is replaced by the attempts in `further`.
 ///
 /// # Errors
-/// [`ListError::TooLong`] exactly where there would be more than [`MOST_MOVES`], [`ListError::OutOfMemory`] where there was
-/// no memory for them.
+/// [`ListError::TooLong`] if there would be more than [`MOST_MOVES`] attempts; [`ListError::OutOfMemory`] if there is not
+/// enough memory for them.
 fn put_onward(
     list: &mut AttemptList,
     attempt: Attempt,
@@ -190,11 +191,11 @@ fn put_onward(
     }
 }
 
-/// The attempts with each end replaced by further ones.
+/// Returns the attempts with each end replaced by the attempts in `further`.
 ///
 /// # Errors
-/// [`ListError::TooLong`] exactly where there would be more than [`MOST_MOVES`], [`ListError::OutOfMemory`] where there was
-/// no memory for them.
+/// [`ListError::TooLong`] if there would be more than [`MOST_MOVES`] attempts; [`ListError::OutOfMemory`] if there is not
+/// enough memory for them.
 pub(crate) fn with_ends_replaced(
     alloc: Global,
     attempts: &[Attempt],
@@ -212,11 +213,11 @@ pub(crate) fn with_ends_replaced(
     Ok(list)
 }
 
-/// Replaces each end in the list of a place. A list without an end isn't made again.
+/// Replaces each end in the list of a place. A list without an end isn't rebuilt.
 ///
 /// # Errors
-/// [`ListError::TooLong`] only where the list would have more than [`MOST_MOVES`] attempts, [`ListError::OutOfMemory`] where
-/// there was no memory for it.
+/// [`ListError::TooLong`] only if the list would have more than [`MOST_MOVES`] attempts; [`ListError::OutOfMemory`] if there
+/// is not enough memory for it.
 fn replace_ends_of(
     alloc: Global,
     lists: &mut Vec<AttemptList>,
@@ -237,11 +238,11 @@ fn replace_ends_of(
     Ok(())
 }
 
-/// Replaces each end in the lists from one place to another.
+/// Replaces each end in the lists from `from` up to, but not including, `to`.
 ///
 /// # Errors
-/// [`ListError::TooLong`] only where a list would have more than [`MOST_MOVES`] attempts, [`ListError::OutOfMemory`] where
-/// there was no memory for them.
+/// [`ListError::TooLong`] only if a list would have more than [`MOST_MOVES`] attempts; [`ListError::OutOfMemory`] if there is
+/// not enough memory for them.
 pub(crate) fn replace_ends(
     alloc: Global,
     lists: &mut Vec<AttemptList>,

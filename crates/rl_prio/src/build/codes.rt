@@ -1,4 +1,4 @@
-//! What the codes that stand for letters show.
+//! What the representative codes of the letters show.
 
 ghost use Rattle.std.specs.Prelude.{◌≡◌, ℕ, ◌<◌, ◌++◌, ◌∷◌, [], true, false, None, Some, All, map, OnOk, IfOk};
 ghost use Rattle.rl_ranges.specs.Codes.{has};
@@ -13,10 +13,10 @@ use rl_ranges::{CodeSet, Letters};
 use rl_syntax::Re;
 use std::alloc::Global;
 
-/// The codes that stand for the letters, in order.
+/// Returns the representative code of each letter, in order.
 ///
 /// # Errors
-/// [`OutOfMemory`] where there was no memory for them.
+/// [`OutOfMemory`] if there is not enough memory for them.
 pub(crate) fn samples(alloc: Global, letters: &Letters) -> Result<Vec<u32>, OutOfMemory>
     ensures { IfOk result (λ codes. codes.items ≡ letters.now.samples) }
 {
@@ -27,10 +27,10 @@ pub(crate) fn samples(alloc: Global, letters: &Letters) -> Result<Vec<u32>, OutO
     Ok(codes)
 }
 
-/// The kind of each code.
+/// Returns the kind of each code.
 ///
 /// # Errors
-/// [`OutOfMemory`] where there was no memory for them.
+/// [`OutOfMemory`] if there is not enough memory for them.
 pub(crate) fn kinds_of(
     alloc: Global,
     kinds: &Letters,
@@ -46,10 +46,10 @@ pub(crate) fn kinds_of(
     Ok(list)
 }
 
-/// Whether the set holds each code.
+/// Returns, for each code, whether the set holds it.
 ///
 /// # Errors
-/// [`OutOfMemory`] where there was no memory for the answers.
+/// [`OutOfMemory`] if there is not enough memory for the answers.
 fn members_of(alloc: Global, set: &CodeSet, codes: &[u32]) -> Result<Items<bool>, OutOfMemory>
     ensures { IfOk result (λ list. list ≡ map (has set.now) codes.now) }
 {
@@ -63,7 +63,7 @@ fn members_of(alloc: Global, set: &CodeSet, codes: &[u32]) -> Result<Items<bool>
 /// Appends a list.
 ///
 /// # Errors
-/// [`OutOfMemory`] where there was no memory for it.
+/// [`OutOfMemory`] if there is not enough memory for it.
 fn put(lists: &mut Vec<Items<bool>>, list: Items<bool>) -> Result<(), OutOfMemory>
     ensures { OnOk result (lists.new.items ≡ lists.old.items ++ list ∷ []) }
 {
@@ -71,10 +71,10 @@ fn put(lists: &mut Vec<Items<bool>>, list: Items<bool>) -> Result<(), OutOfMemor
     Ok(())
 }
 
-/// Adds for each set of a tree, from left to right, whether it holds each code.
+/// Adds, for each set of a tree from left to right, whether it holds each code.
 ///
 /// # Errors
-/// [`OutOfMemory`] where there was no memory for the answers.
+/// [`OutOfMemory`] if there is not enough memory for the answers.
 pub(crate) fn add_members(
     alloc: Global,
     tree: &Re,
@@ -95,10 +95,10 @@ pub(crate) fn add_members(
     }
 }
 
-/// Adds what each code shows.
+/// Appends what each code shows.
 ///
 /// # Errors
-/// [`OutOfMemory`] where there was no memory for it.
+/// [`OutOfMemory`] if there is not enough memory for it.
 fn add_shown(words: &Words, codes: &[u32], list: &mut Vec<Shown>) -> Result<(), OutOfMemory>
     requires all { (c : ℕ) → has words.now.all c ≡ is_word false c }
     requires ascii { (c : ℕ) → has words.now.ascii c ≡ is_word true c }
@@ -111,10 +111,10 @@ fn add_shown(words: &Words, codes: &[u32], list: &mut Vec<Shown>) -> Result<(), 
     Ok(())
 }
 
-/// What is shown before the start, and by each code.
+/// Returns what is shown before the start, and by each code.
 ///
 /// # Errors
-/// [`OutOfMemory`] where there was no memory for it.
+/// [`OutOfMemory`] if there is not enough memory for it.
 fn shown_before(alloc: Global, words: &Words, codes: &[u32]) -> Result<Vec<Shown>, OutOfMemory>
     requires all { (c : ℕ) → has words.now.all c ≡ is_word false c }
     requires ascii { (c : ℕ) → has words.now.ascii c ≡ is_word true c }
@@ -127,10 +127,10 @@ fn shown_before(alloc: Global, words: &Words, codes: &[u32]) -> Result<Vec<Shown
     Ok(list)
 }
 
-/// What is shown by each code, and by the end letter.
+/// Returns what is shown by each code, and by the end letter.
 ///
 /// # Errors
-/// [`OutOfMemory`] where there was no memory for it.
+/// [`OutOfMemory`] if there is not enough memory for it.
 fn shown_next(alloc: Global, words: &Words, codes: &[u32]) -> Result<Vec<Shown>, OutOfMemory>
     requires all { (c : ℕ) → has words.now.all c ≡ is_word false c }
     requires ascii { (c : ℕ) → has words.now.ascii c ≡ is_word true c }
@@ -143,10 +143,10 @@ fn shown_next(alloc: Global, words: &Words, codes: &[u32]) -> Result<Vec<Shown>,
     Ok(list)
 }
 
-/// What is shown before the start and by each kind, and what is shown by each code and by the end letter.
+/// Returns what is shown before the start and by each kind, and what is shown by each code and by the end letter.
 ///
 /// # Errors
-/// [`OutOfMemory`] where there was no memory for it.
+/// [`OutOfMemory`] if there is not enough memory for it.
 pub(crate) fn shown_around(
     alloc: Global,
     kinds: &Letters,

@@ -1,4 +1,4 @@
-//! Sets of guards, and which guards hold at a place of a text.
+//! Sets of guards, and the guards that hold at a position of a text.
 
 ghost use Rattle.std.specs.Prelude.{◌≡◌, ℕ, true, false, None, Some, IfOk};
 ghost use Rattle.rl_syntax.specs.Guards.{is_word};
@@ -10,7 +10,7 @@ use rl_ranges::{CodeSet, Named, Universe};
 use rl_syntax::Guard;
 use std::alloc::Global;
 
-/// A set of guards, with a flag for each guard.
+/// A set of guards, as a flag for each guard.
 #[derive(Clone, Copy)]
 pub(crate) struct Guards {
     start: bool,
@@ -23,7 +23,8 @@ pub(crate) struct Guards {
     not_ascii_word: bool,
 }
 
-/// What one side of a place of a text shows of its code, if there is one.
+/// What is known of the code on one side of a position in a text: whether there is one, whether it is a line feed, and
+/// whether it is a word character.
 #[derive(Clone, Copy)]
 pub(crate) struct Shown {
     is_code: bool,
@@ -32,7 +33,7 @@ pub(crate) struct Shown {
     ascii_word: bool,
 }
 
-/// The codes of words.
+/// The word characters: all of them, and the ASCII ones.
 #[derive(Drop)]
 pub(crate) struct Words {
     all: CodeSet,
@@ -40,7 +41,7 @@ pub(crate) struct Words {
 }
 
 impl Guards {
-    /// No guard.
+    /// Returns the empty set of guards.
     #[tactic(auto, unfolding(crate::specs::internal::GuardSets::no_guards))]
     pub(crate) fn none() -> Guards
         ensures { result ≡ no_guards }
@@ -57,7 +58,7 @@ impl Guards {
         }
     }
 
-    /// The guard alone.
+    /// Returns the set that holds only `guard`.
     #[tactic(auto, unfolding(crate::specs::internal::GuardSets::only))]
     pub(crate) fn only(guard: Guard) -> Guards
         ensures { result ≡ only guard }
@@ -76,7 +77,7 @@ impl Guards {
         guards
     }
 
-    /// The guards of both sets.
+    /// Returns the union of the two sets.
     #[tactic(auto, unfolding(crate::specs::internal::GuardSets::joined))]
     pub(crate) fn join(self, other: Guards) -> Guards
         ensures { result ≡ joined self other }
@@ -93,7 +94,7 @@ impl Guards {
         }
     }
 
-    /// Whether each guard is one of those that hold.
+    /// Whether every guard of the set is among the guards in `holding`.
     #[tactic(auto, unfolding(crate::specs::internal::GuardSets::met))]
     pub(crate) fn are_met(self, holding: Guards) -> bool
         ensures { result ≡ met self holding }
@@ -108,7 +109,7 @@ impl Guards {
             && (!self.not_ascii_word || holding.not_ascii_word)
     }
 
-    /// The guards that hold between what is shown before and what is shown next.
+    /// Returns the guards that hold between the code before a position and the next code.
     #[tactic(auto, unfolding(crate::specs::internal::GuardSets::holding))]
     pub(crate) fn holding(before: Shown, next: Shown) -> Guards
         ensures { result ≡ holding before next }
@@ -129,7 +130,7 @@ impl Guards {
 }
 
 impl Shown {
-    /// What is shown where there is no code.
+    /// Returns what is shown if there is no code.
     #[tactic(auto, unfolding(crate::specs::internal::GuardSets::shown))]
     pub(crate) fn nothing() -> Shown
         ensures { result ≡ shown None }
@@ -144,10 +145,10 @@ impl Shown {
 }
 
 impl Words {
-    /// The codes of words.
+    /// Computes the sets of word characters.
     ///
     /// # Errors
-    /// [`OutOfMemory`] where there was no memory for them.
+    /// [`OutOfMemory`] if there is not enough memory for them.
     #[tactic(auto, unfolding(rl_syntax::specs::Guards::is_word))]
     pub(crate) fn new(alloc: Global) -> Result<Words, OutOfMemory>
         ensures all { IfOk result (λ words. (c : ℕ) → has words.all c ≡ is_word false c) }
@@ -158,7 +159,7 @@ impl Words {
         Ok(Words { all, ascii })
     }
 
-    /// What a code shows.
+    /// Returns what a code shows.
     #[tactic(auto, unfolding(crate::specs::internal::GuardSets::shown))]
     pub(crate) fn shown(&self, code: u32) -> Shown
         requires all { (c : ℕ) → has self.now.all c ≡ is_word false c }

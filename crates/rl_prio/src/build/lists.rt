@@ -14,10 +14,10 @@ use crate::build::guards::Guards;
 use rl_syntax::Re;
 use std::alloc::Global;
 
-/// Adds the list of a place that is a tree of its own, and gives that of entering it.
+/// Handles a tree that is a single set: adds the list of its place, and returns the list of entering it.
 ///
 /// # Errors
-/// [`ListError::OutOfMemory`] where there was no memory for them.
+/// [`ListError::OutOfMemory`] if there is not enough memory for them.
 fn enter_place(alloc: Global, lists: &mut Vec<AttemptList>) -> Result<AttemptList, ListError>
     ensures list { IfOk result (λ l. l ≡ Attempt.Test no_guards (length lists.old.items) ∷ []) }
     ensures lists { OnOk result
@@ -30,11 +30,11 @@ fn enter_place(alloc: Global, lists: &mut Vec<AttemptList>) -> Result<AttemptLis
     single(alloc, Attempt::Test(Guards::none(), place))
 }
 
-/// The attempts of the one list and then those of the other.
+/// Appends the attempts of the second alternative to the attempts of the first one.
 ///
 /// # Errors
-/// [`ListError::TooLong`] exactly where there would be more than [`MOST_MOVES`], [`ListError::OutOfMemory`] where there was
-/// no memory for them.
+/// [`ListError::TooLong`] if there would be more than [`MOST_MOVES`] attempts; [`ListError::OutOfMemory`] if there is not
+/// enough memory for them.
 fn alternatives(list: AttemptList, others: &[Attempt]) -> Result<AttemptList, ListError>
     ensures ok { IfOk result (λ l. l ≡ list ++ others.now) }
     ensures short { IfOk result (λ l. length list ≤ MOST_MOVES → length l ≤ MOST_MOVES) }
@@ -46,11 +46,11 @@ fn alternatives(list: AttemptList, others: &[Attempt]) -> Result<AttemptList, Li
     Ok(all)
 }
 
-/// The attempts with one end more: behind the last one where the flag is true, and in front where it is false.
+/// Adds an end to the attempts: after the last one if `greedy` is true, and before the first one otherwise.
 ///
 /// # Errors
-/// [`ListError::TooLong`] exactly where there would be more than [`MOST_MOVES`], [`ListError::OutOfMemory`] where there was
-/// no memory for them.
+/// [`ListError::TooLong`] if there would be more than [`MOST_MOVES`] attempts; [`ListError::OutOfMemory`] if there is not
+/// enough memory for them.
 fn with_one_more(alloc: Global, list: AttemptList, greedy: bool) -> Result<AttemptList, ListError>
     ensures ok { IfOk result (λ l. l ≡ one_more greedy (Attempt.End no_guards) list) }
     ensures short { IfOk result (λ l. length list ≤ MOST_MOVES → length l ≤ MOST_MOVES) }
@@ -65,12 +65,13 @@ fn with_one_more(alloc: Global, list: AttemptList, greedy: bool) -> Result<Attem
     }
 }
 
-/// The attempts of a tree that is followed by another, and in the lists from one place to another each end replaced by the
-/// attempts of that other tree.
+/// Returns the attempts of entering a tree that is followed by another tree. `list` has the attempts of entering the first
+/// tree, and `further` has the attempts of entering the second one. The lists from `from` up to `to` belong to the places of
+/// the first tree. Each end, in `list` and in these lists, is replaced by the attempts of entering the second tree.
 ///
 /// # Errors
-/// [`ListError::TooLong`] only where a list would have more than [`MOST_MOVES`] attempts, [`ListError::OutOfMemory`] where
-/// there was no memory for them.
+/// [`ListError::TooLong`] only if a list would have more than [`MOST_MOVES`] attempts; [`ListError::OutOfMemory`] if there is
+/// not enough memory for them.
 fn in_turn(
     alloc: Global,
     lists: &mut Vec<AttemptList>,
@@ -92,11 +93,11 @@ fn in_turn(
     with_ends_replaced(alloc, list, further)
 }
 
-/// The attempts of a tree that is repeated, and in the lists from a place on each end replaced by them.
+/// Returns the attempts of entering a repeated tree, and replaces each end in the lists from `from` on by them.
 ///
 /// # Errors
-/// [`ListError::TooLong`] only where a list would have more than [`MOST_MOVES`] attempts, [`ListError::OutOfMemory`] where
-/// there was no memory for them.
+/// [`ListError::TooLong`] only if a list would have more than [`MOST_MOVES`] attempts; [`ListError::OutOfMemory`] if there is
+/// not enough memory for them.
 fn repeated(
     alloc: Global,
     lists: &mut Vec<AttemptList>,
@@ -121,11 +122,11 @@ fn repeated(
     Ok(all)
 }
 
-/// Adds the list of each place of the tree, and gives that of entering it.
+/// Adds the list of each place of the tree, and returns the list of entering the tree.
 ///
 /// # Errors
-/// [`ListError::TooLong`] exactly where a list would have more than [`MOST_MOVES`] attempts, [`ListError::OutOfMemory`] where
-/// there was no memory for them.
+/// [`ListError::TooLong`] if a list would have more than [`MOST_MOVES`] attempts; [`ListError::OutOfMemory`] if there is not
+/// enough memory for them.
 pub(crate) fn enter(
     alloc: Global,
     tree: &Re,

@@ -1,4 +1,4 @@
-//! What the rows of an automaton are made of.
+//! Plans, from which the rows of an automaton are made.
 
 ghost use Rattle.std.specs.Prelude.{◌≡◌, ℕ, ◌+◌, ◌*◌, ◌-◌, ◌<◌, ◌≤◌, ◌++◌, [], None, Some, All, length, map, OnOk, IfOk, IfErr, slice_index_or};
 ghost use Rattle.rl_syntax.specs.Tree.{tree_of, sets_in};
@@ -20,9 +20,9 @@ use rl_ranges::Letters;
 use rl_syntax::{Ending, Re};
 use std::alloc::Global;
 
-/// What the rows of an automaton are made of: the attempts of the start and those once each place has succeeded, for each
-/// place whether its set holds each letter, the kind of each letter, what is shown before the start and by each kind, what is
-/// shown by each letter and the end letter, and where a match may end.
+/// The data from which the rows of an automaton are made: the attempts at the start, and those after each place has
+/// succeeded; for each place, whether its set holds each letter; the kind of each letter; what is shown before the start and
+/// by each kind; what is shown by each letter and the end letter; and where a match may end.
 #[derive(Drop)]
 pub(crate) struct Plan {
     first: AttemptList,
@@ -35,11 +35,11 @@ pub(crate) struct Plan {
 }
 
 impl Plan {
-    /// The plan of a tree and an ending, over letters and kinds.
+    /// Makes the plan of a tree and an ending, over the given letters and kinds.
     ///
     /// # Errors
-    /// [`ListError::TooLong`] exactly where a list of items would have more than [`MOST_MOVES`], [`ListError::OutOfMemory`]
-    /// where there was no memory for the plan.
+    /// [`ListError::TooLong`] if a list of items would have more than [`MOST_MOVES`] items; [`ListError::OutOfMemory`] if
+    /// there is not enough memory for the plan.
     pub(crate) fn new(
         alloc: Global,
         tree: &Re,
@@ -59,10 +59,10 @@ impl Plan {
         Ok(plan)
     }
 
-    /// The plan whose item lists are made.
+    /// Makes the plan from item lists that are already made.
     ///
     /// # Errors
-    /// [`OutOfMemory`] where there was no memory for the plan.
+    /// [`OutOfMemory`] if there is not enough memory for the plan.
     fn with_lists(
         alloc: Global,
         tree: &Re,
@@ -92,7 +92,7 @@ impl Plan {
         })
     }
 
-    /// How many states there are.
+    /// Returns the number of states.
     pub(crate) fn states(&self) -> usize
         requires { IsSound self.now }
         ensures value { result ≡ plan_states self.now }
@@ -101,7 +101,7 @@ impl Plan {
         self.place_states() + 3
     }
 
-    /// How many kinds there are.
+    /// Returns the number of kinds.
     fn kinds(&self) -> usize
         requires { IsSound self.now }
         ensures value { result ≡ plan_kinds self.now }
@@ -111,7 +111,7 @@ impl Plan {
         self.before.len() - 1
     }
 
-    /// How many states of places there are.
+    /// Returns the number of states of places.
     fn place_states(&self) -> usize
         requires { IsSound self.now }
         ensures value { result ≡ plan_places self.now }
@@ -120,7 +120,7 @@ impl Plan {
         self.after.len() * self.kinds()
     }
 
-    /// The attempts of a state.
+    /// Returns the attempts of a state.
     fn attempts(&self, state: usize) -> &[Attempt]
         requires { IsSound self.now }
         ensures value { result.now ≡ attempts_at self.now state }
@@ -136,7 +136,7 @@ impl Plan {
         }
     }
 
-    /// What is shown before a state.
+    /// Returns what is shown before a state.
     fn shown_before(&self, state: usize) -> Shown
         requires { IsSound self.now }
         ensures { result ≡ before_at self.now state }
@@ -148,7 +148,7 @@ impl Plan {
         }
     }
 
-    /// Whether the set of a place holds a letter. It doesn't hold the end letter.
+    /// Whether the set of a place holds a letter. No set holds the end letter.
     fn holds(&self, place: usize, letter: usize) -> bool
         requires sound { IsSound self.now }
         requires place_in { place < length self.now.after.items }
@@ -157,7 +157,7 @@ impl Plan {
         letter < self.kinds_of.len() && self.members[place].as_slice()[letter]
     }
 
-    /// Where the test of a place goes on a letter.
+    /// Returns the target of the test of a place on a letter.
     fn test_target(&self, place: usize, letter: usize) -> u32
         requires sound { IsSound self.now }
         requires place_in { place < length self.now.after.items }
@@ -181,7 +181,7 @@ impl Plan {
         }
     }
 
-    /// Where an end goes on a letter.
+    /// Returns the target of an end on a letter.
     fn end_target(&self, letter: usize) -> u32
         requires { IsSound self.now }
         ensures { result ≡ end_goes self.now letter }
@@ -193,7 +193,7 @@ impl Plan {
         }
     }
 
-    /// Where an attempt goes on a letter.
+    /// Returns the target of an attempt on a letter.
     fn target(&self, letter: usize, attempt: Attempt) -> u32
         requires sound { IsSound self.now }
         requires placed { IsPlaced (length self.now.after.items) attempt }
@@ -205,10 +205,10 @@ impl Plan {
         }
     }
 
-    /// Appends the move of an attempt on a letter to the open row, where its guards are among those that hold.
+    /// Appends the move of an attempt on a letter to the open row if the guards of the attempt hold.
     ///
     /// # Errors
-    /// [`OutOfMemory`] where there was no memory for it.
+    /// [`OutOfMemory`] if there is not enough memory for it.
     fn put_move(
         &self,
         rows: &mut RowTable,
@@ -227,10 +227,10 @@ impl Plan {
         Ok(())
     }
 
-    /// Appends the moves of attempts on a letter to the open row.
+    /// Appends the moves of the attempts on a letter to the open row.
     ///
     /// # Errors
-    /// [`OutOfMemory`] where there was no memory for them.
+    /// [`OutOfMemory`] if there is not enough memory for them.
     fn put_each(
         &self,
         rows: &mut RowTable,
@@ -249,10 +249,10 @@ impl Plan {
         Ok(())
     }
 
-    /// Appends to the open row where attempts go on a letter, whatever their guards are.
+    /// Appends the targets of the attempts on a letter to the open row, ignoring their guards.
     ///
     /// # Errors
-    /// [`OutOfMemory`] where there was no memory for it.
+    /// [`OutOfMemory`] if there is not enough memory for them.
     fn put_targets(
         &self,
         rows: &mut RowTable,
@@ -270,11 +270,11 @@ impl Plan {
         Ok(())
     }
 
-    /// Appends the rows of attempts, one for each letter, the end letter last. What is shown before them tells which of their
-    /// guards hold.
+    /// Appends the rows of the attempts, one for each letter, with the end letter last. The guards that hold follow from
+    /// `before` and from what the letter shows.
     ///
     /// # Errors
-    /// [`OutOfMemory`] where there was no memory for them.
+    /// [`OutOfMemory`] if there is not enough memory for them.
     fn put_guarded(
         &self,
         rows: &mut RowTable,
@@ -297,10 +297,10 @@ impl Plan {
         Ok(())
     }
 
-    /// Appends the rows of attempts without guards, one for each letter, the end letter last.
+    /// Appends the rows of attempts without guards, one for each letter, with the end letter last.
     ///
     /// # Errors
-    /// [`OutOfMemory`] where there was no memory for them.
+    /// [`OutOfMemory`] if there is not enough memory for them.
     fn put_unguarded(&self, rows: &mut RowTable, attempts: &[Attempt]) -> Result<(), OutOfMemory>
         requires sound { IsSound self.now }
         requires placed { All (IsPlaced (length self.now.after.items)) attempts.now }
@@ -317,10 +317,10 @@ impl Plan {
         Ok(())
     }
 
-    /// Appends the rows of a state, one for each letter, the end letter last.
+    /// Appends the rows of a state, one for each letter, with the end letter last.
     ///
     /// # Errors
-    /// [`OutOfMemory`] where there was no memory for them.
+    /// [`OutOfMemory`] if there is not enough memory for them.
     fn put_state(&self, rows: &mut RowTable, state: usize) -> Result<(), OutOfMemory>
         requires sound { IsSound self.now }
         requires closed { rows.old.open_row ≡ [] }
@@ -335,10 +335,10 @@ impl Plan {
         }
     }
 
-    /// The rows, state by state and letter by letter, the end letter last.
+    /// Makes the rows, state by state and letter by letter, with the end letter last.
     ///
     /// # Errors
-    /// [`OutOfMemory`] where there was no memory for them.
+    /// [`OutOfMemory`] if there is not enough memory for them.
     pub(crate) fn rows(&self, alloc: Global) -> Result<RowTable, OutOfMemory>
         requires { IsSound self.now }
         ensures { IfOk result (λ r. AreRows self.now r.rows) }

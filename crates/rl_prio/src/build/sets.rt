@@ -1,4 +1,4 @@
-//! The sets that tell the codes of a tree apart.
+//! The sets that distinguish the codes of a tree.
 
 ghost use Rattle.std.specs.Prelude.{◌≡◌, ◌++◌, ◌∷◌, [], map, OnOk, IfOk};
 ghost use Rattle.rl_ranges.specs.Codes.{has};
@@ -13,7 +13,7 @@ use std::alloc::Global;
 /// Adds the sets of a tree, from left to right.
 ///
 /// # Errors
-/// [`OutOfMemory`] where there was no memory for them.
+/// [`OutOfMemory`] if there is not enough memory for them.
 pub(crate) fn add_sets(tree: &Re, sets: &mut Vec<CodeSet>) -> Result<(), OutOfMemory>
     ensures { OnOk result
         (map has sets.new.items ≡ map has sets.old.items ++ sets_in (tree_of tree.now)) }
@@ -32,7 +32,7 @@ pub(crate) fn add_sets(tree: &Re, sets: &mut Vec<CodeSet>) -> Result<(), OutOfMe
 /// Adds the sets that the guards of a tree name, from left to right.
 ///
 /// # Errors
-/// [`OutOfMemory`] where there was no memory for them.
+/// [`OutOfMemory`] if there is not enough memory for them.
 pub(crate) fn add_guard_sets(
     alloc: Global,
     tree: &Re,
@@ -55,7 +55,7 @@ pub(crate) fn add_guard_sets(
 /// Adds the set that a guard names, if it names one.
 ///
 /// # Errors
-/// [`OutOfMemory`] where there was no memory for it.
+/// [`OutOfMemory`] if there is not enough memory for it.
 fn add_named(alloc: Global, guard: Guard, sets: &mut Vec<CodeSet>) -> Result<(), OutOfMemory>
     ensures { OnOk result
         (map has sets.new.items ≡ map has sets.old.items ++ sets_named guard) }
@@ -70,7 +70,7 @@ fn add_named(alloc: Global, guard: Guard, sets: &mut Vec<CodeSet>) -> Result<(),
 /// Appends a set.
 ///
 /// # Errors
-/// [`OutOfMemory`] where there was no memory for it.
+/// [`OutOfMemory`] if there is not enough memory for it.
 fn put(sets: &mut Vec<CodeSet>, set: CodeSet) -> Result<(), OutOfMemory>
     ensures { OnOk result (map has sets.new.items ≡ map has sets.old.items ++ has set ∷ []) }
 {
@@ -78,20 +78,20 @@ fn put(sets: &mut Vec<CodeSet>, set: CodeSet) -> Result<(), OutOfMemory>
     Ok(())
 }
 
-/// The set of the line feed.
+/// Creates the set that holds only the line feed.
 ///
 /// # Errors
-/// [`OutOfMemory`] where there was no memory for it.
+/// [`OutOfMemory`] if there is not enough memory for it.
 fn line_feeds(alloc: Global) -> Result<CodeSet, OutOfMemory>
     ensures { IfOk result (λ set. has set ≡ is_line_feed) }
 {
     CodeSet::range(alloc, 10, 10)
 }
 
-/// The set of the codes of words, the ASCII ones or all.
+/// Creates the set of the word characters: only the ASCII ones if `ascii` is true, and all of them otherwise.
 ///
 /// # Errors
-/// [`OutOfMemory`] where there was no memory for it.
+/// [`OutOfMemory`] if there is not enough memory for it.
 pub(crate) fn words(alloc: Global, ascii: bool) -> Result<CodeSet, OutOfMemory>
     ensures { IfOk result (λ set. has set ≡ is_word ascii) }
 {

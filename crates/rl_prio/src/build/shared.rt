@@ -1,4 +1,4 @@
-//! Automata over letters that are there already.
+//! Automata over letters that already exist.
 
 ghost use Rattle.std.specs.Prelude.{◌≡◌, ℕ, ◌<◌, ◌≤◌, Bool, true, List, IfOk, IfErr, OnOk, length};
 ghost use Rattle.rl_ranges.specs.Letters.{IsLetters, alike};
@@ -20,7 +20,7 @@ use rl_syntax::{Ending, Re};
 use std::alloc::Global;
 use std::rc::Rc;
 
-/// Letters that several automata may have.
+/// Wraps letters so that several automata can share them.
 pub(crate) fn shared(alloc: Global, letters: Letters) -> Result<Rc<Letters>, OutOfMemory>
     ensures { IfOk result (λ shared. shared.value ≡ letters) }
 {
@@ -31,12 +31,12 @@ pub(crate) fn shared(alloc: Global, letters: Letters) -> Result<Rc<Letters>, Out
 impl Prio {
     ghost use Rattle.rl_prio.specs.StandsFor.{StandsOver};
 
-    /// The automaton of a tree and an ending over letters, which tell apart at least what the sets of the tree and those that
-    /// its guards name do.
+    /// Builds the automaton of a tree and an ending over the given letters. Codes of one letter must not be distinguished by
+    /// the sets of the tree or the sets that its guards name.
     ///
     /// # Errors
-    /// [`PrioError::Moves`] exactly where a list of items has more than [`MOST_MOVES`], [`PrioError::OutOfMemory`] where
-    /// there was no memory for the automaton.
+    /// [`PrioError::Moves`] if a list of items has more than [`MOST_MOVES`] items; [`PrioError::OutOfMemory`] if there is not
+    /// enough memory for the automaton.
     pub(crate) fn over_letters(
         alloc: Global,
         tree: &Re,
@@ -64,12 +64,12 @@ impl Prio {
         Ok(Prio::from_parts(letters, states, rows))
     }
 
-    /// The automaton of a tree and an ending over the letters of another automaton, which tell apart at least what the sets of
-    /// the tree and those that its guards name do.
+    /// Builds the automaton of a tree and an ending over the letters of another automaton. Codes of one letter must not be
+    /// distinguished by the sets of the tree or the sets that its guards name.
     ///
     /// # Errors
-    /// [`PrioError::Moves`] exactly where a list of items has more than [`MOST_MOVES`], [`PrioError::OutOfMemory`] where
-    /// there was no memory for the automaton.
+    /// [`PrioError::Moves`] if a list of items has more than [`MOST_MOVES`] items; [`PrioError::OutOfMemory`] if there is not
+    /// enough memory for the automaton.
     pub fn build_beside(
         alloc: Global,
         other: &Prio,

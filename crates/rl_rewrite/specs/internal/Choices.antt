@@ -1,12 +1,14 @@
--- For the function that tells whether a pattern holds a branch.
+-- For the contracts of private functions: whether a pattern contains a branch.
 use Rattle.std.specs.Prelude.{Bool, true, false, ◌||◌}
 use Rattle.rl_syntax.specs.PatTree.{PatTree, PatTrees, BranchTrees, nothing, class, seq, choice, repeat, group, anchor, boundary, outside, no_items, item, no_branches, branch}
 
+-- Whether there is a branch.
 abbrev pub is_some_branch : BranchTrees → Bool
 is_some_branch no_branches = false
 is_some_branch (branch s p bs) = true
 
 abbrev mutual
+  -- Whether a part contains a branch of a choice.
   pub holds_branch : PatTree → Bool
   holds_branch (nothing s) = false
   holds_branch (class s set) = false
@@ -18,6 +20,7 @@ abbrev mutual
   holds_branch (boundary s negated ascii) = false
   holds_branch (outside s what) = false
 
+  -- Whether one of the items contains a branch of a choice.
   pub items_hold_branch : PatTrees → Bool
   items_hold_branch no_items = false
   items_hold_branch (item p ps) = holds_branch p || items_hold_branch ps

@@ -1,8 +1,9 @@
--- For the function that lists the quantifiers which are taken out: where a part stands.
+-- For the contracts of private functions: the surroundings of a part.
 use Rattle.rl_pattern.specs.Suggested.{Around, elsewhere, under, inside}
 use Rattle.rl_rewrite.specs.declared.merging.Place.{Place}
 use Rattle.rl_rewrite.specs.declared.merging.Place.TheVariants.{Elsewhere, Under, Inside}
 
+-- The surroundings of a part, as the rules have them.
 abbrev pub around_of : Place → Around
 around_of Elsewhere = elsewhere
 around_of (Under outer) = under outer.least outer.most

@@ -1,18 +1,18 @@
--- Where the moves of the members of a set lead to.
+-- For the contracts of private functions: the targets of the members of a set.
 use Rattle.std.specs.Prelude.{◌≡◌, ℕ, ◌<◌, Bool, true, false, List, length, slice_index_or}
 use Rattle.std.specs.List.{list_any, flat_map}
 use Rattle.rl_prio.specs.Automaton.{Automaton, moves_at}
 use Rattle.rl_sets.specs.Live.{holds}
 
--- the states that the members of a set move to on a letter, member by member
+-- The targets of the members of a set on a letter, member by member.
 abbrev pub targets_of : Automaton → List ℕ → ℕ → List ℕ
 targets_of a set letter = flat_map (λ q. moves_at a q letter) set
 
--- the row has a place for each state, which holds true where a member of the set moves to it on the letter
+-- The row has a bit for each state, which is set if and only if a member of the set moves to the state on the letter.
 pub record IsReached (a : Automaton) (set : List ℕ) (letter : ℕ) (row : List Bool) : Type 0 where
   pub wide : length row ≡ a.states
   pub moves : (t : ℕ) → t < a.states → slice_index_or row t false ≡ list_any (λ q. holds (moves_at a q letter) t) set
 
--- the states below a number that a row holds move on a letter as on another one
+-- Each state below `upto` whose bit is set in the row has the same moves on `letter` as on `before`.
 abbrev pub MoveAlike : Automaton → List Bool → ℕ → ℕ → ℕ → Type 0
 MoveAlike a row upto before letter = (q : ℕ) → q < upto → slice_index_or row q false ≡ true → moves_at a q before ≡ moves_at a q letter

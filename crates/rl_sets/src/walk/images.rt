@@ -1,4 +1,4 @@
-//! The numbers of the images that a walk has made.
+//! The numbers of the images that a walk has computed.
 
 ghost use Rattle.std.specs.Prelude.{◌≡◌, ◌+◌, ◌*◌, ◌<◌, ◌≤◌, suc, length, slice_get, slice_index_or, None, Some, OnOk};
 ghost use Rattle.rl_prio.specs.Automaton.{letters_count};
@@ -10,7 +10,7 @@ use crate::walk::SetWalk;
 use rl_lists::OutOfMemory;
 use rl_prio::Prio;
 
-/// Where the number of the image of a set on a letter is kept.
+/// Returns the index at which the number of the image of a set on a letter is kept.
 fn place_of(a: &Prio, set: u32, letter: u32) -> usize
     requires { letter ≤ letters_count a.now }
     ensures { result ≡ image_place a.now set letter }
@@ -20,7 +20,7 @@ fn place_of(a: &Prio, set: u32, letter: u32) -> usize
 }
 
 impl SetWalk {
-    /// The number of the image of a set on a letter, if it was made before.
+    /// Returns the number of the image of a set on a letter if it is already known.
     pub(crate) fn known_image(&self, a: &Prio, set: u32, letter: u32) -> Option<u32>
         requires { letter ≤ letters_count a.now }
         ensures { result ≡ slice_index_or self.now.kept.images (image_place a.now set letter) None }
@@ -44,7 +44,7 @@ impl SetWalk {
         lengthen(&mut self.images, end, None)
     }
 
-    /// Keeps the number of the image of a set on a letter.
+    /// Records the number of the image of a set on a letter.
     pub(crate) fn keep_image(&mut self, a: &Prio, set: u32, letter: u32, number: u32)
         requires made { IsMadeFor self.old a.now }
         requires set_in { set < length self.old.sets }

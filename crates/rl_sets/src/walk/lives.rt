@@ -14,7 +14,7 @@ use rl_lists::{OutOfMemory, Word};
 use rl_prio::Prio;
 
 impl SetWalk {
-    /// What is known of the rests that a set refuses.
+    /// Returns what is known of the rests that a set refuses.
     pub(crate) fn life(&self, set: u32) -> Life
         ensures { result ≡ slice_index_or self.now.kept.lives set Unknown }
     {
@@ -24,7 +24,7 @@ impl SetWalk {
         }
     }
 
-    /// Notes what is known of the rests that a set refuses.
+    /// Records what is known of the rests that a set refuses.
     pub(crate) fn note(&mut self, set: u32, life: Life) -> Result<(), OutOfMemory>
         requires { set < length self.old.sets }
         ensures made { (a : Automaton) → IsMadeFor self.old a → IsLife a self.old.kept.routes (set_at self.old set) life → IsMadeFor self.new a }
@@ -37,7 +37,7 @@ impl SetWalk {
         Ok(())
     }
 
-    /// Appends a route, and answers its number.
+    /// Appends a route, and returns its number.
     pub(crate) fn put_route(&mut self, letter: u32, next: usize) -> Result<usize, OutOfMemory>
         ensures put { OnOk result (self.new.kept.routes ≡ self.old.kept.routes ++ On letter next ∷ []) }
         ensures number { IfOk result (λ r. r ≡ length self.old.kept.routes) }
@@ -50,7 +50,7 @@ impl SetWalk {
         Ok(number)
     }
 
-    /// The rest of a route.
+    /// Returns the rest that a route describes.
     pub(crate) fn rest_of(&self, a: &Prio, route: usize) -> Result<Word, OutOfMemory>
         requires { (word : List ℕ) × Routed (letters_count a.now) self.now.kept.routes route word }
         ensures { (word : List ℕ) → Routed (letters_count a.now) self.now.kept.routes route word → IfOk result (λ w. w ≡ word) }

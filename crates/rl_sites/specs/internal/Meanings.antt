@@ -1,4 +1,4 @@
--- What a table of names says of each name.
+-- For private contracts: a table of the meanings of names.
 use Rattle.std.specs.Prelude.{◌≡◌, ℕ, true, false, ◌||◌, List, Option, Some, None, nat_lt, find, unwrap_or, bytes_eq, if◌then◌else◌}
 use Rattle.std.specs.Map.{lookup}
 use denote.Ref.{Bor}
@@ -12,20 +12,23 @@ use Rattle.rl_sites.specs.declared.meaning.Meaning.{Meaning}
 use Rattle.rl_sites.specs.Significant.{word_of}
 use Rattle.rl_sites.specs.Names.{calls, call_word, flag_names, names_any_module, names_any_member}
 
--- the call or the flag with this name
+-- The function with this name, if there is one.
 unfoldable pub call_of : List ℕ → Option Call
 call_of word = find (λ call. bytes_eq word (call_word call)) calls
 
+-- The flag with this name, if there is one.
 unfoldable pub flag_of : List ℕ → Option Flag
 flag_of word = lookup (bytes_eq word) flag_names
 
--- the first call or flag that the name is an alias of
+-- The first function that the name is an alias of, if there is one.
 unfoldable pub first_call : List ℕ → List Alias → List ℕ → Option Call
 first_call source aliases name = find (λ call. names_any_member source aliases name (call_word call)) calls
 
+-- The first flag that the name is an alias of, if there is one.
 unfoldable pub first_flag : List ℕ → List Alias → List ℕ → Option Flag
 first_flag source aliases name = lookup (names_any_member source aliases name) flag_names
 
+-- The position of a function in their order.
 abbrev pub call_rank : Call → ℕ
 call_rank call.Compile = 0
 call_rank call.Match = 1
@@ -37,6 +40,7 @@ call_rank call.Split = 6
 call_rank call.Sub = 7
 call_rank call.Subn = 8
 
+-- The position of a flag in their order.
 abbrev pub flag_rank : Flag → ℕ
 flag_rank flag.Ascii = 0
 flag_rank flag.IgnoreCase = 1
@@ -47,17 +51,17 @@ flag_rank flag.Unicode = 5
 flag_rank flag.Verbose = 6
 flag_rank flag.Nothing = 7
 
--- the one of lower rank
+-- The one of lower rank, or the only one.
 abbrev pub earlier : {X : Type 0} → (X → ℕ) → Option X → Option X → Option X
 earlier rank None second = second
 earlier rank (Some a) None = Some a
 earlier rank (Some a) (Some b) = if nat_lt (rank b) (rank a) then Some b else Some a
 
--- the name stands for nothing
+-- The meaning of a name that no alias has.
 abbrev pub nothing : Meaning
 nothing = record { of_module = false; call = None; flag = None }
 
--- what a name stands for by two lists of aliases, one behind the other
+-- The meaning that a name gets from two lists of aliases together.
 abbrev pub joined : Meaning → Meaning → Meaning
 joined first second =
     record {
@@ -66,18 +70,18 @@ joined first second =
       flag = earlier flag_rank first.flag second.flag;
     }
 
--- what an alias gives its name to
+-- The meaning that an alias gives to its name.
 abbrev pub own_meaning : List ℕ → Option SignificantToken → Meaning
 own_meaning source None = record { of_module = true; call = None; flag = None }
 own_meaning source (Some member) =
     record { of_module = false; call = call_of (word_of source member); flag = flag_of (word_of source member) }
 
--- what a name stands for with one alias more
+-- The meaning of a name after one more alias.
 abbrev pub meaning_with : List ℕ → Alias → List ℕ → Meaning → Meaning
 meaning_with source alias name old =
     if bytes_eq (word_of source alias.name) name then joined old (own_meaning source alias.member) else old
 
--- what the name stands for by these aliases
+-- The meaning that these aliases give to the name.
 abbrev pub meaning_of : List ℕ → List Alias → List ℕ → Meaning
 meaning_of source aliases name =
     record {
@@ -86,10 +90,10 @@ meaning_of source aliases name =
       flag = first_flag source aliases name;
     }
 
--- what the name stands for in a table
+-- The meaning of the name in a table.
 abbrev pub meaning_in : List (Bor (List ℕ) × Meaning) → List ℕ → Meaning
 meaning_in entries name = unwrap_or (lookup (λ (k : Bor (List ℕ)). bytes_eq name k.now) entries) nothing
 
--- the table says of each name what it stands for by these aliases
+-- The table holds, for each name, the meaning that these aliases give to it.
 pub record IsMeant (source : List ℕ) (aliases : List Alias) (entries : List (Bor (List ℕ) × Meaning)) : Type 0 where
   pub each : (name : List ℕ) → meaning_in entries name ≡ meaning_of source aliases name

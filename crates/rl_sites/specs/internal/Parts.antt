@@ -1,4 +1,4 @@
--- Parts of the definitions of sites, for the functions that compute them.
+-- For private contracts: parts of the definitions of sites, named for the functions that compute them.
 use Rattle.std.specs.Prelude.{ℕ, Bool, false, not, ◌&&◌, List, drop, codes, Option, Some, None, option_map, bytes_eq, if◌then◌else◌}
 use Rattle.std.specs.List.{slice_split}
 use Rattle.std.specs.Option.{option_and_then, option_map_or}
@@ -21,58 +21,60 @@ use Rattle.rl_sites.specs.Arguments.{arguments_of}
 use Rattle.rl_sites.specs.Flags.{with_flag, flags_of}
 use Rattle.rl_sites.specs.Sites.{head_of, site_behind, hides}
 
--- the token is the number `0`
+-- Whether the token is the number `0`.
 abbrev pub is_zero : List ℕ → SignificantToken → Bool
 is_zero source token = same_kind kind.Number token.inner.kind && bytes_eq (word_of source token) (codes "0")
 
--- how many tokens `as` and a name take, where they stand in front
+-- The number of tokens in `as` and a name if the tokens begin with them, otherwise 0.
 abbrev pub as_size : List ℕ → List SignificantToken → ℕ
 as_size source rest = if is_renamed source rest then 2 else 0
 
--- the token parts arguments, where it stands at their depth
+-- Whether the token separates arguments, if it is outside their brackets.
 abbrev pub parts : List ℕ → Bool → SignificantToken → Bool
 parts source in_lambda token = is_op source (codes ",") token && not in_lambda
 
--- a `|` parts terms
+-- Whether the token is a `|`, which separates terms.
 abbrev pub is_bar : List ℕ → SignificantToken → Bool
 is_bar source token = is_op source (codes "|") token
 
--- the tokens between the `|` of an argument
+-- The token lists between the `|` tokens of an argument.
 abbrev pub terms_of : List ℕ → List SignificantToken → List (List SignificantToken)
 terms_of source argument = slice_split (is_op source (codes "|")) argument
 
--- a term of one token: the number `0`, or an alias of a flag's name
+-- The flag that a term of one token sets. Such a term is the number `0` or an alias of a flag.
 abbrev pub lone_term : List ℕ → List Alias → SignificantToken → Option Flag
 lone_term source aliases token = if is_zero source token then Some flag.Nothing else flag_aliased source aliases token
 
--- a term of three tokens: an alias of the module, `.` and a flag's name
+-- The flag that a term of three tokens sets. Such a term is an alias of the module, `.` and a flag's name.
 abbrev pub dotted_term : List ℕ → List Alias → SignificantToken → SignificantToken → SignificantToken → Option Flag
 dotted_term source aliases token dot name =
     if is_module source aliases token && is_op source (codes ".") dot then flag_named source name else None
 
--- what is set with these flags before; unknown where something is no term
+-- The flags that a term and the terms after it set. They are unknown if `found` says that the tokens aren't a term.
 abbrev pub set_by : Option Flag → Flags → (Flags → SiteFlags) → SiteFlags
 set_by found flags others = option_map_or (λ flag. others (with_flag flag flags)) found Unknown
 
--- the call in front and how many tokens its head has, up to its opening bracket
+-- The head of a call with this many tokens, if there is a call.
 abbrev pub head : ℕ → Option Call → Option Head
 head size call = option_map (λ call. record { call = call; size = size }) call
 
--- what stands for a call at a place, if a token stands there
+-- The function that a token means, if there is a token.
 abbrev pub call_by : (SignificantToken → Option Call) → Option SignificantToken → Option Call
 call_by names token = option_and_then names token
 
--- the token before a place, if there is one, hides a site there
+-- Whether the token before a place, if there is one, prevents a site there.
 abbrev pub is_hidden : List ℕ → Option SignificantToken → Bool
 is_hidden source before = option_map_or (hides source) before false
 
--- the head of the call in front, if there is one and it isn't hidden
+-- The head of the call that the tokens begin with, if there is one and the token before doesn't hide it.
 abbrev pub open_head : List ℕ → List Alias → Option SignificantToken → List SignificantToken → Option Head
 open_head source aliases before rest = if is_hidden source before then None else head_of source aliases rest
 
+-- The flags of a call, which are known only if its run of literals is the whole argument.
 abbrev pub flags_if : Bool → List ℕ → List Alias → Call → List SignificantToken → SiteFlags
 flags_if whole source aliases call rest =
     if whole then flags_of source aliases call (arguments_of source rest) else Unknown
 
+-- The site of the call with this head, if there is a head and a site.
 abbrev pub site_by : List ℕ → List Alias → Option Head → List SignificantToken → Option Site
 site_by source aliases found rest = option_and_then (λ head. site_behind source aliases head.call (drop head.size rest)) found

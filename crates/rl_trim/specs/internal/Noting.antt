@@ -6,13 +6,13 @@ use Rattle.rl_trim.specs.internal.Sunk.{is_kept}
 use Rattle.rl_trim.specs.internal.Trims.{trimmed}
 use Rattle.rl_trim.specs.Reached.{IsNoted}
 
--- the rows of a table are of one length, and have the place
+-- all rows of a table have the same length, and the place is within it
 pub record IsWide (place : ℕ) (table : List (List Bool)) : Type 0 where
   pub count : ℕ
   pub each : All (λ row. length row ≡ count) table
   pub inside : place < count
 
--- a table was made to note that a set holds states
+-- it was noted in a table that a set holds some states
 pub record IsNoting (old new : List (List Bool)) (states : List ℕ) (set : ℕ) : Type 0 where
   pub high : length new ≡ length old
   pub wide : (count : ℕ) → All (λ row. length row ≡ count) old → All (λ row. length row ≡ count) new

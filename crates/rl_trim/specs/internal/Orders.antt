@@ -1,4 +1,4 @@
--- For the functions that judge a trial: its pairs in the order in which they are found, by the numbers of their sets.
+-- For the functions that judge a trial: its pairs in the order in which they are found, given by the numbers of their sets.
 use Rattle.std.specs.Prelude.{◌≡◌, ℕ, ◌<◌, Bool, true, false, ◌&&◌, ◌==◌, slice_index_or, List, [], ◌∷◌, ◌++◌, length, map, if◌then◌else◌}
 use Rattle.std.specs.List.{list_any}
 use Rattle.rl_prio.specs.Automaton.{Automaton}
@@ -7,11 +7,11 @@ use Rattle.rl_equiv.specs.declared.pair.SetPair.{SetPair}
 use Rattle.rl_trim.specs.declared.key.Key.{Key}
 use Rattle.rl_trim.specs.internal.Quick.{key_at, pair_of, IsInside, HasPair, root}
 
--- whether two keys are one
+-- whether two keys are the same
 abbrev pub key_is : Key → Key → Bool
 key_is x y = x.first == y.first && x.second == y.second
 
--- keys with one more behind them, unless it is there
+-- keys with one more appended, unless it is already there
 abbrev pub with_key : List Key → Key → List Key
 with_key keys key = if list_any (key_is key) keys then keys else keys ++ key ∷ []
 
@@ -19,12 +19,12 @@ with_key keys key = if list_any (key_is key) keys then keys else keys ++ key ∷
 abbrev pub pairs_in : Walk → List Key → List SetPair
 pairs_in w keys = map (pair_of w) keys
 
--- the keys are of sets of the walk
+-- the keys are pairs of sets of the walk
 pub record AreKeys (a : Automaton) (w : Walk) (keys : List Key) : Type 0 where
   pub made : IsMadeFor w a
   pub inside : (i : ℕ) → i < length keys → IsInside w (key_at keys i)
 
--- a row holds true for sets alone of which each is found with itself without the states that aren't kept
+-- a row holds true only for sets that are found, each paired with itself without the states that aren't kept
 pub record AreArrived (keep : List Bool) (w : Walk) (keys : List Key) (row : List Bool) : Type 0 where
   pub inside : (k : ℕ) → slice_index_or row k false ≡ true → k < length w.sets
   pub found : (k : ℕ) → slice_index_or row k false ≡ true → HasPair w keys (root keep w k)

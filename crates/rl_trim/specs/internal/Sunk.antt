@@ -1,5 +1,5 @@
--- For the proofs of trials: the states of a tree without some of its branches are those that are kept of the whole tree,
--- numbered anew. Trees without a guard have the start, a state for each place, the accepting state and the dead one.
+-- For the proofs of trials: the states of a tree without some of its branches are the kept states of the whole tree, renumbered.
+-- Trees without a guard have the start, a state for each place, the accepting state and the dead state.
 use Rattle.std.specs.Prelude.{◌≡◌, ℕ, zero, suc, ◌+◌, ◌<◌, Bool, true, List, [], ◌∷◌, length, slice_index_or, if◌then◌else◌}
 use Rattle.rl_syntax.specs.declared.re.Ending.TheVariants.{AtEnd}
 use Rattle.rl_syntax.specs.Tree.{Tree, places}
@@ -12,7 +12,7 @@ kept_before keep zero = 0
 kept_before [] (suc p) = suc (kept_before [] p)
 kept_before (k ∷ keep) (suc p) = (if k then 1 else 0) + kept_before keep p
 
--- whether a state is kept: all are but those of the places that aren't
+-- whether a state is kept: every state is, except those of the places that aren't kept
 abbrev pub is_kept : List Bool → ℕ → Bool
 is_kept keep zero = true
 is_kept keep (suc p) = slice_index_or keep p true
@@ -22,8 +22,8 @@ abbrev pub sunk : List Bool → ℕ → ℕ
 sunk keep zero = 0
 sunk keep (suc p) = suc (kept_before keep p)
 
--- the states of the first tree are the kept ones of the second, and their moves, over the letters of any sets, are the moves
--- between these; `n` is how many codes there are
+-- the states of the first tree are the kept states of the second, and their moves, over the letters of any sets, are the moves
+-- between these; `n` is the number of codes
 pub record AreSunk (sets : List (ℕ → Bool)) (n : ℕ) (keep : List Bool) (s t : Tree) : Type 0 where
   pub flags : length keep ≡ places t
   pub kept : places s ≡ kept_before keep (places t)

@@ -1,8 +1,8 @@
--- For trials on one automaton: pairs of sets of its states. The first set is that of the whole tree, the second one that of the
--- tree without some branches, of which the automaton leaves out the states.
-use Rattle.std.specs.Prelude.{◌≡◌, ℕ, ◌<◌, Bool, true, not, List, [], ◌∷◌, map, filter, All}
+-- For trials on one automaton: pairs of sets of its states. The first set belongs to the whole tree, and the second to the tree
+-- without some branches, whose states are left out.
+use Rattle.std.specs.Prelude.{◌≡◌, ℕ, ◌<◌, Bool, true, false, not, List, [], ◌∷◌, length, slice_index_or, map, filter, All}
 use Rattle.std.proofs.Math.Bool.{beq}
-use Rattle.rl_prio.specs.Automaton.{Automaton, letters_count, accepting_state}
+use Rattle.rl_prio.specs.Automaton.{Automaton, letters_count, accepting_state, moves_at}
 use Rattle.rl_sets.specs.Live.{below, holds, image}
 use Rattle.rl_equiv.specs.declared.pair.SetPair.{SetPair}
 use Rattle.rl_equiv.specs.SetPairs.{first_pair, SetPairs}
@@ -25,11 +25,19 @@ abbrev pub trim_run : Automaton → List Bool → SetPair → List ℕ → SetPa
 trim_run a keep p [] = p
 trim_run a keep p (letter ∷ word) = trim_run a keep (trim_on a keep p letter) word
 
+-- whether the end letter leads a state to the accepting state
+abbrev pub state_ends : Automaton → ℕ → Bool
+state_ends a q = holds (moves_at a q (letters_count a)) (accepting_state a)
+
+-- the flags say so for the first states
+abbrev pub AreEnding : Automaton → ℕ → List Bool → Type 0
+AreEnding a states flags = (length flags ≡ states) × ((q : ℕ) → q < states → slice_index_or flags q false ≡ state_ends a q)
+
 -- whether the end letter leads a set to the accepting state
 abbrev pub set_ends : Automaton → List ℕ → Bool
 set_ends a set = holds (image a set (letters_count a)) (accepting_state a)
 
--- whether it leads one set of a pair alone to it
+-- whether it leads exactly one set of a pair there
 abbrev pub trim_differs : Automaton → SetPair → Bool
 trim_differs a p = not (beq (set_ends a p.first) (set_ends a p.second))
 
@@ -38,8 +46,7 @@ pub record LeadsApart (a : Automaton) (keep : List Bool) (word : List ℕ) : Typ
   pub small : All (λ letter. letter < letters_count a) word
   pub apart : trim_differs a (trim_run a keep first_pair word) ≡ true
 
--- the pairs of a trial as a search knows them: the next ones, and which sets are led to the accepting state. Whether they are proper
--- is not asked of them
+-- the pairs of a trial as a search sees them: the next ones, and which sets are led to the accepting state. All count as proper
 unfoldable pub trim_pairs : Automaton → List Bool → SetPairs
 trim_pairs a keep = record {
   nexts = λ p. trim_nexts a keep p;

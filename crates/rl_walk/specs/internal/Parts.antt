@@ -1,4 +1,4 @@
--- What a part of a walk does.
+-- For private contracts: what a part of a walk does.
 use Rattle.std.specs.Prelude.{◌≡◌, ℕ, true, List, ◌++◌, Some}
 use Rattle.rl_source.specs.Faults.{Rose}
 use Rattle.rl_source.specs.Told.{Told, after}
@@ -8,14 +8,14 @@ use Rattle.rl_walk.specs.declared.visits.Visit.{Visit}
 use Rattle.rl_walk.specs.Steps.{Step}
 use Rattle.rl_walk.specs.Visits.{IsWalk, Moment, has_failed, has_unreadable}
 
--- whatever is left to do afterwards: a walk that does these steps first makes these calls and visits first, and goes on with
--- the other paths met
+-- These steps make these calls and visits and lead from `met` to `met_after`, whatever is left to do afterwards: a walk
+-- that does the steps first makes these calls and visits first, and then goes on.
 pub record Begins (nodes : List Node) (steps : List Step) (met met_after : List (List ℕ)) (calls : List Call) (visits : List Visit) : Type 0 where
   pub then : (rest : List Step) (later_calls : List Call) (later_visits : List Visit)
       → IsWalk nodes rest met_after later_calls later_visits
       → IsWalk nodes (steps ++ rest) met (calls ++ later_calls) (visits ++ later_visits)
 
--- between the two moments these steps were done
+-- Between the two moments these steps were done.
 pub record Does (steps : List Step) (old new : Moment) (met met_after : List (List ℕ)) (before now : List Visit → Type 0) : Type 0 where
   pub calls : List Call
   pub visits : List Visit

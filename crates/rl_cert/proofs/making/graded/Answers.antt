@@ -5,6 +5,7 @@ use Rattle.rl_degree.specs.Chains.{links_of}
 use Rattle.rl_degree.specs.declared.chains.Split.{Split}
 use Rattle.rl_growth.specs.Routes.{IsRoute, state_after}
 use Rattle.rl_numbers.specs.Least.{LeastTriple, AreMoreThan}
+use Rattle.rl_numbers.specs.declared.numbering.TheConstants.{MOST_TRIPLES}
 use Rattle.rl_syntax.specs.declared.verdict.Limit.{Limit}
 use Rattle.rl_cert.specs.Ways.{chain_anchors}
 use Rattle.rl_cert.specs.declared.certificate.Certificate.{Certificate}
@@ -44,7 +45,7 @@ returns-in-Err-clause-too_large c = λ same.
     let given = c.as_slice.result.now in
     graded-large c.args.a.now c.args.g.now c.args.chain.now c.requires.longest h c.args.chain.now.ranks given c.args.cycle.now.state c.args.cycle.now.word c.graph.ensures refl c.as_slice.ensures
     c.requires.no_twin c.requires.some c.requires.cycle
-    (IfErr-at_err {T = Certificate} (λ e. e ≡ TooLarge → AreMoreThan 1000000 (LeastTriple (edges_of h) h.states (slice_index given))) same c.in-Err.ensures.too_many refl)
+    (IfErr-at_err {T = Certificate} (λ e. e ≡ TooLarge → AreMoreThan MOST_TRIPLES (LeastTriple (edges_of h) h.states (slice_index given))) same c.in-Err.ensures.too_many refl)
 
 pub returns-clause-made : goal.returns-clause-made
 returns-clause-made c =

@@ -13,5 +13,5 @@ returns-then-is_empty c =
 
 pub returns : goal.returns
 returns c =
-    from-longest c.args.g.now c.args.table.now.components c.args.bests.now c.args.ranks.now c.top_place.result _ c.states-states.ensures.whole c.requires.table.components c.requires.bests c.requires.ranks
+    from-longest c.args.g.now c.args.table.now.components c.args.bests.now c.args.ranks.now c.top_place.result _ c.requires.table.whole c.requires.table.components c.requires.bests c.requires.ranks
     c.top_place.ensures.place_in c.top_place.ensures.greatest c.chain_from.ensures.chain c.chain_from.ensures.long c.chain_from.ensures.states

@@ -13,6 +13,6 @@ returns c =
     let parts = c.in_ok-parts.parts in
     let flags = c.in_ok-flags.flags.items in
     let f : AreFlags levels entries n flags =
-    subst (λ (z : List ℕ). AreFlags levels z n flags) c.deref.ensures.value (subst (λ (z : ℕ). AreFlags levels c.deref.result.now z flags) c.requires c.in_ok-flags.ensures) in
-    falling-parted g levels entries parts c.states-states.ensures.whole c.in_ok-entries.ensures
+    subst (λ (z : List ℕ). AreFlags levels z n flags) c.deref.ensures.value (subst (λ (z : ℕ). AreFlags levels c.deref.result.now z flags) c.requires.size c.in_ok-flags.ensures) in
+    falling-parted g levels entries parts c.requires.whole c.in_ok-entries.ensures
     (marked-parts g c.deref-2.result.now (is_walked levels entries n) parts (λ x lt. ap (λ z. get_or z x false) c.deref-2.ensures.value ∙ f.right x lt) c.in_ok-parts.ensures)

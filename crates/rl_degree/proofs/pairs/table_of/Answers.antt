@@ -5,17 +5,19 @@ use Rattle.rl_degree.specs.internal.Pairs.{IsWalked}
 use Rattle.rl_degree.proofs.pairs.table_of.Goals as goal
 
 pub walked_of-requires-clause-letters : goal.walked_of-requires-clause-letters
-walked_of-requires-clause-letters c = c.in-Ok-inner_graph.ensures.same_letters
+walked_of-requires-clause-letters c = c.in_ok-inner.ensures.same_letters
 
 pub returns : goal.returns
 returns c =
-    let kernel = c.in-Ok.kernel in
-    let inner = c.in-Ok-inner_graph.inner in
-    let walked = subst (λ (l : List ℕ). IsWalked c.args.g.now inner l c.in-Ok-walked_of.walked) c.deref.ensures.value c.in-Ok-walked_of.ensures in
+    let kernel = c.in_ok-kernel.kernel in
+    let inner = c.in_ok-inner.inner in
+    let walked = subst (λ (l : List ℕ). IsWalked c.args.g.now inner l c.in_ok-walked.walked) c.deref.ensures.value c.in_ok-walked.ensures in
     record {
+      whole = c.states.ensures.whole;
       components = c.requires.parts;
-      kernel = subst (λ (z : ℕ). IsKernel c.args.components z (seats_of kernel)) c.states.ensures.number c.in-Ok.ensures;
-      inner = c.in-Ok-inner_graph.ensures;
+      reached = c.in_ok-reached.ensures;
+      kernel = subst (λ (z : ℕ). IsKernel c.args.components z (seats_of kernel)) c.states.ensures.number c.in_ok-kernel.ensures;
+      inner = c.in_ok-inner.ensures;
       parts = walked.parts;
       placed = walked.placed;
       moves = walked.moves;

@@ -20,4 +20,4 @@ loop-letter-preserved c =
 pub returns-clause-moves : goal.returns-clause-moves
 returns-clause-moves c =
     let g = c.args.g.now in
-    letters-all (edges_of g) g.states g.letters c.args.components.now c.args.bests.now c.args.state c.loop-letter.letter c.loop-letter.best.rank (bounded-whole g c.states-states.ensures.whole) (omega (arith, c.letters-letter-end.ensures, c.loop-letter-test.false)) c.loop-letter.invariant.letters
+    letters-all (edges_of g) g.states g.letters c.args.components.now c.args.bests.now c.args.state c.loop-letter.letter c.loop-letter.best.rank (bounded-whole g c.requires.whole) (omega (arith, c.letters-letter-end.ensures, c.loop-letter-test.false)) c.loop-letter.invariant.letters

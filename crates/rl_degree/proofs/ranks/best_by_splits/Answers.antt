@@ -14,7 +14,7 @@ pub returns-then-is_none-clause-splits : goal.returns-then-is_none-clause-splits
 returns-then-is_none-clause-splits c =
     let k = c.args.table.now.kernel in
     λ t h s. absurd (both_ways (is_member k.states.items k.places.items c.args.state) (none-some c.place_of.result (is_member k.states.items k.places.items c.args.state ≡ false) (IsPlace k.states.items k.places.items c.args.state) (c.is_none.ensures ∙ ap not c.if-is_none.true) c.place_of.ensures)
-    (not-there c.args.g.now c.args.table.now c.states-states.ensures.whole c.requires.table c.requires.no_twin c.args.state t c.requires.state_in h s).0)
+    (not-there c.args.g.now c.args.table.now c.requires.table.whole c.requires.table c.requires.no_twin c.args.state t c.requires.state_in h s).0)
 
 pub best_by_split-requires-clause-to_in : goal.best_by_split-requires-clause-to_in
 best_by_split-requires-clause-to_in c =
@@ -46,4 +46,4 @@ returns-clause-splits c =
     let g = c.args.g.now in
     let t = c.args.table.now in
     splits-all (edges_of g) g.states t.components c.args.bests.now c.args.state t.kernel.states.items t.kernel.places.items c.loop-place.place c.loop-place.best.rank (omega arith)
-    (λ q h s. (not-there g t c.states-states.ensures.whole c.requires.table c.requires.no_twin c.args.state q c.requires.state_in h s).1) c.loop-place.invariant.splits
+    (λ q h s. (not-there g t c.requires.table.whole c.requires.table c.requires.no_twin c.args.state q c.requires.state_in h s).1) c.loop-place.invariant.splits

@@ -4,7 +4,7 @@ use Rattle.rl_graph.specs.Graph.{edges_of}
 use Rattle.rl_graph.specs.Twins.{IsSplit}
 use Rattle.rl_degree.specs.internal.Splits.{HasSplit}
 use Rattle.rl_degree.specs.internal.Pairs.{lists_of}
-use Rattle.rl_degree.specs.internal.Rows.{Stand, field_of, stand_of, behind, IsSearching}
+use Rattle.rl_degree.specs.internal.Rows.{Stand, field_of, stand_of, word_at, behind, IsSearching}
 use Rattle.rl_degree.proofs.SearchLaws.{for-behind, search-start, search-further, search-found, search-word, search-none}
 use Rattle.rl_degree.proofs.searches.search_for.Goals as goal
 
@@ -16,15 +16,15 @@ loop-found-init c =
     let places = (lists_of t.placed).places in
     let at : c.index.result.now ≡ get_or places x 0 =
     get_or_read places x c.index.result.now (omega (arith, c.requires.pair.within, c.requires.table.placed.size)) c.index.ensures 0 in
-    let s = search-start g t c.states-states.ensures.whole c.requires.table c.args.keeps x c.of-part.result _ c.index.result.now c.states.result c.args.from c.args.to (stand_of c.in_ok-search.search) c.requires.from_in c.requires.pair
-    c.of-part.ensures at (ap length c.members_of-pairs.ensures) c.states.ensures.number c.in_ok-search.ensures in
+    let s = search-start g t c.requires.table.whole c.requires.table c.args.keeps c.in_ok-hopeless.hopeless x c.of-part.result _ c.index.result.now c.args.from c.args.to (stand_of c.in_ok-search.search) c.requires.from_in c.requires.to_in c.in_ok-hopeless.ensures c.requires.pair
+    c.of-part.ensures at (ap length c.members_of-pairs.ensures) c.in_ok-search.ensures in
     record {
       searching = s.0;
       asked = s.1;
       keeps = ap (λ (z : Stand). z.keeps) c.in_ok-search.ensures;
       from = ap (λ (z : Stand). z.from) c.in_ok-search.ensures;
       to = ap (λ (z : Stand). z.to) c.in_ok-search.ensures;
-      wide = ap length c.in-Ok.ensures ∙ (length-replicate c.states-2.result false ∙ c.states-2.ensures.number);
+      wide = ap length c.in_ok-image.ensures ∙ (length-replicate c.states-states.result false ∙ c.states-states.ensures.number);
     }
 
 pub is_goal-requires : goal.is_goal-requires
@@ -35,11 +35,11 @@ is_goal-requires c =
     let h : IsSearching d (behind f s) = subst (IsSearching d) c.in-Some.ensures.found c.loop-found.invariant.searching in
     omega (arith, sym (ap (λ (z : Stand). z.to) c.in-Some.ensures.found) ∙ c.loop-found.invariant.to, c.requires.to_in, (h.found f (inl refl)).wide)
 
-pub word_to-word-requires-clause-step_in : goal.word_to-word-requires-clause-step_in
-word_to-word-requires-clause-step_in c =
+pub returns-then-is_goal-clause-steps : goal.returns-then-is_goal-clause-steps
+returns-then-is_goal-clause-steps c =
     let d = field_of c.args.g.now c.args.table.now c.of-part.result in
     let h : IsSearching d (behind c.in-Some.found (stand_of c.next.new.self)) = subst (IsSearching d) c.in-Some.ensures.found c.loop-found.invariant.searching in
-    (h.found c.in-Some.found (inl refl)).step_in
+    record { rooted = h.rooted; step_in = (h.found c.in-Some.found (inl refl)).step_in }
 
 pub returns-then-is_goal-clause-word : goal.returns-then-is_goal-clause-word
 returns-then-is_goal-clause-word c =
@@ -56,9 +56,9 @@ returns-then-is_goal-clause-word c =
     let yes = c.is_goal.ensures.yes c.if-is_goal.true in
     let from : s.from ≡ c.args.from = sym (ap (λ (z : Stand). z.from) e) ∙ i.from in
     let to : s.to ≡ c.args.to = sym (ap (λ (z : Stand). z.to) e) ∙ i.to in
-    λ keeps. subst (λ (z : ℕ). IsSplit (edges_of g) z c.args.to c.in_ok-word.field-0) from (subst (λ (z : ℕ). IsSplit (edges_of g) s.from z c.in_ok-word.field-0) to
-    (search-word g t c.states-states.ensures.whole c.requires.table c.args.pair part s f c.in_ok-word.field-0 is h yes.0 yes.1
-    (sym (ap (λ (z : Stand). z.keeps) e) ∙ (i.keeps ∙ keeps)) c.in_ok-word.ensures))
+    λ keeps. subst (λ (z : ℕ). IsSplit (edges_of g) z c.args.to (word_at s.steps f.step)) from (subst (λ (z : ℕ). IsSplit (edges_of g) s.from z (word_at s.steps f.step)) to
+    (search-word g t c.requires.table.whole c.requires.table c.args.pair part s f (word_at s.steps f.step) is h yes.0 yes.1
+    (sym (ap (λ (z : Stand). z.keeps) e) ∙ (i.keeps ∙ keeps)) refl))
 
 pub returns-then-is_goal-clause-found : goal.returns-then-is_goal-clause-found
 returns-then-is_goal-clause-found c =
@@ -76,7 +76,28 @@ returns-then-is_goal-clause-found c =
     let from : s.from ≡ c.args.from = sym (ap (λ (z : Stand). z.from) e) ∙ i.from in
     let to : s.to ≡ c.args.to = sym (ap (λ (z : Stand). z.to) e) ∙ i.to in
     subst (λ (z : ℕ). HasSplit (edges_of g) z c.args.to) from (subst (λ (z : ℕ). HasSplit (edges_of g) s.from z) to
-    ((h.found f (inl refl)).word, search-found g t c.states-states.ensures.whole c.requires.table c.args.pair part s f is h yes.0 yes.1))
+    ((h.found f (inl refl)).word, search-found g t c.requires.table.whole c.requires.table c.args.pair part s f is h yes.0 yes.1))
+
+pub loop-found-preserved-in_ok-follow : goal.loop-found-preserved-in_ok-follow
+loop-found-preserved-in_ok-follow c =
+    let g = c.args.g.now in
+    let t = c.args.table.now in
+    let f = c.in-Some.found in
+    let part = c.of-part.result in
+    let s = stand_of c.next.new.self in
+    let i = c.loop-found.invariant in
+    let e = c.in-Some.ensures.found in
+    let is = for-behind g t c.args.pair part s (stand_of c.loop-found.search) f e i.asked in
+    let o = c.in_ok-follow.ensures in
+    let both = search-further g t c.requires.table.whole c.requires.table c.args.pair part s (stand_of c.follow.new.self) f is o.further o.followed (c.is_goal.ensures.no c.if-is_goal.false) in
+    record {
+      searching = both.0;
+      asked = both.1;
+      keeps = o.further.keeps ∙ (sym (ap (λ (z : Stand). z.keeps) e) ∙ i.keeps);
+      from = o.further.from ∙ (sym (ap (λ (z : Stand). z.from) e) ∙ i.from);
+      to = o.further.to ∙ (sym (ap (λ (z : Stand). z.to) e) ∙ i.to);
+      wide = c.follow.ensures.same_width ∙ i.wide;
+    }
 
 pub loop-found-preserved : goal.loop-found-preserved
 loop-found-preserved c =
@@ -88,15 +109,15 @@ loop-found-preserved c =
     let i = c.loop-found.invariant in
     let e = c.in-Some.ensures.found in
     let is = for-behind g t c.args.pair part s (stand_of c.loop-found.search) f e i.asked in
-    let o = c.in-Ok-followed.ensures in
-    let both = search-further g t c.states-states.ensures.whole c.requires.table c.args.pair part s (stand_of c.follow-followed.new.self) f is o.further o.followed (c.is_goal.ensures.no c.if-is_goal.false) in
+    let o = c.in_ok-follow.ensures in
+    let both = search-further g t c.requires.table.whole c.requires.table c.args.pair part s (stand_of c.follow.new.self) f is o.further o.followed (c.is_goal.ensures.no c.if-is_goal.false) in
     record {
       searching = both.0;
       asked = both.1;
       keeps = o.further.keeps ∙ (sym (ap (λ (z : Stand). z.keeps) e) ∙ i.keeps);
       from = o.further.from ∙ (sym (ap (λ (z : Stand). z.from) e) ∙ i.from);
       to = o.further.to ∙ (sym (ap (λ (z : Stand). z.to) e) ∙ i.to);
-      wide = c.follow-followed.ensures.same_width ∙ i.wide;
+      wide = c.follow.ensures.same_width ∙ i.wide;
     }
 
 pub returns-clause-none : goal.returns-clause-none
@@ -104,7 +125,7 @@ returns-clause-none c =
     let g = c.args.g.now in
     let i = c.loop-found.invariant in
     let s = stand_of c.loop-found.search in
-    λ split. search-none g c.args.table.now c.states-states.ensures.whole c.requires.table c.requires.no_twin c.args.pair c.of-part.result s i.asked i.searching c.in_default-next.ensures.none
+    λ split. search-none g c.args.table.now c.requires.table.whole c.requires.table c.requires.no_twin c.args.pair c.of-part.result s i.asked i.searching c.in_default.ensures.none
     (subst (λ (z : ℕ). HasSplit (edges_of g) z s.to) (sym i.from) (subst (λ (z : ℕ). HasSplit (edges_of g) c.args.from z) (sym i.to) split))
 
 pub index-requires : goal.index-requires
@@ -113,9 +134,12 @@ index-requires c = omega (arith, c.requires.pair.within, c.requires.table.placed
 pub members_of-pairs-requires : goal.members_of-pairs-requires
 members_of-pairs-requires c = omega (arith, c.of-part.ensures, c.requires.table.parts.below c.args.pair c.requires.pair.within, c.requires.table.placed.numbered)
 
-pub follow-followed-requires-clause-part_in : goal.follow-followed-requires-clause-part_in
-follow-followed-requires-clause-part_in c = omega (arith, c.of-part.ensures, c.requires.table.parts.below c.args.pair c.requires.pair.within)
+pub follow-requires-clause-part_in : goal.follow-requires-clause-part_in
+follow-requires-clause-part_in c = omega (arith, c.of-part.ensures, c.requires.table.parts.below c.args.pair c.requires.pair.within)
 
-pub follow-followed-requires-clause-searching : goal.follow-followed-requires-clause-searching
-follow-followed-requires-clause-searching c =
+pub follow-requires-clause-searching : goal.follow-requires-clause-searching
+follow-requires-clause-searching c =
     subst (IsSearching (field_of c.args.g.now c.args.table.now c.of-part.result)) c.in-Some.ensures.found c.loop-found.invariant.searching
+
+pub new-requires-clause-from_in : goal.new-requires-clause-from_in
+new-requires-clause-from_in c = omega (arith, c.in_ok-hopeless.ensures.wide, c.requires.from_in)

@@ -6,8 +6,8 @@ use Rattle.rl_equiv.proofs.comparing.same.Goals as goal
 pub sameness-requires-clause-readers : goal.sameness-requires-clause-readers
 sameness-requires-clause-readers c = are-readers c.args.u (tree_of c.args.a.now) (tree_of c.args.b.now) c.in_ok-joint.joint.first c.in_ok-joint.joint.second c.in_ok-joint.ensures.stand
 
-pub returns-in_err-found-clause-passed : goal.returns-in_err-found-clause-passed
-returns-in_err-found-clause-passed c =
+pub returns-in_err-found-clause-exceeded : goal.returns-in_err-found-clause-exceeded
+returns-in_err-found-clause-exceeded c =
     let p = err_from_is_err_and c.from_residual-in_err-found.result c.from_residual-in_err-found.ensures.1 in
     rw (p.1, p.2) tt
 

@@ -9,7 +9,7 @@ use Rattle.rl_expo.proofs.SearchLaws.{none_stay-no_fork}
 use Rattle.rl_expo.proofs.blocks.fork_in.Goals.{then-marks-number+in_ok-fork+in_default, else-marks-number}
 use Rattle.rl_expo.proofs.blocks.fork_in.Goals as goal
 
--- one more component
+-- One more component.
 more : (next : ℕ → ℕ → List ℕ) (p : PartTable) (k : ℕ) → ((c : ℕ) → c < k → HasNoForkIn next p c) → HasNoForkIn next p k → (c : ℕ) → c < k + 1 → HasNoForkIn next p c
 more next p k old here c lt = by (cases_eq c k)
   where

@@ -9,7 +9,7 @@ use Rattle.rl_expo.proofs.DenseLaws.{earlier-back, marks-more}
 use Rattle.rl_expo.proofs.dense.meet_after.Goals as goal
 use Rattle.rl_expo.proofs.dense.meet_after.Goals.{then-of-own+in_default, else-of-own}
 
--- a target in the component of the mark's state
+-- A target in the component of the mark's state.
 marked : (g : Graph) (p : PartTable) (k : Mark) (row : List ℕ) (middle i : ℕ) → IsWhole g → k.state < g.states → k.letter < g.letters → k.number < length (edges_of g k.state k.letter) → middle ≡ get_or (edges_of g k.state k.letter) k.number 0
     → row ≡ edges_of g middle k.via → i < length row → number_of p (get_or row i 0) ≡ number_of p k.state → IsMark g p (get_or row i 0) k
 marked g p k row middle i w state letter number is e lt same =

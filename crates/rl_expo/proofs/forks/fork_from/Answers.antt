@@ -9,7 +9,7 @@ use Rattle.rl_expo.proofs.MeetingLaws.{searched-more, searched-at}
 use Rattle.rl_expo.proofs.forks.fork_from.Goals as goal
 use Rattle.rl_expo.proofs.forks.fork_from.Goals.{then-not-is_again+in_default+then-edges-gt1, then-not-is_again+in_default+else-edges-gt1, else-not-is_again}
 
--- none meets on one more letter
+-- None meets on one more letter.
 none-more : (g : Graph) (s : Seats) (p : PartTable) (i n : ℕ) → ((c : ℕ) → c < n → NoneMeets g s p i c) → NoneMeets g s p i n → (c : ℕ) → c < n + 1 → NoneMeets g s p i c
 none-more g s p i n before last c lt = by (cases_eq c n)
   where

@@ -33,12 +33,12 @@ is_false : (b : Bool) → not b ≡ true → b ≡ false
 is_false true e = absurd (false≢true e)
 is_false false e = refl
 
--- flags that aren't known
+-- Flags that aren't known flags are unknown.
 unknown : (flags : SiteFlags) → ((known : Flags) → flags ≡ Known known → ⊥) → flags ≡ Unknown
 unknown (Known known) none = absurd (none known refl)
 unknown Unknown none = refl
 
--- out of memory aside, a value is refused for this cause
+-- Except for running out of memory, a refused value is refused for this cause.
 refused_for : (r : Result Placed StrError) (e : StrError) → IsRefused r e → e ≢ valuing.OutOfMemory → r ≡ Err e
 refused_for r valuing.FString is some = is
 refused_for r valuing.Mixed is some = is

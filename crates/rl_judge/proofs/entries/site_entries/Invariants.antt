@@ -6,7 +6,7 @@ use Rattle.rl_report.specs.Places.{IsAt}
 use Rattle.rl_judge.specs.RightEntries.{IsSiteEntry}
 use Rattle.rl_judge.proofs.entries.site_entries.Given as goal
 
--- the sites so far have their entries
+-- The sites so far have their entries.
 abbrev pub invariant-loop-site : goal.invariant-loop-site
 invariant-loop-site l = record {
   right : AllZip (IsSiteEntry l.path l.source l.tokens l.settings) (take l.site-index l.site-items) l.entries;

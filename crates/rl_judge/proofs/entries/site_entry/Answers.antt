@@ -4,7 +4,7 @@ use Rattle.rl_report.specs.Places.{place_of}
 use Rattle.rl_judge.specs.Analysis.{IsAnalysisOf}
 use Rattle.rl_judge.proofs.entries.site_entry.Goals as goal
 
--- where a token begins
+-- The place of an optional token is the place where it begins.
 place_from : (source : List ℕ) (token : Option Token) → option_map (place_of source) (option_map (λ t. t.from) token) ≡ option_map (λ t. place_of source t.from) token
 place_from source None = refl
 place_from source (Some token) = refl

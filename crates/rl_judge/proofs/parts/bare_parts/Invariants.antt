@@ -1,4 +1,4 @@
--- The parts of the spans so far.
+-- The parts are those of the spans so far.
 use Rattle.std.proofs.Common.{◌≡◌, map, take}
 use Rattle.rl_judge.specs.Analysis.{bare_part}
 use Rattle.rl_judge.proofs.parts.bare_parts.Given as goal

@@ -1,4 +1,4 @@
--- The parts of the spans so far.
+-- The parts are those of the spans so far.
 use Rattle.std.proofs.Common.{◌≡◌, map, take}
 use Rattle.rl_judge.specs.Analysis.{quoted_part}
 use Rattle.rl_judge.proofs.parts.quoted_parts.Given as goal

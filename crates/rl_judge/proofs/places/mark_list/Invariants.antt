@@ -1,4 +1,4 @@
--- The marks of the parts so far.
+-- The marks are those of the parts so far.
 use Rattle.std.proofs.Common.{◌≡◌, map}
 use Rattle.rl_report.specs.Places.{IsAt}
 use Rattle.rl_judge.specs.RightEntries.{mark_of}

@@ -12,8 +12,8 @@ use Rattle.rl_numbers.specs.Reached.{IsReach}
 use Rattle.rl_numbers.proofs.DoubleList.{listed_doubles}
 use Rattle.rl_numbers.proofs.numbering.doubles_of.Goals as goal
 
-pub doubles_by-doubles-requires-clause-starts : goal.doubles_by-doubles-requires-clause-starts
-doubles_by-doubles-requires-clause-starts c = rw (c.deref.ensures.value, ← c.states-states.ensures.number) (λ k d lt.
+pub doubles_by-requires-clause-starts : goal.doubles_by-requires-clause-starts
+doubles_by-requires-clause-starts c = rw (c.deref.ensures.value, ← c.states-states.ensures.number) (λ k d lt.
     let l = c.in_ok-starts.starts.items in
     let n = c.states-states.result in
     let s = c.in_ok-starts.ensures.sound (get_or l k d) (Has-get_or l k d lt) in
@@ -24,9 +24,9 @@ returns c =
     let g = c.args.g.now in
     let starts = c.in_ok-starts.starts.items in
     let diagonal = subst (λ (n : ℕ). IsDiagonalUpTo n n starts) c.states-states.ensures.number c.in_ok-starts.ensures in
-    IfOk-weaker c.doubles_by-doubles.result (AreReachedDoubles g c.deref.result.now) (λ l. AreDoubles (edges_of g) g.states l)
+    IfOk-weaker c.doubles_by.result (AreReachedDoubles g c.deref.result.now) (λ l. AreDoubles (edges_of g) g.states l)
     (λ l found.
     let reach = subst (λ (l : List ℕ). IsReach (pair_moves (edges_of g) g.states) l found.keys) c.deref.ensures.value found.reach in
     rw found.same (listed_doubles (edges_of g) g.states g.letters starts found.keys found.parts (bounded-whole g c.states-states.ensures.whole) c.requires.no_twin diagonal
     reach found.inside found.are_parts))
-    c.doubles_by-doubles.ensures
+    c.doubles_by.ensures

@@ -1,4 +1,4 @@
--- One item is the branch.
+-- A single item is the body.
 use Rattle.std.proofs.Common.{sym, ap, arith}
 use Rattle.rl_pattern.specs.Tree as t
 use Rattle.rl_pattern.specs.internal.Views.{node_of}

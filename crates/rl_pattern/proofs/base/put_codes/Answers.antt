@@ -1,4 +1,4 @@
--- A literal more, and none.
+-- One more literal, and none.
 use Rattle.std.proofs.Common.{◌≡◌, ℕ, ◌+◌, ◌<◌, suc, List, length, drop, arith, ap, sym, ◌∙◌, drop-cons}
 use Rattle.std.specs.Prelude.{slice_index_or}
 use Rattle.std.proofs.lemmas.List.{drop_all}

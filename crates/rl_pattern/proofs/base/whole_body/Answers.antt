@@ -1,4 +1,4 @@
--- One branch is the body.
+-- A single branch is the body.
 use Rattle.std.proofs.Common.{sym, ap, ◌∙◌, arith}
 use Rattle.rl_pattern.specs.Tree as t
 use Rattle.rl_pattern.specs.internal.Views.{branch_of}

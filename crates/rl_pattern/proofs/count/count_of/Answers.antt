@@ -1,4 +1,4 @@
--- One code more of a count.
+-- One more code of a count.
 use Rattle.std.proofs.Common.{◌≡◌, ℕ, ◌+◌, ◌<◌, ◌-◌, suc, Bool, true, false, cond, ◌==◌, List, [], ◌∷◌, length, drop, Option, Some, None, refl, sym, ap, ◌∙◌, arith}
 use Rattle.std.proofs.lemmas.Bool.{eqb-true, true≢false}
 use Rattle.std.proofs.lemmas.List.{at_drop_more, drop_all}
@@ -14,7 +14,7 @@ part_after : Option CountPart → List ℕ → Option Count
 part_after None cs = None
 part_after (Some part) cs = part_rest part cs
 
--- a part's count with one code more is that of the part after the code
+-- The count of a part with one more code is that of the part after the code.
 one_code : (part : CountPart) (code : ℕ) (cs : List ℕ) → part_rest part (code ∷ cs) ≡ part_after (part_next part code) cs
 unfolding part_after
 one_code (Least m) code cs = go (is "," code)

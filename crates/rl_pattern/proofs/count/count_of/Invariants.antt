@@ -1,4 +1,4 @@
--- What the codes left make of the part is the count of the whole text.
+-- The remaining codes make of the part what the whole text spells.
 use Rattle.std.proofs.Common.{◌≡◌, drop}
 use Rattle.rl_pattern.specs.Codes.{least_of}
 use Rattle.rl_pattern.specs.internal.Views.{part_rest}

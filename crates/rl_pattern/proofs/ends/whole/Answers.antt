@@ -1,4 +1,4 @@
--- Where no group is open, the branches so far are those of the whole pattern.
+-- If no group is open, the branches so far are those of the whole pattern.
 use Rattle.std.proofs.Common.{◌≡◌, ℕ, List, [], ◌∷◌, length, map, reverse, Option, Some, refl, sym, ap, ◌∙◌, arith}
 use Rattle.std.proofs.lemmas.Bool.{eqb-true}
 use Rattle.std.specs.Prelude.{vec_len}
@@ -12,7 +12,7 @@ none_below : (fs : List Frame) → length fs ≡ 0 → map frame_of (reverse fs)
 none_below [] e = refl
 none_below (f ∷ fs) e = absurd (omega (arith, e))
 
--- a whole pattern that is found
+-- A whole pattern that is found.
 abbrev whole_some : t.Whole → Option t.Whole
 whole_some p = Some p
 

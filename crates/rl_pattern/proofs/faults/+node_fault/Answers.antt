@@ -1,4 +1,4 @@
--- A node's own faults stand before those of its body.
+-- The faults of a node itself come before those of its body.
 use Rattle.std.proofs.Common.{◌≡◌, ℕ, ◌+◌, ◌<◌, Bool, List, length, drop, map, Option, sym, ap, ◌∙◌}
 use Rattle.rl_pattern.specs.Tree as t
 use Rattle.rl_pattern.specs.internal.Views.{node_of, branch_of}

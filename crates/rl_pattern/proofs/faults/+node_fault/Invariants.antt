@@ -1,4 +1,4 @@
--- The first fault so far, and that of the nodes or branches left.
+-- The first fault so far, and that of the remaining nodes or branches.
 use Rattle.std.proofs.Common.{◌≡◌, drop, map}
 use Rattle.rl_pattern.specs.internal.Views.{node_of, branch_of}
 use Rattle.rl_pattern.specs.Tree as t

@@ -1,4 +1,4 @@
--- The faults of a quantifier one after the other.
+-- The faults of a quantifier, one after another.
 use Rattle.std.proofs.Common.{◌||◌, ◌==◌, ◌++◌, nat_lt, ap, ◌∙◌}
 use Rattle.rl_pattern.specs.Found.{first_fault, fault_if, is_bound, is_possessive, is_repeat_too_large, is_repeat_order, is_possessive_count}
 use Rattle.rl_pattern.proofs.FirstFault.{own_first}

@@ -1,4 +1,4 @@
--- The first fault so far, and that of the groups left under the flags so far.
+-- The first fault so far, and that of the remaining groups under the flags so far.
 use Rattle.std.proofs.Common.{◌≡◌, drop}
 use Rattle.rl_pattern.specs.Found.{earlier, first_fault, front_faults}
 use Rattle.rl_pattern.proofs.faults.fronts_fault.Given as goal

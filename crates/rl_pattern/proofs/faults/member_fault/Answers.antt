@@ -1,4 +1,4 @@
--- The faults of a range's sides, and of their order.
+-- The faults of the sides of a range, and of their order.
 use Rattle.std.proofs.Common.{◌++◌, sym, ap, ◌∙◌}
 use Rattle.rl_pattern.specs.Found.{first_fault, fault_if, escaped_faults, member_faults, reversed, is_reversed_range}
 use Rattle.rl_pattern.proofs.FirstFault.{own_first}

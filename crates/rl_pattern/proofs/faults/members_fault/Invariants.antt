@@ -1,4 +1,4 @@
--- The first fault so far, and that of the members left.
+-- The first fault so far, and that of the remaining members.
 use Rattle.std.proofs.Common.{flat_map, ◌≡◌, drop}
 use Rattle.rl_pattern.specs.Found.{earlier, first_fault, member_faults}
 use Rattle.rl_pattern.proofs.faults.members_fault.Given as goal

@@ -1,4 +1,4 @@
--- The letters' step is that of the head, in text or not.
+-- The step for flag letters is the step for the head, in a `str` or `bytes` pattern.
 use Rattle.std.proofs.Common.{sym, ap, ◌∙◌}
 use Rattle.rl_pattern.specs.internal.Machine.{head_step}
 use Rattle.rl_pattern.proofs.head.head_step.Goals as goal

@@ -1,4 +1,4 @@
--- One anchor less.
+-- Removing one anchor.
 use Rattle.std.proofs.Common.{map, reverse, sym, ap, ◌∙◌}
 use Rattle.rl_pattern.specs.Found.{begins_leading}
 use Rattle.rl_pattern.specs.internal.Views.{node_of}

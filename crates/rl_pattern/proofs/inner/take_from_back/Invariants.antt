@@ -1,4 +1,4 @@
--- What is left without the run is what was without it.
+-- Without the run, what is left is the same as before.
 use Rattle.std.proofs.Common.{◌≡◌, map, reverse, length}
 use Rattle.rl_pattern.specs.internal.Views.{node_of}
 use Rattle.rl_pattern.specs.internal.Judged.{without_leading}

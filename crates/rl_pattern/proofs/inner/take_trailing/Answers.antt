@@ -1,4 +1,4 @@
--- One anchor less, and none.
+-- Removing one anchor, and none.
 use Rattle.std.proofs.Common.{◌≡◌, ◌≢◌, ◌<◌, true, length, rules, arith, map, reverse, sym, ap, ◌∙◌}
 use Rattle.rl_pattern.specs.Found.{drops, no_trail, trailing_run}
 use Rattle.rl_pattern.specs.internal.Views.{node_of}

@@ -1,4 +1,4 @@
--- The run so far, and the one that is left.
+-- The run so far, and the run that is left.
 use Rattle.std.proofs.Common.{◌≡◌, map, reverse, length}
 use Rattle.rl_pattern.specs.internal.Views.{node_of}
 use Rattle.rl_pattern.specs.internal.Judged.{trail_at, both_trails, without_trailing}

@@ -1,4 +1,4 @@
--- One member more.
+-- One more member.
 use Rattle.std.proofs.Common.{◌||◌, ◌∙◌, sym, ap, arith}
 use Rattle.std.proofs.lemmas.List.{drop_all}
 use Rattle.rl_ranges.specs.Codes.{has}
@@ -9,8 +9,8 @@ use Rattle.rl_pattern.proofs.leaf_set.all_codes.Goals as goal
 pub loop-member-preserved : goal.loop-member-preserved
 loop-member-preserved c =
     record {
-      inside = c.in_ok-set.ensures.inside c.args.universe c.loop-member.invariant.inside c.in-Ok.ensures.inside;
-      members = λ x. codes_step c.args.universe c.args.members.now c.loop-member.member-index _ x (has c.loop-member.set x) (has c.in-Ok.more x) (has c.in_ok-set.set x) _ c.loop-member-test.true (c.in_ok-set.ensures.members x) (c.in-Ok.ensures.members x) (c.loop-member.invariant.members x);
+      inside = c.in_ok-set.ensures.inside c.args.universe c.loop-member.invariant.inside c.in_ok-more.ensures.inside;
+      members = λ x. codes_step c.args.universe c.args.members.now c.loop-member.member-index _ x (has c.loop-member.set x) (has c.in_ok-more.more x) (has c.in_ok-set.set x) _ c.loop-member-test.true (c.in_ok-set.ensures.members x) (c.in_ok-more.ensures.members x) (c.loop-member.invariant.members x);
     }
 
 pub returns-clause-members : goal.returns-clause-members

@@ -1,4 +1,4 @@
--- One member more.
+-- One more member.
 use Rattle.std.proofs.Common.{◌||◌, ◌∙◌, sym, ap, arith}
 use Rattle.std.proofs.lemmas.List.{drop_all}
 use Rattle.rl_ranges.specs.Codes.{has}

@@ -1,4 +1,4 @@
--- What is held so far, and what the members left hold.
+-- What the members so far hold, and what the remaining ones hold.
 use Rattle.std.proofs.Common.{◌≡◌, ◌||◌, ℕ, drop}
 use Rattle.rl_ranges.specs.Codes.{has, IsInside}
 use Rattle.rl_pattern.specs.internal.LeafSets.{classes_in}

@@ -7,9 +7,9 @@ use Rattle.rl_pattern.proofs.leaf_set.kind_set.Goals as goal
 
 pub returns-then-inverse-clause-members : goal.returns-then-inverse-clause-members
 returns-then-inverse-clause-members c =
-    codes_same c.complement-others.result (λ x. nat_lt x (code_count c.args.universe) && not (has c.in_ok-class.class x)) (kind_in c.args.universe c.args.flags c.args.kind c.args.inverse)
+    codes_same c.complement.result (λ x. nat_lt x (code_count c.args.universe) && not (has c.in_ok-class.class x)) (kind_in c.args.universe c.args.flags c.args.kind c.args.inverse)
     (λ x. kind_other c.args.universe c.args.flags c.args.kind c.args.inverse x (has c.in_ok-class.class x) c.if-inverse.true (c.in_ok-class.ensures.members x))
-    c.complement-others.ensures.members
+    c.complement.ensures.members
 
 pub returns-else-inverse-clause-members : goal.returns-else-inverse-clause-members
 returns-else-inverse-clause-members c =

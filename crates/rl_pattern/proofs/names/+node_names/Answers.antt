@@ -1,4 +1,4 @@
--- The names of one node or branch more.
+-- The names of one more node or branch.
 use Rattle.std.proofs.Common.{◌≡◌, ℕ, ◌+◌, ◌<◌, List, length, drop, map, ◌++◌, Result, sym, ap, ◌∙◌, append_assoc}
 use Rattle.std.proofs.lemmas.List.{at_drop_more}
 use Rattle.std.specs.Prelude.{slice_index_or, IfOk}
@@ -37,7 +37,7 @@ pub branches_names-loop-branch-preserved : goal.branches_names-loop-branch-prese
 branches_names-loop-branch-preserved measure c =
     branches_more c.args.branches.now c.loop-branch.branch-index c.branch-item.result (map called_of c.loop-branch.all) (map called_of c.in_ok-all.all) _ c.loop-branch-test.true (c.in_ok-all.ensures ∙ ap (λ b. map called_of c.loop-branch.all ++ node_names b.body) (sym (branch_of-fields c.branch-item.result)) ∙ ap (λ b. map called_of c.loop-branch.all ++ node_names (branch_of b).body) c.branch-item.is) c.loop-branch.invariant
 
--- names that are answered, by another word for them
+-- The resulting names, stated in another way.
 other_names : {E : Type 0} (r : Result (List Read) E) (p q : List Called) → p ≡ q → IfOk r (λ x. map called_of x ≡ p) → IfOk r (λ x. map called_of x ≡ q)
 other_names r p q e h = answered r (λ x. map called_of x ≡ p) (λ x. map called_of x ≡ q) (λ x k. k ∙ e) h
 

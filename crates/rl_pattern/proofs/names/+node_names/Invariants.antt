@@ -1,4 +1,4 @@
--- The names so far, and those of the nodes or branches left.
+-- The names so far, and those of the remaining nodes or branches.
 use Rattle.std.proofs.Common.{◌≡◌, drop, map, ◌++◌}
 use Rattle.rl_pattern.specs.internal.Views.{node_of, branch_of}
 use Rattle.rl_pattern.specs.internal.Judged.{called_of}

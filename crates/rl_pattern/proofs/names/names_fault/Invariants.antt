@@ -1,4 +1,4 @@
--- The first fault so far, and that of the names left; and which names stood before.
+-- The first fault so far, and that of the remaining names; and which names came before.
 use Rattle.std.proofs.Common.{◌≡◌, ℕ, List, [], take, drop, map, Bor}
 use Rattle.std.specs.Ordering.{nat_cmp}
 use Rattle.std.specs.Cmp.Lexicographic.{slice_cmp}

@@ -1,4 +1,4 @@
--- A code that is there, and none behind the end.
+-- A code that exists, and none after the end.
 use Rattle.std.proofs.Common.{Some, sym, ap, ◌∙◌, length}
 use Rattle.std.proofs.lemmas.Bool.{ltb-true, ltb-false}
 use Rattle.std.proofs.lemmas.Option.{slice_get-get_or, slice_get_past}

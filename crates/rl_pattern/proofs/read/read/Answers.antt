@@ -1,4 +1,4 @@
--- The loop's answers, by the laws of the loop.
+-- The answers of the loop, by its laws.
 use Rattle.std.proofs.Common.{◌≡◌, ℕ, ◌<◌, ◌+◌, suc, List, length, slice_get, Some, arith, subst, sym, ap}
 use Rattle.std.specs.Prelude.{slice_index_or}
 use Rattle.std.proofs.lemmas.Option.{slice_get-get_or}

@@ -1,4 +1,4 @@
--- The machine took the codes so far, and no group opens too deep among them.
+-- The machine has read the codes so far, and no group among them is nested too deep.
 use Rattle.std.proofs.Common.{◌≡◌}
 use Rattle.rl_pattern.specs.internal.Views.{state_of}
 use Rattle.rl_pattern.specs.internal.Answering.{Standing}

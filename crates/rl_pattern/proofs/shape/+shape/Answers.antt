@@ -1,4 +1,4 @@
--- What nodes and branches are as patterns, one more at a time.
+-- The patterns of nodes and branches, with one more at a time.
 use Rattle.std.proofs.Common.{◌≡◌, ℕ, ◌+◌, ◌<◌, List, [], ◌∷◌, ◌++◌, length, drop, map, Result, refl, sym, ap, ◌∙◌, append_assoc}
 use Rattle.std.proofs.lemmas.List.{at_drop_more, map-append}
 use Rattle.std.specs.Prelude.{slice_index_or, IfOk}
@@ -13,7 +13,7 @@ use Rattle.rl_pattern.proofs.Layers.{node_of-repeat, node_of-group, branch_of-fi
 use Rattle.rl_pattern.proofs.LeafLaws.{answered}
 use Rattle.rl_pattern.proofs.shape.+shape.Goals as goal
 
--- one element more in front of what is left
+-- One more item before what is left.
 one_more : {A B C : Type 0} (f : A → C) (g : List B → List C) (ns : List B) (i : ℕ) (d : B) (done next : List A) (x : A) (y : C) (total : List C) → i < length ns → next ≡ done ++ x ∷ [] → f x ≡ y → g (slice_index_or ns i d ∷ drop (i + 1) ns) ≡ y ∷ g (drop (i + 1) ns) → map f done ++ g (drop i ns) ≡ total → map f next ++ g (drop (i + 1) ns) ≡ total
 one_more f g ns i d done next x y total l e h k z =
     ap (λ zs. map f zs ++ g (drop (i + 1) ns)) e
@@ -41,7 +41,7 @@ branch_pats-loop-branch-preserved measure c =
     ∙ ap (λ b. ((branch_of b).place, shape c.args.universe (branch_of b).body)) c.branch-item.is)
     refl c.loop-branch.invariant
 
--- a pattern that is answered, by another word for it
+-- The resulting pattern, stated in another way.
 other_word : {E : Type 0} (r : Result Pat E) (p q : s.PatTree) → p ≡ q → IfOk r (λ x. pat_of x ≡ p) → IfOk r (λ x. pat_of x ≡ q)
 other_word r p q e h = answered r (λ x. pat_of x ≡ p) (λ x. pat_of x ≡ q) (λ x k. k ∙ e) h
 

@@ -1,4 +1,4 @@
--- What is done, and what is left of the nodes or branches.
+-- What is done, and what remains of the nodes or branches.
 use Rattle.std.proofs.Common.{◌≡◌, ◌++◌, drop, map}
 use Rattle.rl_syntax.specs.PatTree.{pat_of}
 use Rattle.rl_syntax.specs.Counting.{branch_tree}

@@ -1,4 +1,4 @@
--- Where no byte is a stop, the name stands nowhere.
+-- If the search stops at no byte, the name begins at none of them.
 use Rattle.std.proofs.Common.{arith}
 use Rattle.rl_pylex.proofs.Words.{free-run}
 use Rattle.rl_pylex.proofs.absence.free_size.Goals as goal

@@ -1,4 +1,4 @@
--- Each step passes a run of ordinary bytes and what stands behind it.
+-- Each step skips a run of ordinary bytes and what follows it.
 use Rattle.std.proofs.Common.{◌≡◌, arith, length, ◌≤◌, ◌+◌, sym, ap, subst, ℕ}
 use Rattle.std.proofs.lemmas.List.{length-drop}
 use Rattle.rl_pylex.specs.internal.Absence.{ReachesWithout}

@@ -1,4 +1,4 @@
--- Each step passes the byte at the place and the free ones behind it.
+-- Each step skips the byte at the place and the free ones after it.
 use Rattle.std.proofs.Common.{arith, ℕ, List, length, drop, ◌≤◌, ◌+◌, refl, sym, ap, subst}
 use Rattle.std.proofs.lemmas.List.{length-drop}
 use Rattle.rl_pylex.specs.internal.Absence.{IsFree}

@@ -1,4 +1,4 @@
--- What was passed is ordinary, and no word that begins there is the name.
+-- The skipped bytes are ordinary, and no word that begins among them is the name.
 use Rattle.std.proofs.Common.{length, ◌-◌, ◌≤◌}
 use Rattle.rl_pylex.specs.internal.Absence.{IsPassed}
 use Rattle.rl_pylex.proofs.absence.run_without.Given as goal

@@ -1,4 +1,4 @@
--- The tables are read at each half of a byte, and tell the class, by computation.
+-- The tables are looked up with each half of a byte, and decide its class, by computation.
 use Rattle.std.proofs.Common.{ℕ, List, [], ◌∷◌, refl}
 use Rattle.rl_pylex.specs.internal.Absence.{is_ordinary}
 use Rattle.rl_pylex.proofs.ClassTables.{table_from}

@@ -1,4 +1,4 @@
--- No byte before the place is a stop.
+-- The search stops at no byte before the place.
 use Rattle.std.proofs.Common.{◌≡◌, ℕ, ◌-◌, ◌<◌, ◌≤◌, false, length}
 use Rattle.rl_pylex.specs.internal.Blocks.{stops_at}
 use Rattle.rl_pylex.proofs.blocks.size_before_stop.Given as goal

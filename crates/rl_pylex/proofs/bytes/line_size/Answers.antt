@@ -1,4 +1,4 @@
--- A block's run is that of the text, and goes on behind the block where it ends no line.
+-- A run in a block is a run of the text. It goes on after the block if no line ends there.
 use Rattle.std.proofs.Common.{◌≡◌, ◌+◌, ◌≤◌, length, drop, arith}
 use Rattle.std.specs.List.{prefix_len}
 use Rattle.rl_pylex.specs.Bytes.{in_line}

@@ -1,4 +1,4 @@
--- What was passed is of the line.
+-- The bytes so far belong to the line.
 use Rattle.std.proofs.Common.{◌≡◌, ◌+◌, ◌-◌, ◌≤◌, length, drop}
 use Rattle.std.specs.List.{prefix_len}
 use Rattle.rl_pylex.specs.Bytes.{in_line}

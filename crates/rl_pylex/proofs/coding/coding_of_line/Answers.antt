@@ -1,4 +1,4 @@
--- The name lies in the line behind its blanks.
+-- The name lies within the line, after its blanks.
 use Rattle.std.proofs.Common.{length, ap, arith}
 use Rattle.std.proofs.lemmas.List.{length-drop}
 use Rattle.rl_pylex.proofs.CodingLines.{place-within}

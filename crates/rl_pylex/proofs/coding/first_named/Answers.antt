@@ -1,4 +1,4 @@
--- The search goes on where no name stands at the place.
+-- The search goes on if there is no name at the place.
 use Rattle.std.proofs.Common.{ap, sym, ◌∙◌, arith, ℕ, List}
 use Rattle.std.proofs.lemmas.List.{drop_all}
 use Rattle.rl_pylex.specs.Coding.{named_here, from_place, first_named}

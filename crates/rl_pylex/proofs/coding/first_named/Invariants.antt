@@ -1,4 +1,4 @@
--- No `coding` with a name stands before the place.
+-- There is no `coding` with a name before the place.
 use Rattle.std.proofs.Common.{◌≡◌, drop}
 use Rattle.rl_pylex.specs.Coding.{first_named, from_place}
 use Rattle.rl_pylex.proofs.coding.first_named.Given as goal

@@ -1,4 +1,4 @@
--- The name is what follows the gap behind `coding`.
+-- The name is what follows the gap after `coding`.
 use Rattle.std.proofs.Common.{◌+◌, ◌∙◌, length, ap, sym, refl, arith}
 use Rattle.std.proofs.lemmas.List.{length-drop}
 use Rattle.rl_pylex.proofs.CodingLines.{named-none, named-is, named-some}

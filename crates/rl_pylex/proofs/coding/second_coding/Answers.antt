@@ -1,4 +1,4 @@
--- The second line's coding counts where the first line is bare.
+-- The coding in the second line counts if the first line is bare.
 use Rattle.std.proofs.Common.{◌+◌, length, ap, arith}
 use Rattle.std.proofs.lemmas.List.{length-drop}
 use Rattle.rl_pylex.proofs.CodingLines.{second-none, second-is, place-within}

@@ -1,4 +1,4 @@
--- The name lies in the text.
+-- The name lies within the text.
 use Rattle.std.proofs.Common.{arith}
 use Rattle.rl_pylex.proofs.coding.wrong_coding.Goals as goal
 

@@ -1,4 +1,4 @@
--- The law is that of the cuts of a source.
+-- The law follows from the fact that there is only one cut of a source.
 use Rattle.rl_pylex.proofs.Uniqueness.{one_list, no_fault, one_fault}
 use Rattle.rl_pylex.proofs.laws.one_answer.Goals as goal
 

@@ -1,4 +1,4 @@
--- The law is that of the pieces and of the search for closing quotes.
+-- The law follows from the facts about pieces and about the search for closing quotes.
 use Rattle.rl_pylex.proofs.TokenFacts.{IsInOrder-tokens}
 use Rattle.rl_pylex.proofs.LiteralFacts.{IsLiteral-token}
 use Rattle.rl_pylex.proofs.Alone.{literal_alone}

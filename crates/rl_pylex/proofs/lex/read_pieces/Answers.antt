@@ -1,4 +1,4 @@
--- One piece more is read at the place, and then blanks.
+-- One more piece is read at the place, and then blanks.
 use Rattle.std.proofs.Common.{◌≡◌, ℕ, ◌+◌, length, ap, ◌∙◌, arith, sym, subst}
 use Rattle.rl_pylex.specs.Source.{Reaches}
 use Rattle.rl_pylex.specs.Rules.{reading}

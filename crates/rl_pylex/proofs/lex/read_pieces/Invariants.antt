@@ -1,4 +1,4 @@
--- The pieces so far reach the place, and each bracket that is open stands before it.
+-- The pieces so far reach the place, and each open bracket comes before it.
 use Rattle.std.proofs.Common.{length, ◌-◌, ◌≤◌}
 use Rattle.rl_pylex.specs.Source.{Reaches}
 use Rattle.rl_pylex.proofs.lex.read_pieces.Given as goal

@@ -1,4 +1,4 @@
--- What was passed holds nothing that ends the search, and what stands at the place tells whether it ends there.
+-- Nothing that was skipped ends the search, and what is at the place decides whether it ends there.
 use Rattle.std.proofs.Common.{◌<◌, length, drop, ap, sym, refl, arith, Some, None}
 use Rattle.std.proofs.lemmas.List.{length-drop, drop_all}
 use Rattle.rl_pylex.specs.Literals.{close_from}

@@ -1,4 +1,4 @@
--- What was passed holds no closing quotes and no fault.
+-- The skipped bytes contain no closing quotes and no fault.
 use Rattle.std.proofs.Common.{length, ◌-◌, ◌+◌, ◌≤◌}
 use Rattle.rl_pylex.specs.internal.Bodies.{Skips}
 use Rattle.rl_pylex.proofs.literals.close_from.Given as goal

@@ -1,4 +1,4 @@
--- What was passed is plain.
+-- The bytes so far are plain.
 use Rattle.std.proofs.Common.{◌≡◌, ◌+◌, ◌-◌, ◌≤◌, length, drop}
 use Rattle.std.specs.List.{prefix_len}
 use Rattle.rl_pylex.specs.internal.Bodies.{is_plain}

@@ -1,4 +1,4 @@
--- The size is that of the prefix, of the opening quotes and of what the search for the closing ones passes.
+-- The size is the sum of the prefix, the opening quotes and the bytes up to the end of the closing quotes.
 use Rattle.std.proofs.Common.{◌+◌, length, ap, refl, arith, Some, None, ◌∙◌}
 use Rattle.std.proofs.lemmas.List.{length-drop}
 use Rattle.rl_pylex.proofs.Fronts.{size_is, quote_at}

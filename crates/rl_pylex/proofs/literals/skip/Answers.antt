@@ -1,4 +1,4 @@
--- A unit is passed, and then the run behind it.
+-- A unit is skipped, and then the run after it.
 use Rattle.std.proofs.Common.{arith, ap, sym, subst, ℕ, length}
 use Rattle.std.proofs.lemmas.List.{length-drop}
 use Rattle.rl_pylex.specs.internal.Bodies.{Skips}

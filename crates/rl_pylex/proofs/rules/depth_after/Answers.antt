@@ -1,4 +1,4 @@
--- The first byte tells whether a bracket opens or closes.
+-- The first byte decides whether a bracket opens or closes.
 use Rattle.std.proofs.Common.{arith, ◌∙◌}
 use Rattle.rl_pylex.proofs.Depths.{depth-opens, depth-closes, depth-stays, depth-ends}
 use Rattle.rl_pylex.proofs.rules.depth_after.Goals as goal

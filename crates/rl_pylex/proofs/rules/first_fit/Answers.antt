@@ -1,4 +1,4 @@
--- The first byte is one of no other rule.
+-- The first byte can't begin a piece of any other rule.
 use Rattle.rl_pylex.proofs.Firsts.{operator_at, name_at}
 use Rattle.rl_pylex.proofs.FirstBytes.{literal_rows_at, number_rows_at, new_line_at, comment_at}
 use Rattle.rl_pylex.proofs.rules.first_fit.Goals as goal

@@ -1,4 +1,4 @@
--- The characters of the text.
+-- The code points are the characters of the text.
 use Rattle.std.proofs.Common.{◌∙◌, ap, encode_utf8_all}
 use Rattle.std.specs.Iterator.Runs.{Trigger}
 use Rattle.std.specs.Str.Iter.{chars_rest}

@@ -1,4 +1,4 @@
--- One code is passed, and there is room for its bytes.
+-- One code point is read, and there is room for its bytes.
 use Rattle.std.proofs.Common.{◌+◌, ◌∙◌, arith, sym, ap, ap₂, length}
 use Rattle.std.specs.Prelude.{Ok}
 use Rattle.std.specs.Char.{len_utf8}

@@ -1,4 +1,4 @@
--- What is read so far, in front of the value of the rest, is the whole.
+-- The value read so far, followed by the value of the rest, is the whole value.
 use Rattle.std.proofs.Common.{◌≡◌, ◌+◌, ◌*◌, ◌<◌, ◌^◌, length}
 use Rattle.std.specs.Prelude.{Ok}
 use Rattle.rl_pystr.specs.Values.{before, value_from}

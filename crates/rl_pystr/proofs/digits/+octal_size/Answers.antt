@@ -1,4 +1,4 @@
--- A digit more than behind it.
+-- One more digit than after it.
 use Rattle.std.proofs.Common.{◌-◌, ◌∙◌, sym, ap}
 use Rattle.std.specs.Prelude.{min}
 use Rattle.std.specs.List.{prefix_len}

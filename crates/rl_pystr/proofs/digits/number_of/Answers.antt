@@ -1,4 +1,4 @@
--- One digit more.
+-- One more digit.
 use Rattle.std.proofs.Common.{arith, ◌*◌, ◌+◌, ◌≤◌, le_refl, sym, ◌∙◌, ap, ap₂}
 use Rattle.std.proofs.lemmas.Nat.{mul-le}
 use Rattle.std.proofs.lemmas.List.Sums.{fold_more}

@@ -1,4 +1,4 @@
--- The number of the digits so far, which is small.
+-- The number that the digits so far spell, which is small.
 use Rattle.std.proofs.Common.{◌≡◌, take}
 use Rattle.rl_pystr.specs.Escapes.{number_of}
 use Rattle.rl_pystr.proofs.Numbers.{IsSmall}

@@ -1,4 +1,4 @@
--- One code more.
+-- One more code point.
 use Rattle.std.proofs.Common.{refl}
 use Rattle.rl_pystr.proofs.Quotes.{escaped_more}
 use Rattle.rl_pystr.proofs.quoting.push_all_escaped.Goals as goal

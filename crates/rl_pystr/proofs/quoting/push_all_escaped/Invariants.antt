@@ -1,4 +1,4 @@
--- The codes so far are put behind what was there.
+-- The code points so far are appended to what was there.
 use Rattle.std.proofs.Common.{◌≡◌, ◌++◌, take}
 use Rattle.std.specs.List.{flat_map}
 use Rattle.rl_pystr.specs.Quoting.{escaped}

@@ -1,4 +1,4 @@
--- One code more, which is a byte.
+-- One more code point, which is a byte.
 use Rattle.std.proofs.Common.{arith, refl}
 use Rattle.rl_pystr.proofs.Quotes.{plain_at, plain_more}
 use Rattle.rl_pystr.proofs.quoting.push_all_plain.Goals as goal

@@ -1,4 +1,4 @@
--- The codes so far are put behind what was there.
+-- The code points so far are appended to what was there.
 use Rattle.std.proofs.Common.{◌≡◌, ◌++◌, take}
 use Rattle.rl_pystr.proofs.quoting.push_all_plain.Given as goal
 

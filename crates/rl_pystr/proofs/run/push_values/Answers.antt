@@ -1,4 +1,4 @@
--- One token more.
+-- One more token.
 use Rattle.std.proofs.Common.{◌∙◌, refl, sym, ap, subst}
 use Rattle.std.specs.Prelude.{All, Ok, Result}
 use Rattle.std.proofs.lemmas.Result.{err_from_is_err_and}

@@ -1,4 +1,4 @@
--- What is read so far, in front of the values of the rest, is the whole.
+-- The value read so far, followed by the values of the rest, is the whole value.
 use Rattle.std.proofs.Common.{◌≡◌, All, length}
 use Rattle.std.specs.Prelude.{Ok}
 use Rattle.rl_pylex.specs.Source.{IsReadAt}

@@ -1,4 +1,4 @@
--- A quote stands behind a literal's prefix.
+-- A quote follows the prefix of a literal.
 use Rattle.std.proofs.Common.{arith, ap, length}
 use Rattle.std.proofs.lemmas.List.{length-drop}
 use Rattle.rl_pystr.proofs.Bounds.{letters_room}

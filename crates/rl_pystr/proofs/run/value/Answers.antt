@@ -1,4 +1,4 @@
--- Each token of the run is one of the source.
+-- Each token of the run is a token of the source.
 use Rattle.std.proofs.Common.{sym, subst}
 use Rattle.std.specs.Prelude.{All}
 use Rattle.rl_pylex.specs.Source.{IsReadAt}

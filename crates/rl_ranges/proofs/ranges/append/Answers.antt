@@ -6,7 +6,7 @@ use Rattle.rl_ranges.specs.Codes.{Above, has, is_between}
 use Rattle.rl_ranges.proofs.ranges.append.Goals.{else-len-gt0, then-len-gt0+else-saturating_sub-le1}
 use Rattle.rl_ranges.proofs.ranges.append.Goals as goal
 
--- two ranges that touch hold what their hull holds
+-- Two ranges that touch hold the same codes as the range that covers both.
 hull : (b : Bool) (a e first last m c : ℕ) → a ≤ first → first - e ≤ 1 → a ≤ e → first ≤ last → m ≡ max e last → (b || is_between a m c) ≡ ((b || is_between a e c) || is_between first last c)
 hull true a e first last m c p q s t is = refl
 hull false a e first last m c p q s t is = grind (arith, within_tells a m c, within_tells a e c, within_tells first last c)

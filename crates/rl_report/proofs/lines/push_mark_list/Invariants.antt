@@ -1,4 +1,4 @@
--- The lines of the marks so far are put behind what was there.
+-- The lines of the marks so far are appended to what was there.
 use Rattle.std.proofs.Common.{◌≡◌, ◌++◌, take}
 use Rattle.std.specs.List.{flat_map}
 use Rattle.rl_report.specs.Layouts.{mark_line}

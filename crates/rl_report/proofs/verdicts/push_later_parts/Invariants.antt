@@ -1,4 +1,4 @@
--- The parts so far and the parts that are left make up what is put behind what was there.
+-- The parts so far and the parts that are left make up what is appended to what was there.
 use Rattle.std.proofs.Common.{◌≡◌, ◌+◌, ◌++◌, drop}
 use Rattle.rl_report.specs.Verdicts.{later_parts}
 use Rattle.rl_report.proofs.verdicts.push_later_parts.Given as goal

@@ -1,4 +1,4 @@
--- The spans so far, and those of what is left.
+-- The spans so far, followed by the spans of the remaining parts.
 use Rattle.std.proofs.Common.{◌≡◌, ◌++◌, drop, map}
 use Rattle.rl_syntax.specs.PatTree.{pat_of, items_of, branches_of}
 use Rattle.rl_syntax.specs.Counting.{branch_tree}

@@ -1,4 +1,4 @@
--- Whether branches may be dropped from the parts so far, and from those that are left.
+-- Whether branches may be dropped from the parts so far, and from the remaining parts.
 use Rattle.std.proofs.Common.{◌≡◌, ◌&&◌, drop, map}
 use Rattle.rl_syntax.specs.PatTree.{pat_of, items_of, branches_of}
 use Rattle.rl_syntax.specs.Counting.{branch_tree}

@@ -1,4 +1,4 @@
--- Whether a branch so far is kept, or one of those that are left.
+-- Whether one of the branches so far is kept, or one of the remaining branches.
 use Rattle.std.proofs.Common.{◌≡◌, ◌||◌, drop, map}
 use Rattle.rl_syntax.specs.PatTree.{branches_of}
 use Rattle.rl_syntax.specs.Counting.{branch_tree}

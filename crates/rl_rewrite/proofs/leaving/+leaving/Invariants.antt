@@ -1,4 +1,4 @@
--- What is left of the parts so far, and of those that follow.
+-- What is left of the parts so far, followed by what is left of the remaining parts.
 use Rattle.std.proofs.Common.{◌≡◌, ◌++◌, drop, map}
 use Rattle.rl_syntax.specs.PatTree.{pat_of}
 use Rattle.rl_syntax.specs.Counting.{branch_tree}

@@ -10,7 +10,7 @@ pub returns-then-holds_branch-clause-other : goal.returns-then-holds_branch-clau
 returns-then-holds_branch-clause-other c h =
     branches_some (body_of c.args.p.now) (ap holds_branch (sym c.body.ensures.same) ∙ (sym c.holds_branch.ensures ∙ c.if-holds_branch.true)) h.branches
 
--- none is taken out, neither by the program nor by the rule
+-- None is taken out, neither by the program nor by the rule.
 none : (c : goal.After-new-2) → (c.in_ok-merged.merged ≡ []) × (merged_in (body_of c.args.p.now) ≡ [])
 none c =
     none_found (merged_in (body_of c.args.p.now)) c.in_ok-merged.merged (c.in_ok-merged.ensures ∙ ap merged_in c.body-2.ensures.same) (sym c.is_empty.ensures ∙ c.if-not-is_empty.false)

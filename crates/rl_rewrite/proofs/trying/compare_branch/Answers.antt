@@ -1,6 +1,7 @@
 use Rattle.std.proofs.Common.{◌≤◌, ◌∷◌, IfOk, sym, ap, ◌∙◌, subst}
 use Rattle.rl_syntax.specs.Pattern.{body_of, universe_of}
 use Rattle.rl_syntax.specs.Tree.{tree_of, size}
+use Rattle.rl_syntax.specs.declared.limits.TheConstants.{MOST_NODES}
 use Rattle.rl_equiv.specs.Bases.{TellsNoMore}
 use Rattle.rl_equiv.specs.Limits.{AreWithin}
 use Rattle.rl_pattern.specs.Suggested.{without}
@@ -12,7 +13,7 @@ use Rattle.rl_rewrite.proofs.trying.compare_branch.Goals as goal
 pub tree_without-without_it-requires-clause-small : goal.tree_without-without_it-requires-clause-small
 tree_without-without_it-requires-clause-small c =
     let e = c.as_slice.ensures ∙ c.in_ok-more.ensures in
-    subst (λ m. size (without m (body_of c.args.p.now)) ≤ 4000) (sym e) (left_small (universe_of c.args.p.now) (c.args.branch ∷ c.args.dropped.now) (body_of c.args.p.now) c.requires.within c.requires.may)
+    subst (λ m. size (without m (body_of c.args.p.now)) ≤ MOST_NODES) (sym e) (left_small (universe_of c.args.p.now) (c.args.branch ∷ c.args.dropped.now) (body_of c.args.p.now) c.requires.within c.requires.may)
 
 pub run_trial-trial-requires-clause-letters : goal.run_trial-trial-requires-clause-letters
 run_trial-trial-requires-clause-letters c =

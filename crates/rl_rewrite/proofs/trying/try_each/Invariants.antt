@@ -1,4 +1,4 @@
--- The branches that were tried so far are the last ones of all, and the tree and the automaton are those of what is left by then.
+-- The branches tried so far are the last ones of all, and the tree and the automaton are those of what is left then.
 use Rattle.std.proofs.Common.{◌≡◌, ◌++◌, List, IfSome}
 use Rattle.rl_syntax.specs.declared.span.Span.{Span}
 use Rattle.rl_syntax.specs.Pattern.{body_of, universe_of}

@@ -1,4 +1,4 @@
--- The text is none of the names so far.
+-- The text equals none of the names so far.
 use Rattle.std.proofs.Common.{◌≡◌, drop}
 use Rattle.rl_sarif.specs.Baseline.{one_of}
 use Rattle.rl_sarif.proofs.NameLemmas.{names}

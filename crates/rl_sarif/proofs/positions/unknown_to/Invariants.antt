@@ -1,4 +1,4 @@
--- The tally is what the entries so far left of the baseline's keys, and the positions are those so far.
+-- The tally holds what the entries so far have left of the baseline's keys, and the positions are the unknown ones so far.
 use Rattle.std.proofs.Common.{◌≡◌, ◌-◌, map, take}
 use Rattle.rl_sarif.specs.Keys.{key_in, key_of}
 use Rattle.rl_sarif.specs.Known.{times}

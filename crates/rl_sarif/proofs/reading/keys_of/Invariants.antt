@@ -1,4 +1,4 @@
--- The keys so far and those of the values that are left make up those of all values.
+-- The keys so far and the keys of the values that are left make up the keys of all values.
 use Rattle.std.proofs.Common.{◌≡◌, drop}
 use Rattle.serde_json.specs.View.{items_view}
 use Rattle.rl_sarif.specs.Baseline.{keys_read}

@@ -1,4 +1,4 @@
--- One argument is passed, or is the one at the place.
+-- One argument is skipped, or it is the one with the index.
 use Rattle.std.proofs.Common.{◌∙◌, arith}
 use Rattle.rl_sites.proofs.Finding.{place_none, place_on, place_here, table_others}
 use Rattle.rl_sites.proofs.arguments.argument_at.Goals as goal

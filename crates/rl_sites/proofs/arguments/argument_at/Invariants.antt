@@ -1,4 +1,4 @@
--- So many arguments are passed.
+-- The arguments so far are skipped.
 use Rattle.std.proofs.Common.{◌≡◌}
 use Rattle.std.specs.Prelude.{slice_get}
 use Rattle.rl_sites.specs.Arguments.{arguments_of}

@@ -1,4 +1,4 @@
--- One token more, and its brackets where it opens some.
+-- One more token, and its brackets if it opens any.
 use Rattle.std.proofs.Common.{◌≡◌, ◌+◌, ◌∙◌, sym, arith, length, ap, refl, subst, Bool, List}
 use Rattle.rl_sites.specs.declared.significant.SignificantToken.{SignificantToken}
 use Rattle.rl_sites.specs.internal.Walks.{IsTable, argument_size}

@@ -1,4 +1,4 @@
--- What is passed, and what is left, is the whole.
+-- What is skipped and what is left are the whole.
 use Rattle.std.proofs.Common.{◌≡◌, ◌≤◌, ◌+◌, length, false}
 use Rattle.rl_sites.specs.internal.Walks.{IsTable, argument_size}
 use Rattle.rl_sites.proofs.arguments.argument_size.Given as goal

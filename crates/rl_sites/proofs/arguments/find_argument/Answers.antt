@@ -1,4 +1,4 @@
--- The argument in front has the form, or it is passed.
+-- The first argument has the form, or it is skipped.
 use Rattle.std.proofs.Common.{◌∙◌, sym, ap}
 use Rattle.std.specs.Prelude.{filter}
 use Rattle.rl_sites.specs.internal.Walks.{has_form}

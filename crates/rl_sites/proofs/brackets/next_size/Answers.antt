@@ -1,4 +1,4 @@
--- The token in front, and what stands behind its brackets.
+-- The first token, and what follows its brackets.
 use Rattle.std.proofs.Common.{◌+◌, ◌∙◌, sym, ap, refl, ℕ}
 use Rattle.rl_sites.specs.internal.Walks.{inside_size}
 use Rattle.rl_sites.proofs.Tables.{next_more}

@@ -1,4 +1,4 @@
--- One token more from the end.
+-- One more token, counted from the end.
 use Rattle.std.proofs.Common.{arith, ap, length}
 use Rattle.std.proofs.lemmas.List.{length_push}
 use Rattle.rl_sites.proofs.Tables.{table_more, table_next}

@@ -1,4 +1,4 @@
--- The table for the tokens so far, from the end.
+-- The table for the tokens so far, counted from the end.
 use Rattle.std.proofs.Common.{◌≡◌, ◌≤◌, ◌+◌, length, drop}
 use Rattle.rl_sites.specs.internal.Walks.{IsTable}
 use Rattle.rl_sites.proofs.brackets.sizes_of.Given as goal

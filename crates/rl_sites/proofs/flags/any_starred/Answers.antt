@@ -1,4 +1,4 @@
--- An argument begins with `*` exactly where one is found.
+-- An argument begins with `*` if and only if one is found.
 use Rattle.std.proofs.Common.{◌∙◌, ap, sym}
 use Rattle.rl_sites.specs.Arguments.{arguments_of}
 use Rattle.rl_sites.specs.Flags.{is_starred}

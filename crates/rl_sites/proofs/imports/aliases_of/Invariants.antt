@@ -1,4 +1,4 @@
--- The aliases so far, in front of those of the rest, are the whole.
+-- The aliases so far, followed by those of the rest, are all aliases.
 use Rattle.std.proofs.Common.{◌≡◌, ◌++◌, length}
 use Rattle.rl_sites.specs.Imports.{aliases_of, aliases_from}
 use Rattle.rl_sites.proofs.imports.aliases_of.Given as goal

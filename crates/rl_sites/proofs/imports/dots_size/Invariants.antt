@@ -1,4 +1,4 @@
--- What is passed, and what is left, is the whole.
+-- What is skipped and what is left are the whole.
 use Rattle.std.proofs.Common.{◌≡◌, ◌+◌, length}
 use Rattle.rl_sites.specs.Imports.{dots_size}
 use Rattle.rl_sites.proofs.imports.dots_size.Given as goal

@@ -1,4 +1,4 @@
--- One item more.
+-- One more item.
 use Rattle.std.proofs.Common.{◌∙◌, sym, ap, List, drop}
 use Rattle.rl_sites.specs.declared.significant.SignificantToken.{SignificantToken}
 use Rattle.rl_sites.proofs.Items.{items_step}

@@ -1,4 +1,4 @@
--- One alias more.
+-- One more alias.
 use Rattle.std.proofs.Common.{refl}
 use Rattle.rl_sites.proofs.Tabled.{meant_none, meant_more}
 use Rattle.rl_sites.proofs.names.meanings_of.Goals as goal

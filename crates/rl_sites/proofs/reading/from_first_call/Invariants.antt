@@ -1,4 +1,4 @@
--- The sites of the rest are those of the whole.
+-- The sites of the rest are all sites.
 use Rattle.std.proofs.Common.{◌≡◌, length, false}
 use Rattle.rl_sites.specs.internal.Parts.{is_hidden}
 use Rattle.rl_sites.specs.internal.Walks.{IsNumbered}

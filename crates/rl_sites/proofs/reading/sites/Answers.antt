@@ -1,4 +1,4 @@
--- A source has few tokens. Its sites have their runs, and stand in order.
+-- A source doesn't have too many tokens. Its sites have their runs and are in order.
 use Rattle.std.proofs.Common.{◌≤◌, ◌∙◌, ap, arith, length}
 use Rattle.rl_sites.specs.Significant.{significant_from}
 use Rattle.rl_sites.specs.Imports.{aliases_of}

@@ -1,4 +1,4 @@
--- One token more, and the site that begins there.
+-- One more token, and the site that begins there.
 use Rattle.std.proofs.Common.{◌∙◌, refl, sym, subst, List}
 use Rattle.rl_sites.specs.declared.significant.SignificantToken.{SignificantToken}
 use Rattle.rl_sites.specs.internal.Walks.{IsTable, IsNumbered}

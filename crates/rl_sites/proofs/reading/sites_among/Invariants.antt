@@ -1,4 +1,4 @@
--- The sites so far, in front of those of the rest, are the whole.
+-- The sites so far, followed by those of the rest, are all sites.
 use Rattle.std.proofs.Common.{◌≡◌, ◌++◌, length, false}
 use Rattle.rl_sites.specs.internal.Parts.{is_hidden}
 use Rattle.rl_sites.specs.internal.Walks.{IsTable, IsNumbered}

@@ -1,4 +1,4 @@
--- A source that makes no alias of the module has no sites.
+-- A source without an alias of the module has no sites.
 use Rattle.std.proofs.Common.{◌∙◌, false, arith}
 use Rattle.rl_sites.proofs.NoAliases.{no_sites}
 use Rattle.rl_sites.proofs.reading.sites_by.Goals as goal

@@ -1,4 +1,4 @@
--- The significant tokens so far, in front of those of the rest, are the whole.
+-- The significant tokens so far, followed by those of the rest, are all significant tokens.
 use Rattle.std.proofs.Common.{◌≡◌, ◌++◌, drop}
 use Rattle.rl_sites.specs.Significant.{significant_from}
 use Rattle.rl_sites.proofs.significant.significant_tokens.Given as goal

@@ -1,7 +1,6 @@
 use Rattle.std.proofs.Common.{◌≡◌, ◌∙◌, ◌<◌, ◌≤◌, get_or, length, refl, sym, ap, arith}
 use Rattle.rl_ranges.specs.Letters.{LetterTable}
 use Rattle.rl_prio.specs.Automaton.{letters_count}
-use Rattle.rl_trim.proofs.SetLaws.{grown-grown}
 use Rattle.rl_trim.proofs.ApartLaws.{running-more, running-apart}
 use Rattle.rl_trim.proofs.word.leads_apart.Goals as goal
 
@@ -18,7 +17,7 @@ loop-letter-preserved c =
 pub returns-clause-apart : goal.returns-clause-apart
 returns-clause-apart c = λ e.
     let all : length c.args.word.now ≤ c.loop-letter.letter-index = omega arith in
-    running-apart c.args.branch.now.automaton.now c.args.branch.now.keep.now c.args.walk.now c.loop-letter.walk c.args.word.now c.loop-letter.letter-index c.loop-letter.key all c.loop-letter.invariant (sym c.in_ok-apart.ensures.differs ∙ e)
+    running-apart c.args.branch.now.automaton.now c.args.branch.now.keep.now c.args.walk.now c.loop-letter.walk c.args.word.now c.loop-letter.letter-index c.loop-letter.key all c.loop-letter.invariant (sym c.in_ok-apart.ensures ∙ e)
 
 pub returns-clause-grown : goal.returns-clause-grown
-returns-clause-grown c = grown-grown c.args.branch.now.automaton.now c.args.walk.now c.loop-letter.walk c.differs.new.walk c.loop-letter.invariant.grown c.in_ok-apart.ensures.grown
+returns-clause-grown c = c.loop-letter.invariant.grown

@@ -1,4 +1,4 @@
--- The arguments so far make the command with the options of the names so far, and there is room for the others.
+-- The arguments so far make the command with the options named so far, and there is room for the others.
 use Rattle.std.proofs.Common.{◌≡◌, ◌≤◌, ◌+◌, take}
 use Rattle.std.specs.Vec.{vec_len, vec_capacity}
 use Rattle.clap.specs.Simple.{with_rule}

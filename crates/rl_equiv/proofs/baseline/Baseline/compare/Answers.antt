@@ -21,11 +21,11 @@ search_on-requires-clause-readers c =
     let tells = subst (λ (x : Base). TellsNoMore (tree_of x.tree) (tree_of c.args.other.now)) (sym c.self.view_is) c.requires.letters in
     are-readers c.self.inside.universe (tree_of c.self.inside.tree) (tree_of c.args.other.now) c.self.inside.automaton c.in_ok-second.second (c.in_ok-second.ensures.stand (tree_of c.self.inside.tree) c.self.invariant.0 tells)
 
-pub returns-in_err-second-clause-passed : goal.returns-in_err-second-clause-passed
-returns-in_err-second-clause-passed c =
+pub returns-in_err-second-clause-exceeded : goal.returns-in_err-second-clause-exceeded
+returns-in_err-second-clause-exceeded c =
     let tells = subst (λ (x : Base). TellsNoMore (tree_of x.tree) (tree_of c.args.other.now)) (sym c.self.view_is) c.requires.letters in
     let p = err_from_is_err_and c.from_residual.result c.from_residual.ensures.1 in
-    rw (p.1, p.2, sym c.self.view_is) (c.in_err-second.ensures.passed (tree_of c.self.inside.tree) c.self.invariant.0 tells)
+    rw (p.1, p.2, sym c.self.view_is) (c.in_err-second.ensures.exceeded (tree_of c.self.inside.tree) c.self.invariant.0 tells)
 
 pub returns-clause-within : goal.returns-clause-within
 returns-clause-within c =

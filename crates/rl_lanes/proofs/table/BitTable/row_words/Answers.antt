@@ -32,7 +32,7 @@ slice_bounds-result-end c =
     let all : c.self.inside.rows * w ≡ c.self.inside.rows * width_of c.self.inside.len = ap (λ n. c.self.inside.rows * n) c.div_ceil-width.ensures in
     omega (arith, row_end c.self.inside.rows w c.args.row (omega (arith, IsTable-length t)), all, c.self.invariant.packed.enough, c.self.inside.words.ok.0, c.deref.ensures.len)
 
--- the part of the words that stands for a row holds it
+-- The part of the words that belongs to a row holds that row.
 part_is : (rows len width row : ℕ) (words all : List ℕ) (table : List (List Bool)) → IsTable rows len words table → row < length table → width ≡ width_of len → all ≡ words → IsRow (length (get_or table row [])) (take (row * width + width - row * width) (drop (row * width) all)) (get_or table row [])
 part_is rows len width row words all table t lt width_is all_is =
     let r = IsTable-row row t (omega (arith, IsTable-length t)) in

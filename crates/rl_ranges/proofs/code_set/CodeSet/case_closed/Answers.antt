@@ -12,7 +12,7 @@ use Rattle.rl_ranges.specs.declared.universe.Universe.{Universe}
 use Rattle.rl_ranges.specs.declared.universe.Universe.TheVariants.{Bytes, Str}
 use Rattle.rl_ranges.proofs.code_set.CodeSet.case_closed.Goals as goal
 
--- the last code of a range is one of the universe
+-- The last code of a range is in the universe.
 last_small : (u : Universe) (ranges held : List (ℕ × ℕ)) (k : ℕ) → Above 0 ranges → IsInside u held → ranges ≡ held → k < length ranges → (range_at ranges k).1 < 4294967295
 last_small u ranges held k sorted inside same lt =
     let r = range_at ranges k in

@@ -1,4 +1,4 @@
--- a list with no first range is empty, and holds nothing
+-- A list without a first range is empty and holds nothing.
 use Rattle.std.proofs.Common.{List, None, Option, Some, [], ap, false, slice_get, subst, sym, true, zero-lt-suc, ℕ, ◌<◌, ◌∙◌, ◌∷◌, ◌≡◌}
 use Rattle.rl_ranges.proofs.SetLemmas.{has-first, has-nil}
 use Rattle.rl_ranges.specs.Codes.{Above, has}
@@ -8,7 +8,7 @@ none_held : (xs ys : List (ℕ × ℕ)) → ◌≡◌ {A = Option (ℕ × ℕ)} 
 none_held [] ys none same c = ap (λ l. has l c) (sym same) ∙ has-nil c
 none_held (x ∷ xs) ys none same c = cc
 
--- the first code of a sorted list is the least that it holds
+-- The first code of a sorted list is the least code that it holds.
 least_held : (xs ys : List (ℕ × ℕ)) (r : ℕ × ℕ) → Above 0 xs → ◌≡◌ {A = Option (ℕ × ℕ)} (Some r) (slice_get xs 0) → xs ≡ ys → (has ys r.0 ≡ true) × ((c : ℕ) → c < r.0 → has ys c ≡ false)
 least_held [] ys r sorted is same = cc
 least_held (x ∷ xs) ys r sorted is same =

@@ -5,7 +5,7 @@ use Rattle.rl_ranges.proofs.SetLemmas.{has-nil, or-false}
 use Rattle.rl_ranges.specs.Codes.{has}
 use Rattle.rl_ranges.proofs.code_set.CodeSet.whole.Goals as goal
 
--- an empty list holds nothing
+-- An empty list holds nothing.
 none_in : (ranges held : List (ℕ × ℕ)) → ranges ≡ held → (length ranges == 0) ≡ true → (c : ℕ) → has held c ≡ false
 none_in ranges held same empty c =
     ap (λ l. has l c) (sym same ∙ nil_from_length ranges (eqb-true (length ranges) 0 empty)) ∙ has-nil c

@@ -1,4 +1,4 @@
--- every universe has the plain codes
+-- Every universe contains the printable ASCII codes.
 use Rattle.std.proofs.Common.{[], arith, get_or, length, lit<, map, subst, sym, ℕ, ◌++◌, ◌<◌, ◌∙◌}
 use Rattle.std.proofs.lemmas.Result.{err_from_is_err_and}
 use Rattle.rl_ranges.proofs.LetterLemmas.{IsLetters-from, TellsApart-none}

@@ -1,6 +1,7 @@
-use Rattle.std.proofs.Common.{◌<◌, ◌+◌, length, sym, subst, arith}
+use Rattle.std.proofs.Common.{◌≡◌, ◌<◌, ◌+◌, length, refl, sym, subst, arith}
 use Rattle.rl_trim.specs.internal.Trims.{trim_pairs}
 use Rattle.rl_trim.specs.internal.Orders.{pairs_in}
+use Rattle.rl_trim.specs.internal.Changing.{AreChangesIf}
 use Rattle.rl_trim.proofs.SetLaws.{grown-refl, grown-grown}
 use Rattle.rl_trim.proofs.LookLaws.{looking-start, looking-equal, looking-passed}
 use Rattle.rl_sets.specs.Walk.{Walk}
@@ -13,89 +14,97 @@ pub loop-place-init : goal.loop-place-init
 loop-place-init c =
     let a = c.args.branch.now.automaton.now in
     record {
-      grown = grown-refl a c.args.walk.now c.requires.keys.made;
-      are = c.requires.keys;
-      arrived = c.requires.arrived;
-      looking = looking-start (trim_pairs a c.args.branch.now.keep.now) c.args.limit (pairs_in c.args.walk.now c.args.self.now.keys.keys) c.requires.one;
+      judging = record {
+        grown = grown-refl a c.args.walk.now c.requires.keys.made;
+        are = c.requires.keys;
+        arrived = c.requires.arrived;
+        looking = looking-start (trim_pairs a c.args.branch.now.keep.now) c.args.limit (pairs_in c.args.walk.now c.args.self.now.keys.keys) c.requires.one;
+      };
+      changes = tt;
     }
 
 pub returns-then-place-len-clause-found : goal.returns-then-place-len-clause-found
 returns-then-place-len-clause-found c =
     let keys = c.loop-place.self.keys.keys in
-    looking-equal (trim_pairs c.args.branch.now.automaton.now c.args.branch.now.keep.now) c.args.limit c.loop-place.place (pairs_in c.loop-place.walk keys) c.loop-place.invariant.looking
+    looking-equal (trim_pairs c.args.branch.now.automaton.now c.args.branch.now.keep.now) c.args.limit c.loop-place.place (pairs_in c.loop-place.walk keys) c.loop-place.invariant.judging.looking
     (omega (arith, pairs-length c.loop-place.walk keys, c.len.ensures.len, c.if-place-len.true)) (omega (arith, c.loop-place-test.true, c.loop-place.auto))
 
 pub returns-then-branch-clause-found : goal.returns-then-branch-clause-found
 returns-then-branch-clause-found c =
-    told-apart c.args.branch.now.automaton.now c.args.branch.now.keep.now c.loop-place.walk c.differs.new.walk c.loop-place.self.keys.keys c.args.limit c.loop-place.place c.in_ok-differs.field-0 c.loop-place.invariant.looking
-    (omega (arith, c.len.ensures.len, c.if-place-len.false, c.loop-place.invariant.looking.inside, pairs-length c.loop-place.walk c.loop-place.self.keys.keys)) c.in_ok-differs.ensures.differs c.if-branch.true (omega (arith, c.loop-place-test.true, c.loop-place.auto))
+    told-apart c.args.branch.now.automaton.now c.args.branch.now.keep.now c.loop-place.walk c.loop-place.walk c.loop-place.self.keys.keys c.args.limit c.loop-place.place c.in_ok-differs.field-0 c.loop-place.invariant.judging.looking
+    (omega (arith, c.len.ensures.len, c.if-place-len.false, c.loop-place.invariant.judging.looking.inside, pairs-length c.loop-place.walk c.loop-place.self.keys.keys)) c.in_ok-differs.ensures c.if-branch.true (omega (arith, c.loop-place-test.true, c.loop-place.auto))
 
 pub loop-place-preserved : goal.loop-place-preserved
 loop-place-preserved c =
     let a = c.args.branch.now.automaton.now in
     let keep = c.args.branch.now.keep.now in
     let keys = c.loop-place.self.keys.keys in
-    let inv = c.loop-place.invariant in
-    let lt : c.loop-place.place < length keys = omega (arith, c.len.ensures.len, c.if-place-len.false, inv.looking.inside, pairs-length c.loop-place.walk keys) in
-    elim c.if-len-limit.branch [
-      | then-len-limit+in_ok-expand w ↦
-          let grown = grown-grown a c.args.walk.now c.loop-place.walk w.expand.new.walk inv.grown (grown-grown a c.loop-place.walk c.differs.new.walk w.expand.new.walk c.in_ok-differs.ensures.grown w.in_ok-expand.ensures.grown) in
-          let looking =
-          told-few a keep c.loop-place.walk c.differs.new.walk keys c.args.limit c.loop-place.place c.in_ok-differs.field-0 inv.looking lt c.in_ok-differs.ensures.differs w.expand.new.walk w.expand.new.self.keys.keys c.if-branch.false
-          (omega (arith, c.len-in-loop-place.ensures.len, w.if-len-limit.true)) c.in_ok-differs.ensures.pairs w.in_ok-expand.ensures.pairs in
-          subst (λ (x : Walk). IsJudging a keep c.args.walk.now x c.if-len-limit.self.keys.keys c.if-len-limit.self.arrived c.args.limit (c.loop-place.place + 1)) (sym w.walk-is)
-          (subst (λ (o : Order). IsJudging a keep c.args.walk.now w.expand.new.walk o.keys.keys o.arrived c.args.limit (c.loop-place.place + 1)) (sym w.self-is)
-          (record { grown = grown; are = w.in_ok-expand.ensures.keys; arrived = w.in_ok-expand.ensures.arrived; looking = looking }))
-      | else-len-limit w ↦
-          let grown = grown-grown a c.args.walk.now c.loop-place.walk c.differs.new.walk inv.grown c.in_ok-differs.ensures.grown in
-          let looking =
-          told-many a keep c.loop-place.walk c.differs.new.walk keys c.args.limit c.loop-place.place c.in_ok-differs.field-0 inv.looking lt c.in_ok-differs.ensures.differs c.if-branch.false
-          (omega (arith, c.len-in-loop-place.ensures.len, w.if-len-limit.false)) c.in_ok-differs.ensures.pairs in
-          subst (λ (x : Walk). IsJudging a keep c.args.walk.now x c.if-len-limit.self.keys.keys c.if-len-limit.self.arrived c.args.limit (c.loop-place.place + 1)) (sym w.walk-is)
-          (subst (λ (o : Order). IsJudging a keep c.args.walk.now c.differs.new.walk o.keys.keys o.arrived c.args.limit (c.loop-place.place + 1)) (sym w.self-is)
-          (record { grown = grown; are = c.in_ok-differs.ensures.keys; arrived = c.in_ok-differs.ensures.arrived; looking = looking }))
-    ]
+    let walk = c.loop-place.walk in
+    let place = c.loop-place.place in
+    let inv = c.loop-place.invariant.judging in
+    let lt : place < length keys = omega (arith, c.len.ensures.len, c.if-place-len.false, inv.looking.inside, pairs-length walk keys) in
+    record {
+      judging = elim c.if-len-limit.branch [
+        | then-len-limit+in_ok-expand w ↦
+            let looking =
+            told-few a keep walk walk keys c.args.limit place c.in_ok-differs.field-0 inv.looking lt c.in_ok-differs.ensures w.expand.new.walk w.expand.new.self.keys.keys c.if-branch.false
+            (omega (arith, c.len-in-loop-place.ensures.len, w.if-len-limit.true)) refl w.in_ok-expand.ensures.pairs in
+            subst (λ (x : Walk). IsJudging a keep c.args.walk.now x c.if-len-limit.self.keys.keys c.if-len-limit.self.arrived c.args.limit (place + 1)) (sym w.walk-is)
+            (subst (λ (o : Order). IsJudging a keep c.args.walk.now w.expand.new.walk o.keys.keys o.arrived c.args.limit (place + 1)) (sym w.self-is)
+            (record { grown = grown-grown a c.args.walk.now walk w.expand.new.walk inv.grown w.in_ok-expand.ensures.grown; are = w.in_ok-expand.ensures.keys; arrived = w.in_ok-expand.ensures.arrived; looking = looking }))
+        | else-len-limit w ↦
+            let looking =
+            told-many a keep walk walk keys c.args.limit place c.in_ok-differs.field-0 inv.looking lt c.in_ok-differs.ensures c.if-branch.false (omega (arith, c.len-in-loop-place.ensures.len, w.if-len-limit.false)) refl in
+            subst (λ (x : Walk). IsJudging a keep c.args.walk.now x c.if-len-limit.self.keys.keys c.if-len-limit.self.arrived c.args.limit (place + 1)) (sym w.walk-is)
+            (subst (λ (o : Order). IsJudging a keep c.args.walk.now walk o.keys.keys o.arrived c.args.limit (place + 1)) (sym w.self-is)
+            (record { grown = inv.grown; are = inv.are; arrived = inv.arrived; looking = looking }))
+      ];
+      changes = elim c.if-len-limit.branch [
+        | then-len-limit+in_ok-expand w ↦ subst (AreChangesIf a) (sym w.changes-is) w.in_ok-expand.ensures.changes
+        | else-len-limit w ↦ subst (AreChangesIf a) (sym w.changes-is) c.loop-place.invariant.changes
+      ];
+    }
 
 pub returns-then-len-limit-2-clause-found : goal.returns-then-len-limit-2-clause-found
 returns-then-len-limit-2-clause-found c =
     let keys = c.loop-place.self.keys.keys in
-    looking-passed (trim_pairs c.args.branch.now.automaton.now c.args.branch.now.keep.now) c.args.limit c.loop-place.place (pairs_in c.loop-place.walk keys) c.loop-place.invariant.looking
+    looking-passed (trim_pairs c.args.branch.now.automaton.now c.args.branch.now.keep.now) c.args.limit c.loop-place.place (pairs_in c.loop-place.walk keys) c.loop-place.invariant.judging.looking
     (omega (arith, c.loop-place-test.false, c.loop-place.auto)) (omega (arith, pairs-length c.loop-place.walk keys, c.len-2.ensures.len, c.if-len-limit-2.true))
 
 pub returns-clause-found : goal.returns-clause-found
 returns-clause-found c =
     let keys = c.loop-place.self.keys.keys in
-    looking-equal (trim_pairs c.args.branch.now.automaton.now c.args.branch.now.keep.now) c.args.limit c.loop-place.place (pairs_in c.loop-place.walk keys) c.loop-place.invariant.looking
+    looking-equal (trim_pairs c.args.branch.now.automaton.now c.args.branch.now.keep.now) c.args.limit c.loop-place.place (pairs_in c.loop-place.walk keys) c.loop-place.invariant.judging.looking
     (omega (arith, pairs-length c.loop-place.walk keys, c.len-2.ensures.len, c.if-len-limit-2.false, c.loop-place-test.false, c.loop-place.auto)) (omega (arith, c.loop-place-test.false, c.loop-place.auto))
 
 pub differs-requires-clause-keys : goal.differs-requires-clause-keys
-differs-requires-clause-keys c = c.loop-place.invariant.are
-
-pub differs-requires-clause-arrived : goal.differs-requires-clause-arrived
-differs-requires-clause-arrived c = c.loop-place.invariant.arrived
+differs-requires-clause-keys c = c.loop-place.invariant.judging.are
 
 pub differs-requires-clause-place_in : goal.differs-requires-clause-place_in
 differs-requires-clause-place_in c =
-    omega (arith, c.len.ensures.len, c.if-place-len.false, c.loop-place.invariant.looking.inside, pairs-length c.loop-place.walk c.loop-place.self.keys.keys)
+    omega (arith, c.len.ensures.len, c.if-place-len.false, c.loop-place.invariant.judging.looking.inside, pairs-length c.loop-place.walk c.loop-place.self.keys.keys)
+
+pub expand-requires-clause-changes : goal.expand-requires-clause-changes
+expand-requires-clause-changes c = c.loop-place.invariant.changes
 
 pub expand-requires-clause-keys : goal.expand-requires-clause-keys
-expand-requires-clause-keys c = c.in_ok-differs.ensures.keys
+expand-requires-clause-keys c = c.loop-place.invariant.judging.are
 
 pub expand-requires-clause-arrived : goal.expand-requires-clause-arrived
-expand-requires-clause-arrived c = c.in_ok-differs.ensures.arrived
+expand-requires-clause-arrived c = c.loop-place.invariant.judging.arrived
 
 pub expand-requires-clause-place_in : goal.expand-requires-clause-place_in
 expand-requires-clause-place_in c =
-    omega (arith, c.len.ensures.len, c.if-place-len.false, c.loop-place.invariant.looking.inside, pairs-length c.loop-place.walk c.loop-place.self.keys.keys)
+    omega (arith, c.len.ensures.len, c.if-place-len.false, c.loop-place.invariant.judging.looking.inside, pairs-length c.loop-place.walk c.loop-place.self.keys.keys)
 
 pub returns-then-place-len-clause-grown : goal.returns-then-place-len-clause-grown
-returns-then-place-len-clause-grown c = c.loop-place.invariant.grown
+returns-then-place-len-clause-grown c = c.loop-place.invariant.judging.grown
 
 pub returns-then-branch-clause-grown : goal.returns-then-branch-clause-grown
-returns-then-branch-clause-grown c = grown-grown c.args.branch.now.automaton.now c.args.walk.now c.loop-place.walk c.differs.new.walk c.loop-place.invariant.grown c.in_ok-differs.ensures.grown
+returns-then-branch-clause-grown c = c.loop-place.invariant.judging.grown
 
 pub returns-then-len-limit-2-clause-grown : goal.returns-then-len-limit-2-clause-grown
-returns-then-len-limit-2-clause-grown c = c.loop-place.invariant.grown
+returns-then-len-limit-2-clause-grown c = c.loop-place.invariant.judging.grown
 
 pub returns-clause-grown : goal.returns-clause-grown
-returns-clause-grown c = c.loop-place.invariant.grown
+returns-clause-grown c = c.loop-place.invariant.judging.grown

@@ -1,0 +1,12 @@
+pub mod Names
+pub mod Questions
+pub mod Patterns
+pub mod Answers
+pub mod Terms
+pub mod Texts
+pub mod Words
+pub mod Endings
+pub mod Document
+pub mod Lines
+pub mod Runs
+pub mod internal

@@ -1,0 +1,29 @@
+-- Replies, as the program keeps them.
+use Rattle.std.specs.Prelude.{◌≡◌, Option}
+use Rattle.rl_alike.specs.Names.{Text}
+use Rattle.rl_alike.specs.Answers.{IsRight}
+use Rattle.rl_alike.specs.Document.{reply_text}
+use Rattle.rl_alike.specs.Endings.{SinkChange}
+use Rattle.rl_alike.specs.Questions.{Asked}
+use Rattle.rl_alike.specs.Runs.{WritesAllReplies, WritesPart, WritesReplies}
+use Rattle.rl_alike.specs.declared.answer.Answer.{Answer}
+use Rattle.rl_alike.specs.declared.replies.Reply.{Reply}
+use Rattle.rl_alike.specs.declared.replies.Reply.TheVariants.{Fixed, Made}
+use Rattle.rl_alike.specs.declared.replies.RepliesEnd.{RepliesEnd}
+use Rattle.rl_alike.specs.declared.replies.RepliesEnd.TheVariants.{AtEnd, Unreadable, WriteFault, OutOfMemory}
+
+abbrev pub reply_bytes : Reply → Text
+reply_bytes (Fixed text) = text.now
+reply_bytes (Made line) = line
+
+-- the line of a right answer
+pub record AnswersWell (q : Asked) (line : Text) : Type 0 where
+  pub found : Answer
+  pub right : IsRight q found
+  pub is : line ≡ reply_text q.terms found
+
+abbrev pub RepliesUntil : Option Text → SinkChange → RepliesEnd → Type 0
+RepliesUntil input out AtEnd = WritesAllReplies input out
+RepliesUntil input out Unreadable = WritesReplies input out
+RepliesUntil input out WriteFault = WritesPart input out
+RepliesUntil input out OutOfMemory = WritesReplies input out

@@ -1,0 +1,182 @@
+//! What one pattern finds on a text, with the values of its groups.
+
+ghost use Rattle.std.specs.Prelude.{◌≡◌, ◌≤◌, ℕ, [], IfOk, false, true, length, option_map};
+ghost use Rattle.rl_ranges.specs.Codes.{has};
+ghost use Rattle.rl_syntax.specs.Guards.{is_word};
+ghost use Rattle.rl_marks.specs.SameFinds.{matcher_in};
+ghost use Rattle.rl_marks.specs.internal.Caps.{held_span};
+ghost use Rattle.rl_spans.specs.Sights.{found_in, sight_of};
+ghost use Rattle.rl_spans.specs.internal.Hits.{ended_of};
+ghost use Rattle.rl_spans.specs.internal.HeldSights.{held_sight, held_values, sight_asked, sight_in, sight_sought_in};
+ghost use Rattle.rl_spans.specs.internal.Sides.{IsSide, matcher_of};
+
+use crate::differing::span_held;
+use crate::error::SpansError;
+use crate::running::{Hit, found_from, place_of};
+use crate::shown::Words;
+use crate::side::Side;
+use crate::stepping::StepError;
+use rl_lists::{Items, OutOfMemory};
+use rl_marks::{GroupSpan, How, MarkedPattern, ending_of};
+use rl_syntax::MOST_NODES;
+use std::alloc::Global;
+
+/// What a pattern finds on a text.
+#[derive(Drop)]
+pub struct Sight {
+    /// Where the match begins.
+    pub start: u32,
+    /// Where it ends.
+    pub end: u32,
+    /// The value of each group, by rising numbers from 1 on.
+    pub groups: Items<Option<(u32, u32)>>,
+    /// The number of the group that was closed last, if one was.
+    pub last: Option<u32>,
+}
+
+/// The spans that are held of the groups up to a number.
+fn values_held(
+    alloc: Global,
+    held: &[GroupSpan],
+    count: u32,
+) -> Result<Items<Option<(u32, u32)>>, OutOfMemory>
+    ensures { IfOk result (λ l. l ≡ held_values count held.now) }
+{
+    let mut values = Items::new(alloc);
+    for index in 0..count {
+        let value = span_held(held, index + 1);
+        values.push(value)?;
+    }
+    Ok(values)
+}
+
+/// A hit of a match that begins at a place, if there is one, with the spans of so many groups.
+fn sight_held(
+    alloc: Global,
+    hit: &Option<Hit>,
+    start: u32,
+    count: u32,
+) -> Result<Option<Sight>, OutOfMemory>
+    ensures { IfOk result (λ s. s ≡ option_map (held_sight count start) (ended_of hit.now)) }
+{
+    match hit {
+        None => Ok(None),
+        Some(hit) => {
+            let groups = values_held(alloc, hit.caps.held.as_slice(), count)?;
+            Ok(Some(Sight {
+                start,
+                end: hit.end,
+                groups,
+                last: hit.caps.last,
+            }))
+        }
+    }
+}
+
+/// What a side finds from a place on, with the values of so many groups; the flag says that the match may not be empty.
+fn sight_at(
+    alloc: Global,
+    side: &Side,
+    words: &Words,
+    count: u32,
+    text: &[u32],
+    advance: bool,
+    start: usize,
+) -> Result<Option<Sight>, StepError>
+    requires side { IsSide [] side.now }
+    requires all { (c : ℕ) → has words.now.all c ≡ is_word false c }
+    requires ascii { (c : ℕ) → has words.now.ascii c ≡ is_word true c }
+    requires start { start ≤ length text.now }
+    ensures { IfOk result (λ s. s ≡ sight_in count side.now text.now advance start) }
+{
+    let place = place_of(start)?;
+    let hit = found_from(alloc, side, &[], words, text, advance, start)?;
+    let sight = sight_held(alloc, &hit, place, count)?;
+    Ok(sight)
+}
+
+/// What a search with a side finds from the start of a text on, with the values of so many groups.
+fn sight_sought(
+    alloc: Global,
+    side: &Side,
+    words: &Words,
+    count: u32,
+    text: &[u32],
+) -> Result<Option<Sight>, StepError>
+    requires side { IsSide [] side.now }
+    requires all { (c : ℕ) → has words.now.all c ≡ is_word false c }
+    requires ascii { (c : ℕ) → has words.now.ascii c ≡ is_word true c }
+    ensures { IfOk result (λ s. s ≡ sight_sought_in count side.now text.now 0) }
+{
+    let size = text.len();
+    for start in 0..size {
+        let sight = sight_at(alloc, side, words, count, text, false, start)?;
+        if sight.is_some() {
+            return Ok(sight);
+        }
+    }
+    let last = sight_at(alloc, side, words, count, text, false, size)?;
+    Ok(last)
+}
+
+/// What a side finds, by how it is asked, with the values of so many groups.
+fn sight_by(
+    alloc: Global,
+    side: &Side,
+    words: &Words,
+    how: How,
+    count: u32,
+    text: &[u32],
+    advance: bool,
+    from: usize,
+) -> Result<Option<Sight>, StepError>
+    requires side { IsSide [] side.now }
+    requires all { (c : ℕ) → has words.now.all c ≡ is_word false c }
+    requires ascii { (c : ℕ) → has words.now.ascii c ≡ is_word true c }
+    requires from { from ≤ length text.now }
+    ensures { IfOk result (λ s. s ≡ sight_asked how count side.now text.now advance from) }
+{
+    match how {
+        How::Fullmatch | How::Match => sight_at(alloc, side, words, count, text, advance, from),
+        How::OneSearch => sight_sought(alloc, side, words, count, text),
+    }
+}
+
+/// The side of a pattern alone.
+fn side_alone(alloc: Global, pattern: &MarkedPattern, how: How) -> Result<Side, SpansError>
+    ensures side { IfOk result (IsSide []) }
+    ensures matcher { IfOk result (λ side. matcher_of side ≡ matcher_in how pattern.now) }
+{
+    let tree = pattern.tree.copy(alloc)?;
+    if tree.nodes() > MOST_NODES {
+        return Err(SpansError::Size);
+    }
+    Side::new(alloc, tree, ending_of(how, pattern.trailing), &[])
+}
+
+/// What a pattern finds on a text, with the values of its groups: by one search from the text's start if it is asked so, and else
+/// from the place on; the flag says that the match may not be empty then.
+///
+/// # Errors
+/// [`SpansError::Size`] or [`SpansError::Moves`] for a limit that is exceeded, [`SpansError::OutOfMemory`] if there was no memory.
+pub fn found_by(
+    alloc: Global,
+    pattern: &MarkedPattern,
+    how: How,
+    text: &[u32],
+    advance: bool,
+    from: usize,
+) -> Result<Option<Sight>, SpansError>
+    requires { from ≤ length text.now }
+    ensures { IfOk result (λ s. s ≡ option_map (sight_of pattern.now.groups) (found_in how pattern.now text.now advance from)) }
+{
+    let side = side_alone(alloc, pattern, how)?;
+    let words = Words::new(alloc)?;
+    let count = pattern.groups;
+    let sight = sight_by(alloc, &side, &words, how, count, text, advance, from);
+    match sight {
+        Ok(sight) => Ok(sight),
+        Err(StepError::Outside) => Err(SpansError::Size),
+        Err(StepError::OutOfMemory) => Err(SpansError::OutOfMemory),
+    }
+}
