@@ -1,0 +1,49 @@
+//! The command `relint-spans`: the real input and the real outputs, handed to the top call.
+//!
+//! `main` calls [`spans_main`] with the words after the program's name, a reader over the standard input, and a [`StdSink`] over each
+//! of the two outputs. It ends with the status that this returns. If the system doesn't give the words, for example because one isn't
+//! UTF-8, it writes nothing and ends with status 6, or with status 5 if memory for them was refused.
+//!
+//! # What is proved
+//!
+//! All that [`spans_main`] promises holds here too, as far as the traits promise it of a real input and real outputs. `main` itself has
+//! no contract: its handful of lines is all that you have to read to believe that the real outside is passed on as it is.
+//!
+//! # Example
+//!
+//! ```
+//! $ relint-spans '(a+)+b' '(a+)b'
+//! same
+//! ```
+//!
+//! Read the contract of [`spans_main`] next, in `rl_alike`.
+#![tactic(auto)]
+
+use rl_alike::spans_main;
+use rl_source::StdSink;
+use std::io::BufReader;
+use std::process::ExitCode;
+use std::{env, io};
+
+/// The words after the program's name.
+fn words(rt: &HostRuntime) -> io::Result<Vec<String>> {
+    let words = env::args(rt)?.skip(1).collect(rt.alloc())?;
+    Ok(words)
+}
+
+/// The status of the run.
+fn status(rt: &HostRuntime) -> io::Result<u8> {
+    let words = words(rt)?;
+    let mut input = BufReader::new(rt.alloc(), rt.stdin())?;
+    let mut out = StdSink::new(rt.stdout());
+    let mut err = StdSink::new(rt.stderr());
+    Ok(spans_main(rt.alloc(), &words, &mut input, &mut out, &mut err))
+}
+
+fn main(rt: HostRuntime) -> ExitCode {
+    match status(&rt) {
+        Ok(status) => ExitCode::from(status),
+        Err(error) if error.kind() == io::ErrorKind::OutOfMemory => ExitCode::from(5),
+        Err(_) => ExitCode::from(6),
+    }
+}
