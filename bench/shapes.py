@@ -159,7 +159,7 @@ def search(judge: Callable[[Shape], Run], seconds: float, seed: int, most: int) 
 
 
 def line(run: Run, shape: Shape, is_whole: bool) -> str:
-    """What a shape took, as a line."""
+    """Returns a line with the time and memory of a shape's run, and the shape, shortened unless `is_whole`."""
     name = shape.name or shape.pattern.replace("\n", "\\n")
     how = shape.mode + (", VERBOSE" if shape.is_verbose else "")
     shown = name if is_whole else shortened(name, 90)

@@ -18,6 +18,7 @@ from layouts import COUNTS, head, same_in_all, whole
 from hostile import forks
 from hostile.watch import dangers
 from program import MEGABYTES, Ran, Runner, Wrong, alike
+from questions import spans
 
 TOP = Path(__file__).resolve().parent.parent
 MODES = ("fullmatch", "match", "search")
@@ -361,6 +362,6 @@ def _use(entry: Any) -> None:
 
 TARGETS: Dict[str, Callable[[Runner, Chance, Optional[bytes]], None]] = {
     "words": words, "sources": sources, "settings": settings, "baselines": baselines, "certificates": certificates,
-    "reports": reports, "tools": tools}
+    "reports": reports, "tools": tools, "spans": spans}
 # How many of a hundred cases are of each target.
-SHARES = {"words": 20, "sources": 20, "settings": 15, "baselines": 10, "certificates": 10, "reports": 20, "tools": 5}
+SHARES = {"words": 18, "sources": 18, "settings": 13, "baselines": 9, "certificates": 9, "reports": 19, "tools": 5, "spans": 9}

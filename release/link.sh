@@ -35,22 +35,22 @@ debian() {
     esac
 }
 
-# compile MACHINE TO: proves the crate relint once more over the libraries that the gate has built, and compiles the program to
+# compile PROGRAM MACHINE TO: proves the program's crate once more over the libraries that the gate has built, and compiles it to
 # an object at the absolute path TO. On standard output it leaves rattle's line with the verdict.
 compile() (
-    cd "$top/crates/relint" || exit
-    to=$1 object=$2
-    set -- --crate-name relint src/main.rt --extern "std=$kit/rlibs/std.rlib" -L "dependency=$kit/rlibs"
-    for crate in $(tree_rows names); do
-        [ "$crate" = relint ] || set -- "$@" -L "dependency=$top/crates/$crate/out/rlib"
+    program=$1 to=$2 object=$3
+    cd "$top/crates/$program" || exit
+    set -- --crate-name "$program" src/main.rt --extern "std=$kit/rlibs/std.rlib" -L "dependency=$kit/rlibs"
+    for crate in $(tree_rows names "$program"); do
+        [ "$crate" = "$program" ] || set -- "$@" -L "dependency=$top/crates/$crate/out/rlib"
     done
     # (names of crates are plain words)
     # shellcheck disable=SC2013
-    for crate in $(sed -n 's/^relint: *//p' "$top/crates.txt"); do
+    for crate in $(sed -n "s/^$program: *//p" "$top/crates.txt"); do
         set -- "$@" --extern "$crate=$top/crates/$crate/out/rlib/$crate.rlib"
     done
     "$kit/bin/rattle" build "$@" --antt-project "$kit/rattle/logic/antt-project.json" --logic-built "$kit/logic_built" \
-        --jobs 2 --links relint= --target "$to-unknown-linux-gnu" --toolchain "$kit/toolchain" --backend llvm -o "$object" \
+        --jobs 2 --links "$program=" --target "$to-unknown-linux-gnu" --toolchain "$kit/toolchain" --backend llvm -o "$object" \
         >"$object.log" 2>&1 </dev/null || exit
     grep '^logic=proved ' "$object.log"
 )

@@ -1,20 +1,54 @@
 # shellcheck shell=sh disable=SC2034,SC2154
-# What ./relint, tools/release and .ci/run know of the tree: the crates that make the program, the sum over them, and how to
+# What ./relint, tools/release and .ci/run know of the tree: the crates that make each program, the sum over them, and how to
 # build it. Source it with `top` set to the folder of the repository. It needs a POSIX shell with awk, find, sort, xargs and
 # sha256sum; neither git nor Python.
 #
-# release/INFO, and crates/relint/out/sum beside a program that was built here, hold lines `KEY VALUE`:
+# A program is named by its crate: relint, or relint_spans. A function whose PROGRAM is left out is about relint.
+#
+# release/INFO, and crates/PROGRAM/out/sum beside a program that was built here, hold lines `KEY VALUE`:
 #   sum              the sum of the tree that the program was built from, as tree_sum gives it
 #   program          the SHA-256 of the program that was built here
 #   program-MACHINE  the SHA-256 of the program of release/ for this machine: x86_64 or aarch64
 #   kit              the line of `rt version` of the kit that built it
-# release/README.md has the other lines of release/INFO.
+# In release/INFO the keys about relint_spans begin with `spans-`. release/README.md has its other lines.
 
 built=crates/relint/out/relint
 built_info=crates/relint/out/sum
 build_log=crates/relint/out/build.log
 released_info=release/INFO
 machines="x86_64 aarch64"
+
+# programs: the programs of this tree.
+programs() {
+    for program in relint relint_spans; do
+        ! grep -q "^$program *:" "$top/crates.txt" || echo "$program"
+    done
+}
+
+# file_of PROGRAM: the name of its file in release/.
+file_of() {
+    case $1 in
+        relint_spans) echo relint-spans ;;
+        *) echo "$1" ;;
+    esac
+}
+
+# key_of PROGRAM KEY: the key of release/INFO that says this of the program.
+key_of() {
+    case $1 in
+        relint) echo "$2" ;;
+        *) echo "${1#relint_}-$2" ;;
+    esac
+}
+
+# built_of PROGRAM, built_info_of PROGRAM: the program that was built here, and what is noted of it.
+built_of() {
+    echo "crates/$1/out/$1"
+}
+
+built_info_of() {
+    echo "crates/$1/out/sum"
+}
 
 # machine_here: the machine at hand as release/ names it. Fails if it is of another kind.
 machine_here() {
@@ -25,14 +59,15 @@ machine_here() {
     esac
 }
 
-# released_for MACHINE: the program of release/ for this machine.
+# released_for MACHINE [PROGRAM]: the program of release/ for this machine.
 released_for() {
-    echo "release/$1/relint"
+    echo "release/$1/$(file_of "${2:-relint}")"
 }
 
-# tree_rows names|lines: the crates that the program is built from, in the order of crates.txt: their names, or their lines.
+# tree_rows names|lines [PROGRAM]: the crates that the program is built from, in the order of crates.txt: their names, or their
+# lines.
 tree_rows() {
-    awk -v show="$1" '
+    awk -v show="$1" -v program="${2:-relint}" '
         { sub(/#.*/, ""); sub(/[ \t]+$/, "") }
         /[^ \t]/ {
             head = rest = $0
@@ -44,7 +79,7 @@ tree_rows() {
             uses[words[1]] = rest
         }
         END {
-            needed["relint"] = 1
+            needed[program] = 1
             do {
                 grown = 0
                 for (at = 1; at <= count; at++) {
@@ -58,13 +93,13 @@ tree_rows() {
     ' "$top/crates.txt"
 }
 
-# tree_sum: a SHA-256 over the lines of crates.txt and every file of the crates that the program is built from, by sorted path.
+# tree_sum [PROGRAM]: a SHA-256 over the lines of crates.txt and every file of the crates that it is built from, by sorted path.
 # What can't change the program is left out: the crates of tests and rows, and the folders out/ and must-fail/ of each crate.
 tree_sum() (
     cd "$top" || exit
-    folders=$(tree_rows names | sed 's|^|crates/|') && [ -n "$folders" ] || exit 1
+    folders=$(tree_rows names "${1:-relint}" | sed 's|^|crates/|') && [ -n "$folders" ] || exit 1
     listing=$(
-        tree_rows lines || exit
+        tree_rows lines "${1:-relint}" || exit
         # (one word for each folder: a crate has a plain name)
         # shellcheck disable=SC2086
         find $folders -type d \( -name out -o -name must-fail \) ! -path '*/*/*/*' -prune -o ! -type d -print0 | LC_ALL=C sort -z | xargs -0 sha256sum
@@ -100,16 +135,35 @@ is_named() {
     [ -f "$top/$2" ] && named=$(value_of "$1" "$top/$3") && [ -n "$named" ] && [ "$named" = "$(file_sum "$top/$2")" ]
 }
 
-# is_built_of SUM: whether the program that was built here is of the tree with this sum.
+# is_built_of SUM [PROGRAM]: whether the program that was built here is of the tree with this sum.
 is_built_of() {
-    [ -n "$1" ] && [ "$(value_of sum "$top/$built_info")" = "$1" ] && is_named program "$built" "$built_info"
+    set -- "$1" "${2:-relint}"
+    [ -n "$1" ] && [ "$(value_of sum "$top/$(built_info_of "$2")")" = "$1" ] && is_named program "$(built_of "$2")" "$(built_info_of "$2")"
 }
 
-# tree_record SUM: records that the program that stands in crates/relint/out was built from the tree with this sum.
+# tree_record SUM [PROGRAM]: records that the program in crates/PROGRAM/out was built from the tree with this sum.
 tree_record() {
+    set -- "$1" "$(built_of "${2:-relint}")" "$(built_info_of "${2:-relint}")"
     kit_line=$(rt version 2>/dev/null | head -n 1)
-    part=$top/$built_info.$$
-    printf 'sum %s\nprogram %s\nkit %s\n' "$1" "$(file_sum "$top/$built")" "$kit_line" >"$part" && mv -f "$part" "$top/$built_info"
+    part=$top/$3.$$
+    printf 'sum %s\nprogram %s\nkit %s\n' "$1" "$(file_sum "$top/$2")" "$kit_line" >"$part" && mv -f "$part" "$top/$3"
+}
+
+# tree_sums: the sum of each program, a line `PROGRAM SUM` each.
+tree_sums() {
+    for it in $(programs); do
+        one=$(tree_sum "$it") || return
+        echo "$it $one"
+    done
+}
+
+# tree_record_all SUMS: records of each program that was built here the sum that tree_sums gave before.
+tree_record_all() {
+    while read -r name one; do
+        [ ! -x "$top/$(built_of "$name")" ] || tree_record "$one" "$name"
+    done <<SUMS
+$1
+SUMS
 }
 
 # is_kept CRATE: whether the crate is built, and none of its files has changed since

@@ -15,12 +15,12 @@ else:
 from relint import plain, program
 from relint.beyond import ELSEWHERE, HANG
 from relint.confirm import Limits
+from relint.flags import VALUES
 from relint.reports import Entry, Text, read_report
 from relint.wide import run
 from relint.wide.judge import flag_words
 
 DATA = Path(__file__).parent / "data" / "known.toml"
-FLAGS = {"A": 256, "I": 2, "M": 8, "S": 16, "X": 64}
 NOTHING = "-"
 OPTIONS = ("--max-pairs=1000",)
 CLASSES = ("exponential", "polynomial", "safe")
@@ -51,7 +51,7 @@ def rows() -> List[Row]:
 def _row(found: Dict[str, Any]) -> Row:
     pattern: Text = found["pattern"].encode("latin-1") if found.get("bytes") else found["pattern"]
     expected = {it: found.get(it) for it in ("relint", "elsewhere", "hang")}
-    flags = sum(FLAGS[it] for it in found["flags"])
+    flags = sum(VALUES[it] for it in found["flags"])
     return Row(found["name"], found["source"], found["package"], pattern, flags, found["call"], found["class"],
                found.get("held", False), expected, found.get("why", ""))
 

@@ -1,7 +1,7 @@
 """Builds the wheel and the sdist of relint: a build backend (PEP 517, PEP 660) on Python's standard library alone.
 
-A wheel holds the program of release/ for one machine as it is, the Python package python/relint with its commands, the man
-page, and what says where the program comes from.
+A wheel holds the programs of release/ for one machine as they are, the Python package python/relint with its commands, the man
+page, and what says where the programs come from.
 """
 from __future__ import annotations
 
@@ -11,7 +11,7 @@ from typing import Any, Dict, List, NoReturn, Optional
 
 from .archive import LIST, Entry, entries_of, files_of, write_sdist, write_wheel
 from .metadata import Project, read_project
-from .program import MACHINES, Program, Refusal, check_release, machine_here, read_program
+from .program import MACHINES, Programs, Refusal, check_release, machine_here, read_programs
 
 Settings = Optional[Dict[str, Any]]
 TOP = Path(__file__).resolve().parents[2]
@@ -35,30 +35,30 @@ def stop(why: Refusal) -> NoReturn:
     raise SystemExit(1)
 
 
-def checked_program(machine: str = "") -> Program:
-    """The program of release/ for a machine, or for the one at hand. Ends the build if it can't be installed."""
+def checked_programs(machine: str = "") -> Programs:
+    """The programs of release/ for a machine, or for the one at hand. Ends the build if they can't be installed."""
     try:
-        program = read_program(TOP, machine or machine_here())
+        programs = read_programs(TOP, machine or machine_here())
         check_release(TOP)
     except Refusal as why:
         stop(why)
-    return program
+    return programs
 
 
-def about(project: Project, program: Program) -> List[Entry]:
+def about(project: Project, programs: Programs) -> List[Entry]:
     """The files of the dist-info folder, without RECORD."""
     folder = f"{project.full_name}.dist-info"
-    tags = "".join(f"Tag: {it}\n" for it in program.tags)
+    tags = "".join(f"Tag: {it}\n" for it in programs.tags)
     wheel = f"Wheel-Version: 1.0\nGenerator: relint_build\nRoot-Is-Purelib: false\n{tags}"
     texts = {"METADATA": project.metadata(), "WHEEL": wheel, "entry_points.txt": project.entry_points()}
     entries = [Entry(f"{folder}/{name}", text.encode()) for name, text in texts.items() if text]
     return entries + [Entry(f"{folder}/{name}", (TOP / source).read_bytes()) for name, source in COPIED.items()]
 
 
-def data(project: Project, program: Program) -> List[Entry]:
-    """What the installer puts outside of the Python packages: the program, the man page, and completions for shells."""
+def data(project: Project, programs: Programs) -> List[Entry]:
+    """What the installer puts outside of the Python packages: the programs, the man page, and completions for shells."""
     folder = f"{project.full_name}.data"
-    entries = [Entry(f"{folder}/scripts/relint", program.content, is_program=True)]
+    entries = [Entry(f"{folder}/scripts/{it}", content, is_program=True) for it, content in programs.contents.items()]
     if (TOP / MAN_PAGE).is_file():
         entries.append(Entry(f"{folder}/data/share/man/man1/relint.1", (TOP / MAN_PAGE).read_bytes()))
     for shell, place in COMPLETIONS.items():
@@ -89,17 +89,17 @@ def make_wheel(folder: str, contents: Optional[List[Entry]] = None, machine: str
 
     Given `contents`, it holds these files in place of the Python package.
     """
-    project, program = read_project(TOP), checked_program(machine)
-    name = f"{project.full_name}-{program.tag}.whl"
-    entries = [*(modules() if contents is None else contents), *data(project, program), *about(project, program)]
+    project, programs = read_project(TOP), checked_programs(machine)
+    name = f"{project.full_name}-{programs.tag}.whl"
+    entries = [*(modules() if contents is None else contents), *data(project, programs), *about(project, programs)]
     write_wheel(Path(folder) / name, entries, f"{project.full_name}.dist-info/RECORD")
     return name
 
 
 def prepare_metadata_for_build_wheel(metadata_directory: str, config_settings: Settings = None) -> str:
     """Writes the dist-info folder, and returns its name."""
-    project, program = read_project(TOP), checked_program()
-    for entry in about(project, program):
+    project, programs = read_project(TOP), checked_programs()
+    for entry in about(project, programs):
         file = Path(metadata_directory) / entry.path
         file.parent.mkdir(parents=True, exist_ok=True)
         file.write_bytes(entry.content)
@@ -112,7 +112,7 @@ def build_wheel(wheel_directory: str, config_settings: Settings = None, metadata
 
 
 def build_editable(wheel_directory: str, config_settings: Settings = None, metadata_directory: Optional[str] = None) -> str:
-    """Writes a wheel whose Python package is the one of this folder, and returns its name. The program in it is a copy."""
+    """Writes a wheel whose Python package is the one of this folder, and returns its name. The programs in it are copies."""
     return make_wheel(wheel_directory, [Entry("relint-here.pth", f"{TOP / 'python'}\n".encode())])
 
 

@@ -8,9 +8,9 @@ import hashlib
 import json
 import sys
 from pathlib import Path
-from typing import Any, Dict, Iterator, List, Set
+from typing import Any, Dict, Iterator, List, Set, Tuple
 
-from .program import MACHINES, read_info
+from .program import MACHINES, PROGRAMS, programs_of, read_info
 
 _KIT_FILES = ("bin/rattle", "bin/rattle-link", "toolchain/bin/clang", "c/libos_c.a", "c/liblibc_c.a")
 _CODE, _DATA = {"LICENSE-MIT": "MIT", "LICENSE-APACHE": "Apache-2.0"}, "LICENSE-UNICODE"
@@ -26,6 +26,13 @@ def sum_of(file: Path) -> str:
     return hashlib.sha256(file.read_bytes()).hexdigest()
 
 
+def files(top: Path, info: Dict[str, str]) -> Iterator[Tuple[str, str]]:
+    """The programs of release/, each with the sum that release/INFO gives."""
+    for machine in MACHINES:
+        for program in programs_of(top):
+            yield f"release/{machine}/{program}", info[f"{PROGRAMS[program]}program-{machine}"]
+
+
 def packages(info: Dict[str, str], machine: str) -> Dict[str, str]:
     """The versions of the packages that a program was linked with, by their names."""
     pairs = (it.partition("=") for it in info["packages-" + machine].split())
@@ -39,8 +46,9 @@ def purl(name: str, version: str) -> str:
 
 def materials(top: Path, kit: Path, info: Dict[str, str]) -> Iterator[Dict[str, Any]]:
     """What the programs were made from, each with its sum."""
-    yield {"name": "crates", "digest": {"sha256": info["sum"]},
-           "annotations": {"how": "tree_sum of release/tree.sh, over crates.txt and the crates that relint uses"}}
+    for program in programs_of(top):
+        yield {"name": f"crates of {program}", "digest": {"sha256": info[f"{PROGRAMS[program]}sum"]},
+               "annotations": {"how": f"tree_sum of release/tree.sh, over crates.txt and the crates that {program} uses"}}
     for name in ("release/link.sh", "packaging/glue.c"):
         yield {"name": name, "digest": {"sha256": sum_of(top / name)}}
     for name in _KIT_FILES:
@@ -52,10 +60,11 @@ def materials(top: Path, kit: Path, info: Dict[str, str]) -> Iterator[Dict[str, 
 
 def provenance(top: Path, kit: Path, room: Path, info: Dict[str, str]) -> Dict[str, Any]:
     """The statement of in-toto whose predicate is SLSA's provenance."""
-    verdicts = {it: (room / it / "relint.verdict").read_text(encoding="utf-8").strip() for it in MACHINES}
+    verdicts = {f"{program}-{it}": (room / it / f"{program}.verdict").read_text(encoding="utf-8").strip()
+                for it in MACHINES for program in programs_of(top)}
     return {
         "_type": "https://in-toto.io/Statement/v1",
-        "subject": [{"name": f"release/{it}/relint", "digest": {"sha256": info["program-" + it]}} for it in MACHINES],
+        "subject": [{"name": name, "digest": {"sha256": one}} for name, one in files(top, info)],
         "predicateType": "https://slsa.dev/provenance/v1",
         "predicate": {
             "buildDefinition": {
@@ -66,7 +75,7 @@ def provenance(top: Path, kit: Path, room: Path, info: Dict[str, str]) -> Dict[s
             },
             "runDetails": {
                 "builder": {"id": "urn:relint:tools/release"},
-                "byproducts": [{"name": f"verdict-{it}", "annotations": {"line": verdicts[it]}} for it in MACHINES],
+                "byproducts": [{"name": f"verdict-{it}", "annotations": {"line": line}} for it, line in verdicts.items()],
             },
         },
     }
@@ -77,8 +86,8 @@ def kit_crates(top: Path, kit: Path) -> List[str]:
     lines = [line.partition("#")[0] for line in (top / "crates.txt").read_text(encoding="utf-8").splitlines()]
     named = {name.strip(): rest.split() for name, _, rest in (line.partition(":") for line in lines)}
     left, found = {"std"}, set()
-    reached: Set[str] = {"relint"}
-    queue = ["relint"]
+    queue = [it.replace("-", "_") for it in programs_of(top)]
+    reached: Set[str] = set(queue)
     while queue:
         for it in named[queue.pop()]:
             if it not in named:
@@ -137,9 +146,8 @@ def linked(info: Dict[str, str]) -> Iterator[Dict[str, Any]]:
 def bill(top: Path, kit: Path, info: Dict[str, str]) -> Dict[str, Any]:
     """The list of what the programs hold."""
     components = [kit_component(kit, it, info["kit"].split()[0]) for it in kit_crates(top, kit)] + list(linked(info))
-    hashes = [{"alg": "SHA-256", "content": info["program-" + it]} for it in MACHINES]
-    parts = [{"type": "file", "bom-ref": f"release/{it}/relint", "name": f"release/{it}/relint", "hashes": [one]}
-             for it, one in zip(MACHINES, hashes)]
+    parts = [{"type": "file", "bom-ref": name, "name": name, "hashes": [{"alg": "SHA-256", "content": one}]}
+             for name, one in files(top, info)]
     about = {"type": "application", "bom-ref": "relint", "name": "relint", "version": info["version"],
              "licenses": licence("MIT"), "components": parts}
     uses = {"ref": "relint", "dependsOn": [str(it["bom-ref"]) for it in components]}

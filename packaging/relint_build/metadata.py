@@ -36,7 +36,7 @@ class Project:
         return f"{self.name}-{self.version}"
 
     def metadata(self) -> str:
-        """The file METADATA."""
+        """The core metadata: the text of METADATA in a wheel, and of PKG-INFO in an sdist."""
         fields = [("Metadata-Version", "2.1"), ("Name", self.name), ("Version", self.version)]
         fields += [("Summary", self.table["description"]), ("Keywords", ",".join(self.table["keywords"]))]
         fields += [("License", self.table["license"]["text"]), ("License-File", "LICENSE"), ("License-File", "LICENSE-linked")]

@@ -9,6 +9,8 @@ from pathlib import Path
 from typing import Dict, List
 
 MACHINES = ("x86_64", "aarch64")
+# The programs that a tree can have, by their files in release/, each with what the keys of release/INFO about it begin with.
+PROGRAMS = {"relint": "", "relint-spans": "spans-"}
 # What a static program runs with: any glibc since the oldest that pip has a name for with both machines, and any musl.
 PLATFORMS = ("manylinux_2_17", "manylinux2014", "musllinux_1_1")
 
@@ -18,15 +20,15 @@ class Refusal(Exception):
 
 
 @dataclass(frozen=True)
-class Program:
-    """A program, with the machine that runs it."""
+class Programs:
+    """The programs by their names, with the machine that runs them."""
 
-    content: bytes
+    contents: Dict[str, bytes]
     machine: str
 
     @property
     def tag(self) -> str:
-        """The tag of a wheel that holds it, as in the wheel's name: any Python, no ABI, and each platform."""
+        """The tag of a wheel that holds them, as in the wheel's name: any Python, no ABI, and each platform."""
         return "py3-none-" + ".".join(f"{it}_{self.machine}" for it in PLATFORMS)
 
     @property
@@ -56,16 +58,27 @@ def read_info(file: Path) -> Dict[str, str]:
     return {key: value for key, _, value in pairs}
 
 
-def read_program(top: Path, machine: str) -> Program:
-    """Reads the program for a machine, which has to be the file that release/INFO names. Raises `Refusal`."""
-    name = f"release/{machine}/relint"
+def programs_of(top: Path) -> List[str]:
+    """The programs of a tree, by their files in release/: those whose crates its crates.txt has."""
+    lines = (top / "crates.txt").read_text(encoding="utf-8").splitlines()
+    crates = {line.partition(":")[0].strip() for line in lines if ":" in line}
+    return [it for it in PROGRAMS if it.replace("-", "_") in crates]
+
+
+def read_programs(top: Path, machine: str) -> Programs:
+    """Reads the programs for a machine, which have to be the files that release/INFO names. Raises `Refusal`."""
+    return Programs({it: _read_program(top, machine, it) for it in programs_of(top)}, machine)
+
+
+def _read_program(top: Path, machine: str, program: str) -> bytes:
+    name = f"release/{machine}/{program}"
     try:
         content, info = (top / name).read_bytes(), read_info(top / "release/INFO")
     except OSError as error:
         raise Refusal(f"{error.filename} can't be read, so there is no program to install: {error.strerror}") from error
-    if hashlib.sha256(content).hexdigest() != info.get("program-" + machine):
+    if hashlib.sha256(content).hexdigest() != info.get(f"{PROGRAMS[program]}program-{machine}"):
         raise Refusal(f"{name} isn't the file that release/INFO names, so one of the two is damaged: get both anew")
-    return Program(content, machine)
+    return content
 
 
 def check_release(top: Path) -> None:

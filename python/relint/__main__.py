@@ -6,7 +6,8 @@ import os
 import sys
 from typing import List, Optional
 
-from .command_line import TOOLS, nearest, version
+from .command_line import PACKAGE, TOOLS, nearest, version
+from .output import whole
 from .program import REFUSED
 from .writing import visible
 
@@ -27,11 +28,9 @@ def main(words: Optional[List[str]] = None) -> int:
     """Lists the tools, or runs the one that is named first, and returns its status."""
     given = sys.argv[1:] if words is None else words
     if not given or given[0] in ("--help", "-h"):
-        sys.stdout.write(listed())
-        return 0
+        return whole(PACKAGE, listed())
     if given[0] == "--version":
-        print(f"relint {version()}")
-        return 0
+        return whole(PACKAGE, f"{PACKAGE} {version()}\n")
     name = given[0] if given[0] in TOOLS else FRONT + given[0]
     if name not in TOOLS:
         known = [*TOOLS, *(it[len(FRONT):] for it in TOOLS)]

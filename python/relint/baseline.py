@@ -13,7 +13,7 @@ from typing import Any, Callable, Dict, List, NamedTuple, Optional, Sequence, Tu
 
 from . import plain
 from .beyond import KIND_WORDS
-from .growth import front_flags
+from .flags import letters
 from .opening import OpenError, read_named
 from .program import REFUSED, TREE_FAULT, WRITE_FAULT
 from .reports import Entry, ReportError, Text, file_of, read_text
@@ -52,7 +52,7 @@ def pattern_of(entry: Entry, site: Optional[Site]) -> Optional[Pattern]:
     """Returns the pattern of a finding, or None if it or its flags can't be read from the source."""
     if site is None or site.flags is None or entry.call is None:
         return None
-    return Pattern(entry.call, plain.quoted(site.value), front_flags(site.flags, False)[2:-1])
+    return Pattern(entry.call, plain.quoted(site.value), letters(site.flags).lower())
 
 
 @dataclass(frozen=True)

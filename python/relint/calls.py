@@ -7,24 +7,23 @@ from __future__ import annotations
 
 import ast
 import json
+import os
 import re
 import subprocess
 import sys
 import warnings
 from typing import Any, Dict, Iterator, List, NamedTuple, Optional, Tuple
 
+from .flags import NAMES, VALUES
+
 # A larger source, or one with more signs that can nest, is parsed in a process of its own.
 LARGEST_AT_ONCE, MOST_SIGNS = 65_536, 3_000
 SIGNS = re.compile(rb"[-+*/%@&|^.(\[{<>~]|\b(?:not|if|else|elif|lambda|await|for|and|or)\b")
 # What that process may take.
 SECONDS, MEMORY = 30, 2_147_483_648
-FLAG_LETTERS = {"A": re.A, "I": re.I, "M": re.M, "S": re.S, "U": re.U, "X": re.X}
-FLAG_WORDS = {"ASCII": re.A, "IGNORECASE": re.I, "MULTILINE": re.M, "DOTALL": re.S, "UNICODE": re.U, "VERBOSE": re.X}
-FLAG_NAMES: Dict[str, int] = {
-    **{name: int(value) for name, value in {**FLAG_LETTERS, **FLAG_WORDS}.items()},
-    "DEBUG": int(re.DEBUG),
-    "NOFLAG": 0,
-}
+CHILD = os.path.join(os.path.dirname(os.path.abspath(__file__)), "calls_child.py")
+# (a pattern under LOCALE has no fixed meaning, so its flags aren't known)
+FLAG_NAMES = {name: value for name, value in NAMES.items() if value != VALUES["L"]}
 # The last position at which a call of re takes flags.
 LAST_ARGUMENT = 4
 
@@ -106,7 +105,7 @@ def calls_of(text: str) -> Optional[Calls]:
     from .spawning import python_environment, python_words
 
     try:
-        ran = subprocess.run([*python_words(), __file__], input=data, stdout=subprocess.PIPE, stderr=subprocess.DEVNULL,
+        ran = subprocess.run([*python_words(), CHILD], input=data, stdout=subprocess.PIPE, stderr=subprocess.DEVNULL,
                              env=python_environment(), timeout=SECONDS)
         rows: Any = json.loads(ran.stdout) if ran.returncode == 0 else None
     except (OSError, ValueError, subprocess.TimeoutExpired):
@@ -123,7 +122,3 @@ def main() -> None:
     found = parsed(sys.stdin.buffer.read().decode("utf-8", "surrogatepass"))
     rows = None if found is None else [[line, column, list(call)] for (line, column), call in found.items()]
     json.dump(rows, sys.stdout)
-
-
-if __name__ == "__main__":
-    main()

@@ -10,6 +10,7 @@ import os
 import re
 from typing import Any, Callable, Dict, Iterable, List, NoReturn, Optional, Sequence
 
+from .output import whole
 from .program import REFUSED
 from .writing import visible
 
@@ -65,15 +66,22 @@ class _Version(argparse.Action):
     """Prints the tool's name and version, and ends."""
 
     def __call__(self, parser: argparse.ArgumentParser, *_: Any, **__: Any) -> None:
-        print(f"{parser.prog} {version()}")
-        parser.exit()
+        parser.exit(whole(parser.prog, f"{parser.prog} {version()}\n"))
+
+
+class _Help(argparse._HelpAction):
+    """Prints what the tool takes, and ends."""
+
+    def __call__(self, parser: argparse.ArgumentParser, *_: Any, **__: Any) -> None:
+        parser.exit(whole(parser.prog, parser.format_help()))
 
 
 class Parser(argparse.ArgumentParser):
     """A parser of words that tells a mistake in one line, with the nearest word, and ends with status 2."""
 
     def __init__(self, prog: str, description: str, epilog: Optional[str] = None) -> None:
-        super().__init__(prog=prog, description=description, epilog=epilog, allow_abbrev=False)
+        super().__init__(prog=prog, description=description, epilog=epilog, allow_abbrev=False, add_help=False)
+        self.add_argument("-h", "--help", action=_Help, help="show this help message and exit")
         self.add_argument("--version", action=_Version, nargs=0, help="show the version and exit")
 
     def options(self) -> List[str]:

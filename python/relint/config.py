@@ -61,6 +61,7 @@ def _is_text(value: Any) -> bool:
 
 
 def _is_seconds(value: Any) -> bool:
+    """Returns whether a value of TOML is a time limit: above 0, and at most MOST_NUMBER."""
     return isinstance(value, (int, float)) and not isinstance(value, bool) and 0 < value <= MOST_NUMBER
 
 

@@ -9,7 +9,6 @@ import argparse
 import json
 import math
 import os
-import platform
 import re
 import signal
 import subprocess
@@ -21,17 +20,19 @@ from dataclasses import dataclass
 from pathlib import Path
 from typing import Any, Dict, Iterable, Iterator, List, NamedTuple, Optional, Sequence, Set, Tuple
 
-from . import gather, judging, plain
+from . import gather, judging, plain, rate
 from .causes import TIME
 from .command_line import Parser, number, one_of
 from .facts import Sources, hidden_findings, uses_of
+from .growth import Meter, as_word
 from .judging import Judge
 from .program import TREE_FAULT
+from .rate import python_name
 from .reports import Entry, Text
 from .sites import Site, Source
 from .spawning import python_environment, python_words
-from .used.classes import AsUsed
-from .writing import line, visible
+from .used.classes import UNUSED, AsUsed
+from .writing import WriteError, line, visible
 
 CONFIRMED, NOT_SEEN, NOT_TRIED = "confirmed", "not seen", "not tried"
 TRIAL = str(Path(__file__).with_name("trial.py"))
@@ -104,7 +105,7 @@ def jobs_of(given: gather.Gathered, findings: Sequence[Entry], changed: Set[Entr
 def _job(given: gather.Gathered, entry: Entry, source: Source, used: Optional[AsUsed]) -> Job:
     verdict = entry.verdict()
     if used is not None and verdict is not None and used.is_cleared(given.max_degree):
-        return Job(entry, None, f"not as used here: {used.words(verdict, given.mode(entry))}")
+        return Job(entry, None, f"{UNUSED}: {used.words(verdict, given.mode(entry))}")
     own = used.entry or entry if used else entry
     site = source.site(entry.place, entry.call) if entry.place else None
     if site is None or own.family is None or isinstance(site.value, bytes) != isinstance(own.family.heads[0], bytes):
@@ -128,6 +129,7 @@ def _key(entry: Entry) -> Tuple[Any, ...]:
 
 
 def _groups(paths: Iterable[str]) -> Iterator[List[str]]:
+    """Yields the paths in groups, each short enough for the words of one command."""
     group: List[str] = []
     room = 0
     for path in paths:
@@ -145,7 +147,7 @@ class Trials:
 
     def __init__(self, limits: Limits, until: float = math.inf) -> None:
         """No trial begins after `until`, a value of `time.monotonic`."""
-        self._limits, self._until = limits, until
+        self.limits, self._until = limits, until
         self._lock = threading.Lock()
         self._running: Set["subprocess.Popen[bytes]"] = set()
         self._stopped = False
@@ -156,7 +158,7 @@ class Trials:
             return Outcome(NOT_TRIED, why=job.why)
         if time.monotonic() > self._until:
             return Outcome(NOT_TRIED, why="the seconds of --total-seconds are over")
-        return _outcome(self._run(_task(job.entry, job.site, job.mode, self._limits)), self._limits)
+        return _outcome(self.run(_task(job.entry, job.site, job.mode, self.limits)), self.limits)
 
     def stop(self) -> None:
         """Ends all trials."""
@@ -165,7 +167,8 @@ class Trials:
             for process in self._running:
                 process.kill()
 
-    def _run(self, task: Dict[str, Any]) -> Run:
+    def run(self, task: Dict[str, Any]) -> Run:
+        """Does a task in a process of its own."""
         words = [*python_words(), TRIAL]
         with self._lock:
             if self._stopped:
@@ -174,7 +177,7 @@ class Trials:
                                        env=python_environment())
             self._running.add(process)
         try:
-            patience = (self._limits.seconds * 40 + 60) * PATIENCE
+            patience = (self.limits.seconds * 40 + 60) * PATIENCE
             out, _ = process.communicate(json.dumps(task).encode("ascii"), timeout=patience)
             return Run(process.returncode, out.decode("ascii", "replace").splitlines(), False)
         except subprocess.TimeoutExpired:
@@ -231,11 +234,6 @@ def _outcome(ran: Run, limits: Limits) -> Outcome:
     if not k:
         return Outcome(NOT_TRIED, why=f"the family's first text is longer than {limits.longest:,} characters")
     return Outcome(NOT_SEEN, length, seconds, k, SHORT_CUTS)
-
-
-def python_name() -> str:
-    """Returns the name and the version of the Python that runs this."""
-    return f"{platform.python_implementation()} {platform.python_version()}"
 
 
 def line_of(entry: Entry, outcome: Outcome, limits: Limits) -> str:
@@ -297,6 +295,8 @@ def parser() -> Parser:
     found.add_argument("--memory", type=_count, default=1024, help="the megabytes that a trial may take (default: 1024)")
     found.add_argument("--format", type=one_of("text", "json"), default="text", metavar="FORMAT",
                        help="text or json (text)")
+    found.add_argument("--keep-rate", action="store_true",
+                       help="keep how many steps a second this Python does, so that relint-show can say how long a text takes")
     return found
 
 
@@ -331,7 +331,7 @@ def confirm(words: argparse.Namespace) -> int:
     judge = Judge(options, None, judging.Limits(words.file_seconds or judging.SECONDS, judging.TOTAL_SECONDS))
     changed = set() if given.selection else changed_since(findings, judge)
     limits = Limits(words.seconds, words.longest, words.memory * 1_000_000)
-    jobs = jobs_of(given, findings, changed, sources)
+    jobs = list(jobs_of(given, findings, changed, sources))
     outcomes: List[Outcome] = []
     for entry, outcome in zip(findings, _outcomes(jobs, Trials(limits, until), words.jobs or 1)):
         outcomes.append(outcome)
@@ -342,7 +342,34 @@ def confirm(words: argparse.Namespace) -> int:
         place = f":{it.place.line}:{it.place.column}" if it.place else ""
         print(f"relint-confirm: {visible(it.path)}{place}: {plain.outcome_words(it)}", file=sys.stderr)
     gather.write((as_json(findings, outcomes, limits) if words.format == "json" else sum_line(outcomes)) + "\n")
+    if words.keep_rate:
+        keep_rate(jobs, outcomes)
     return TREE_FAULT if given.status == TREE_FAULT else 0
+
+
+def keep_rate(jobs: Sequence[Job], outcomes: Sequence[Outcome]) -> None:
+    """Keeps the steps a second that confirmed findings show, and says where, or why there are none."""
+    found = rate.measured(samples(jobs, outcomes, Meter()))
+    if found is None:
+        said = "no rate is kept: no finding was confirmed whose steps relint cost counts"
+    else:
+        try:
+            said = f"{visible(rate.keep(found))}: {plain.big(found)} steps a second"
+        except WriteError as error:
+            said = f"no rate is kept: {visible(rate.file_name() or 'the file')} can't be written: {error}"
+    print(f"relint-confirm: {said}", file=sys.stderr)
+
+
+def samples(jobs: Sequence[Job], outcomes: Sequence[Outcome], meter: Meter) -> Iterator[Tuple[int, float]]:
+    """Yields the steps and the seconds of one match of each confirmed finding, as far as relint counts its steps."""
+    for job, outcome in zip(jobs, outcomes):
+        family, site, timed = job.entry.family, job.site, rate.longest(outcome.times)
+        if outcome.result != CONFIRMED or family is None or site is None or timed is None:
+            continue
+        k, word = rate.k_of(family, timed[0]), as_word(site.value, site.flags or 0)
+        cost = meter.cost(word, job.mode, family.text(k)) if k is not None and word is not None else None
+        if cost is not None:
+            yield cost[0], timed[1]
 
 
 def _outcomes(jobs: Iterable[Job], trials: Trials, at_a_time: int) -> Iterator[Outcome]:

@@ -11,6 +11,7 @@ from typing import TYPE_CHECKING, Dict, Optional, Sequence, Tuple
 from . import plain, program, pump
 from .growth import Growth, Meter, as_word, measure
 from .opening import HERE, OpenError, read_below
+from .rate import seconds_words
 from .reports import Entry, Place, Text
 from .sites import Site, Source, SourceError, code_offsets, inner_span
 from .used.classes import AsUsed
@@ -67,8 +68,8 @@ class Finding:
         """Returns the place of the pattern's first literal."""
         return self.entry.place or Place(1, 1)
 
-    def words(self) -> str:
-        """Returns the class in plain words, with figures where relint gave them."""
+    def words(self, steps_a_second: Optional[int] = None) -> str:
+        """Returns the class in plain words, with figures where relint gave them, and the seconds at a rate that is known."""
         verdict, beyond = self.judged.verdict(), self.entry.beyond
         if beyond is not None and beyond.seen is not None:
             return beyond.seen_words()
@@ -79,6 +80,8 @@ class Finding:
         told = self.growth.told
         text = self.site.value if self.site else None
         words = f"a text of {plain.codes(told.length, text)} costs {plain.big(told.steps)} steps"
+        if steps_a_second is not None:
+            words += f" ({seconds_words(told.steps, steps_a_second)} on this machine)"
         if verdict.kind != "exponential":
             return f"{words}; {plain.growth_words(verdict)}"
         if self.growth.rate is None or self.growth.rate < 1.05 or self.judged.family is None:
@@ -256,6 +259,11 @@ class Looked:
     def every(self) -> Tuple[Finding, ...]:
         """Returns all of them."""
         return (*self.reached, *self.unused)
+
+    def as_used(self, entries: Sequence[Entry]) -> Tuple[Entry, ...]:
+        """Returns the entries of the report, each finding with its class as the pattern is used."""
+        own = {id(it.entry): it.judged for it in self.every()}
+        return tuple(own.get(id(it), it) for it in entries)
 
 
 def looked_at(given: "Gathered", sources: Sources, mend: bool = False, most: Optional[int] = None) -> Looked:

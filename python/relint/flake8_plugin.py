@@ -13,6 +13,7 @@ from . import buffers, plain, program, rules
 from .command_line import version
 from .facts import Finding
 from .reports import Entry
+from .used.classes import UNUSED
 from .writing import line, visible
 
 Violation = Tuple[int, int, str, Type["Plugin"]]
@@ -65,7 +66,7 @@ def messages(found: buffers.Judged) -> List[Tuple[Entry, str]]:
 
 
 def _unused(found: buffers.Judged, one: Finding) -> str:
-    return f"{one.entry.call}: not as used here: {one.used_words(found.given.compile_as)}"
+    return f"{one.entry.call}: {UNUSED}: {one.used_words(found.given.compile_as)}"
 
 
 def _words(entry: Entry) -> str:

@@ -14,7 +14,7 @@ import sys
 import termios
 from concurrent.futures import ThreadPoolExecutor
 from dataclasses import dataclass, field, replace
-from typing import Any, Callable, Iterator, List, Mapping, Optional, Sequence, Tuple, Union
+from typing import Any, Callable, Iterator, List, Mapping, Optional, Sequence, Tuple
 
 from . import config, git, known, program
 from .baseline import BaselineError, Split
@@ -25,6 +25,7 @@ from .exclusions import Exclusions
 from .facts import Sources
 from .judging import MOST_SECONDS, SECONDS, TOTAL_SECONDS, Answered, Judge, JudgeError, Limits, joined, unjudged
 from .opening import HERE, OpenError, read_named
+from .output import Unwritten, flush as flush, told, write as write
 from .reports import Entry, Report, ReportError, check_paths, own_of, read_report, read_stream
 from .selection import Selection, selected
 from .used.follow import mode_of
@@ -471,47 +472,6 @@ def tell(name: str, given: Gathered) -> None:
         print(f"{name}: {it}", file=sys.stderr)
 
 
-class Unwritten(Exception):
-    """Standard output takes nothing more; the message says why, and is empty if its reader has gone away, as `head` does."""
-
-
-def write(text: Union[str, bytes]) -> None:
-    """Writes to standard output: text with what it can't hold as escapes, or bytes as they are. Raises Unwritten."""
-    out = sys.stdout
-    if out is None:
-        raise Unwritten("it is closed")
-    try:
-        if isinstance(text, bytes):
-            out.flush()
-            out.buffer.write(text)
-            out.buffer.flush()
-        else:
-            coding = out.encoding or "utf-8"
-            out.write(text.encode(coding, "backslashreplace").decode(coding))
-    except (OSError, ValueError) as error:
-        raise _unwritten(error) from error
-
-
-def flush() -> None:
-    """Hands on what was written to standard output so far. Raises Unwritten."""
-    try:
-        if sys.stdout is not None:
-            sys.stdout.flush()
-    except (OSError, ValueError) as error:
-        raise _unwritten(error) from error
-
-
-def _unwritten(error: Exception) -> Unwritten:
-    try:
-        # (so that Python's own flush at the end says nothing)
-        os.dup2(os.open(os.devnull, os.O_WRONLY), sys.stdout.fileno())
-    except (OSError, ValueError, AttributeError):
-        pass
-    if isinstance(error, BrokenPipeError):
-        return Unwritten()
-    return Unwritten(error.strerror or str(error) if isinstance(error, OSError) else str(error))
-
-
 def _flushed(status: int) -> int:
     flush()
     return status
@@ -528,8 +488,6 @@ def ended(name: str, work: Callable[[], int]) -> int:
         print(f"{name}: {visible(str(error))}", file=sys.stderr)
         return program.REFUSED
     except Unwritten as error:
-        if str(error):
-            print(f"{name}: standard output can't be written: {error}", file=sys.stderr)
-        return program.WRITE_FAULT
+        return told(name, error)
     except KeyboardInterrupt:
         return INTERRUPTED

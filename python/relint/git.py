@@ -37,7 +37,10 @@ def environment() -> Dict[str, str]:
 
 
 def tracked(path: str) -> List[str]:
-    """Returns what git tracks at a path or below it; each of the paths begins as this one does. Raises GitError."""
+    """Returns the files that git tracks at a path or below it. Raises GitError.
+
+    Each is written in the way that the path is, relative or absolute. Below "." the files have no "./" in front.
+    """
     folder, name = (path, "") if os.path.isdir(path) else os.path.split(path)
     here = os.path.realpath(folder or ".")
     top = work_tree(here)

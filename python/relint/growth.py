@@ -8,6 +8,7 @@ from dataclasses import dataclass
 from typing import Dict, List, Optional, Tuple
 
 from . import program
+from .flags import VALUES, front
 from .reports import Family, Text, Verdict
 
 # The text that is told has about so many steps, which take Python half a minute or so, or as many as the longest text has.
@@ -20,7 +21,6 @@ SECONDS_OF_A_QUESTION, SECONDS_OF_ALL = 5, 300
 LONGEST_TEXT = 1000
 COST = re.compile(r"steps (?:over )?(\d+) (matched|refused)\n")
 NUL = re.compile(r"\\(.)|\x00", re.S)
-FLAG_LETTERS = (("a", re.A), ("i", re.I), ("m", re.M), ("s", re.S), ("x", re.X))
 
 
 @dataclass(frozen=True)
@@ -47,12 +47,6 @@ class Growth:
         return self.told.k
 
 
-def front_flags(flags: int, is_bytes: bool) -> str:
-    """Returns the flags of a call as a pattern's own front, as "(?im)"."""
-    letters = "".join(letter for letter, value in FLAG_LETTERS if flags & int(value) or (is_bytes and letter == "a"))
-    return f"(?{letters})" if letters else ""
-
-
 def as_word(pattern: Text, flags: int) -> Optional[str]:
     """Returns the pattern word that has relint judge a pattern under flags, or None where no word can hold it.
 
@@ -61,11 +55,12 @@ def as_word(pattern: Text, flags: int) -> Optional[str]:
     is_bytes = isinstance(pattern, bytes)
     text = pattern.decode("latin-1") if isinstance(pattern, bytes) else pattern
     text = NUL.sub(lambda it: it.group() if it.group(1) not in (None, "\x00") else "\\x00", text)
-    word = front_flags(flags, is_bytes) + text
+    word = front(flags | VALUES["A"] if is_bytes else flags) + text
     return word if _is_word(word) else None
 
 
 def _is_word(word: str) -> bool:
+    """Returns whether relint can be given a text as a word: UTF-8 without NUL that isn't too long."""
     try:
         return "\x00" not in word and len(word.encode("utf-8")) < 100_000
     except UnicodeEncodeError:
@@ -133,7 +128,10 @@ class _Measured:
         return self.points[k]
 
     def doubled(self, enough: int) -> bool:
-        """Measures k = 1, 2, 4 and so on, until the steps are enough or the texts are long. Answers whether it could."""
+        """Measures k = 1, 2, 4 and so on, until a text takes `enough` steps or the next one would be too long.
+
+        Returns False if relint has no answer for one of them.
+        """
         k = 1
         while k == 1 or _length(self.family, k) <= LONGEST_TEXT:
             point = self.at(k)

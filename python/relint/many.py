@@ -16,6 +16,7 @@ from .parts import MORE_WITH_A_BASELINE, NotJoined, run_parts
 from .program import REFUSED, WRITE_FAULT, Answer, ProgramError, first_answer, program
 from .spawning import STOPPING, Held, end, spawn
 from .walking import NotListed, TooDeep, walk
+from .words import OPTIONS, refused
 
 TYPE_CHECKING = False
 if TYPE_CHECKING:  # (what takes long to import is imported where it is needed, and this is needed for types alone)
@@ -38,7 +39,6 @@ Writes the report of `relint check` on the paths, but several runs make it at th
   --version      show the version
   --help         show this text
 """
-RELINT_OPTIONS = ("--mode", "--format", "--max-degree", "--max-pairs", "--settings", "--report", "--baseline")
 OWN_OPTIONS = ("--jobs", "--list", "--into", "--from")
 # The most bytes of a list of paths, and of a report to join.
 LARGEST = 1 << 30
@@ -55,9 +55,10 @@ class Stopped(BaseException):
 
 
 class Given:
-    """What the words ask for: `relint` are the words without this tool's own options.
+    """What the words ask for.
 
-    `plain` says that relint takes the words; where it doesn't, it says itself why.
+    `own` holds the values of this tool's own options, and `relint` the words for relint, with their `options` and `paths`.
+    `plain` says that relint takes those words. If it doesn't, relint itself says why.
     """
 
     def __init__(self) -> None:
@@ -91,7 +92,7 @@ def read_words(words: Sequence[str]) -> Given:
             given.asks_version = given.asks_version or word == "--version"
         elif name in OWN_OPTIONS:
             given.own[name] = value if equals else next(left, "")
-        elif name in RELINT_OPTIONS:
+        elif name in OPTIONS:
             _take_option(given, word, left)
         else:
             given.paths.append(word)
@@ -105,9 +106,10 @@ def _take_option(given: Given, word: str, left: Iterator[str]) -> None:
     name, equals, value = word.partition("=")
     given.relint.append(word)
     if not equals:
-        value = next(left, "--")
-        given.relint.append(value)
-        given.plain = given.plain and (value == "-" or not value.startswith("-"))
+        after = next(left, None)
+        given.relint += [] if after is None else [after]
+        value = after or ""
+        given.plain = given.plain and after is not None and (value == "-" or not value.startswith("-"))
     given.plain = given.plain and name not in given.options
     given.options[name] = value
 
@@ -123,6 +125,9 @@ def _is_utf8(word: str) -> bool:
 def check(given: Given) -> int:
     """Writes the report on the paths, and returns the status of one run."""
     jobs = given.number("--jobs", len(os.sched_getaffinity(0)) if hasattr(os, "sched_getaffinity") else os.cpu_count() or 1)
+    wrong = refused(given.relint, "--from" in given.own)
+    if wrong:
+        raise WordsError(f"{wrong} (--help lists the options)")
     named = _names(given)
     ready = ready_program()
     options = [f"{name}={value}" for name, value in given.options.items()]
@@ -320,15 +325,20 @@ def _stop(number: int, _: Optional[FrameType]) -> None:
     raise Stopped(number)
 
 
+def _said(text: str) -> int:
+    """Writes what this tool says of itself to standard output, and returns the status."""
+    from .output import whole
+
+    return whole("relint-many", text)
+
+
 def _act(given: Given) -> int:
     if given.helps:
-        sys.stdout.write(USAGE)
-        return 0
+        return _said(USAGE)
     if given.asks_version:
         from .command_line import version
 
-        print(f"relint-many {version()}")
-        return 0
+        return _said(f"relint-many {version()}\n")
     if given.joins:
         return join_reports(given)
     if "--list" in given.own:

@@ -9,6 +9,7 @@ import json
 import os
 import re
 import sys
+from collections import Counter
 from html import escape
 from typing import Dict, Iterator, List, Optional, Sequence, Tuple
 from urllib.parse import quote
@@ -16,13 +17,14 @@ from urllib.parse import quote
 from . import causes, gather, plain, program, rules, summary
 from .beyond import KIND_WORDS, TITLES
 from .command_line import Parser, number
-from .facts import Finding, Sources, findings, worst_first
+from .facts import Finding, Looked, Sources, looked_at, worst_first
 from .mend.offers import Offer
 from .page_chart import chart
 from .page_script import SCRIPT
 from .page_style import STYLE
 from .reports import Entry, Place, Text, own_of
 from .sites import Source
+from .used.classes import UNUSED
 from .writing import escaped, visible
 
 LINES_AROUND = 2
@@ -30,6 +32,7 @@ MOST_LINES = 16
 MOST_PLACES = 50
 MOST_CARDS = 300
 MOST_CODES_OF_A_LINE = 400
+NAMES = re.compile(r"`([^`]*)`")
 LINK = re.compile(r"(?!(?:javascript|data|vbscript):)[a-z][a-z0-9+.-]*:[^\s\x00-\x1f]+", re.I)
 
 
@@ -197,7 +200,8 @@ def _beyond_words(found: Finding) -> Iterator[str]:
     yield f"<p><code>{shown(plain.quoted(beyond.pattern) + plain.flags_code(beyond.flags))}</code></p>"
     words = [it for it in (beyond.held_words(found.entry.path), *beyond.notes) if it]
     if words:
-        yield f'<p class="muted kept">{shown(_sentence("; ".join(words)))}</p>'
+        names = NAMES.sub(r"<code>\1</code>", shown(_sentence("; ".join(words))))
+        yield f'<p class="muted kept">{names}</p>'
 
 
 def card(found: Finding, number: int, link: Link, compile_as: str) -> str:
@@ -230,28 +234,45 @@ def _count(number: int, name: str, target: str, kind: str) -> str:
     return f'<li class="{kind}"><a href="#{target}"><b>{number:,}</b> {name}</a></li>'
 
 
-def _counts(given: gather.Gathered) -> str:
-    found, entries = own_of(given.findings), own_of(given.report.entries)
-    beyond = len(given.findings) - len(found)
-    exponential = sum(it.kind == "exponential" for it in found)
+def _counts(entries: Sequence[Entry], found: Sequence[Finding], unused: int) -> str:
+    """The counts at the top, of the entries and of the findings among them, each by its class as used."""
+    entries, own = own_of(entries), own_of([it.judged for it in found if it.entry.beyond is None])
+    kinds = Counter(it.entry.beyond.kind for it in found if it.entry.beyond is not None)
+    exponential = sum(it.kind == "exponential" for it in own)
     undecided = sum(it.kind == "undecided" for it in entries)
     lost = sum(not it.is_judged() for it in entries)
-    rest = len(entries) - len(found) - undecided - lost
+    rest = len(entries) - len(own) - unused - undecided - lost
     return '<ul class="counts">' + "".join((
         _count(exponential, "exponential", "findings", "bad" if exponential else ""),
-        _count(len(found) - exponential, "of a high degree", "findings", "warn" if len(found) > exponential else ""),
-        _count(beyond, "beyond what is proved", "findings", "warn") if beyond else "",
+        _count(len(own) - exponential, "of a high degree", "findings", "warn" if len(own) > exponential else ""),
+        *(_count(kinds[kind], words, "findings", f"warn {kind}") for kind, words in KIND_WORDS.items() if kinds[kind]),
+        _count(unused, UNUSED, "unused", "") if unused else "",
         _count(lost, "not analysed", "refused", ""),
         _count(undecided, "undecided", "undecided", ""),
         _count(rest, "without a finding", "all", ""),
     )) + "</ul>"
 
 
+def _list(items: Sequence[str]) -> str:
+    """A list of the first items, which are markup."""
+    found = [f"<li>{it}</li>" for it in items[:MOST_PLACES]]
+    if len(items) > MOST_PLACES:
+        found.append(f"<li>and {len(items) - MOST_PLACES:,} more, in the table below</li>")
+    return "<ul>" + "".join(found) + "</ul>"
+
+
 def _places(entries: Sequence[Entry], link: Link) -> str:
-    items = [f"<li>{link(it, place_words(it))}</li>" for it in entries[:MOST_PLACES]]
-    if len(entries) > MOST_PLACES:
-        items.append(f"<li>and {len(entries) - MOST_PLACES:,} more, in the table below</li>")
-    return "<ul>" + "".join(items) + "</ul>"
+    return _list([link(it, place_words(it)) for it in entries])
+
+
+def _unused(found: Sequence[Finding], link: Link, compile_as: str) -> str:
+    """The group of the findings that no use reaches; nothing if there is none."""
+    if not found:
+        return ""
+    items = [f"{link(it.entry, place_words(it.entry))} <code>{shown(it.entry.call or '')}</code>: "
+             f"{shown(it.used_words(compile_as))}" for it in found]
+    words = "<p>These patterns can be slow, but not in the calls that this code makes. They count with --strict.</p>"
+    return _folded("unused", f"{UNUSED.capitalize()}: {len(found):,}", words + _list(items))
 
 
 def _group(name: str, words: str, page: str, entries: Sequence[Entry], link: Link) -> str:
@@ -290,7 +311,7 @@ def _undecided(entries: Sequence[Entry], link: Link) -> str:
 
 
 class _Names:
-    """Names that are written once, and stood for by their numbers."""
+    """Numbers names in the order in which they first come, so that the page has each of them only once."""
 
     def __init__(self) -> None:
         self.numbers: Dict[str, int] = {}
@@ -299,24 +320,30 @@ class _Names:
         return self.numbers.setdefault(name, len(self.numbers))
 
 
-def table_data(entries: Sequence[Entry]) -> Dict[str, object]:
-    """Returns what the page's table is drawn from: names once, and for each entry the numbers of its own."""
+def table_data(entries: Sequence[Entry], unused: Sequence[Entry] = ()) -> Dict[str, object]:
+    """Returns what the page's table is drawn from: names once, and for each entry the numbers of its own.
+
+    Each of the `unused` ones is among the entries.
+    """
     paths, calls, kinds = _Names(), _Names(), _Names()
-    for kind in sorted({_kind(it) for it in entries}):
+    apart = {id(it) for it in unused}
+    named = [f"{UNUSED}: {_kind(it)}" if id(it) in apart else _kind(it) for it in entries]
+    for kind in sorted(set(named)):
         kinds(kind)
     for call in sorted({it.call or "" for it in entries}):
         calls(call)
     rows = [
         [
             paths(visible(it.path)), it.place.line if it.place else 0, it.place.column if it.place else 0,
-            calls(it.call or ""), kinds(_kind(it)),
+            calls(it.call or ""), kinds(kind),
         ]
-        for it in entries
+        for it, kind in zip(entries, named)
     ]
     return {"calls": list(calls.numbers), "kinds": list(kinds.numbers), "paths": list(paths.numbers), "rows": rows}
 
 
 def _kind(entry: Entry) -> str:
+    """Returns what the table shows of an entry in its column Class: the class, or why it wasn't analysed."""
     verdict = entry.verdict()
     if verdict:
         return (f"{KIND_WORDS[entry.beyond.kind]}: " if entry.beyond else "") + plain.class_word(verdict)
@@ -354,6 +381,7 @@ def _cards(found: Sequence[Finding], all_found: int, link: Link, compile_as: str
 
 
 def _head(title: str, findings_counted: str) -> str:
+    """Returns the page up to the end of its head. Its policy allows only the page's own style and script."""
     allowed = f"style-src {_pinned(STYLE)}; script-src {_pinned(SCRIPT)}"
     policy = f"default-src 'none'; {allowed}; base-uri 'none'; form-action 'none'"
     return (
@@ -371,25 +399,30 @@ def _unlooked(given: gather.Gathered) -> str:
     return f" {words[0].upper()}{words[1:]}." if words else ""
 
 
-def page(given: gather.Gathered, found: Sequence[Finding], link: Link, title: str) -> str:
-    """Returns the page for a report; `found` are the findings that get a card."""
-    entries = given.report.entries
-    counted = plain.counted(len(given.findings), "finding")
+def page(given: gather.Gathered, looked: Looked, most: int, link: Link, title: str) -> str:
+    """Returns the HTML page for a report. Only its `most` worst findings get a card."""
+    entries = looked.as_used(given.report.entries)
+    warned = {id(it) for it in given.warned}
+    found = sorted((it for it in looked.reached if id(it.entry) not in warned),
+                   key=lambda it: (it.entry.beyond is not None, *worst_first(it.judged)))
+    unused = [it.judged for it in looked.unused]
+    counted = plain.counted(len(found), "finding")
     return "".join((
         _head(title, counted),
         f'<body>\n<a class="skip" href="#findings">Go to the findings</a>\n<header><h1>{shown(title)}</h1>\n',
-        f'<p class="muted">{summary.line(entries, given.max_degree, given.hidden())}.{_unlooked(given)} ',
+        f'<p class="muted">{summary.line(entries, given.max_degree, given.hidden(), len(unused))}.{_unlooked(given)} ',
         "A finding is a pattern that a ",
-        f"chosen text can make extremely slow (ReDoS, CWE-1333).</p>{_counts(given)}</header>\n<main>\n",
+        f"chosen text can make extremely slow (ReDoS, CWE-1333).</p>{_counts(entries, found, len(unused))}</header>\n<main>\n",
         '<section id="findings" aria-labelledby="findings-h"><h2 id="findings-h">Findings</h2>\n',
-        _cards(found, len(given.findings), link, given.compile_as), "</section>\n",
-        '<section aria-label="Other entries">\n', _refused(own_of(entries), link),
+        _cards(found[:most], len(found), link, given.compile_as), "</section>\n",
+        '<section aria-label="Other entries">\n', _unused(looked.unused, link, given.compile_as),
+        _refused(own_of(entries), link),
         _undecided(own_of(entries), link),
         _folded("all", f"All entries: {len(entries):,}", TABLE), "</section>\n</main>\n",
         "<footer><p>Classes and steps are those of relint's defined machine, which backtracks as CPython's re does. ",
         "They are no measured times.</p></footer>\n",
         '<p id="status" role="status" class="unseen"></p>\n',
-        f'<script type="application/json" id="data">{_json(table_data(entries))}</script>\n',
+        f'<script type="application/json" id="data">{_json(table_data(entries, unused))}</script>\n',
         f"<script>{SCRIPT}</script>\n</body></html>\n",
     ))
 
@@ -417,10 +450,9 @@ def _work(words: argparse.Namespace) -> int:
     link = Link(words.link)
     given = gather.gathered(words)
     gather.tell("relint-page", given)
-    worst = sorted(given.findings, key=lambda it: (it.beyond is not None, *worst_first(it)))[:words.cards]
-    found = findings(given, worst, Sources(given.folders), words.mend)
+    looked = looked_at(given, Sources(given.folders), words.mend, words.cards)
     status = program.TREE_FAULT if given.status == program.TREE_FAULT else 0
-    data = page(given, found, link, words.title).encode("utf-8", "backslashreplace")
+    data = page(given, looked, words.cards, link, words.title).encode("utf-8", "backslashreplace")
     if words.output:
         return gather.put("relint-page", words.output, data) or status
     gather.write(data)

@@ -43,9 +43,11 @@ pre code { white-space: pre; }
 .head { display: flex; flex-wrap: wrap; gap: .25rem .75rem; align-items: baseline; }
 .badge { border: 1px solid currentColor; border-radius: 1rem; padding: 0 .6rem; font-size: .8125rem; font-weight: 600;
   white-space: nowrap; color: var(--warn); }
-.card.elsewhere, .card.hang { border-style: dashed; border-width: 2px; }
+.card.elsewhere, .counts .elsewhere a { border-style: dashed; border-width: 2px; }
+.card.hang, .counts .hang a { border-style: dotted; border-width: 3px; }
 h2.beyond { margin-top: 2rem; }
 .origin { border: 1px dashed currentColor; padding: 0 .5rem; font-size: .8125rem; font-weight: 600; color: var(--muted); }
+.hang .origin { border-style: dotted; border-width: 2px; }
 .exponential .badge { color: var(--bad); }
 .words { font-size: 1.0625rem; margin: .4rem 0 .75rem; }
 .columns { display: grid; grid-template-columns: minmax(0, 1fr) 21rem; gap: 0 1.5rem; }

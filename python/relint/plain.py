@@ -1,18 +1,17 @@
 """Classes, causes and figures in plain words, and the Python code that shows a slow match."""
 from __future__ import annotations
 
-import re
 import shlex
 from typing import Dict, List, Optional, Sequence, Tuple
 
 from .causes import LIMITS, MORE_PAIRS, MOST_PAIRS
 from .causes import words as words_of
+from .flags import code
 from .reports import Entry, Family, Text, Verdict
 from .writing import visible
 
 NAMES_OF_DEGREES = {0: "bounded", 1: "linear", 2: "quadratic", 3: "cubic"}
 SCALES = ((10**12, "trillion"), (10**9, "billion"), (10**6, "million"))
-FLAG_LETTERS = (("A", re.A), ("I", re.I), ("M", re.M), ("S", re.S), ("X", re.X))
 LAST_WITH_WORDS = 10**15
 # The highest degree whose power of two is written out.
 MOST_SPELLED_OUT = 40
@@ -182,8 +181,8 @@ def family_words(family: Family) -> str:
 
 def flags_code(flags: int) -> str:
     """Returns the flags of a call as code, as ", re.I | re.M", or nothing where none are set."""
-    names = [f"re.{name}" for name, value in FLAG_LETTERS if flags & int(value)]
-    return ", " + " | ".join(names) if names else ""
+    names = code(flags)
+    return f", {names}" if names else ""
 
 
 def python_code(pattern: Text, flags: int, mode: str, family: Family, k: int) -> str:

@@ -16,6 +16,7 @@ FINDING, REFUSED, TREE_FAULT, WRITE_FAULT, NO_MEMORY = 1, 2, 3, 4, 5
 ACTIONS = ("check", "class", "cost", "sample", "prove", "verify", "compare")
 # A question that each relint answers so, and nothing else does.
 QUESTION, RIGHT_ANSWER = ("cost", "a*", "aa"), b"steps 5 matched\n"
+SPANS_QUESTION, SPANS_ANSWER = ("a*", "a*"), b"same\n"
 
 # Where a clone's program is, once there is one.
 BUILT = ("crates/relint/out/relint", "release/INFO")
@@ -86,6 +87,42 @@ def located() -> str:
     raise ProgramError("the program relint isn't on the PATH: install it, or name it in the variable RELINT")
 
 
+def spans_program() -> str:
+    """Returns the path of the program relint-spans, which answered as it should when this process first asked.
+
+    It is the one that the variable RELINT_SPANS names, else the one beside this package, else the one on the PATH. Raises
+    ProgramError where there is none.
+    """
+    found = _located_spans()
+    if found not in _answers:
+        from .spawning import asked
+
+        try:
+            _answers[found] = Answer(*asked([os.fsencode(found), *map(str.encode, SPANS_QUESTION)], MOST_OF_AN_ANSWER))
+        except OSError as error:
+            raise ProgramError(f"{found} can't be run: {error.strerror or error}") from error
+    if (_answers[found].out, _answers[found].status) != (SPANS_ANSWER, 0):
+        raise ProgramError("relint-spans isn't there" if _answers[found].status == 127 else f"{found} isn't relint-spans")
+    return found
+
+
+def _located_spans() -> str:
+    named = os.environ.get("RELINT_SPANS")
+    if named:
+        found = named if os.path.dirname(named) and _can_run(named) else on_path(named)
+        if not found:
+            raise ProgramError(f"RELINT_SPANS names {named}, which can't be run")
+        return os.path.abspath(found)
+    top = os.path.dirname(os.path.dirname(_package()))
+    script = os.path.join(top, "tools", "relint-spans")
+    if os.path.isfile(os.path.join(top, "crates.txt")) and _can_run(script):
+        return script
+    other = _installed("relint-spans") or on_path("relint-spans")
+    if not other:
+        raise ProgramError("relint-spans isn't there")
+    return other
+
+
 def on_path(name: str) -> Optional[str]:
     """Returns the command of this name on the PATH, or None. An entry of the PATH that is empty or relative is passed over: it
     would name the current folder, or one below it."""
@@ -111,13 +148,13 @@ def _package() -> str:
     return os.path.dirname(os.path.realpath(__file__))
 
 
-def _installed() -> Optional[str]:
+def _installed(name: str = "relint") -> Optional[str]:
     """The program that was installed with this package, as the installer noted it, or None. Raises ProgramError where the
     program that is there has another size than the one that was installed."""
     packages = os.path.dirname(_package())
     for path, size in _recorded(packages):
         found = os.path.normpath(os.path.join(packages, path))
-        if os.path.basename(found) == "relint" and _can_run(found):
+        if os.path.basename(found) == name and _can_run(found):
             if os.path.getsize(found) != size:
                 raise ProgramError(f"{found} isn't the program that was installed with this package: install relint again")
             return found

@@ -5,6 +5,7 @@ import re
 from dataclasses import dataclass
 from typing import List, Optional, Sequence, Tuple
 
+from .flags import INLINE, TURNED_OFF
 from .growth import Meter, as_word
 from .reports import Family, Text, Verdict
 
@@ -12,8 +13,8 @@ QUANTIFIER = re.compile(r"(?:[*+?]|\{\d+\}|\{\d*,\d*\})\??")
 UNBOUNDED = re.compile(r"(?:[*+]|\{\d*,\})\??")
 ESCAPE = re.compile(r"\\(?:x[0-9a-fA-F]{2}|u[0-9a-fA-F]{4}|U[0-9a-fA-F]{8}|0[0-7]{0,2}|[1-7][0-7]{2}|.)", re.S)
 CLASS = re.compile(r"\[\^?\]?(?:\\.|[^\]\\])*\]", re.S)
-FRONT = re.compile(r"\(\?([aiLmsux]+)\)")
-OPENED = re.compile(r"\((?:\?(?:P<[^>]*>|[aimsux]*(?:-[imsx]+)?:))?")
+FRONT = re.compile(rf"\(\?([{INLINE}]+)\)")
+OPENED = re.compile(rf"\((?:\?(?:P<[^>]*>|[{INLINE}]*(?:-[{TURNED_OFF}]+)?:))?")
 PASSED = re.compile(r"\(\?#[^)]*\)")
 BLANKS = re.compile(r"(?:[ \t\n\r\v\f]|#[^\n]*)+")
 LONGEST_ROTATED = 12
@@ -47,6 +48,7 @@ class _Scan:
         self._body(verbose, ())
 
     def _pass(self, verbose: bool) -> None:
+        """Skips `(?#...)` and, under VERBOSE, white space and `#` comments."""
         while True:
             found = PASSED.match(self.pattern, self.at) or (BLANKS.match(self.pattern, self.at) if verbose else None)
             if not found:

@@ -14,6 +14,7 @@ from . import buffers, plain, rules
 from .facts import Finding, site_of
 from .reports import Entry, Place
 from .sites import Source
+from .used.classes import UNUSED
 from .writing import visible
 
 ERROR, WARNING, INFORMATION, HINT = 1, 2, 3, 4
@@ -105,7 +106,7 @@ def diagnostics(found: buffers.Judged) -> Iterator[Dict[str, Any]]:
         level = INFORMATION if id(one.entry) in warned else ERROR if one.judged.kind == "exponential" else WARNING
         yield _diagnostic(_range_of(found, one.entry), level, rules.number(one.judged), _words(one.judged))
     for one in found.looked.unused:
-        words = f"{one.entry.call}: not as used here: {one.used_words(found.given.compile_as)}"
+        words = f"{one.entry.call}: {UNUSED}: {one.used_words(found.given.compile_as)}"
         yield _diagnostic(_range_of(found, one.entry), HINT, rules.number(one.entry), words)
     for entry in buffers.named_entries(found):
         yield _diagnostic(_range_of(found, entry), INFORMATION, rules.number(entry), _words(entry))
@@ -130,6 +131,7 @@ def hover_lines(found: buffers.Judged, position: Dict[str, int]) -> List[str]:
 
 
 def _entry_lines(entry: Entry) -> List[str]:
+    """Returns what a hover shows for an entry that isn't a finding: its call, and its class or why it has none."""
     return [f"relint: {entry.call}: {plain.outcome_words(entry)}"]
 
 

@@ -7,13 +7,14 @@ import sys
 import unicodedata
 from typing import Iterator, List, Mapping, Optional, Sequence, TextIO, Tuple
 
-from . import explain, gather, github, plain, rules, sarif, summary
+from . import explain, gather, github, plain, rate, rules, sarif, summary
 from .beyond import KIND_WORDS, TITLES
 from .causes import TIME
 from .command_line import Parser, number, one_of
 from .facts import Finding, Looked, Sources, looked_at, worst_first
 from .reports import Entry, Place
 from .sites import Source
+from .used.classes import UNUSED
 from .writing import SERVER_COMMAND, is_seen, line, visible
 
 MOST_LINES = 8
@@ -46,6 +47,8 @@ def parser() -> Parser:
     found.add_argument("--format", type=one_of("terminal", "github", "sarif"), default="terminal", metavar="FORMAT",
                        help="terminal; github, which servers show in place; or sarif (terminal)")
     found.add_argument("--mend", action="store_true", help="also show the cures that relint-mend finds")
+    found.add_argument("--no-rate", action="store_true",
+                       help="don't say how many seconds a text takes, though relint-confirm --keep-rate measured it")
     found.add_argument("--explain", metavar="TOPIC",
                        help="print what there is to say of a rule (RLT100), a cause or a page (mending), and exit")
     return found
@@ -168,13 +171,15 @@ def _level(entry: Entry) -> str:
     return "error" if entry.kind == "exponential" else "warning"
 
 
-def finding_lines(found: Finding, paint: Painter, is_warning: bool = False, compile_as: str = "search") -> Iterator[str]:
+def finding_lines(
+    found: Finding, paint: Painter, is_warning: bool = False, compile_as: str = "search", steps_a_second: Optional[int] = None,
+) -> Iterator[str]:
     """Gives the lines that show a finding on a terminal, or an entry that is only warned of."""
     verdict = found.judged.verdict()
     words = (plain.class_word(verdict) if verdict else "") + (", a warning" if is_warning else "")
     yield head(found.judged, _level(found.judged), words, paint)
     yield from (f"  {it}" for it in _source_lines(found, paint))
-    yield f"  {paint('dim', 'cost:   ')} {found.words()}"
+    yield f"  {paint('dim', 'cost:   ')} {found.words(steps_a_second)}"
     for name, said in _details(found, paint, compile_as):
         yield f"  {paint('dim', f'{name + chr(58):<8}')} {said}"
     yield ""
@@ -204,7 +209,7 @@ def _short_lines(found: Sequence[Finding], paint: Painter) -> Iterator[str]:
 def unused_lines(found: Sequence[Finding], paint: Painter, compile_as: str) -> Iterator[str]:
     """Gives the lines of the findings that no use reaches: a group of their own."""
     if found:
-        yield paint("dim", "not as used here:")
+        yield paint("dim", f"{UNUSED}:")
     for it in found:
         yield "  " + head(it.entry, "dim", it.used_words(compile_as), paint)
     if found:
@@ -218,10 +223,7 @@ def end_lines(given: gather.Gathered, found: Looked, short: int) -> Iterator[str
     unlooked = given.selection.unlooked() if given.selection else ""
     if unlooked:
         yield unlooked
-    own = {id(it.entry): it.judged for it in found.every()}
-    entries = tuple(own.get(id(it), it) for it in given.report.entries)
-    counts = summary.line(entries, given.max_degree, given.hidden())
-    yield counts + (f"; {len(found.unused):,} not as used here" if found.unused else "")
+    yield summary.line(found.as_used(given.report.entries), given.max_degree, given.hidden(), len(found.unused))
 
 
 def _others(given: gather.Gathered, found: Looked, every: bool) -> List[Entry]:
@@ -246,12 +248,14 @@ def _groups(found: Looked, words: argparse.Namespace) -> Tuple[List[Finding], Li
     return (*parted(own, words.most, words.sort), *parted(beyond, words.most, words.sort))
 
 
-def terminal(given: gather.Gathered, found: Looked, words: argparse.Namespace, paint: Painter) -> Iterator[str]:
+def terminal(
+    given: gather.Gathered, found: Looked, words: argparse.Namespace, paint: Painter, steps_a_second: Optional[int] = None,
+) -> Iterator[str]:
     """Gives the lines for a terminal: relint's own findings, and below them those of relint-wide, by kind."""
     warned = {id(it) for it in given.warned}
     full, short, full_beyond, short_beyond = _groups(found, words)
     for one in full:
-        yield from finding_lines(one, paint, id(one.entry) in warned, given.compile_as)
+        yield from finding_lines(one, paint, id(one.entry) in warned, given.compile_as, steps_a_second)
     yield from _short_lines(short, paint)
     yield from unused_lines(found.unused, paint, given.compile_as)
     yield from sections(full_beyond, short_beyond, paint)
@@ -283,7 +287,8 @@ def _lines(words: argparse.Namespace, out: Optional[TextIO]) -> Tuple[Iterator[s
         lines = github.lines(full, [it.judged for it in short], notices)
         return iter([*lines, *end_lines(given, found, len(short))]), found.status
     colour = "never" if words.output and words.color == "auto" else words.color
-    return terminal(given, found, words, Painter(is_coloured(colour, out))), found.status
+    known = None if words.no_rate else rate.kept()
+    return terminal(given, found, words, Painter(is_coloured(colour, out)), known), found.status
 
 
 def _explain(topic: str) -> int:

@@ -139,6 +139,7 @@ class Source:
         return (self._calls or {}).get((place.line, len(line[: place.column - 1].encode("utf-8", "surrogatepass"))))
 
     def _flags(self, place: Place, call: Optional[str]) -> Optional[int]:
+        """The flags of the call at the place, as the running Python parses it, or None if they aren't known."""
         found = self.call(place)
         return None if found is None or call is None else found.flags(FLAGS_AT.get(call, 1))
 

@@ -5,6 +5,7 @@ from typing import List, Sequence, Tuple
 
 from . import plain
 from .reports import Entry, own_of
+from .used.classes import UNUSED
 
 
 def severities(entries: Sequence[Entry], max_degree: int) -> List[str]:
@@ -33,10 +34,11 @@ def not_judged(entries: Tuple[Entry, ...]) -> List[str]:
     return parts
 
 
-def line(entries: Tuple[Entry, ...], max_degree: int, hidden: int = 0) -> str:
+def line(entries: Tuple[Entry, ...], max_degree: int, hidden: int = 0, unused: int = 0) -> str:
     """Returns the whole line; `hidden` entries are those that a baseline accepts, which aren't among the entries.
 
-    Findings of relint-wide are counted apart, and its other entries aren't counted.
+    Findings of relint-wide are counted apart, and its other entries aren't counted. `unused` findings are those that no use
+    reaches; they are among the entries.
     """
     own = own_of(entries)
     beyond = sum(it.beyond is not None and it.is_finding(max_degree) for it in entries)
@@ -45,4 +47,7 @@ def line(entries: Tuple[Entry, ...], max_degree: int, hidden: int = 0) -> str:
         parts.append(f"{beyond:,} beyond what is proved")
     if hidden:
         parts.append(f"{hidden:,} hidden")
-    return f"{plain.counted(len(own), 'entry', 'entries')}: " + "; ".join([*parts, *not_judged(own)])
+    parts += not_judged(own)
+    if unused:
+        parts.append(f"{unused:,} {UNUSED}")
+    return f"{plain.counted(len(own), 'entry', 'entries')}: " + "; ".join(parts)

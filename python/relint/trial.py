@@ -69,21 +69,22 @@ def timed(match: Callable[[Any], object], text: Text, seconds: float) -> float:
     return took
 
 
-def grow(job: Dict[str, Any], match: Callable[[Any], object], heads: List[Text], pumps: List[Text]) -> None:
-    """Tries growing k until a match takes too long or the longest text is reached."""
+def grow(job: Dict[str, Any], took_by: Callable[[Text], float], tell: Callable[[str], object]) -> None:
+    """Tries growing k until a match takes too long or the longest text is reached; `took_by` matches a text."""
+    heads, pumps = texts_of(job)
     measured: Measured = []
     last = longest_k(heads, pumps, job["longest"])
     k = min(1, last)
     while k and (not measured or measured[-1][0] < last):
         text = text_of(heads, pumps, k)
-        say(f"{k} {len(text)}")
-        took = timed(match, text, job["seconds"])
-        say(f"took {took:.6f}")
+        tell(f"{k} {len(text)}")
+        took = took_by(text)
+        tell(f"took {took:.6f}")
         if took >= job["seconds"]:
             break
         measured.append((k, took))
         k = min(last, next_k(measured, job["seconds"], job["exponential"]))
-    say("end")
+    tell("end")
 
 
 def limit(memory: int, seconds: float) -> None:
@@ -94,18 +95,24 @@ def limit(memory: int, seconds: float) -> None:
     resource.setrlimit(resource.RLIMIT_CPU, (most, most))
 
 
+def decoded(text: str, job: Dict[str, Any]) -> Text:
+    """Returns a text of the job as its pattern takes it."""
+    return text.encode("latin-1") if job["bytes"] else text
+
+
+def texts_of(job: Dict[str, Any]) -> Tuple[List[Text], List[Text]]:
+    """Returns the heads and the pumps of the job's family."""
+    return [decoded(it, job) for it in job["heads"]], [decoded(it, job) for it in job["pumps"]]
+
+
 def main() -> None:
     """Reads the job, and does it."""
     job = json.loads(sys.stdin.read())
     limit(job["memory"], job["seconds"])
-
-    def decoded(text: str) -> Text:
-        return text.encode("latin-1") if job["bytes"] else text
-
     try:
-        pattern = re.compile(decoded(job["pattern"]), job["flags"] & ~int(re.DEBUG))
+        pattern = re.compile(decoded(job["pattern"], job), job["flags"] & ~int(re.DEBUG))
         match = getattr(pattern, job["mode"])
-        grow(job, match, [decoded(it) for it in job["heads"]], [decoded(it) for it in job["pumps"]])
+        grow(job, lambda text: timed(match, text, job["seconds"]), say)
     except (re.error, ValueError, OverflowError, RecursionError) as error:
         say("refused " + " ".join(str(error).split()))
     except MemoryError:

@@ -14,7 +14,8 @@ from hostile.watch import TRACEBACK, WITHOUT_RIGHTS, Watch, dangers, headers
 
 FORKS = Path(__file__).with_name("forks.py")
 AT_ONCE = 4
-SECONDS = 90
+# (far above what a case takes, whatever else the machine does: it ends only what hangs)
+SECONDS = 1800
 # The most memory that a tool may take for a file of some hundred kilobytes, and what it can't get more of.
 MOST_MEGABYTES, LIMIT_MEGABYTES = 600, 2500
 REFUSED = frozenset([2])

@@ -32,7 +32,7 @@ def judged(watch: Watch, place: Place, names: Sequence[str]) -> List[Tuple[str, 
     paths = _paths(watch.made)
     words = place.tool("mend", "--seconds", "2", "--tries", "4", "--report", "-", "--diff")
     # (each file is judged some times, which takes long on a busy machine)
-    run = Run("relint-mend --diff", words, SHOWN, input=report_of(place, paths), diff=True, seconds=600)
+    run = Run("relint-mend --diff", words, SHOWN, input=report_of(place, paths), diff=True)
     diff = watch.run(run).out.encode("utf-8", "surrogateescape")
     return [("relint-mend --diff, given to " + name, _complaints(watch, name, diff, paths)) for name in names]
 

@@ -66,6 +66,22 @@ def of_show(place: Place) -> Iterator[Run]:
     yield Run("relint-show --mend finding.py", [*words, "--mend", "finding.py", "patterns.py"], SHOWN)
 
 
+def of_wide(place: Place) -> Iterator[Run]:
+    """relint-wide: over the folder, over what git tracks, in each layout, with trials and without; and relint-record."""
+    for layout in ("terminal", "json", "sarif"):
+        words = place.tool("wide", "--no-trials", "--jobs", "2", "--format", layout)
+        yield Run("relint-wide --format %s ." % layout, [*words, "."], SHOWN, shows=["finding.py", "held.py"])
+        yield Run("relint-wide --format %s NAMES" % layout, [*words, "--", *_NAMED], SHOWN)
+        yield Run("relint-wide --format %s --tracked" % layout, [*words, "--tracked"], SHOWN, shows=["held.py"])
+    tried = place.tool("wide", "--seconds", "0.05", "--longest", "2000", "--jobs", "2")
+    yield Run("relint-wide with trials", [*tried, "names", "held.py", "patterns.py"], frozenset([1, 3]), shows=["held.py"])
+    yield Run("relint-wide with RELINT=/bin/true", place.tool("wide", "held.py"), frozenset([2]),
+              environment={"RELINT": "/bin/true"})
+    words = place.tool("record", "--no-trials", "--", place.python, "-B", "-c",
+                       "import sys; sys.path[:1] = []; import re; re.compile('(a|a)*b')")
+    yield Run("relint-record", words, frozenset([1]), shows=["the program ended with status 0"])
+
+
 def of_page(place: Place) -> Iterator[Run]:
     """relint-page: to standard output, to a file, and through links."""
     words = place.tool("page")
@@ -203,5 +219,6 @@ def of_time(place: Place) -> Iterator[Run]:
 
 def every(place: Place) -> List[Run]:
     """All runs over the repository."""
-    parts = (of_relint, of_show, of_page, of_many, of_confirm, of_mend, of_paths, of_scripts, of_pages, of_full_disks, of_time)
+    parts = (of_relint, of_show, of_wide, of_page, of_many, of_confirm, of_mend, of_paths, of_scripts, of_pages, of_full_disks,
+             of_time)
     return [run for part in parts for run in part(place)]

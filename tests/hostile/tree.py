@@ -111,6 +111,9 @@ def _put_names(made: Repository) -> None:
         opened.write(FINDING.encode("ascii"))
     lines = ["import re"] + ["re.compile('''%s''')" % it for it in PATTERNS]
     write(made.top / "patterns.py", "\n".join(lines) + "\n")
+    held = ["import re", "WORDS = (%s)" % ", ".join(map(repr, PATTERNS)), "for word in WORDS:", "    re.compile(word)",
+            "HEAD = WORDS[0]", "re.compile(HEAD + r'\\1')", "re.compile(f'(?={HEAD})x')"]
+    write(made.top / "held.py", "\n".join(held) + "\n")
     write(made.top / "good.py", GOOD)
     write(made.top / "finding.py", FINDING)
     write(made.top / "applied.py", FINDING)

@@ -43,7 +43,7 @@ class Run:
     diff: bool = False
     front: Optional[str] = None
     environment: Dict[str, str] = field(default_factory=dict)
-    seconds: float = 150
+    seconds: float = 1800
     locked: bool = True
 
 

@@ -6,6 +6,7 @@ import json
 import os
 import shutil
 import tempfile
+import time
 from typing import Any, Dict, List, Optional
 
 NAMES = ("chromium", "chromium-browser", "google-chrome")
@@ -100,6 +101,15 @@ class Browser:
         if "exceptionDetails" in found:
             raise RuntimeError(str(found["exceptionDetails"]))
         return found["result"].get("value")
+
+    def awaited(self, script: str, wanted: object) -> Any:
+        """Runs a script again and again until it gives this value, for ten minutes at most; returns what it gave last."""
+        until = time.monotonic() + 600
+        found = self.run(script)
+        while found != wanted and time.monotonic() < until:
+            time.sleep(0.02)
+            found = self.run(script)
+        return found
 
     def size(self, width: int, height: int) -> None:
         """Gives the page a width and a height."""

@@ -12,7 +12,7 @@ from typing import Dict, Optional
 
 from support import ROOT, built
 
-SECONDS = 120
+SECONDS = 1200
 
 
 def entry_points() -> str:

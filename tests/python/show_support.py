@@ -13,6 +13,20 @@ from typing import Dict, Iterator, Mapping, NamedTuple, Optional
 from relint import program
 
 TOP = Path(__file__).resolve().parents[2]
+# (what a developer's own cache holds changes no test)
+os.environ["XDG_CACHE_HOME"] = os.path.join(tempfile.gettempdir(), "relint-tests-have-no-cache")
+# As used, the first pattern is no finding, the second one is worse than in a search, and the third one stays as it is.
+USED = r"""import re
+
+FLAGS = re.compile(r"a*a*,")
+TAIL = re.compile(r"(?:a|aa)*")
+ROW = re.compile(r"x*x*y")
+
+def read(line):
+    m = FLAGS.match(line)
+    ROW.search(line)
+    return TAIL.fullmatch(line)
+"""
 
 
 class Ran(NamedTuple):
@@ -30,6 +44,15 @@ def no_program() -> str:
     except program.ProgramError as error:
         return str(error)
     return ""
+
+
+def why_checked(reason: str) -> str:
+    """Returns what the tools say of spans that are checked for this reason; without relint-spans that is the reason."""
+    try:
+        program.spans_program()
+    except program.ProgramError as error:
+        reason = str(error)
+    return f"checked: {reason}" if reason else "proved"
 
 
 @contextlib.contextmanager

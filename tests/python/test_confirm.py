@@ -12,9 +12,10 @@ import tempfile
 import time
 import unittest
 from pathlib import Path
-from typing import Any, Dict, NamedTuple
+from typing import Any, Dict, List, NamedTuple
 
 from relint import confirm, trial
+from relint.rate import python_name
 from relint.reports import Entry, Family, Place, Text
 from relint.sites import Site
 from relint.used.follow import mode_of
@@ -22,6 +23,8 @@ from support import DEFAULT_INTERRUPT, ROOT, built
 
 TOOL = ROOT / "tools" / "relint-confirm"
 QUICK = ("--seconds", "0.05", "--longest", "20000")
+# (a text of a thousand characters is soon matched in linear time, and never in exponential time)
+SHORT = ("--seconds", "0.05", "--longest", "1000")
 PROGRAM = built()
 
 
@@ -73,24 +76,20 @@ class Whole(WithSources):
 
     def test_confirmed_and_not_seen(self) -> None:
         self.write("m.py", 're.fullmatch(r"(?:x*)*y", s)', 're.match(r"([ab]|a)*c", s)', 're.search(r"a+", s)')
-        done = self.tool(*QUICK, "m.py")
+        done = self.tool(*SHORT, "m.py")
         first, second, last = done.out.splitlines()
         self.assertEqual((done.status, done.err, last), (0, "", "2 findings: 1 confirmed, 1 not seen"))
-        python = re.escape(confirm.python_name())
-        start, end = r"m\.py:2:14: fullmatch: exponential: confirmed: ", r" takes over 0\.05 s on a text of \d\d characters"
+        python = re.escape(python_name())
+        start, end = r"m\.py:2:14: fullmatch: exponential: confirmed: ", r" takes over 0\.05 s on a text of \d+ characters"
         self.assertRegex(first, f"^{start}{python}{end}$")
-        start, end = r"m\.py:3:10: match: exponential: not seen up to ", r" characters, which took 0\.0\d\d s: CPython may"
-        self.assertRegex(second, f"^{start}(19,999|20,000){end}")
+        start, end = r"m\.py:3:10: match: exponential: not seen up to ", r" characters, which took 0\.\d+ s: CPython may"
+        self.assertRegex(second, f"^{start}(999|1,000){end}")
 
-    def test_the_text_of_that_length_takes_that_long(self) -> None:
+    def test_kinds_and_bytes(self) -> None:
         found = self.found('re.search(r"a*a*a*b", s)', 're.fullmatch(rb"(?:x|x)*", s)')
         self.assertEqual([it["result"] for it in found], ["confirmed"] * 2)
         self.assertEqual([it["kind"] for it in found], ["degree", "exponential"])
-        began = time.process_time()
-        pattern = "a*a*a*b"
-        re.search(pattern, "a" * int(found[0]["length"]))
-        self.assertGreater(time.process_time() - began, 0.02)
-        self.assertLess(found[1]["length"], 60)
+        self.assertLess(found[1]["length"], found[0]["length"])
 
     def test_flags_and_modes(self) -> None:
         lines = ('A = re.compile(r"""(?: x | X )* y # z""", re.X | re.IGNORECASE)', 're.sub("(?:é*)*$", "", s)')
@@ -126,7 +125,7 @@ class Whole(WithSources):
 
     def test_several_at_a_time_keep_their_order(self) -> None:
         self.write("m.py", *['re.match(r"(?:a|a)*b", s)', 're.match(r"([ab]|a)*c", s)'] * 3)
-        done = self.tool(*QUICK, "--jobs", "3", "m.py")
+        done = self.tool(*SHORT, "--jobs", "3", "m.py")
         self.assertEqual([line.split(":")[1] for line in done.out.splitlines()[:-1]], ["2", "3", "4", "5", "6", "7"])
         self.assertEqual(done.out.splitlines()[-1], "6 findings: 3 confirmed, 3 not seen")
 
@@ -244,6 +243,17 @@ class OneTrial(unittest.TestCase):
         self.assertEqual(trial.next_k([(100, 1 / 128), (200, 1 / 32)], 1.0, False), 300)
         self.assertEqual(trial.next_k([(100, 0.2), (200, 0.8)], 1.0, False), 226)
         self.assertEqual(trial.next_k([(100, 0.3), (110, 0.2)], 1.0, False), 165)
+
+    def test_growth_by_a_clock_that_is_given(self) -> None:
+        """A text of n characters takes n^2 microseconds: the limit of a second is passed at 1,000 characters."""
+        job = {"seconds": 1.0, "longest": 10_000, "exponential": False, "bytes": False, "heads": ["", "b"], "pumps": ["a"]}
+        lines: List[str] = []
+        trial.grow(job, lambda text: len(text) ** 2 / 1_000_000, lines.append)
+        self.assertEqual((lines[0], lines[1], lines[-1]), ("1 2", "took 0.000004", "end"))
+        outcome = confirm._outcome(confirm.Run(0, lines, False), confirm.Limits(1.0, 10_000, 10**9))
+        assert outcome.length is not None
+        self.assertEqual((outcome.result, outcome.k), (confirm.CONFIRMED, outcome.length - 1))
+        self.assertTrue(1000 <= outcome.length <= 1500 and all(took < 1 for _, took in outcome.times[:-1]))
 
     def test_modes(self) -> None:
         calls = ("match", "fullmatch", "search", "findall", "sub", "compile", None)

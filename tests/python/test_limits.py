@@ -21,9 +21,9 @@ DECIDES = {
     "`sets`": "rl_syntax/src/limits.rt MOST_COUNTED_SETS",
     "pairs of sets of a comparison": "rl_syntax/src/limits.rt MOST_SET_PAIRS",
     "triples of a certificate": "rl_numbers/src/numbering.rt MOST_TRIPLES",
-    "characters of the text of `cost`": "rl_lint/src/cost.rt MOST_TEXT_CODES",
+    "characters of the text of `cost`": "rl_lint/src/limits.rt MOST_TEXT_CODES",
     "bytes of a source": "rl_lists/src/limits.rt MOST_BYTES",
-    "bytes of a baseline or a certificate": "rl_sarif/src/reading.rt MAX_BYTES",
+    "bytes of a baseline or a certificate": "rl_sarif/src/limits.rt MOST_BASELINE_BYTES",
     "levels of folders": "rl_walk/src/walking.rt MOST_LEVELS",
 }
 # the row whose number stands in the code without a name

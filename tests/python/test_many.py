@@ -152,16 +152,32 @@ class SameBytes(InFolder):
         names = ("--", "-", "--format.py", "-x", '{"entries":[', "a b", "'q\".py", "1 entries, 0 findings.py")
         self.same_in_all_layouts(*names)
         self.same("-", "a b")
-        self.same("-x", "a b")
+        self.same("--", "-x", "a b")
 
     def test_words_that_are_no_valid_call(self) -> None:
         self.many_files(3)
-        for words in (
-            (), ("",), ("src", ""), ("--format",), ("--format", "xml", "src"), ("--max-degree", "-1", "src"), ("x",),
-            ("--unknown", "src"), ("-f", "src"), ("--mode", "match", "--mode", "match", "src"), ("--settings=", "src"),
-            ("--settings", "none.toml", "src"), ("--baseline", "none.json", "src"), ("--report", "3", "src"), ("--",),
-        ):
+        for words in (("x",), ("--settings", "none.toml", "src"), ("--baseline", "none.json", "src")):
             self.same(*words)
+
+    def test_the_word_that_relint_refuses_is_named(self) -> None:
+        self.many_files(3)
+        more = " (--help lists the options)\n"
+        for words, said in (
+            ((), "no path is named"), (("--",), "no path is named"),
+            (("",), "a path is empty"), (("src", ""), "a path is empty"),
+            (("--format",), "--format wants one of text, brief, json, sarif"),
+            (("--format", "jsn", "src"), "--format: one of text, brief, json, sarif is wanted, not 'jsn'; did you mean json?"),
+            (("--max-degree", "-1", "src"), "--max-degree: a number from 0 to 999999 is wanted, not '-1'"),
+            (("--max-degre", "1", "src"), "there is no option --max-degre; did you mean --max-degree?"),
+            (("-f", "src"), "there is no option -f"), (("--unknown=1", "src"), "there is no option --unknown"),
+            (("--mode", "match", "--mode", "match", "src"), "--mode is given twice"),
+            (("--settings=", "src"), "--settings: a path is wanted, not ''"),
+            (("--report", "3", "src"), "--report: a number from 1 to 2 is wanted, not '3'"),
+            (("--max-pairs", "1001", "--jobs", "2", "src"), "--max-pairs: a number from 1 to 1000 is wanted, not '1001'"),
+        ):
+            with self.subTest(words=words):
+                found = ran([sys.executable, str(TOOL), *words], self.folder)
+                self.assertEqual(found, Ran(2, b"", f"relint-many: {said}{more}".encode()))
 
     def test_settings(self) -> None:
         self.many_files(40)
@@ -404,7 +420,10 @@ class FakeRuns(InFolder):
 
     def test_progress_is_shown_on_a_terminal_alone(self) -> None:
         self.files()
-        fake = self.fake("sleep 0.3; echo '0 entries, 0 findings, 0 refused, 0 undecided'\n")
+        # (no run ends before the line was seen, however busy the machine is; they give up after ten minutes)
+        seen = self.folder / "seen"
+        fake = self.fake(f'for _ in $(seq 12000); do [ -e "{seen}" ] && break; sleep 0.05; done\n'
+                         "echo '0 entries, 0 findings, 0 refused, 0 undecided'\n")
         words = [sys.executable, str(TOOL), "--jobs", "2", "src"]
         main_end, terminal = os.openpty()
         with subprocess.Popen(words, cwd=self.folder, env={**os.environ, "RELINT": fake}, stdout=subprocess.PIPE,
@@ -415,6 +434,8 @@ class FakeRuns(InFolder):
                 while True:
                     piece = os.read(main_end, 4096)
                     shown += piece
+                    if b"of 60 files" in shown:
+                        seen.touch()
                     if not piece:
                         break
             except OSError:

@@ -13,7 +13,7 @@ from unittest import mock
 from mend_support import with_relint
 from relint import program
 from relint.mend.command import main
-from show_support import folder, tool
+from show_support import folder, tool, why_checked
 
 
 def ran(words: List[str]) -> Tuple[int, str, str]:
@@ -69,7 +69,7 @@ class Words(unittest.TestCase):
         status, out, _ = ran(["--pattern", r"^(?P<suffix>[A-Z]+)*$"])
         self.assertEqual(status, 0)
         self.assertEqual(out.splitlines()[0], "exponential -> degree 1    ^(?P<suffix>[A-Z]+)?$    same texts (proved), "
-                         "same spans and groups (checked)")
+                         f"same spans and groups ({why_checked('')})")
 
     @with_relint
     def test_json(self) -> None:

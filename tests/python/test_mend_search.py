@@ -8,6 +8,7 @@ import unittest
 from typing import Iterator, List, Tuple, Union
 
 from mend_support import with_relint
+from show_support import why_checked
 from relint.mend import Cure, Limits, cures, mend
 from relint.mend.alphabet import Alphabet
 from relint.mend.asking import Asker
@@ -56,11 +57,11 @@ class Found(unittest.TestCase):
     @with_relint
     def test_tiers_are_said_in_words(self) -> None:
         first = cures(r"^([A-Za-z]:)?/(.*/)*[^./]+$")[0]
-        self.assertEqual(first.words(), "same texts (proved), same spans and groups (checked)")
+        self.assertEqual(first.words(), f"same texts (proved), same spans and groups ({why_checked('')})")
         judged = Judge(r"(a)*", how_of(["search"])).judge(r"(a*)")
         second = Cure("(a*)", first.verdict, judged.tier, first.before, ("nest",), judged)
-        self.assertEqual(second.words(),
-                         "same texts (proved), same spans (checked), groups differ: group 1 takes '' instead of nothing on ''")
+        known = why_checked("relint-spans compares groups too")
+        self.assertRegex(second.words(), rf"\Asame texts \(proved\), same spans \({known}\), groups differ: group 1 takes ")
         loose = cures(r'"(\\\\|\\"|[^"])*"')[-1]
         self.assertEqual(loose.tier, "c")
         self.assertIn("spans differ: only advice on ", loose.words())

@@ -7,6 +7,7 @@ import sys
 import unittest
 from typing import Dict, List, Tuple
 
+from relint.command_line import TOOLS
 from relint.program import WRITE_FAULT
 from show_support import TOP, folder, no_program
 
@@ -49,6 +50,44 @@ class Output(unittest.TestCase):
                 for name, words in WORDS:
                     with self.subTest(name=name, words=words, environment=environment):
                         self.assertEqual(to_nobody(name, words, environment), (WRITE_FAULT, ""))
+
+    def test_help_and_version(self) -> None:
+        with open(os.devnull, "wb") as nothing:
+            for name in TOOLS:
+                for word in ("--help", "--version"):
+                    with self.subTest(name=name, word=word):
+                        self.assertEqual(written_to(nothing.fileno(), name, [word], {}), (0, ""))
+                        for environment in BUFFERED:
+                            self.assertEqual(to_nobody(name, [word], environment), (WRITE_FAULT, ""))
+
+    @unittest.skipUnless(os.path.exists("/dev/full"), "/dev/full isn't there")
+    def test_help_and_version_on_a_full_disk(self) -> None:
+        with open("/dev/full", "wb") as full:
+            for name in TOOLS:
+                for word in ("--help", "--version"):
+                    with self.subTest(name=name, word=word):
+                        wanted = f"{name}: standard output can't be written: No space left on device\n"
+                        self.assertEqual(written_to(full.fileno(), name, [word], {}), (WRITE_FAULT, wanted))
+
+    def test_help_and_version_without_an_output(self) -> None:
+        for name in TOOLS:
+            for word in ("--help", "--version"):
+                with self.subTest(name=name, word=word):
+                    line = [sys.executable, str(TOP / "tools" / name), word]
+                    ran = subprocess.run(["sh", "-c", 'exec "$@" >&-', "sh", *line], stdin=subprocess.DEVNULL,
+                                         stderr=subprocess.PIPE)
+                    self.assertEqual((ran.returncode, ran.stderr.decode()),
+                                     (WRITE_FAULT, f"{name}: standard output can't be written: it is closed\n"))
+
+    def test_the_list_of_the_tools(self) -> None:
+        lists: Tuple[List[str], ...] = ([], ["--help"], ["--version"])
+        for words in lists:
+            reading, writing = os.pipe()
+            os.close(reading)
+            ran = subprocess.run([sys.executable, "-m", "relint", *words], stdin=subprocess.DEVNULL, stdout=writing,
+                                 env={**os.environ, "PYTHONPATH": str(TOP / "python")}, stderr=subprocess.PIPE)
+            os.close(writing)
+            self.assertEqual((ran.returncode, ran.stderr), (WRITE_FAULT, b""))
 
     @unittest.skipUnless(os.path.exists("/dev/full"), "/dev/full isn't there")
     def test_a_full_disk_is_told_in_one_line(self) -> None:

@@ -19,7 +19,7 @@ from relint import page, program
 from relint.page_script import SCRIPT
 from relint.page_style import STYLE
 from relint.reports import Entry, Place, read_report
-from show_support import Ran, folder, no_program, tool
+from show_support import USED, Ran, folder, no_program, tool
 
 NO_PROGRAM = no_program()
 NO_BROWSER = "" if chromium.installed() else "chromium isn't installed"
@@ -196,6 +196,70 @@ class Whole(unittest.TestCase):
             code = re.sub(r"for k in \((\d+).*?\):", r"for k in (\1,):", code)
             ran = subprocess.run([sys.executable, "-c", code], stdout=subprocess.PIPE, timeout=1200, check=True)
             self.assertRegex(ran.stdout.decode(), r"(?m)^\d+ long: [0-9.e-]+ seconds$")
+
+
+@unittest.skipIf(NO_PROGRAM, NO_PROGRAM)
+class AsUsed(unittest.TestCase):
+    """The page of patterns of which one is no finding as it is used, and another one is worse."""
+
+    page: str
+    reader: Reader
+
+    @classmethod
+    def setUpClass(cls) -> None:
+        with folder({"app.py": USED}):
+            ran = paged("app.py")
+        assert ran.status == 0 and ran.err == "", ran
+        cls.page, cls.reader = ran.out, Reader(ran.out)
+
+    def test_a_group_of_their_own(self) -> None:
+        self.assertEqual((self.reader.faults, self.reader.open), ([], []))
+        group = self.page[self.page.index('id="unused"'):self.page.index('id="refused"')]
+        text = "".join(Reader(group).text)
+        self.assertIn("Not as used here: 1", text)
+        self.assertIn("app.py:3:20 compile: degree 3 if searched; here only .match (line 8): degree 2", text)
+        self.assertEqual(group.count("<li>"), 1)
+
+    def test_cards_are_of_what_is_reached(self) -> None:
+        heads = re.findall(r'<h3 id="f\d+"><span class="mono">app\.py:(\d+):', self.page)
+        self.assertEqual(heads, ["4", "5"])
+        self.assertIn("Degree 1 if searched; here only .fullmatch (line 10): exponential.", self.page)
+
+    def test_counts(self) -> None:
+        counts = re.findall(r"<b>(\d+)</b> ([a-z ]+)</a>", self.page)
+        self.assertEqual(counts, [("1", "exponential"), ("1", "of a high degree"), ("1", "not as used here"),
+                                  ("0", "not analysed"), ("0", "undecided"), ("0", "without a finding")])
+        self.assertIn("3 entries: 1 exponential, 1 of degree 3 and above, 1 of degree 2; 1 not as used here.", self.page)
+        self.assertIn("<title>relint report: 2 findings</title>", self.page)
+
+    def test_counts_with_both_kinds_beyond(self) -> None:
+        seen = {"python": "CPython 3", "length": 30, "milliseconds": 1000, "k": 30, "rules": ["r"], "form": {"text": "a"}}
+        with folder({"app.py": USED + "PART = r'z*z*z*y'\nre.search(PART, '')\n"}):
+            report = json.loads(tool("relint-wide", "--no-trials", "--format", "json", "app.py").out)
+            one = report["beyond"][0]
+            report["beyond"] += [{**one, "beyond": {**one["beyond"], "kind": "hang", "seen": seen}}] * 2
+            ran = paged(given=json.dumps(report).encode())
+        counts = re.findall(r"<b>(\d+)</b> ([a-z ]+)</a>", ran.out)
+        self.assertEqual(counts, [("1", "exponential"), ("1", "of a high degree"), ("1", "judged elsewhere"),
+                                  ("2", "seen to hang"), ("1", "not as used here"), ("0", "not analysed"),
+                                  ("0", "undecided"), ("0", "without a finding")])
+
+    def test_table(self) -> None:
+        data = json.loads(re.findall(r'id="data">(.*?)</script>', self.page)[0])
+        kinds = [data["kinds"][row[4]] for row in data["rows"]]
+        self.assertEqual(kinds, ["not as used here: quadratic (degree 2)", "exponential", "cubic (degree 3)"])
+
+    def test_a_page_without_any_has_no_such_group(self) -> None:
+        with folder({"app.py": USED.replace(".match(", ".search(")}):
+            ran = paged("app.py")
+        self.assertNotIn('id="unused"', ran.out)
+        self.assertEqual(ran.out.count("<article "), 3)
+
+    def test_what_isnt_reached_may_be_all(self) -> None:
+        with folder({"app.py": "import re\nX = re.compile('a*a*,')\nX.match(s)\n"}):
+            ran = paged("app.py")
+        self.assertEqual((ran.status, ran.out.count("<article ")), (0, 0))
+        self.assertIn("Not as used here: 1", ran.out)
 
 
 def tool_report(*paths: str) -> bytes:
@@ -383,23 +447,21 @@ class InBrowser(unittest.TestCase):
         self.assertEqual(exact[1].split("\t")[0], "packages/part8/module_with_a_long_name_2999.py:297:57")
         self.assertEqual(filtered("no such path", "", "")[0], "0 of 12,000 entries")
         browser.run("document.querySelector('button[type=reset]').click()")
-        browser.run("new Promise((done) => setTimeout(done, 50))")
-        self.assertEqual(browser.run("document.getElementById('shown').textContent"), "12,000 of 12,000 entries")
+        wanted = "12,000 of 12,000 entries"
+        self.assertEqual(browser.awaited("document.getElementById('shown').textContent", wanted), wanted)
 
     def test_rows_are_drawn_in_pieces_as_one_scrolls(self) -> None:
         browser = self.opened(self.large)
         browser.run("document.getElementById('all').open = true")
         first = browser.run("document.querySelectorAll('#rows tr').length")
         self.assertLess(first, 2000)
-        browser.run("""(async () => {
+        found = browser.awaited("""(() => {
           const scroll = document.getElementById("scroll");
-          for (let round = 0; round < 200; round += 1) {
-            scroll.scrollTop = scroll.scrollHeight;
-            scroll.getBoundingClientRect();
-            await new Promise((done) => setTimeout(done, 5));
-          }
-        })()""")
-        self.assertEqual(browser.run("document.querySelectorAll('#rows tr').length"), 12_000)
+          scroll.scrollTop = scroll.scrollHeight;
+          scroll.getBoundingClientRect();
+          return document.querySelectorAll('#rows tr').length;
+        })()""", 12_000)
+        self.assertEqual(found, 12_000)
 
     def test_copy(self) -> None:
         browser = self.opened(self.small)
@@ -407,11 +469,16 @@ class InBrowser(unittest.TestCase):
         browser.run("window.written = []; navigator.clipboard && (navigator.clipboard.writeText = "
                     "(text) => { window.written.push(text); return Promise.resolve(); })")
         self.assertFalse(browser.run("document.querySelector('button[data-copies]').hidden"))
-        browser.run("document.querySelector('button[data-copies]').click()")
-        browser.run("new Promise((done) => setTimeout(done, 50))")
+        # (the button says it for two seconds only, so what it said is kept)
+        browser.run("""(() => {
+          const button = document.querySelector('button[data-copies]');
+          window.said = [];
+          new MutationObserver(() => window.said.push(button.textContent)).observe(button, { childList: true });
+          button.click();
+        })()""")
+        self.assertTrue(browser.awaited("window.said.includes('Copied')", True))
         text = browser.run("document.getElementById('s1').textContent")
         self.assertIn(text, [*browser.run("window.written"), browser.run("window.selection")])
-        self.assertEqual(browser.run("document.querySelector('button[data-copies]').textContent"), "Copied")
         self.assertTrue(text.startswith("import re, time\n"))
 
     def test_copy_without_a_clipboard(self) -> None:
@@ -419,8 +486,8 @@ class InBrowser(unittest.TestCase):
         browser.run("addEventListener('copy', () => { window.selection = document.activeElement.value; })")
         browser.run("Object.defineProperty(navigator, 'clipboard', { value: undefined })")
         browser.run("document.querySelector('button[data-copies]').click()")
-        browser.run("new Promise((done) => setTimeout(done, 50))")
-        self.assertEqual(browser.run("window.selection"), browser.run("document.getElementById('s1').textContent"))
+        text = browser.run("document.getElementById('s1').textContent")
+        self.assertEqual(browser.awaited("window.selection", text), text)
 
     def test_hostile_texts_stay_texts(self) -> None:
         browser = self.opened(self.hostile)

@@ -46,6 +46,7 @@ KNOWN: Tuple[Tuple[str, Text], ...] = (
     ("W = r'\\w+'\nre.compile('^%s$' % W)", r"^\w+$"),
     ("W = 'a'\nre.compile('%s-%s%%' % (W, 'b'))", "a-b%"),
     ("re.compile('a{%d}' % 3)", "a{3}"),
+    ("W = b'\\xff|b'\nre.compile(b'(%s)%b{%d}%%' % (W, b'c', 3))", b"(\xff|b)c{3}%"),
     ("re.compile('%(one)s' % {'one': 'a'})", "a"),
     ("W = 'a'\nre.compile('{}{{2}}{0}'.format(W) if False else W)", ""),
     ("W = 'a'\nre.compile('{0}{{2}}{0}'.format(W))", "a{2}a"),
@@ -123,6 +124,9 @@ UNKNOWN: Tuple[Tuple[str, str], ...] = (
     ("W = 'a'\nre.compile(f'{W:>5}')", "formatting with a width"),
     ("W = 'a'\nre.compile('{:>5}'.format(W))", "formatting with a width"),
     ("re.compile('%s %s' % ('a',))", "formatting that fails"),
+    ("re.compile(b'%s' % 'a')", "formatting of other kinds"),
+    ("re.compile(b'%r' % b'a')", "formatting with a width"),
+    ("re.compile(b'%(a)s' % {b'a': b'b'})", "% of other kinds"),
     ("W = ['a']\nW.append('b')\nre.compile('|'.join(W))", "changed in place"),
     ("W = ['a']\nW[0] = 'b'\nre.compile('|'.join(W))", "changed in place"),
     ("W = {'a': 'b'}\nW.update(x)\nre.compile('|'.join(W))", "changed in place"),
@@ -145,6 +149,98 @@ UNKNOWN: Tuple[Tuple[str, str], ...] = (
     ("P = 3\nre.compile(P)", "not a text"),
     ("re.compile()", "no pattern argument"),
     ("re.compile(*x)", "no pattern argument"),
+)
+
+
+# Sources whose last call has each of these patterns, in turn.
+EACH: Tuple[Tuple[str, Tuple[Text, ...]], ...] = (
+    ("for w in ('a', 'b'):\n    re.compile(w)", ("a", "b")),
+    ("for w in ['a', 'b']:\n    re.compile(w + 'c')", ("ac", "bc")),
+    ("for w in {'a', 'b'}:\n    re.compile(w)", ("a", "b")),
+    ("W = ('a', 'b')\nfor w in W:\n    re.compile(f'^{w}$')", ("^a$", "^b$")),
+    ("W = ('a', 'b')\ndef f(s):\n    for w in W:\n        if re.match(w, s):\n            return w", ("a", "b")),
+    ("W = ('a', 'b')\ndef f(s):\n    for w in W:\n        m = re.match(w, s)\n        if m:\n            break", ("a", "b")),
+    ("for w in ('a', 'b'):\n    p = '^' + w\n    re.compile(p)", ("^a", "^b")),
+    ("for w in ('a', 'b'):\n    p = '^' + w\n    q = p + '$'\n    re.compile(q)", ("^a$", "^b$")),
+    ("for n, w in (('x', 'a'), ('y', 'b')):\n    re.compile(w)", ("a", "b")),
+    ("for n, (w, v) in (('x', ('a', 'c')), ('y', ('b', 'd'))):\n    re.compile(w + v)", ("ac", "bd")),
+    ("for w in {'a': 'x', 'b': 'y'}:\n    re.compile(w)", ("a", "b")),
+    ("for w in {'a': 'x', 'b': 'y'}.values():\n    re.compile(w)", ("x", "y")),
+    ("D = {'a': 'x', 'b': 'y'}\nfor k, w in D.items():\n    re.compile(k + w)", ("ax", "by")),
+    ("for n, w in enumerate(('a', 'b')):\n    re.compile(w * n + 'c')", ("c", "bc")),
+    ("for w in reversed(['a', 'b']):\n    re.compile(w)", ("b", "a")),
+    ("for w, v in zip(('a', 'b'), ('c', 'd')):\n    re.compile(w + v)", ("ac", "bd")),
+    ("for n in range(1, 4):\n    re.compile('a{%d}' % n)", ("a{1}", "a{2}", "a{3}")),
+    ("for w in 'ab':\n    re.compile(w)", ("a", "b")),
+    ("for w in ('a', 'a', 'b'):\n    re.compile(w)", ("a", "b")),
+    ("for w in ('a', 'b'):\n    for v in ('c', 'd'):\n        re.compile(w + v)", ("ac", "ad", "bc", "bd")),
+    ("for w in (('a', 'b'), ('c',)):\n    for v in w:\n        re.compile(v)", ("a", "b", "c")),
+    ("for w in (('a', 'b'), ('c',)):\n    [re.compile(v) for v in w]", ("a", "b", "c")),
+    ("for w in (('a', 'b'), ('c',)):\n    re.compile('|'.join(v for v in w))", ("a|b", "c")),
+    ("[re.compile(w) for w in ('a', 'b')]", ("a", "b")),
+    ("{w: re.compile(v) for w, v in {'a': 'x', 'b': 'y'}.items()}", ("x", "y")),
+    ("W = ('a', 'b')\nP = tuple(re.compile(w) for w in W)", ("a", "b")),
+    ("[re.compile(w + v) for w in ('a', 'b') for v in (w, 'c')]", ("aa", "ac", "bb", "bc")),
+    ("def f(s):\n    return any(re.search(re.escape(w), s) for w in ('a.', 'b'))", (r"a\.", "b")),
+    ("class A:\n    W = ('a', 'b')\n    def f(self):\n        for w in self.W:\n            re.compile(w)", ("a", "b")),
+    ("class A:\n    W = ('a', 'b')\n    P = [re.compile(w) for w in W]", ("a", "b")),
+    ("w = 'c'\nfor v in [w for w in ('a', 'b')]:\n    re.compile(v + w)", ("ac", "bc")),
+    ("for w in ('a', 'b'):\n    if s:\n        re.compile(w)", ("a", "b")),
+    ("for w in ('a', 'b'):\n    class A:\n        P = w\n    re.compile(A.P)", ("a", "b")),
+)
+
+# Places in loops that may not take each item, or other values, with the reason.
+NOT_EACH: Tuple[Tuple[str, str], ...] = (
+    ("for w in ('a', 'b'):\n    pass\nre.compile(w)", "loop"),
+    ("for w in ('a', 'b'):\n    pass\nelse:\n    re.compile(w)", "loop"),
+    ("for w in ('a', 'b'):\n    p = w\nre.compile(p)", "loop"),
+    ("for w in ('a', 'b'):\n    re.compile(p)\n    p = w", "loop"),
+    ("for w in ('a', 'b'):\n    w = 'c'\n    re.compile(w)", "bound more than once"),
+    ("for w in ('a', 'b'):\n    w += 'c'\n    re.compile(w)", "bound more than once"),
+    ("for w in ('a', 'b'):\n    re.compile(w)\nfor w in ('c',):\n    pass", "bound more than once"),
+    ("for w in ('a', 'b'):\n    (w := 'c')\n    re.compile(w)", "bound more than once"),
+    ("for w in ('a', 'b'):\n    with x as w:\n        re.compile(w)", "bound more than once"),
+    ("for w in ('a', 'b'):\n    def f():\n        global w\n        w = 'c'\n    re.compile(w)", "bound more than once"),
+    ("def f():\n    global w\n    for w in ('a', 'b'):\n        g()\n        re.compile(w)", "loop"),
+    ("def f(w):\n    def g():\n        nonlocal w\n        for w in ('a', 'b'):\n            re.compile(w)", "parameter"),
+    ("class A:\n    W = ('a', 'b')\n    P = [re.compile(w) for x in 'xy' for w in W]", "loop"),
+    ("class A:\n    P = 'x'\n    Q = [re.compile(P + w) for w in ('a', 'b')]", "not bound"),
+    ("for w in ('a', 'b'):\n    def f():\n        return re.compile(w)", "loop"),
+    ("for w in ('a', 'b'):\n    x.append(lambda: re.compile(w))", "loop"),
+    ("for w in ('a', 'b'):\n    x.append(re.compile(w + v) for v in ('c', 'd'))", "loop"),
+    ("for w in ('a', 'b'):\n    if w != 'b':\n        re.compile(w)", "loop with a test on its variable"),
+    ("for w in ('a', 'b'):\n    if skip(w):\n        continue\n    re.compile(w)", "loop with a test on its variable"),
+    ("for w in ('a', 'b'):\n    re.compile(w)\n    if w == 'a':\n        break", "loop with a test on its variable"),
+    ("for w in ('a', 'b'):\n    w == 'a' or re.compile(w)", "loop with a test on its variable"),
+    ("for w in ('a', 'b'):\n    x = re.compile(w) if w > 'a' else 1", "loop with a test on its variable"),
+    ("for k, w in (('x', 'a'), ('y', 'b')):\n    if k == 'x':\n        re.compile(w)", "loop with a test on its variable"),
+    ("for w in ('a', 'b'):\n    if w != 'b' and re.match(w, s):\n        pass", "loop with a test on its variable"),
+    ("[re.compile(w) for w in ('a', 'b') if w != 'b']", "loop with a test on its variable"),
+    ("for w in ('a', 'b'):\n    re.compile(w)\n    break", "loop"),
+    ("def f():\n    for w in ('a', 'b'):\n        return re.compile(w)", "loop"),
+    ("for w in ('a', x):\n    re.compile(w)", "loop"),
+    ("for w in ('a', 3):\n    re.compile(w)", "not a text"),
+    ("for w in ():\n    re.compile(w)", "loop over nothing"),
+    ("for w in W:\n    re.compile(w)\nW = ('a',)\nW = ('b',)", "loop"),
+    ("W = ['a']\nfor w in W:\n    W.append('b')\n    re.compile(w)", "loop"),
+    ("W = ['a']\nV = W\nfor w in V:\n    V.append('b')\n    re.compile(w)", "loop"),
+    ("W = ['a']\nV = W\nV.append('b')\nfor w in W:\n    re.compile(w)", "loop"),
+    ("for w in (['a'], ['b']):\n    w.append('c')\n    re.compile(''.join(w))", "changed in place"),
+    ("W = [['a'], ['b']]\nfor w in W:\n    w.append('c')\nre.compile(''.join(W[0]))", "changed in place"),
+    ("W = [['a'], ['b']]\nW[0].append('c')\nre.compile(''.join(W[0]))", "changed in place"),
+    ("for n, w in (('x', 'a'), ('y', 'b', 'c')):\n    re.compile(w)", "loop"),
+    ("for n, *w in (('x', 'a'), ('y', 'b')):\n    re.compile(w[0])", "loop"),
+    ("for x.w in ('a', 'b'):\n    re.compile(x.w)", "attribute"),
+    ("for w in w:\n    re.compile(w)", "loop"),
+    ("for w in v:\n    for v in w:\n        re.compile(v)", "loop"),
+    ("[re.compile(a) for x in y for a in b for b in a]", "too deep"),
+    ("async def f():\n    async for w in ('a', 'b'):\n        re.compile(w)", "loop"),
+    ("exec('w = 1')\nfor w in ('a', 'b'):\n    re.compile(w)", "loop"),
+    ("def enumerate(x):\n    return ()\nfor n, w in enumerate(('a', 'b')):\n    re.compile(w)", "loop"),
+    ("for w in range(9 ** 9):\n    re.compile(str(w))", "loop"),
+    ("for w in 'a' * 65:\n    re.compile(w)", "loop over more than 64 values"),
+    ("for v in 'abcdefghi':\n    for w in 'abcdefghi':\n        re.compile(v + w)", "loop over more than 64 values"),
+    ("for w in ('a' * 60000, 'b'):\n    re.compile(w * 2)", "too large"),
 )
 
 
@@ -235,6 +331,89 @@ class Unknown(unittest.TestCase):
     def test_a_source_of_another_python_is_named(self) -> None:
         with self.assertRaisesRegex(ModuleError, "this Python can't parse it: .*line 1"):
             parsed("a.py", "print 'x'\n")
+
+
+class Loops(unittest.TestCase):
+    """Loops over known items: each item gives a pattern of its own, or none is known."""
+
+    def patterns(self, source: str) -> List[object]:
+        """The patterns of a source's calls that aren't literals."""
+        found = [it for it in found_in("import re\n" + source) if not it.is_literal]
+        self.assertEqual([it.why for it in found], [""] * len(found))
+        return [it.pattern for it in found]
+
+    def test_each_item(self) -> None:
+        for source, patterns in EACH:
+            with self.subTest(source=source):
+                self.assertEqual(self.patterns(source), list(patterns))
+
+    def test_items_are_those_of_python(self) -> None:
+        for source, patterns in EACH:
+            if "def " in source or "class" in source or "s:" in source:
+                continue
+            with self.subTest(source=source):
+                taken: List[Text] = []
+                exec("import re\n" + source.replace("re.compile(", "keep("), {"keep": lambda it: taken.append(it)})
+                self.assertEqual(set(taken), set(patterns))
+
+    def test_places_that_may_not_take_each_item(self) -> None:
+        for source, why in NOT_EACH:
+            with self.subTest(source=source):
+                found = only(source)
+                self.assertEqual((found.pattern, found.why), (None, why))
+
+    def test_item_and_name_are_told(self) -> None:
+        first, second = (it for it in found_in("import re\nW = ('a', 'b')\nfor w in W:\n    re.compile(w)\n"))
+        self.assertEqual(first.notes, ("item 1 of 2 of the loop in line 3",))
+        self.assertEqual(second.notes, ("item 2 of 2 of the loop in line 3",))
+        self.assertEqual([(it.name, it.line) for it in second.held], [("w", 3), ("W", 2)])
+
+    def test_pattern_and_flags_of_one_item(self) -> None:
+        found = found_in("import re\nfor p, f in (('a', re.I), ('b', re.M)):\n    re.compile(p, f)\n")
+        self.assertEqual([(it.pattern, it.flags) for it in found], [("a", 2), ("b", 8)])
+
+    def test_literal_with_each_flag(self) -> None:
+        found = found_in("import re\nfor f in (re.I, re.M):\n    re.compile('a', f)\n")
+        self.assertEqual([(it.pattern, it.flags, it.is_literal) for it in found], [("a", 2, True), ("a", 8, True)])
+
+    def test_stand_in_in_a_loop_over_what_isnt_known(self) -> None:
+        found = only("for w in x:\n    re.compile('^' + re.escape(w))")
+        self.assertEqual((found.pattern, found.notes), ("^word", ("with 'word' for re.escape(w)",)))
+
+    def test_other_places_are_as_without_the_loop(self) -> None:
+        found = found_in("import re\nP = 'a'\nfor w in ('b', 'c'):\n    re.compile(P)\n    re.compile(P + w)\nre.compile(P)\n")
+        self.assertEqual([it.pattern for it in found], ["a", "ab", "ac", "a"])
+
+    def test_loops_inside_loops_are_limited(self) -> None:
+        for depth, items in ((19, "'ab'"), (60, "'ab'"), (6, "('a',) * 60"), (30, "'a'")):
+            with self.subTest(depth=depth, items=items):
+                head = "".join("    " * it + f"for v{it} in {items}:\n" for it in range(depth))
+                source = head + "    " * depth + "re.compile(" + " + ".join(f"v{it}" for it in range(depth)) + ")\n"
+                why = {it.why for it in found_in("import re\n" + source)}
+                self.assertLessEqual(why, {"loop over more than 64 values", "too deep", "too much work"})
+
+    def test_empty_loops_inside_large_ones_are_limited(self) -> None:
+        head = "".join("    " * it + f"for v{it} in range(60):\n" for it in range(6)) + "    " * 6 + "for w in ():\n"
+        source = head + "    " * 7 + "re.compile(w + " + " + ".join(f"str(v{it})" for it in range(6)) + ")\n"
+        found = only(source)
+        self.assertIsNone(found.pattern)
+
+    def test_a_huge_list(self) -> None:
+        found = only("for w in [" + "'a', " * 20_000 + "]:\n    re.compile(w)")
+        self.assertEqual((found.pattern, found.why), (None, "loop"))
+
+    def test_many_places_in_one_loop(self) -> None:
+        body = "".join(f"    re.compile(w + '{it}')\n" for it in range(300))
+        found = found_in("import re\nfor w in ('a', 'b'):\n" + body)
+        self.assertEqual(len(found), 600)
+
+    def test_items_from_another_file(self) -> None:
+        found = found_in("import re\nfrom .b import W\nfor w in W:\n    re.compile(w)\n", b="W = ('a', 'b')\n")
+        self.assertEqual([it.pattern for it in found], ["a", "b"])
+
+    def test_a_loop_of_another_file(self) -> None:
+        self.assertEqual(only("from .b import w\nre.compile(w)", b="for w in ('a', 'b'):\n    pass\n").why, "loop")
+        self.assertEqual(only("from .b import p\nre.compile(p)", b="for w in ('a', 'b'):\n    p = w\n").why, "loop")
 
 
 class Imports(unittest.TestCase):

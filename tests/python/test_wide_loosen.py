@@ -1,13 +1,15 @@
 """Loosened forms, what of a trial counts as a hang, patterns judged as texts, and the patterns that are known."""
 from __future__ import annotations
 
+import math
 import re
 import unittest
 from typing import List, Tuple
 
 import known
 import show_support
-from relint.confirm import CONFIRMED, Limits, Outcome
+from counting import Counted
+from relint.confirm import CONFIRMED, Limits, Outcome, Trials
 from relint.reports import Entry, Family, Text
 from relint.wide.judge import Question, judged, source_line
 from relint.wide.loosen import Form, forms, reads
@@ -86,7 +88,7 @@ class Forms(unittest.TestCase):
         self.assertEqual(reads("a [ ] b # c\n + d", re.X), "a[ ]b+d")
 
 
-class Trials(unittest.TestCase):
+class Growth(unittest.TestCase):
     """What of a trial counts."""
 
     def outcome(self, *times: Tuple[int, float], length: int) -> Outcome:
@@ -99,6 +101,23 @@ class Trials(unittest.TestCase):
         self.assertAlmostEqual(power_of(self.outcome((50, 0.0), (100, 0.001), length=1000), 1.0), 2.69897, 5)
         self.assertEqual(power_of(self.outcome(length=1000), 1.0), 0.0)
         self.assertEqual(power_of(Outcome("not seen"), 1.0), 0.0)
+
+    def test_a_time_that_was_disturbed_counts_as_that_of_a_longer_text(self) -> None:
+        # twice the time for each character from 2 ms on; the first texts met something else that took 4 ms
+        grown = ((10, 0.002), (11, 0.004), (12, 0.008), (13, 0.016))
+        wanted = power_of(self.outcome(*grown, length=19), 1.0)
+        self.assertAlmostEqual(wanted, math.log(500) / math.log(19 / 10))
+        self.assertEqual(power_of(self.outcome((1, 0.004), (2, 0.0), *grown, length=19), 1.0), wanted)
+        self.assertEqual(power_of(self.outcome((9, 0.5), *grown, length=19), 1.0),
+                         power_of(self.outcome((9, 0.002), *grown, length=19), 1.0))
+
+    def test_few_times_before_the_limit(self) -> None:
+        # four times the time for two characters more; only one time can be told, and it was disturbed
+        grown = power_of(self.outcome((9, 0.00001), (13, 0.0004), (19, 0.06), length=29), 1.0)
+        self.assertAlmostEqual(grown, math.log(500) / math.log(29 / 13))
+        # a quadratic time: 1 ms at 100 characters, 1 s at 3,162
+        grown = power_of(self.outcome((50, 0.00025), (100, 0.001), (200, 0.004), length=3162), 1.0)
+        self.assertAlmostEqual(grown, 2.0, 3)
 
     def test_class_is_what_was_seen(self) -> None:
         worst = Entry("", "exponential", family=FAMILY)
@@ -145,8 +164,13 @@ class Judged(unittest.TestCase):
     def test_textbook(self) -> None:
         found = judged([Question(it, 0, "search") for it in TEXTBOOK], ("--max-pairs=1000",), 2)
         refused = {it: entry.kind == "undecided" for it, entry in found.items() if not entry.is_finding()}
-        seen = hangs(refused.items(), 2, (), Limits(0.3, 20_000, 1_000_000_000), 2)
+        seen = hangs(refused.items(), 2, (), Counted(Limits(0.3, 150, 1_000_000_000)), 1)
         self.assertEqual([it.pattern for it in refused if it not in seen], [])
+
+    def test_a_pattern_is_seen_to_hang_on_this_python(self) -> None:
+        question = Question(TEXTBOOK[1], 0, "search")
+        tries = (hangs([(question, False)], 2, (), Trials(Limits(it, 20_000, 1_000_000_000)), 1) for it in (0.3, 3, 30))
+        self.assertTrue(any(question in it for it in tries))
 
     def test_a_pattern_that_isnt_dangerous(self) -> None:
         made = forms(COMMENT, 0)

@@ -76,10 +76,39 @@ class Notes(unittest.TestCase):
         plain = subprocess.run([sys.executable, "-c", source], stdout=subprocess.PIPE, check=True).stdout.decode()
         self.assertEqual(out, plain)
 
+    def test_patterns_can_be_pickled(self) -> None:
+        source = ("import pickle, re, subprocess, sys\ndata = pickle.dumps(re.compile('a+', re.I))\n"
+                  "assert pickle.loads(data) == re.compile('a+', re.I) and re._compile.__module__ == 're'\n"
+                  "code = 'import pickle, sys; print(pickle.loads(sys.stdin.buffer.read()).pattern)'\n"
+                  "subprocess.run([sys.executable, '-I', '-c', code], input=data, check=True)\n")
+        self.assertEqual(notes_of({"p.py": source}, "p.py")[1], "a+\n")
+
+    def test_warnings_and_errors_name_the_same_places(self) -> None:
+        source = ("import re, traceback, warnings\nwith warnings.catch_warnings(record=True) as seen:\n"
+                  "    warnings.simplefilter('always')\n    re.compile('[[a]')\n    re.search('[[b]', '')\n"
+                  "print([(it.lineno, it.filename == __file__) for it in seen])\n"
+                  "try:\n    re.compile('(')\nexcept re.error as error:\n"
+                  "    print([(it.name, it.lineno) for it in traceback.extract_tb(error.__traceback__)])\n")
+        with show_support.folder({"p.py": source}):
+            plain = subprocess.run([sys.executable, "p.py"], stdout=subprocess.PIPE, check=True).stdout.decode()
+        _, out = notes_of({"p.py": source}, "p.py")
+        self.assertEqual(out, plain)
+        self.assertTrue(out.startswith("[(4, True), (5, True)]\n"), out)
+
+    def test_a_module_without_a_source(self) -> None:
+        source = ("import sitecustomize, types\nmodule = types.ModuleType('regex.other')\n"
+                  "code = 'def _compile(pattern, flags, more=0):\\n return pattern, flags, more\\n'\n"
+                  "code += 'def compile(pattern):\\n return _compile(pattern, 2, more=3)\\n'\n"
+                  "exec(compile(code, 'nowhere.py', 'exec'), module.__dict__)\nsitecustomize.watch(module)\n"
+                  "print(module.compile('a'), module._compile.__qualname__)\n")
+        noted, out = notes_of({"p.py": source}, "p.py")
+        self.assertEqual(out, "('a', 2, 3) _compile\n")
+        self.assertIn(("a", 2, "regex.compile", "p.py", 7), noted)
+
     def test_without_a_folder_nothing_is_watched(self) -> None:
         known = {**os.environ, "PYTHONPATH": str(WATCH)}
         known.pop("RELINT_RECORD", None)
-        words = [sys.executable, "-c", "import re; print(hasattr(re._compile, 'relint_record'))"]
+        words = [sys.executable, "-c", "import re; print(hasattr(re, '_relint_record'))"]
         self.assertEqual(subprocess.run(words, env=known, stdout=subprocess.PIPE, check=True).stdout, b"False\n")
 
     def test_notes_that_are_none_are_counted(self) -> None:

@@ -124,6 +124,15 @@ class Runs(unittest.TestCase):
         self.assertLessEqual({"./brackets.py", "./old.py", "./coding.py", "./nul.py", "./nb.ipynb"}, named)
         self.assertNotIn("./good.py", named)
 
+    def test_codings(self) -> None:
+        rest = "\nimport re\nP = 'é'\nre.compile(P)\n"
+        files = {f"{number}.py": f"# coding: {name}{rest}".encode("utf-8") for number, name in
+                 enumerate(("utf-8", "utf8", "UTF_8", "u8", "latin-1", "cp1252", "no-such"))}
+        files["mark.py"] = b"\xef\xbb\xbf" + rest.encode("utf-8")
+        result = look({**files, "a.py": b"# coding: us-ascii\nimport re\nP = 'a'\nre.compile(P)\n"})
+        self.assertEqual({it.path for it in result.entries}, {f"./{it}.py" for it in ("0", "1", "2", "3", "mark", "a")})
+        self.assertEqual({it for it, _ in result.counts.unread}, {"./4.py", "./5.py", "./6.py"})
+
     def test_a_child_that_dies_or_is_late_is_named(self) -> None:
         begin = {"paths": ["a.py"], "takers": [], "folders": ["."]}
         with show_support.folder({"a.py": "import re\nP = 'a'\nre.compile(P)\n"}):
@@ -132,6 +141,28 @@ class Runs(unittest.TestCase):
         self.assertEqual([it is None for it, _ in answers], [False, True, False])
         self.assertIn("ended with status", answers[1][1])
         self.assertEqual(late, [(None, "it took more than 0 seconds of processor time")])
+
+    def test_each_item_of_a_loop(self) -> None:
+        good, worse = "[a-z]+", r"^(\d+)*$"
+        source = (f"import re\nW = ({BAD!r}, {good!r}, {worse!r})\nfor w in W:\n    re.compile(w)\n"
+                  "for v in x:\n    re.compile(v)\n")
+        result = look({"a.py": source})
+        counts = result.counts
+        self.assertEqual(patterns(result), [BAD, good, worse])
+        self.assertEqual([it.is_finding() for it in result.entries], [True, False, True])
+        self.assertEqual((counts.seen, counts.folded, counts.judged, counts.unknown), (2, 1, 1, {"loop": 1}))
+        with show_support.folder({"a.py": source}):
+            shown = show_support.tool("relint-wide", "--no-trials", "a.py").out
+            self.assertEqual(shown.count("a.py:4:16: compile: judged elsewhere: exponential [RLT300]"), 2)
+            self.assertIn("item 3 of 3 of the loop in line 3", shown)
+            sarif = json.loads(show_support.tool("relint-wide", "--no-trials", "--format", "sarif", "a.py").out)
+            self.assertEqual([it["ruleId"] for it in sarif["runs"][0]["results"]], ["RLT300", "RLT300"])
+            Path("relint.toml").write_text("wide = true\n")
+            show_support.tool("relint-baseline", "write", "a.py")
+            words = ("--no-trials", "--baseline", "relint-baseline.json", "a.py")
+            self.assertEqual(show_support.tool("relint-wide", *words).status, 0)
+            Path("a.py").write_text(source.replace(good, r"^(\s+)*$"))
+            self.assertEqual(show_support.tool("relint-wide", *words).status, 1)
 
     def test_notebook(self) -> None:
         cells = [
@@ -167,6 +198,9 @@ class Runs(unittest.TestCase):
             self.assertIn("judged elsewhere: exponential [RLT300]", shown.out)
             page = show_support.tool("relint-page", given=ran.out.encode())
             self.assertIn("judged elsewhere, RLT300", page.out)
+            self.assertIn('<li class="warn elsewhere"><a href="#findings"><b>1</b> judged elsewhere</a></li>', page.out)
+            self.assertIn("Held by <code>P</code> (line 2).", page.out)
+            self.assertNotIn("seen to hang", page.out)
             tried = show_support.tool("relint-confirm", "--seconds", "0.1", given=ran.out.encode())
             self.assertIn("confirmed", tried.out)
             sarif = json.loads(show_support.tool("relint-show", "--format", "sarif", given=ran.out.encode()).out)

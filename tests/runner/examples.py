@@ -144,6 +144,7 @@ def _call(place: _Place, call: Call) -> None:
 
 
 def _tracked(place: _Place, tracked: Tracked) -> None:
+    """Commits the files, changes the work tree as said, and compares what `tracked.sh` answers. Raises Failed."""
     project = place.project(tracked.files)
     scratch.commit_all(project, place.environment)
     place.run(["sh", "-c", tracked.after], project)

@@ -59,6 +59,18 @@ class Program:
         return run_command([str(self.path)] + words, folder, seconds=seconds)
 
 
+def tested_spans() -> Optional[Path]:
+    """The program relint-spans that is tested: the one that `RELINT_SPANS` names, else that of release/, else the one that was
+    built here; None if there is none."""
+    named = os.environ.get("RELINT_SPANS", "")
+    released = TREE / "release" / os.uname().machine / "relint-spans"
+    built = TREE / "crates" / "relint_spans" / "out" / "relint_spans"
+    for path in [Path(os.path.abspath(named))] if named else [released, built]:
+        if path.is_file():
+            return path
+    return None
+
+
 _LAUNCHER = TREE / "relint"
 # the launcher notes here, in the first line, which program it runs as long as the tree stays as it is
 _STAMP = TREE / "crates" / "relint" / "out" / "stamp"

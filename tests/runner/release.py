@@ -8,11 +8,13 @@ import platform
 import re
 import shutil
 import tempfile
+from dataclasses import dataclass
 from functools import partial
 from pathlib import Path
 from typing import Callable, Dict, List, Set, Tuple
 
 from runner import elf, scratch
+from runner.scratch import PROGRAMS
 from runner.examples import FINDING
 from runner.programs import TREE, Program, run_command
 from runner.results import Failed, Result, Skipped
@@ -35,9 +37,31 @@ _NEWER = sorted(name for name, since in _CALLS.items() if since > _KERNEL_OF_TAG
 _CALL = re.compile(r"^(?:\[pid +[0-9]+\] |[0-9]+ +)?([a-z_0-9]+)\(", re.MULTILINE)
 
 
-def released(machine: str) -> Path:
-    """The program of release/ for a machine."""
-    return TREE / "release" / machine / "relint"
+@dataclass(frozen=True)
+class Released:
+    """A program of release/: its name, and the machine that it is for."""
+
+    name: str
+    machine: str
+
+    @property
+    def path(self) -> Path:
+        """Its file."""
+        return TREE / "release" / self.machine / self.name
+
+    def said(self, key: str) -> str:
+        """What release/INFO says of it under a key."""
+        return info()[PROGRAMS[self.name] + key]
+
+    def command(self, path: str = "") -> List[str]:
+        """The words that run it here, from its own place or from another. Raises `Skipped`."""
+        return command_for(self.machine, path or str(self.path))
+
+
+def all_released() -> List[Released]:
+    """The programs of release/ for all machines."""
+    names = [it for it in PROGRAMS if any((TREE / "release" / machine / it).is_file() for machine in MACHINES)]
+    return [Released(name, machine) for machine in MACHINES for name in names]
 
 
 def info() -> Dict[str, str]:
@@ -61,11 +85,11 @@ def _require(holds: bool, why: str) -> None:
         raise Failed(why)
 
 
-def _is_hardened(machine: str) -> None:
+def _is_hardened(one: Released) -> None:
     """Static, position-independent, with read-only relocations, and no page that is written and executed."""
-    file = elf.Elf(released(machine).read_bytes())
+    file = elf.Elf(one.path.read_bytes())
     dynamic, loads = file.dynamic(), file.of_kind(elf.LOAD)
-    _require(file.machine == machine, "it is for another machine: " + file.machine)
+    _require(file.machine == one.machine, "it is for another machine: " + file.machine)
     _require(file.is_position_independent, "it isn't position-independent")
     _require(not file.of_kind(elf.INTERPRETER) and elf.NEEDED not in dynamic, "it needs libraries of the system")
     both = elf.WRITE | elf.EXECUTE
@@ -80,22 +104,23 @@ def _is_hardened(machine: str) -> None:
     _require(_SYMBOLS not in file.section_types(), "its symbols are left in it")
 
 
-def _is_named(machine: str) -> None:
+def _is_named(one: Released) -> None:
     """Its sum and size are those of INFO, and its build ID is the sum of the tree."""
-    content, said = released(machine).read_bytes(), info()
-    _require(hashlib.sha256(content).hexdigest() == said["program-" + machine], "its SHA-256 isn't that of release/INFO")
-    _require(str(len(content)) == said["size-" + machine], "its size isn't that of release/INFO")
+    content = one.path.read_bytes()
+    held = hashlib.sha256(content).hexdigest()
+    _require(held == one.said("program-" + one.machine), "its SHA-256 isn't that of release/INFO")
+    _require(str(len(content)) == one.said("size-" + one.machine), "its size isn't that of release/INFO")
     notes = {(name, kind): text for name, kind, text in elf.Elf(content).notes()}
-    _require(notes[_BUILD_ID].hex() == said["sum"], "its build ID isn't the sum of release/INFO")
+    _require(notes[_BUILD_ID].hex() == one.said("sum"), "its build ID isn't the sum of release/INFO")
     oldest = tuple(notes[_OLDEST_KERNEL][at] for at in (4, 8))
     _require(oldest <= _KERNEL_OF_TAGS, "it needs Linux %d.%d, later than the wheel's tags promise" % oldest)
 
 
-def _in_an_empty_root(machine: str) -> None:
-    """A folder that holds nothing but the program, and for another machine its emulator, as the root."""
-    words = command_for(machine, "/relint")
+def _in_an_empty_root(one: Released) -> None:
+    """A folder that holds only the program, and for another machine its emulator, as the root."""
+    words = one.command("/program")
     with tempfile.TemporaryDirectory() as folder:
-        shutil.copy(str(released(machine)), folder + "/relint")
+        shutil.copy(str(one.path), folder + "/program")
         if len(words) > 1:
             shutil.copy(str(shutil.which(words[0])), folder + "/emulator")
             words[0] = "/emulator"
@@ -103,23 +128,30 @@ def _in_an_empty_root(machine: str) -> None:
         root = ["chroot", folder] if os.geteuid() == 0 else ["unshare", "--user", "--map-root-user", "chroot", folder]
         if not shutil.which(root[0]):
             raise Skipped("%s isn't installed" % root[0])
-        first = run_command([*root, *words, "cost", "a*", "aa"], TREE)
-        if first.status != 0 and re.search("not permitted|Operation|denied", first.stderr):
-            raise Skipped("no other root may be taken here: " + first.stderr.strip())
-        _require(first.stdout == "steps 5 matched\n", "it answers %r and %r" % (first.stdout, first.stderr))
-        found = run_command([*root, *words, "check", "--format", "brief", "/bad.py"], TREE)
-        right = found.status == 1 and found.stdout.startswith("/bad.py:2:12: compile: exponential\n")
-        _require(right, "it answers %r" % found.stdout)
+        for call, status, start in _IN_A_ROOT[one.name]:
+            found = run_command([*root, *words, *call], TREE)
+            if found.status != status and re.search("not permitted|Operation|denied", found.stderr):
+                raise Skipped("no other root may be taken here: " + found.stderr.strip())
+            right = found.status == status and found.stdout.startswith(start)
+            _require(right, "it answers %r and %r" % (found.stdout, found.stderr))
 
 
-_RUNS: List[List[str]] = [
-    ["check", "--format", "json", "examples"], ["class", r"(\w+,?)*"], ["cost", "a*", "aa"], ["sample", "1", "20"],
-    ["prove", "(a|a)*b"], ["compare", "a*", "(?:a|b)*"], ["check", "not-there.py"], ["nothing"]]
+# calls of each program in a root that has the file /bad.py, with the status and the beginning of the answer
+_IN_A_ROOT: Dict[str, List[Tuple[List[str], int, str]]] = {
+    "relint": [(["cost", "a*", "aa"], 0, "steps 5 matched\n"),
+               (["check", "--format", "brief", "/bad.py"], 1, "/bad.py:2:12: compile: exponential\n")],
+    "relint-spans": [(["a+", "aa*"], 0, "same\n"), (["a|ab", "ab|a"], 1, "differ\n")]}
+_RUNS: Dict[str, List[List[str]]] = {
+    "relint": [
+        ["check", "--format", "json", "examples"], ["class", r"(\w+,?)*"], ["cost", "a*", "aa"], ["sample", "1", "20"],
+        ["prove", "(a|a)*b"], ["compare", "a*", "(?:a|b)*"], ["check", "not-there.py"], ["nothing"]],
+    "relint-spans": [
+        ["a+", "aa*"], ["(a|b)+", "(b|a)+"], ["--mode", "fullmatch", "a|ab", "ab|a"], ["a", "(?=a)"], ["nothing"]]}
 
 
-def _traced(machine: str, words: List[str], more: List[str]) -> Tuple[Set[str], Tuple[str, str, int]]:
+def _traced(one: Released, words: List[str], more: List[str]) -> Tuple[Set[str], Tuple[str, str, int]]:
     """The system calls of a run, and what it answers; `more` are options of strace."""
-    command = command_for(machine, str(released(machine)))
+    command = one.command()
     with tempfile.TemporaryDirectory() as folder:
         if len(command) > 1:
             ran = run_command([command[0], "-strace", "-D", folder + "/calls", *command[1:], *words], TREE)
@@ -134,36 +166,36 @@ def _traced(machine: str, words: List[str], more: List[str]) -> Tuple[Set[str], 
         return set(_CALL.findall(text)), (ran.stdout, ran.stderr, ran.status)
 
 
-def _asks_no_more_of_the_kernel(machine: str) -> None:
+def _asks_no_more_of_the_kernel(one: Released) -> None:
     """Each system call is one that the table knows."""
     made: Set[str] = set()
-    for words in _RUNS:
-        made |= _traced(machine, words, [])[0]
+    for words in _RUNS[one.name]:
+        made |= _traced(one, words, [])[0]
     unknown = sorted(made - set(_CALLS))
     _require(not unknown, "it makes system calls that the table doesn't have: " + ", ".join(unknown))
 
 
-def _does_without_newer_calls(machine: str) -> None:
+def _does_without_newer_calls(one: Released) -> None:
     """A kernel that answers each call that is newer than the tags promise as one that it doesn't know."""
-    if len(command_for(machine, "")) > 1:
+    if len(one.command()) > 1:
         raise Skipped("the emulator can't refuse system calls")
-    plain = Program(released(machine))
-    for words in _RUNS:
+    plain = Program(one.path)
+    for words in _RUNS[one.name]:
         options = ["-e", "inject=%s:error=ENOSYS" % ",".join(_NEWER)]
         answer = plain.run(words, TREE)
-        _require(_traced(machine, words, options)[1] == (answer.stdout, answer.stderr, answer.status),
+        _require(_traced(one, words, options)[1] == (answer.stdout, answer.stderr, answer.status),
                  "it answers otherwise: " + " ".join(words))
 
 
-def _runs_on_the_oldest_kernel(machine: str) -> None:
+def _runs_on_the_oldest_kernel(one: Released) -> None:
     """The emulator says that the kernel is the oldest that the file names, and the processor the oldest that it needs."""
-    emulator = shutil.which("qemu-%s-static" % machine)
+    emulator = shutil.which("qemu-%s-static" % one.machine)
     if not emulator:
-        raise Skipped("the emulator qemu-%s-static isn't installed: tools/release-packages" % machine)
-    processor = {"x86_64": "Nehalem", "aarch64": "cortex-a53"}[machine]
-    words = [emulator, "-r", "3.10.0", "-cpu", processor, str(released(machine))]
-    for call in _RUNS[:3]:
-        ran = run_command([*words, *call], TREE, seconds=120)
+        raise Skipped("the emulator qemu-%s-static isn't installed: tools/release-packages" % one.machine)
+    processor = {"x86_64": "Nehalem", "aarch64": "cortex-a53"}[one.machine]
+    words = [emulator, "-r", "3.10.0", "-cpu", processor, str(one.path)]
+    for call in _RUNS[one.name][:3]:
+        ran = run_command([*words, *call], TREE, seconds=1200)
         _require(ran.status in (0, 1) and bool(ran.stdout), "it ends with status %d: %s" % (ran.status, ran.stderr))
 
 
@@ -171,7 +203,7 @@ def _ends_well_in_narrow_memory() -> None:
     """With less memory than a run takes, the answer is whole, or the status 5 and nothing on standard output."""
     machine = next((it for it in MACHINES if len(_words_or_none(it)) == 1), "")
     _require(bool(machine), "no program is for this machine")
-    words = [str(released(machine)), "check", "--format", "json", "python/relint"]
+    words = [str(Released("relint", machine).path), "check", "--format", "json", "python/relint"]
     whole = run_command(words, TREE)
     statuses: Set[int] = set()
     for kilobytes in range(2_000, 40_000, 500):
@@ -205,7 +237,7 @@ def _links_alike_in_two_folders() -> None:
             _require(ran.status == 0, ran.stdout)
             if "linked with other packages" in ran.stdout:
                 raise Skipped("other packages are here than release/INFO names")
-            _require(ran.stdout.count("byte for byte") == len(MACHINES), ran.stdout)
+            _require(ran.stdout.count("byte for byte") == len(all_released()), ran.stdout)
 
 
 def _documents_agree() -> None:
@@ -213,7 +245,7 @@ def _documents_agree() -> None:
     said = info()
     statement = json.loads((TREE / "release" / "provenance.json").read_text(encoding="utf-8"))
     subjects = {it["name"]: it["digest"]["sha256"] for it in statement["subject"]}
-    named = {"release/%s/relint" % it: said["program-" + it] for it in MACHINES}
+    named = {it.path.relative_to(TREE).as_posix(): it.said("program-" + it.machine) for it in all_released()}
     _require(subjects == named, "the provenance names other programs")
     bill = json.loads((TREE / "release" / "sbom.cdx.json").read_text(encoding="utf-8"))
     about = bill["metadata"]["component"]
@@ -234,19 +266,19 @@ def _check_passes() -> None:
 
 
 def run(program: Program) -> Result:
-    """Tries both programs of release/."""
+    """Tries all programs of release/."""
     result = Result()
-    if not all(released(it).is_file() for it in MACHINES):
+    if not all_released():
         result.skip("release", "there is no release/: tools/release makes it")
         return result
     tests: List[Tuple[str, Callable[[], None]]] = [
         ("tools/release --check", _check_passes), ("narrow memory", _ends_well_in_narrow_memory),
         ("linked in two folders", _links_alike_in_two_folders), ("provenance and bill", _documents_agree)]
-    for machine in MACHINES:
+    for one in all_released():
         for name, test in (("hardened", _is_hardened), ("named", _is_named), ("an empty root", _in_an_empty_root),
                            ("system calls", _asks_no_more_of_the_kernel), ("newer system calls", _does_without_newer_calls),
                            ("the oldest kernel and processor", _runs_on_the_oldest_kernel)):
-            tests.append(("%s: %s" % (machine, name), partial(test, machine)))
+            tests.append(("%s for %s: %s" % (one.name, one.machine, name), partial(test, one)))
     for title, test_of in tests:
         result.take(title, test_of)
     return result

@@ -176,7 +176,7 @@ class _Run:
     folder: Path
 
     def answer(self, words: List[str]) -> Answer:
-        return self.program.run(words, self.folder, seconds=120)
+        return self.program.run(words, self.folder, seconds=1200)
 
     def prepare(self) -> None:
         write_files(self.folder, self.row.files)

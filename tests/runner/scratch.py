@@ -10,9 +10,11 @@ import subprocess
 from pathlib import Path
 from typing import Dict, List
 
-from runner.programs import TREE, Program, clean_environment, run_command
+from runner.programs import TREE, Program, clean_environment, run_command, tested_spans
 from runner.results import Failed, Skipped
 
+# the programs that release/ can hold, each with what the keys of release/INFO about it begin with
+PROGRAMS = {"relint": "", "relint-spans": "spans-"}
 _LEFT_OUT = {".git", "out", "__pycache__", ".mypy_cache", "node_modules", ".venv"}
 
 
@@ -48,27 +50,33 @@ def copy_tree(target: Path) -> None:
 
 
 def put_small_tree(copy: Path) -> None:
-    """Puts one small crate into a copy that has none, and makes the release of the copy, as it is, one of this crate.
+    """Puts a small crate for each program into a copy that has none, and makes the copy's release, as it is, one of these.
 
-    The programs stay those of the repository but for the sum that they have as their build ID, which stands in the file once.
+    The programs stay those of the repository except for the sum that they have as their build ID, which is in the file once.
     Raises `Failed` if there is no release.
     """
-    (copy / "crates.txt").write_text("relint:\n", encoding="utf-8")
-    source = copy / "crates" / "relint" / "src" / "build"
-    source.mkdir(parents=True)
-    (source / "main.rt").write_text("fn main() {}\n", encoding="utf-8")
-    taken = run_command(["sh", "-c", "top=$PWD; . release/tree.sh; tree_sum"], copy)
     info = copy / "release" / "INFO"
-    if taken.status != 0 or not info.is_file():
+    if not info.is_file():
         raise Failed("the copy has no release")
+    held = {name: start for name, start in PROGRAMS.items() if (copy / "release" / "x86_64" / name).is_file()}
+    crates = [name.replace("-", "_") for name in held]
+    (copy / "crates.txt").write_text("".join("%s:\n" % it for it in crates), encoding="utf-8")
     text = info.read_text(encoding="utf-8")
-    old, new = _value_of("sum", text), taken.stdout.strip()
-    for path in sorted((copy / "release").glob("*/relint")):
-        content = path.read_bytes()
-        changed = content.replace(bytes.fromhex(old), bytes.fromhex(new))
-        path.write_bytes(changed)
-        text = text.replace(hashlib.sha256(content).hexdigest(), hashlib.sha256(changed).hexdigest())
-    info.write_text(text.replace(old, new), encoding="utf-8")
+    for (name, start), crate in zip(held.items(), crates):
+        source = copy / "crates" / crate / "src" / "build"
+        source.mkdir(parents=True)
+        (source / "main.rt").write_text("fn main() {}\n", encoding="utf-8")
+        taken = run_command(["sh", "-c", "top=$PWD; . release/tree.sh; tree_sum " + crate], copy)
+        if taken.status != 0:
+            raise Failed("the copy has no sum: " + taken.stderr)
+        old, new = _value_of(start + "sum", text), taken.stdout.strip()
+        for path in sorted((copy / "release").glob("*/" + name)):
+            content = path.read_bytes()
+            changed = content.replace(bytes.fromhex(old), bytes.fromhex(new))
+            path.write_bytes(changed)
+            text = text.replace(hashlib.sha256(content).hexdigest(), hashlib.sha256(changed).hexdigest())
+        text = text.replace(old, new)
+    info.write_text(text, encoding="utf-8")
     _list_release(copy / "release")
 
 
@@ -102,12 +110,18 @@ def _forward(program: Path) -> str:
 
 
 def put_programs(folder: Path, copy: Path, program: Program) -> None:
-    """Puts `relint` and the programs `relint-..` of a copy into a folder for the PATH, and `./relint` into the copy."""
+    """Puts `relint` and the programs `relint-..` of a copy into a folder for the PATH.
+
+    `./relint` and `tools/relint-spans` of the copy become the programs that are tested.
+    """
     write_script(folder / "relint", _forward(program.path))
     write_script(copy / "relint", _forward(program.path))
+    spans = tested_spans()
+    if spans is not None:
+        write_script(copy / "tools" / "relint-spans", _forward(spans))
     for path in files_of_tree():
         place = copy / path
-        if path.name.startswith("relint-") and path.parts[0] != "crates" and os.access(str(place), os.X_OK):
+        if path.name.startswith("relint-") and path.parts[0] == "tools" and os.access(str(place), os.X_OK):
             write_script(folder / path.name, _forward(place))
 
 

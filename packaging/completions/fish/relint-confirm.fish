@@ -22,3 +22,4 @@ complete -c relint-confirm -l total-seconds -x -d 'after how many seconds no tri
 complete -c relint-confirm -l longest -x -d 'the longest text to try, in characters (default: 100000)'
 complete -c relint-confirm -l memory -x -d 'the megabytes that a trial may take (default: 1024)'
 complete -c relint-confirm -l format -x -a 'text json' -d 'text or json (text)'
+complete -c relint-confirm -l keep-rate -d 'keep how many steps a second this Python does, so that relint-show can say how long a text takes'

@@ -25,4 +25,5 @@ complete -c relint-show -l color -x -a 'always never auto' -d 'always, never or 
 complete -c relint-show -l output -s o -r -F -d 'the file to write, instead of standard output'
 complete -c relint-show -l format -x -a 'terminal github sarif' -d 'terminal; github, which servers show in place; or sarif (terminal)'
 complete -c relint-show -l mend -d 'also show the cures that relint-mend finds'
+complete -c relint-show -l no-rate -d 'don\'t say how many seconds a text takes, though relint-confirm --keep-rate measured it'
 complete -c relint-show -l explain -x -d 'print what there is to say of a rule (RLT100), a cause or a page (mending), and exit'

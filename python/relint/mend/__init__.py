@@ -1,6 +1,6 @@
-"""Cures for costly patterns: rules propose, relint proves that the texts are the same, and a check compares spans and groups.
+"""Cures for costly patterns: rules propose, relint proves that the same texts match, relint-spans that spans and groups agree.
 
-`cures` answers them for one pattern; `main` is the command relint-mend. docs/MEND.md tells what is proved and what is checked.
+`cures` returns those of a pattern; `main` is the command relint-mend. docs/MENDING.md says what is proved and what is checked.
 """
 from __future__ import annotations
 

@@ -122,6 +122,10 @@ class Alphabet:
                 yield from self._written("".join("\\" + it for it in taken), self.ranges(rest))
 
     def _written(self, front: str, rest: Ranges) -> Iterable[str]:
+        """Yields texts for the inside of a class: `front` and the ranges, unless too many of these are above 127.
+
+        Under IGNORECASE there is also one without the ranges above 127, as the other letters may match these codes too.
+        """
         narrow = [(first, min(last, 127)) for first, last in rest if first < 128]
         wide = [(max(first, 128), last) for first, last in rest if last >= 128]
         text = front + "".join(self._range(*it) for it in narrow)

@@ -11,6 +11,8 @@ import subprocess
 import tempfile
 from typing import Dict, List, NamedTuple, Optional, Sequence, Tuple, Union
 
+from ..flags import front
+from ..plain import flags_code
 from ..program import NO_MEMORY, ProgramError, program
 from ..reports import ReportError, Verdict, read_report, read_text
 
@@ -19,24 +21,10 @@ Text = Union[str, bytes]
 MODES = ("fullmatch", "match", "search")
 # No question takes so long that relint's own limits end; it is a way out where a process hangs.
 SECONDS = 300.0
-FLAG_WORDS = (
-    (re.ASCII, "a", "re.ASCII"),
-    (re.IGNORECASE, "i", "re.IGNORECASE"),
-    (re.MULTILINE, "m", "re.MULTILINE"),
-    (re.DOTALL, "s", "re.DOTALL"),
-    (re.VERBOSE, "x", "re.VERBOSE"),
-)
-
-
-def front_of(flags: int) -> str:
-    """Returns the group of letters that sets these flags at the front of a pattern, or "" for none."""
-    letters = "".join(letter for flag, letter, _ in FLAG_WORDS if flags & flag)
-    return f"(?{letters})" if letters else ""
 
 
 def _call(pattern: Text, flags: int, mode: str) -> str:
-    names = " | ".join(name for flag, _, name in FLAG_WORDS if flags & flag)
-    return f"re.{mode}({ascii(pattern)}, s{', ' + names if names else ''})\n"
+    return f"re.{mode}({ascii(pattern)}, s{flags_code(flags)})\n"
 
 
 class Comparison(NamedTuple):
@@ -149,5 +137,5 @@ class Asker:
 def _word(pattern: Text, flags: int) -> str:
     if isinstance(pattern, bytes):
         # (a pattern of bytes is one of text under ASCII, seen on the codes below 256 alone)
-        return front_of(flags | re.ASCII) + pattern.decode("latin-1")
-    return front_of(flags) + pattern
+        return front(flags | re.ASCII) + pattern.decode("latin-1")
+    return front(flags) + pattern

@@ -14,17 +14,18 @@ from typing import Dict, Iterator, List, Optional, Sequence, Tuple
 from .. import gather, plain
 from ..command_line import Parser, number
 from ..facts import Sources, site_of
+from ..flags import JUDGED, VALUES
 from ..judging import SECONDS, TOTAL_SECONDS
 from ..opening import HERE, OpenError, place_of, read_named
 from ..reports import Entry, MOST_BYTES, ReportError, Text, Verdict, check_paths, own_of, read_report, read_stream
 from ..sites import Site, Source
-from ..used.classes import AsUsed
+from ..used.classes import UNUSED, AsUsed
 from ..used.follow import mode_of
 from ..used.report import as_used
 from ..used.run import Run
 from ..verdicts import MAX_DEGREE, is_finding, order
 from ..writing import escaped, line, visible
-from .asking import Asker, FLAG_WORDS
+from .asking import Asker
 from .diff import Change, Unchangeable
 from .judge import CALLS, TIERS
 from .near import advice, notes
@@ -33,7 +34,7 @@ from .same import How, how_of, how_used
 from .search import Cure, Limits, Outcome, Search
 
 DONE, LEFT, BAD = 0, 1, 2
-LETTERS = {letter: flag for flag, letter, _ in FLAG_WORDS}
+LETTERS = {it.lower(): VALUES[it] for it in JUDGED}
 
 
 class Bad(Exception):
@@ -309,7 +310,7 @@ class Counts:
         parts = [f"{self.mended} {'mended' if is_written else 'can be mended'}"]
         parts += [f"{self.still} better but still a finding"] if self.still else []
         parts += [f"{self.left} left as {'it is' if self.left == 1 else 'they are'}"] if self.left else []
-        parts += [f"{self.unused} not as used here"] if self.unused else []
+        parts += [f"{self.unused} {UNUSED}"] if self.unused else []
         return f"{plain.counted(every, 'finding')}: {', '.join(parts)}"
 
     def status(self) -> int:

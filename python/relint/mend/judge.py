@@ -1,7 +1,8 @@
 """Which of three tiers a pattern reaches in another one's place.
 
-(a) the same texts (proved), the same spans and groups (checked); (b) the same texts (proved), the same spans (checked), other
-groups; (c) the same texts alone (proved): advice, with a text on which the spans differ.
+(a) the same texts, spans and groups; (b) the same texts and spans, other groups; (c) only the same texts: advice, with a text
+on which the spans differ. That the texts are the same is proved. That the spans and the groups are is proved by relint-spans,
+or else checked.
 """
 from __future__ import annotations
 
@@ -22,7 +23,8 @@ TIERS = ("a", "b", "c")
 class Judgement:
     """A tier, with what was said for it: `text` shows what differs, where something does.
 
-    `position` says that it holds for calls too that are given a position to begin at.
+    `position` says that it holds for calls too that are given a position to begin at. `is_proved` says that the same spans, or
+    spans and groups, are proved; where they are only checked, `unproved` says why.
     """
 
     tier: str
@@ -30,6 +32,14 @@ class Judgement:
     text: Optional[str] = None
     start: int = 0
     position: bool = True
+    is_proved: bool = False
+    unproved: str = ""
+
+    def known(self) -> str:
+        """Returns how it is known that spans, or spans and groups, are the same."""
+        if self.is_proved:
+            return "proved"
+        return f"checked: {self.unproved}" if self.unproved else "checked"
 
 
 def names_of(pattern: Pattern) -> Dict[str, int]:
@@ -42,6 +52,7 @@ def _part(places: Tuple[int, ...], number: int) -> Tuple[int, int]:
 
 
 def _words(text: str, part: Tuple[int, int]) -> str:
+    """Returns the part of the text that a group takes, quoted, or "nothing" if the group takes no part in the match."""
     return "nothing" if part[0] < 0 else repr(text[part[0]:part[1]])
 
 
@@ -66,7 +77,8 @@ class Judge:
         second = self.same(candidate, SPANS)
         if second.tier != "a":
             return second
-        return Judgement("b", self.difference([left, right], first, same_names), first.text, first.start, second.position)
+        why = self.difference([left, right], first, same_names)
+        return replace(second, tier="b", why=why, text=first.text, start=first.start)
 
     def difference(self, pair: List[Pattern], judged: Judgement, same_names: bool) -> str:
         """Returns in words which group differs, and how."""
@@ -89,7 +101,9 @@ class Judge:
         if answer.word != SAME and how.position:
             # (not the same from each place; but a call that is given no position begins at a place of its own)
             answer, position = same_unplaced(self.original, candidate, how), False
-        return Judgement("a", position=position) if answer.word == SAME else _apart(answer)
+        if answer.word != SAME:
+            return _apart(answer)
+        return Judgement("a", position=position, is_proved=answer.is_proved, unproved=answer.unproved)
 
     def views(self, judged: Judgement) -> List[str]:
         """Returns what is compared where both are tried with `re`: the calls of the uses, and one that is given a position."""
@@ -103,6 +117,7 @@ class Judge:
 
 
 def _apart(answer: Answer) -> Judgement:
+    """Returns tier c for an answer other than "same": why, and the text that shows a difference, if there is one."""
     why = f"spans not known ({answer.reason})" if answer.word == UNKNOWN else "spans differ"
     witness = answer.witness
     return Judgement("c", why, witness.text if witness else None, witness.start if witness else 0)

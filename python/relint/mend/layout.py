@@ -9,10 +9,11 @@ import re
 from difflib import SequenceMatcher
 from typing import Dict, List, Tuple
 
+from ..flags import INLINE, TURNED_OFF
 from ..pump import BLANKS, CLASS, ESCAPE, PASSED, QUANTIFIER
 
-OPENING = re.compile(r"\((?:\?(?:P<[^>]*>|[aiLmsux]*(?:-[imsx]+)?:|[aiLmsux]+\)))?")
-SCOPED_VERBOSE = re.compile(r"\(\?[aiLmsu]*(?:x[aiLmsux]*(?:-[imsx]+)?|-[ims]*x[imsx]*):")
+OPENING = re.compile(rf"\((?:\?(?:P<[^>]*>|[{INLINE}]*(?:-[{TURNED_OFF}]+)?:|[{INLINE}]+\)))?")
+SCOPED_VERBOSE = re.compile(rf"\(\?(?=[{INLINE}-]*x)[{INLINE}]*(?:-[{TURNED_OFF}]+)?:")
 
 
 def tokens_of(pattern: str, verbose: bool) -> Tuple[List[str], List[str]]:

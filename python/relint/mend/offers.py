@@ -10,6 +10,7 @@ from dataclasses import dataclass
 from typing import List, Optional, Sequence
 
 from ..facts import Finding
+from ..flags import INLINE, TURNED_OFF
 from ..plain import quoted
 from ..reports import Entry, Text, Verdict
 from ..sites import Site, Source
@@ -25,7 +26,7 @@ from .search import Cure, Limits, Search
 from .tree import Unreadable, read
 
 FIX, ADVICE = "fix", "advice"
-SCOPED = re.compile(r"\(\?[aiLmsux]*(?:-[imsx]+)?(?<!\?):")
+SCOPED = re.compile(rf"\(\?[{INLINE}]*(?:-[{TURNED_OFF}]+)?(?<!\?):")
 PYTHON_2 = re.compile(
     r"^[ \t]*(?:import[ \t]+six\b|from[ \t]+six\b|from[ \t]+__future__[ \t]+import[ \t(\\\n]*"
     r"(?:absolute_import|division|print_function|unicode_literals|with_statement)\b)", re.M)

@@ -370,6 +370,7 @@ def _pairs(node: Node) -> Iterator[Tuple[int, Node, Node]]:
 
 
 def _put(node: Node, start: int, end: int, new: List[Node]) -> Node:
+    """Returns the node with its parts from `start` up to `end` replaced by the new ones."""
     items = items_of(node)
     return concat([*items[:start], *new, *items[end:]])
 

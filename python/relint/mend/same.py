@@ -1,7 +1,8 @@
 """Whether code sees the same spans and groups with one pattern in the place of another.
 
-`same_spans` is the one question of the tools about spans: whoever asks it says how the code calls the pattern. Today the check
-of spans.py answers it, which is tested and not proved.
+`same_spans` is the one question of the tools about spans: whoever asks it says how the code calls the pattern. The program
+relint-spans is asked first, and what it says is proved. What it can't say is left to the check of spans.py, which is tested
+and not proved.
 """
 from __future__ import annotations
 
@@ -10,7 +11,7 @@ from typing import FrozenSet, Iterable, List, Optional, Sequence, Tuple
 
 from ..reports import Text
 from ..used import GROUPS, MODES, SPANS, TRUTH, Used
-from . import spans
+from . import alike, spans
 from .spans import Question
 from .tree import Pattern, Unreadable, read_both
 
@@ -52,11 +53,16 @@ class Witness:
 
 @dataclass(frozen=True)
 class Answer:
-    """`word` is same, different or unknown; `reason` says why; a difference has a witness."""
+    """`word` is same, different or unknown; `reason` says why; a difference has a witness.
+
+    `is_proved` says that relint-spans gave the answer; where it gave none, `unproved` says why.
+    """
 
     word: str
     reason: str = ""
     witness: Optional[Witness] = None
+    is_proved: bool = False
+    unproved: str = ""
 
 
 def how_of(calls: Iterable[str], flags: int = 0) -> How:
@@ -80,6 +86,43 @@ def same_spans(old: Text, new: Text, how: How) -> Answer:
     """
     if how.only_truth():
         return Answer(SAME, "only whether there is a match counts")
+    proved = _proved(old, new, how)
+    if proved.word != UNKNOWN:
+        return proved
+    return replace(_checked(old, new, how), unproved=proved.reason)
+
+
+def _proved(old: Text, new: Text, how: How) -> Answer:
+    """What relint-spans says, or unknown with the reason."""
+    for mode in _modes(how):
+        said = alike.shared().ask(old, new, how.flags, mode)
+        if said.word == alike.DIFFER and mode == alike.EVERYWHERE and _is_one_search(how):
+            # (from some place they differ; but a search from the text's start may never come there)
+            said = alike.shared().ask(old, new, how.flags, alike.ONE_SEARCH)
+        if said.word == alike.UNKNOWN:
+            return Answer(UNKNOWN, said.reason)
+        if said.word == alike.DIFFER:
+            if not said.may_be_empty or said.start and not how.position:
+                return Answer(UNKNOWN, "they differ from a place where a call may never begin")
+            if said.only_groups and how.sees != GROUPS:
+                return Answer(UNKNOWN, "relint-spans compares groups too")
+            return Answer(DIFFERENT, "", Witness(said.text, said.start), True)
+    return Answer(SAME, is_proved=True)
+
+
+def _is_one_search(how: How) -> bool:
+    """Whether the only calls but `fullmatch` are searches that begin at the text's start and happen once."""
+    return how.methods <= {"search", "fullmatch"} and not how.position
+
+
+def _modes(how: How) -> List[str]:
+    """The modes that relint-spans is asked for: from every place is enough for each `match` and all searches."""
+    found = [alike.WHOLE] if "fullmatch" in how.methods else []
+    return found + ([alike.EVERYWHERE] if how.methods - {"fullmatch"} else [])
+
+
+def _checked(old: Text, new: Text, how: How) -> Answer:
+    """What the check of spans.py says, which is tested and not proved."""
     try:
         pair = read_both([old, new], how.flags)
     except Unreadable as error:

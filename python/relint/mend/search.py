@@ -9,10 +9,11 @@ from dataclasses import dataclass, field
 from difflib import SequenceMatcher
 from typing import Dict, Iterator, List, Optional, Sequence, Set, Tuple
 
+from ..flags import front
 from ..reports import Verdict
 from ..verdicts import EXPONENTIAL, Order, degree, order
 from . import notes
-from .asking import Asker, Text, front_of
+from .asking import Asker, Text
 from .judge import Judge, Judgement, TIERS
 from .layout import with_layout
 from .rules import LINE_ANCHOR, RULES, Rule
@@ -72,10 +73,10 @@ class Cure:
         """Returns what is known of the cure, in words."""
         judged = self.judgement
         if self.tier == "a":
-            said = "same texts (proved), same spans and groups (checked)"
+            said = f"same texts (proved), same spans and groups ({judged.known()})"
             return said if judged.position else said + ", where no position is given to a call"
         if self.tier == "b":
-            said = f"same texts (proved), same spans (checked), {judged.why}"
+            said = f"same texts (proved), same spans ({judged.known()}), {judged.why}"
         else:
             said = f"same texts (proved), {judged.why}: only advice"
         if judged.text is None:
@@ -308,11 +309,11 @@ class Search:
         """Returns the ways to the loops that can be judged by themselves, and their texts as patterns."""
         paths: List[Path] = []
         texts: List[Text] = []
-        front = front_of(self.read.flags & ~re.VERBOSE)
+        prefix = front(self.read.flags & ~re.VERBOSE)
         for path, it in positions(tree):
             if isinstance(it, Repeat) and not isinstance(it.body, Chars) and not it.facts.guarded:
                 try:
-                    texts.append(self.encoded(front + body(it, self.read.alphabet)))
+                    texts.append(self.encoded(prefix + body(it, self.read.alphabet)))
                     paths.append(path)
                 except Unwritable:
                     continue

@@ -292,6 +292,7 @@ def closure(program: Program, letters: Letters, threads: Threads, now: int, plac
 
 
 def _saved(caps: Caps, slot: int, now: int) -> Caps:
+    """Returns the places with `now` in a slot. An even slot closes a group, which becomes the one that was closed last."""
     found = list(caps)
     found[slot] = now
     if slot % 2 == 0:
@@ -301,6 +302,10 @@ def _saved(caps: Caps, slot: int, now: int) -> Caps:
 
 
 def _rounds(step: Instruction, at: int, caps: Caps, marks: int) -> List[Tuple[int, Caps, int]]:
+    """Returns where a thread goes on from the head of a loop, the first choice last.
+
+    It leaves the loop or begins another round, but no round begins where the round before it began.
+    """
     loop = abs(step.x)
     leave = (step.y, caps, marks & ~loop)
     if loop & marks:

@@ -10,6 +10,7 @@ import re
 from dataclasses import dataclass, field
 from typing import Callable, Dict, Iterable, Iterator, List, Optional, Tuple, Union
 
+from ..flags import INLINE, TURNED_OFF, VALUES
 from . import codes
 from .alphabet import Alphabet
 from .codes import Ranges
@@ -286,7 +287,6 @@ class Pattern:
         return len(self.tree.facts.groups)
 
 
-FLAG_LETTERS = {"a": re.ASCII, "i": re.IGNORECASE, "m": re.MULTILINE, "s": re.DOTALL, "u": re.UNICODE, "x": re.VERBOSE}
 SPACES = " \t\n\r\v\f"
 PLAIN = {"a": 7, "f": 12, "n": 10, "r": 13, "t": 9, "v": 11}
 DIGITS = "0123456789"
@@ -327,14 +327,14 @@ class _Reader:
 
     def front(self) -> int:
         while True:
-            found = re.compile(r"\(\?([aiLmsux]+)\)").match(self.text, self.at)
+            found = re.compile(rf"\(\?([{INLINE}]+)\)").match(self.text, self.at)
             if not found:
                 return self.at
             self.flags = self._with(self.flags, found[1], "")
             self.at = found.end()
             before = self.at
             self.skip()
-            if not re.compile(r"\(\?[aiLmsux]+\)").match(self.text, self.at):
+            if not re.compile(rf"\(\?[{INLINE}]+\)").match(self.text, self.at):
                 self.at = before
 
     def _with(self, flags: int, on: str, off: str) -> int:
@@ -343,9 +343,9 @@ class _Reader:
         for it in on:
             if it in "au":
                 flags &= ~(re.ASCII | re.UNICODE)
-            flags |= FLAG_LETTERS[it]
+            flags |= VALUES[it.upper()]
         for it in off:
-            flags &= ~FLAG_LETTERS[it]
+            flags &= ~VALUES[it.upper()]
         return int(flags)
 
     def skip(self) -> None:
@@ -454,6 +454,7 @@ class _Reader:
         return Guard(kind, ascii_only, text, None if self.scoped else (start, self.at))
 
     def atom(self) -> Node:
+        """Reads an atom or an anchor, without its quantifier."""
         start = self.at
         letter = self.text[self.at]
         self.at += 1
@@ -492,7 +493,7 @@ class _Reader:
             found_body = self.body()
             self.close()
             return found_body
-        found = re.compile(r"([aiLmsux]*)(?:-([imsx]+))?:").match(self.text, self.at)
+        found = re.compile(rf"([{INLINE}]*)(?:-([{TURNED_OFF}]+))?:").match(self.text, self.at)
         if not found:
             raise self.fail("a construct that relint leaves out")
         self.at = found.end()

@@ -38,11 +38,12 @@ def _chars(node: Chars, alphabet: Alphabet) -> str:
 
 
 class _Writer:
-    """Writes nodes; where it has a source, a node with a span is written as it stands there."""
+    """Writes nodes as text. If it has a source, a node with a span is written exactly as it is in the source."""
 
     def __init__(self, alphabet: Alphabet, source: Optional[Pattern] = None) -> None:
         self.alphabet = alphabet
         self.source = source
+        # The places of the source whose layout has been written.
         self.used: Set[int] = set()
 
     def gap(self, at: int) -> str:

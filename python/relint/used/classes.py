@@ -14,6 +14,8 @@ from .sites import Used
 
 # (relint takes a source of up to 4 MiB)
 MOST_IN_A_RUN, MOST_LETTERS = 1000, 3_000_000
+# What is said of a finding that no use reaches.
+UNUSED = "not as used here"
 # What a run may take; where it takes more, its patterns are asked of in smaller runs.
 SECONDS = 60
 

@@ -11,7 +11,8 @@ import builtins
 from dataclasses import dataclass, field
 from typing import FrozenSet, Iterator, List, Optional, Set, Tuple, Union
 
-from .names import FUNCTIONS, Names, Scope
+from ..scoping import FUNCTIONS
+from .names import Names, Scope
 
 # The mode of each method of a compiled pattern; the functions of `re` have the same names.
 MODES = {
@@ -141,7 +142,7 @@ class _Follower:
             raise Lost(f"it goes elsewhere in line {getattr(node, 'lineno', 0)}")
 
     def member(self, node: ast.Attribute) -> None:
-        """Follows `X.attr`."""
+        """Follows an attribute of the pattern: a method is a use, and its text, flags or groups may be read. Raises Lost."""
         if node.attr in TELLS and isinstance(node.ctx, ast.Load):
             self.found.is_read = True
             return
@@ -180,7 +181,7 @@ class _Follower:
 
     def meant(self, node: ast.Name) -> List[ast.AST]:
         """Returns all that binds the name where it is loaded."""
-        return self.names.home(self.names.inside[node], node.id).bindings.get(node.id, [])
+        return self.names.inside[node].home(node.id).bindings.get(node.id, [])
 
     def imported_from_re(self, node: ast.AST) -> Optional[str]:
         above = self.names.parents.get(node)
@@ -212,10 +213,7 @@ class _Follower:
 
     def binding_home(self, target: ast.Name) -> Scope:
         """Returns the scope in which a store binds its name."""
-        scope = self.names.inside[target]
-        while scope.kind == "comprehension" and scope.parent is not None:
-            scope = scope.parent
-        return self.names.home(scope, target.id)
+        return self.names.inside[target].around().home(target.id)
 
     def default(self, node: ast.AST, arguments: ast.arguments) -> None:
         """Follows the parameter whose default it is."""
@@ -270,7 +268,7 @@ class _Follower:
         scope: Optional[Scope] = self.names.inside[node]
         if not isinstance(node.value, ast.Name) or scope is None:
             return None
-        scope = self.names.home(scope, node.value.id)
+        scope = scope.home(node.value.id)
         function = scope.node
         if not isinstance(function, FUNCTIONS) or isinstance(function, ast.Lambda) or scope.parent is None:
             return None

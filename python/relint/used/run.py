@@ -155,4 +155,4 @@ def _bound_by(file: File, node: Union[ast.Import, ast.ImportFrom], name: str) ->
     for it in node.names:
         if it.name in (name, "*"):
             own = it.asname or name
-            yield _Binding(file.names.home(scope, own), own)
+            yield _Binding(scope.home(own), own)

@@ -9,7 +9,7 @@ from typing import Any, Dict, Iterator, List, Optional, Sequence, Tuple
 from ..reports import Place, Text
 from ..sites import FLAGS_AT, LINE_END
 from .fold import Folder
-from .known import Held, Known, NotKnown
+from .known import Held, Known, NotKnown, Varies
 from .modules import Module
 from .scopes import Binding, Scope, last_name
 from .takers import Taker
@@ -77,7 +77,7 @@ class Finder:
             return
         front, _, last = full.rpartition(".")
         if front == "re" and last in FLAGS_AT:
-            yield one.of_re(last, call, scope)
+            yield from one.of_re(last, call, scope)
         for taker in self._calls.get(full, ()):
             yield from one.of_taker(taker, call, scope)
 
@@ -123,7 +123,7 @@ class _One:
             return Place(line, column + 1)
         return Place(line, len(text.encode("utf-8", "surrogatepass")[:column].decode("utf-8", "replace")) + 1)
 
-    def of_re(self, name: str, call: ast.Call, scope: Scope) -> Found:
+    def of_re(self, name: str, call: ast.Call, scope: Scope) -> List[Found]:
         """What a call of a function of `re` gives as its pattern."""
         node = _argument(call, 0, ("pattern",))
         flags = _argument(call, FLAGS_AT[name], ("flags",))
@@ -138,32 +138,40 @@ class _One:
         nodes = list(node.elts) if taker.is_list and isinstance(node, (ast.List, ast.Tuple)) else [node]
         for it in nodes:
             if not (isinstance(it, ast.Constant) and it.value is None):
-                yield self._found(it, scope, taker.mode, taker.name, flags, False, taker)
+                yield from self._found(it, scope, taker.mode, taker.name, flags, False, taker)
 
     def _found(
         self, node: ast.expr, scope: Scope, call: str, name: str, flags: Optional[ast.AST], is_missing: bool,
         taker: Optional[Taker] = None,
-    ) -> Found:
+    ) -> List[Found]:
+        """What is known of an expression that is given as a pattern: one for each item of the loops that it is in."""
         first = _first_literal(node)
         start = self.place(first.lineno, first.col_offset)
         end = self.place(node.end_lineno or node.lineno, node.end_col_offset or node.col_offset)
         is_literal = isinstance(node, ast.Constant) and isinstance(node.value, (str, bytes))
         empty = Found(self.module.path, start, end, call, name, is_literal=is_literal, engine=taker.engine if taker else "re")
-        try:
+
+        def fold() -> Found:
             if is_missing:
                 raise NotKnown("no pattern argument")
             known = self.folder.fold(node, scope, self.module)
             text = known.text()
             number, given = self._flags(flags, scope, taker)
+            return _filled(empty, text, number, [known, *given], taker)
+
+        try:
+            found = self.folder.each(fold, node, scope, self.module)
         except NotKnown as error:
-            return replace(empty, why=error.why)
-        return _filled(empty, text, number, [known, *given], taker)
+            return [replace(empty, why=error.why)]
+        return list({(it.pattern, it.flags): it for it in reversed(found)}.values())[::-1]
 
     def _flags(self, node: Optional[ast.AST], scope: Scope, taker: Optional[Taker]) -> Tuple[int, List[Known]]:
         if node is None:
             return (taker.always if taker else 0), []
         try:
             known = self.folder.fold(node, scope, self.module)
+        except Varies:
+            raise
         except NotKnown as error:
             raise NotKnown(f"flags: {error.why}") from error
         if known.value is None and taker is not None:
@@ -189,9 +197,9 @@ class _One:
             flags = inside.bindings.get(taker.flags_keyword, [])
             node = flags[0].node if len(flags) == 1 else None
             for it in _held_by(taker.shape, bindings[0]):
-                found = self._found(it, bindings[0].scope or inside, taker.mode, name, node, False, taker)
-                if found.why != "not a text":
-                    yield found
+                for found in self._found(it, bindings[0].scope or inside, taker.mode, name, node, False, taker):
+                    if found.why != "not a text":
+                        yield found
 
 
 def _argument(call: ast.Call, position: int, names: Sequence[str]) -> Optional[ast.expr]:

@@ -5,23 +5,25 @@ A name counts if it is bound once, to a value that can be folded. The work on on
 from __future__ import annotations
 
 import ast
-from typing import Any, Callable, Dict, List, Optional, Tuple, Union
+from collections import ChainMap
+from typing import Any, Callable, Dict, List, MutableMapping, Optional, Tuple, TypeVar, Union
 
+from ..flags import NAMES
 from . import texts
-from .known import Held, Known, NotKnown, Sequence, Table, made
+from .known import LONGEST_LIST, Held, Known, NotKnown, Sequence, Table, Varies, made
+from .loops import MOST_VALUES, TOO_MANY, Loops
 from .modules import Module, Modules
-from .scopes import Binding, Scope, last_name, lookup
+from .scopes import Binding, Scope, Store, last_name
 
 MOST_STEPS = 200_000
 DEEPEST = 60
 ENUMS = frozenset(("Enum", "StrEnum", "IntEnum", "Flag", "IntFlag"))
+OF_TABLES = frozenset(("keys", "values", "items"))
 MAKE_FIELDS = frozenset(("dataclass", "define", "frozen", "mutable", "attrs"))
 HAVE_FIELDS = frozenset(("NamedTuple", "BaseModel", "Struct", "TypedDict"))
-FLAGS: Dict[str, int] = {
-    "A": 256, "ASCII": 256, "I": 2, "IGNORECASE": 2, "L": 4, "LOCALE": 4, "M": 8, "MULTILINE": 8, "S": 16, "DOTALL": 16,
-    "U": 32, "UNICODE": 32, "X": 64, "VERBOSE": 64, "DEBUG": 128, "NOFLAG": 0,
-}
+MOST_LOOPS = 20
 Kept = Union[Known, NotKnown, None]
+Value = TypeVar("Value")
 
 
 class Folder:
@@ -30,13 +32,84 @@ class Folder:
     def __init__(self, modules: Modules) -> None:
         self.modules = modules
         self._steps = self._depth = 0
-        self._kept: Dict[Any, Kept] = {}
-        self._variables: Dict[Tuple[Scope, str], Known] = {}
+        self._kept: MutableMapping[Any, Kept] = {}
+        self._loops = Loops()
+        # The item that a loop is at, or why its items can't be told; and the loops of which each item is taken for itself.
+        self._items_at: Dict[ast.AST, Union[Known, NotKnown]] = {}
+        self._taken: List[ast.AST] = []
 
     def begin(self) -> None:
         """Begins a file, with all of its steps left, and forgets what was folded for the file before."""
         self._steps = self._depth = 0
-        self._kept.clear()
+        self._kept = {}
+        self._loops = Loops()
+
+    def each(self, fold: Callable[[], Value], place: ast.expr, scope: Scope, module: Module) -> List[Value]:
+        """Returns what `fold` gives of a place: a value, or one for each item of the loops that the place is in.
+
+        Raises NotKnown.
+        """
+        try:
+            return [fold()]
+        except Varies as error:
+            varies, items = self._items_of(error, place, scope, module)
+        if len(self._taken) >= MOST_LOOPS:
+            raise NotKnown("too deep")
+        found: List[Value] = []
+        loop = varies.binding.loop
+        assert loop is not None
+        kept = self._kept
+        self._taken.append(loop)
+        try:
+            for it in items:
+                # (what was folded before hangs on no item of this loop)
+                self._kept = ChainMap({}, kept)
+                self._items_at[loop] = it
+                found += self.each(fold, place, scope, module)
+                if len(found) > MOST_VALUES:
+                    raise NotKnown(TOO_MANY)
+        finally:
+            self._kept = kept
+            self._taken.pop()
+            self._items_at.pop(loop, None)
+        return found
+
+    def _items_of(
+        self, varies: Varies, place: ast.expr, scope: Scope, module: Module,
+    ) -> "Tuple[Varies, List[Union[Known, NotKnown]]]":
+        """The items of a loop, or of the one around it from which its items come; a reason where they aren't known."""
+        for _ in range(MOST_LOOPS):
+            binding = varies.binding
+            try:
+                why = self._loops.reason(varies, place, scope)
+                if why:
+                    raise NotKnown(why)
+                self._only([binding], varies.where, module, "loop")
+                assert isinstance(binding.node, ast.expr) and binding.scope is not None
+                found = self._turns(binding.node, binding.scope, module)
+                return varies, [it.with_note(f"item {number} of {len(found)} of the loop in line {binding.line}")
+                                for number, it in enumerate(found, 1)]
+            except Varies as error:
+                if binding.node is not None:
+                    error.lists.append(binding.node)
+                varies = error
+            except NotKnown as error:
+                return varies, [error if error.why.startswith("loop") else NotKnown("loop")]
+        raise NotKnown("too deep")
+
+    def _turns(self, node: ast.expr, scope: Scope, module: Module) -> List[Known]:
+        """The items of a loop that is to be taken item by item. The order of a set is of no matter here."""
+        if isinstance(node, ast.Set):
+            items = self.sequence(node, scope, module).value
+            assert isinstance(items, Sequence)
+            found = list(items.items)
+        else:
+            found = self._items(node, scope, module)
+        if len(found) > MOST_VALUES:
+            raise NotKnown(TOO_MANY)
+        if not found:
+            raise NotKnown("loop over nothing")
+        return found
 
     def fold(self, node: ast.AST, scope: Scope, module: Module) -> Known:
         """Returns the value that an expression always has. Raises NotKnown."""
@@ -69,7 +142,7 @@ class Folder:
         return ".".join([start, *reversed(names)]) if start else None
 
     def _imported(self, name: str, scope: Scope, module: Module, depth: int) -> Optional[str]:
-        _, bindings = lookup(name, scope)
+        _, bindings = scope.lookup(name)
         targets = {(it.module, it.member) for it in bindings if it.kind == "import"}
         if depth > 8:
             return None
@@ -143,12 +216,12 @@ class Folder:
         raise NotKnown("operator")
 
     def name(self, node: ast.Name, scope: Scope, module: Module) -> Known:
-        """A name that is bound once, or a variable of a comprehension over known values."""
-        where, bindings = lookup(node.id, scope)
-        if where is not None and (where, node.id) in self._variables:
-            return self._variables[where, node.id]
+        """A name that is bound once, or a variable of a loop over known values."""
+        where, bindings = scope.lookup(node.id)
         if where is None or not bindings:
             return self._from_star(node.id, module)
+        if len(bindings) == 1 and bindings[0].loop is not None:
+            return self._of_loop(node.id, bindings[0], where, module)
         binding = self._only(bindings, where, module)
         if where.kind == "class" and binding.line >= node.lineno:
             raise NotKnown("bound later")
@@ -156,11 +229,31 @@ class Folder:
             raise NotKnown("bound in a branch")
         return self._bound(node.id, binding, where, module)
 
-    def _only(self, bindings: List[Binding], where: Scope, module: Module) -> Binding:
+    def _of_loop(self, name: str, binding: Binding, where: Scope, module: Module) -> Known:
+        """What a variable of a loop is at the item where the loop is."""
+        loop = binding.loop
+        assert loop is not None
+        found = self._items_at.get(loop)
+        if found is None:
+            raise Varies(binding, where)
+        if isinstance(found, NotKnown):
+            raise NotKnown(found.why)
+        for number, count in binding.part:
+            if not isinstance(found.value, Sequence) or len(found.value.items) != count:
+                raise NotKnown("loop")
+            found = made(found.value.items[number].value, (found, found.value.items[number]))
+        if _can_change(found) and name in module.scopes.changed_names():
+            raise NotKnown("changed in place")
+        if loop not in self._taken:
+            return found
+        needs = (module.path, name if where.kind == "module" else "")
+        return found.with_name(Held(name, module.path, binding.line), needs)
+
+    def _only(self, bindings: List[Binding], where: Scope, module: Module, kind: str = "value") -> Binding:
         if len(bindings) != 1:
             raise NotKnown("parameter" if any(it.kind == "parameter" for it in bindings) else "bound more than once")
         binding = bindings[0]
-        if binding.kind not in ("value", "import"):
+        if binding.kind not in (kind, "import"):
             raise NotKnown(binding.kind)
         if where.kind == "module":
             if module.scopes.is_open:
@@ -181,6 +274,11 @@ class Folder:
         self._kept[key] = None
         try:
             found = self._value_of(name, binding, where, module)
+        except Varies as error:
+            del self._kept[key]
+            if binding.node is not None:
+                error.through.append(binding.node)
+            raise
         except NotKnown as error:
             self._kept[key] = error
             raise
@@ -199,8 +297,9 @@ class Folder:
         return found.with_name(Held(name, module.path, binding.line), needs)
 
     def _from_import(self, binding: Binding, module: Module) -> Known:
-        if binding.module in ("re", "regex") and binding.member in FLAGS:
-            return Known(FLAGS[binding.member])
+        """The value of a name that an import binds: a flag of `re`, or a name of another module of the run."""
+        if binding.module in ("re", "regex") and binding.member in NAMES:
+            return Known(NAMES[binding.member])
         path = self.modules.find(binding.module, module.path)
         if binding.member is None or path is None:
             raise NotKnown("import from outside")
@@ -235,8 +334,8 @@ class Folder:
         """A flag of `re`, a name of another module, or an attribute of a class, an enum member's value too."""
         full = self.qualified(node, scope, module)
         front, _, last = (full or "").rpartition(".")
-        if front in ("re", "regex", "re.RegexFlag") and last in FLAGS:
-            return Known(FLAGS[last])
+        if front in ("re", "regex", "re.RegexFlag") and last in NAMES:
+            return Known(NAMES[last])
         if full is not None:
             path = self.modules.find(front, module.path)
             if path is not None:
@@ -281,10 +380,9 @@ class Folder:
         stores = home.scopes.stores.get(name, [])
         if len(stores) == 1 and is_own and stores[0].value is not None:
             store = stores[0]
-            assert store.value is not None
             found = self._class_of(store.base, store.scope, home)
             if found is not None and found[0] is inside and found[2]:
-                return self.fold(store.value, store.scope, home).with_name(Held(name, home.path, store.line), ("", ""))
+                return self._stored(store, home).with_name(Held(name, home.path, store.line), ("", ""))
         node = inside.node
         for base in node.bases if isinstance(node, ast.ClassDef) and depth < 8 and not stores else []:
             found = self._class_of(base, inside.parent or inside, home)
@@ -297,13 +395,21 @@ class Folder:
                     raise
         raise NotKnown("attribute that is set" if stores else "attribute")
 
+    def _stored(self, store: Store, home: Module) -> Known:
+        assert store.value is not None
+        try:
+            return self.fold(store.value, store.scope, home)
+        except Varies as error:
+            error.through.append(store.value)
+            raise
+
     def _class_of(self, node: ast.AST, scope: Scope, module: Module) -> Optional[Tuple[Scope, Module, bool]]:
         """The class that an expression names, the file it is in, and whether it is by `self` or `cls` that it is named."""
         if isinstance(node, ast.Attribute) and node.attr == "__class__":
             node = node.value
         if not isinstance(node, ast.Name):
             return self._imported_class(node, scope, module)
-        where, bindings = lookup(node.id, scope)
+        where, bindings = scope.lookup(node.id)
         if len(bindings) != 1 or where is None:
             return None
         binding = bindings[0]
@@ -315,7 +421,7 @@ class Folder:
 
     def _imported_class(self, node: ast.AST, scope: Scope, module: Module) -> Optional[Tuple[Scope, Module, bool]]:
         if isinstance(node, ast.Name):
-            _, bindings = lookup(node.id, scope)
+            _, bindings = scope.lookup(node.id)
             found = bindings[0] if len(bindings) == 1 else None
             if found is None or found.kind != "import" or found.member is None:
                 return None
@@ -382,7 +488,7 @@ class Folder:
             return self._escape(node.args[0], scope, module)
         if full == "textwrap.dedent" and len(node.args) == 1 and not node.keywords:
             return texts.dedented(self.fold(node.args[0], scope, module))
-        if isinstance(node.func, ast.Name) and lookup(node.func.id, scope)[0] is None and not module.scopes.stars:
+        if isinstance(node.func, ast.Name) and scope.lookup(node.func.id)[0] is None and not module.scopes.stars:
             return self._builtin(node.func.id, node, scope, module)
         if isinstance(node.func, ast.Attribute) and full is None:
             return self._method(node.func, node, scope, module)
@@ -391,12 +497,24 @@ class Folder:
     def _escape(self, node: ast.AST, scope: Scope, module: Module) -> Known:
         try:
             return texts.escaped(self.fold(node, scope, module))
+        except Varies:
+            raise
         except NotKnown:
             return texts.stand_in(False, f"re.escape({_shortened(node)})")[0]
 
     def _builtin(self, name: str, node: ast.Call, scope: Scope, module: Module) -> Known:
-        if len(node.args) != 1 or node.keywords:
+        if node.keywords or any(isinstance(it, ast.Starred) for it in node.args):
             raise NotKnown("call")
+        if name == "range":
+            return _range([self.fold(it, scope, module).value for it in node.args])
+        if name == "zip":
+            columns = [self._items(it, scope, module) for it in node.args]
+            return _rows(list(zip(*columns)))
+        if len(node.args) != 1:
+            raise NotKnown("call")
+        if name == "enumerate":
+            items = self._items(node.args[0], scope, module)
+            return _rows([(Known(number), it) for number, it in enumerate(items)])
         if name in ("list", "tuple", "reversed", "sorted"):
             items = self._items(node.args[0], scope, module)
             if name == "sorted":
@@ -426,6 +544,8 @@ class Folder:
     def _join(self, separator: Known, node: ast.AST, scope: Scope, module: Module) -> Known:
         try:
             return texts.joined(separator, self._items(node, scope, module))
+        except Varies:
+            raise
         except NotKnown:
             words = self._escapes_of(node, scope, module)
             if words is None:
@@ -452,7 +572,7 @@ class Folder:
             return self._comprehended(node, scope, module)
         if isinstance(node, ast.Call) and self._maps_escape(node, scope, module):
             return [texts.escaped(it) for it in self._items(node.args[1], scope, module)]
-        if isinstance(node, ast.Call) and isinstance(node.func, ast.Attribute) and node.func.attr in ("keys", "values"):
+        if isinstance(node, ast.Call) and isinstance(node.func, ast.Attribute) and node.func.attr in OF_TABLES:
             return self._of_table(node.func.attr, self.fold(node.func.value, scope, module))
         found = self.fold(node, scope, module)
         if isinstance(found.value, Table):
@@ -468,29 +588,47 @@ class Folder:
             raise NotKnown("call")
         if kind == "keys":
             return [made(it, (found,)) for it in found.value.items]
+        if kind == "items":
+            pairs = ((Known(key), it) for key, it in found.value.items.items())
+            return [made(Sequence(pair), (found, pair[1])) for pair in pairs]
         return [made(it.value, (found, it)) for it in found.value.items.values()]
 
     def _comprehended(self, node: Any, scope: Scope, module: Module) -> List[Known]:
         """The values of a comprehension with one loop over known items and no condition."""
         loop = node.generators[0]
-        if len(node.generators) != 1 or loop.ifs or loop.is_async or not isinstance(loop.target, ast.Name):
+        if len(node.generators) != 1 or loop.ifs or loop.is_async or loop in self._items_at:
             raise NotKnown("comprehension")
         items = self._items(loop.iter, scope, module)
         inside = module.scopes.inner[node]
         found: List[Known] = []
-        key = (inside, loop.target.id)
         try:
             for it in items:
-                self._variables[key] = it
+                self._items_at[loop] = it
                 found.append(self.fold(node.elt, inside, module))
         finally:
-            self._variables.pop(key, None)
+            self._items_at.pop(loop, None)
         return found
 
     def comprehension(self, node: Any, scope: Scope, module: Module) -> Known:
         """A list made by a comprehension."""
         items = self._comprehended(node, scope, module)
         return made(Sequence(tuple(items), True), items)
+
+
+def _range(ends: List[Any]) -> Known:
+    """What `range` goes through."""
+    if not 1 <= len(ends) <= 3 or any(type(it) is not int for it in ends) or ends[2:] == [0]:
+        raise NotKnown("call")
+    numbers = range(*ends)
+    if len(numbers) > LONGEST_LIST:
+        raise NotKnown("too large")
+    return made(Sequence(tuple(map(Known, numbers))), ())
+
+
+def _rows(rows: "List[Tuple[Known, ...]]") -> Known:
+    """What `zip` and `enumerate` go through."""
+    found = [made(Sequence(row), row) for row in rows]
+    return made(Sequence(tuple(found)), found)
 
 
 def _can_change(found: Known) -> bool:

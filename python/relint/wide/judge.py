@@ -9,16 +9,15 @@ import tempfile
 from concurrent.futures import ThreadPoolExecutor
 from dataclasses import dataclass, replace
 from pathlib import Path
-from typing import Dict, Iterable, Iterator, List, Optional, Sequence, Tuple
+from typing import Dict, Iterable, Iterator, List, Sequence
 
 from .. import plain, program
+from ..flags import VALUES, code
 from ..reports import Entry, ReportError, Text, read_report
 
 MOST_AT_ONCE = 200
 MOST_BYTES = 1_000_000
 LONGEST_PATTERN = 100_000
-# The flags that change what a pattern matches, with their names; DEBUG only prints.
-NAMED_FLAGS = ((256, "A"), (2, "I"), (4, "L"), (8, "M"), (16, "S"), (32, "U"), (64, "X"))
 
 
 class JudgeError(Exception):
@@ -36,7 +35,7 @@ class Question:
 
 def flag_words(flags: int) -> str:
     """Returns the flags as an expression, as "re.I | re.M"; "0" where there is none."""
-    return " | ".join(f"re.{name}" for value, name in NAMED_FLAGS if flags & value) or "0"
+    return code(flags, "".join(VALUES)) or "0"
 
 
 def source_line(question: Question) -> str:
@@ -87,8 +86,3 @@ def _asked(path: str, questions: Sequence[Question], options: Sequence[str]) -> 
 
 def _without_places(entry: Entry) -> Entry:
     return replace(entry, path="", place=None, fault=None, dropped=(), merged=(), passed=())
-
-
-def has_kind(entry: Optional[Entry], causes: Tuple[str, ...]) -> bool:
-    """Whether an entry is refused for one of the causes."""
-    return entry is not None and entry.kind == "refused" and entry.cause in causes

@@ -1,8 +1,11 @@
 """What an expression of a source is known to be, and from which names its parts come."""
 from __future__ import annotations
 
+import ast
 from dataclasses import dataclass, field, replace
 from typing import Any, FrozenSet, Iterable, List, Mapping, Tuple, Union
+
+from .scopes import Binding, Scope
 
 LONGEST_TEXT = 100_000
 LONGEST_LIST = 10_000
@@ -15,6 +18,20 @@ class NotKnown(Exception):
     def __init__(self, why: str) -> None:
         super().__init__(why)
         self.why = why
+
+
+class Varies(NotKnown):
+    """The value hangs on the item that a loop is at.
+
+    `binding` is that of the loop's variable and `where` its scope. `through` are expressions that names are bound to on the
+    way to the variable, and `lists` those that loops inside of this one go through.
+    """
+
+    def __init__(self, binding: Binding, where: Scope) -> None:
+        super().__init__("loop")
+        self.binding, self.where = binding, where
+        self.through: List[ast.AST] = []
+        self.lists: List[ast.AST] = []
 
 
 @dataclass(frozen=True)

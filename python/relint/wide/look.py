@@ -2,6 +2,7 @@
 from __future__ import annotations
 
 import ast
+import codecs
 import io
 import os
 import re
@@ -56,10 +57,10 @@ class Looker:
         data = self._bytes(path, LARGEST_SOURCE)
         try:
             coding, _ = tokenize.detect_encoding(io.BytesIO(data).readline)
-            if coding not in CODINGS:
+            if codecs.lookup(coding).name not in CODINGS:
                 raise ModuleError(f"its coding is {coding}, and only UTF-8 is read")
             return Source(data).text
-        except (SourceError, SyntaxError) as error:
+        except (SourceError, SyntaxError, LookupError) as error:
             raise ModuleError(f"its coding can't be read: {error}") from error
 
     def _bytes(self, path: str, most: int) -> bytes:

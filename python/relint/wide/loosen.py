@@ -8,10 +8,11 @@ import re
 from dataclasses import dataclass, field, replace
 from typing import Dict, Iterator, List, Optional, Tuple, Union
 
+from ..flags import INLINE, TURNED_OFF
 from ..pump import BLANKS, CLASS, ESCAPE, FRONT, PASSED, QUANTIFIER, repeated_parts
 from ..reports import Text
 
-OPENING = re.compile(r"\((?:\?(?:P<[^>]*>|P=[^)]*\)|\([^)]*\)|<?[=!]|>|[aiLmsux]*(?:-[imsx]+)?:))?")
+OPENING = re.compile(rf"\((?:\?(?:P<[^>]*>|P=[^)]*\)|\([^)]*\)|<?[=!]|>|[{INLINE}]*(?:-[{TURNED_OFF}]+)?:))?")
 POSSESSIVE = re.compile(r"(?:[*+?]|\{\d+\}|\{\d*,\d*\})\+")
 REFERENCE = re.compile(r"\\([1-9][0-9]?)|\(\?P=([^)]*)\)")
 COUNT = re.compile(r"\{(\d+)(,\d*)?\}(\??)")
@@ -87,6 +88,7 @@ class _Reader:
         return tuple(map(tuple, found))
 
     def _pass(self, verbose: bool) -> bool:
+        """Skips a `(?#...)` or, under VERBOSE, white space and `#` comments. Returns whether there was any."""
         found = PASSED.match(self.text, self.at) or (BLANKS.match(self.text, self.at) if verbose else None)
         if found:
             self.at = found.end()

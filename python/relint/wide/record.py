@@ -18,6 +18,7 @@ from ..causes import MOST_PAIRS
 from ..command_line import Parser, number, one_of
 from ..config import MODES, TOOLS_PAIRS, Config
 from ..facts import Finding, Sources, findings
+from ..flags import EVERY
 from ..reports import Place, Report
 from ..sites import FLAGS_AT
 from ..writing import visible
@@ -29,7 +30,6 @@ from .report import document
 
 WATCH = Path(__file__).with_name("watch")
 LARGEST_NOTES = 1 << 28
-KNOWN_FLAGS = 0x1FF
 NOTE = "recorded while the program ran"
 RECORDED_TITLES = {
     **TITLES,
@@ -100,7 +100,7 @@ def _found(note: Tuple[Any, ...]) -> Found:
     call = name if name in FLAGS_AT else "compile"
     shown = os.path.relpath(path) if _is_below(path, os.getcwd()) else path
     at = Place(max(line, 1), 1)
-    return Found(shown, at, at, call, f"{engine}.{name}", pattern, flags & KNOWN_FLAGS, notes=(NOTE,), engine=engine)
+    return Found(shown, at, at, call, f"{engine}.{name}", pattern, flags & EVERY, notes=(NOTE,), engine=engine)
 
 
 def _is_below(path: str, folder: str) -> bool:

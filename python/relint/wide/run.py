@@ -7,7 +7,7 @@ from dataclasses import dataclass, field, replace
 from typing import Any, Callable, Dict, Iterable, Iterator, List, Mapping, Optional, Sequence, Set, Tuple
 
 from ..beyond import CELL, ELSEWHERE, HANG, Beyond, Holder
-from ..confirm import Limits
+from ..confirm import Limits, Trials
 from ..opening import HERE
 from ..reports import Entry
 from ..used.follow import mode_of
@@ -51,8 +51,9 @@ class Settings:
 class Counts:
     """What was seen: places that take a pattern, those whose pattern is a literal that relint judges, those that were folded.
 
-    `folded` counts what isn't a literal and was folded, `judged` those of them that have a class, `tables` what the table of
-    takers found beside `re`; `unknown` counts the reasons why others weren't folded.
+    `folded` counts places whose pattern isn't a literal and was folded, `judged` those of them where each pattern has a class,
+    `tables` what the table of takers found beside `re`; `unknown` counts the reasons why others weren't folded. A place in a
+    loop may have several patterns.
     """
 
     files: int = 0
@@ -132,8 +133,8 @@ class _Run:
             if one.why:
                 self.counts.unread.append((one.path, one.why))
             self.counts.unread += [(f"{one.path}{CELL}{it}", "this Python can't parse it") for it in one.left_out]
+            self.counts.seen += _places(one.found)
             for found in one.found:
-                self.counts.seen += 1
                 if found.pattern is None or is_bound(found):
                     self.counts.unknown[found.why or "bound by another file too"] += 1
                 else:
@@ -146,18 +147,19 @@ class _Run:
         for found, entry in self.candidates(looked):
             if entry is None or (entry.kind == "refused" and entry.cause in NOT_KNOWN):
                 elsewhere.append(found)
-                self.counts.folded += not found.is_literal
-                self.counts.tables += not found.taker.startswith("re.")
             else:
-                self.counts.literal += 1
                 refused.append((found, entry))
+        self.counts.folded = _places(it for it in elsewhere if not it.is_literal)
+        self.counts.tables = _places(it for it in elsewhere if not it.taker.startswith("re."))
+        self.counts.literal = _places(it for it, _ in refused)
         return self.judged(elsewhere, refused)
 
     def judged(self, elsewhere: Sequence[Found], refused: Sequence[Tuple[Found, Entry]]) -> Tuple[Entry, ...]:
         """Returns the entries of what relint has no verdict on; `refused` has what it refused itself."""
         answers = judged(map(self.question, elsewhere), self.settings.options, self.settings.jobs)
         made = [(it, answers[self.question(it)]) for it in elsewhere]
-        self.counts.judged = sum(entry.is_judged() for found, entry in made if not found.is_literal)
+        wanting = {place_of(found) for found, entry in made if not entry.is_judged()}
+        self.counts.judged = _places(it for it, _ in made if not it.is_literal and place_of(it) not in wanting)
         entries = [self.entry(found, entry, ELSEWHERE) for found, entry in made]
         return (*entries, *self.hung([*refused, *made]))
 
@@ -174,7 +176,7 @@ class _Run:
         if limits is None or not wanted:
             return []
         settings = self.settings
-        seen = hangs(wanted.items(), settings.max_degree, settings.options, limits, settings.jobs)
+        seen = hangs(wanted.items(), settings.max_degree, settings.options, Trials(limits), settings.jobs)
         its = [(it, seen.get(self.question(it))) for it, entry in found if is_to_be_tried(entry)]
         return [self.entry(it, hang.entry, HANG, hang) for it, hang in its if hang is not None]
 
@@ -188,6 +190,15 @@ class _Run:
         )
         path = found.path if found.cell is None else f"{found.path}{CELL}{found.cell}"
         return replace(judged_as, path=path, place=found.start, call=found.call, beyond=beyond)
+
+
+def place_of(found: Found) -> Tuple[Any, ...]:
+    """Returns what tells the place of a pattern from others; the patterns of a loop have one place."""
+    return found.path, found.cell, found.start, found.taker
+
+
+def _places(found: Iterable[Found]) -> int:
+    return len({place_of(it) for it in found})
 
 
 def is_to_be_tried(entry: Entry) -> bool:

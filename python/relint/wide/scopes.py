@@ -1,4 +1,4 @@
-"""Which names the scopes of a source bind, and where: by Python's own rules, without running anything.
+"""Which names the scopes of a source bind, and to what: by the rules of `scoping`, without running anything.
 
 `read_scopes` walks over a parsed source once. It needs no stack for deep sources.
 """
@@ -8,10 +8,14 @@ import ast
 from dataclasses import dataclass, field
 from typing import Any, Callable, Dict, List, Optional, Set, Tuple
 
+from .. import scoping
+
 CHANGING = frozenset((
     "append", "extend", "insert", "remove", "pop", "clear", "sort", "reverse", "update", "setdefault", "popitem", "add",
     "discard",
 ))
+# What gives an object that it holds, or the items of one.
+GIVING = frozenset(("get", "items", "iter", "enumerate", "next", "pop", "popitem", "reversed", "setdefault", "values", "zip"))
 
 
 @dataclass(frozen=True)
@@ -20,7 +24,8 @@ class Binding:
 
     `node` is the expression that gives the value, or the class; `scope` is the one that reads it. For an import, `module` is
     the module with the dots before it, and `member` what is taken from it, or None for the module itself. `inside` is the
-    scope of a class's body.
+    scope of a class's body. For the variable of a loop, `loop` is the loop, `node` what it goes through, and `part` leads from
+    an item to the variable: the number of a part, and how many parts there are.
     """
 
     kind: str
@@ -31,24 +36,11 @@ class Binding:
     member: Optional[str] = None
     inside: Optional["Scope"] = None
     conditional: bool = False
+    loop: Optional[ast.AST] = None
+    part: Tuple[Tuple[int, int], ...] = ()
 
 
-@dataclass(eq=False)
-class Scope:
-    """A module, a class, a function (a lambda too) or a comprehension, with what it binds."""
-
-    kind: str
-    parent: Optional["Scope"]
-    node: Optional[ast.AST] = None
-    bindings: Dict[str, List[Binding]] = field(default_factory=dict)
-    outer: Dict[str, str] = field(default_factory=dict)
-
-    def top(self) -> "Scope":
-        """Returns the scope of the module."""
-        scope = self
-        while scope.parent is not None:
-            scope = scope.parent
-        return scope
+Scope = scoping.Scope[Binding]
 
 
 @dataclass(frozen=True)
@@ -67,6 +59,7 @@ class Scopes:
     """What was read of a source: its module's scope, its calls and classes, and what is changed in place.
 
     `imported` has the first names of modules that are imported anywhere; `is_open` says that names may be bound by their text.
+    `aliases` are pairs of names: the first may hold the object of the second, or an item of it.
     """
 
     module: Scope
@@ -74,14 +67,44 @@ class Scopes:
     classes: List[Tuple[ast.ClassDef, Scope]] = field(default_factory=list)
     stores: Dict[str, List[Store]] = field(default_factory=dict)
     changed: List[Tuple[ast.AST, Scope]] = field(default_factory=list)
+    aliases: List[Tuple[str, str]] = field(default_factory=list)
     stars: List[Tuple[str, int]] = field(default_factory=list)
     imported: Set[str] = field(default_factory=set)
     is_open: bool = False
     inner: Dict[ast.AST, Scope] = field(default_factory=dict)
+    _changed_names: Optional[Set[str]] = None
 
     def changed_names(self) -> Set[str]:
-        """Returns the names and attributes whose values are changed in place somewhere in the source."""
-        return {last_name(node) for node, _ in self.changed}
+        """Returns the names and attributes whose values are changed in place somewhere in the source, by an alias too."""
+        if self._changed_names is None:
+            self._changed_names = _with_sources({root_name(node) for node, _ in self.changed}, self.aliases)
+        return self._changed_names
+
+
+def _with_sources(names: Set[str], aliases: List[Tuple[str, str]]) -> Set[str]:
+    """Names, and those whose objects they may hold."""
+    sources: Dict[str, List[str]] = {}
+    for alias, source in aliases:
+        sources.setdefault(alias, []).append(source)
+    left = list(names)
+    while left:
+        fresh = set(sources.get(left.pop(), ())) - names
+        names |= fresh
+        left += fresh
+    return names
+
+
+def root_name(node: Optional[ast.AST]) -> str:
+    """Returns the name, or the attribute, whose object an expression gives, or of whose items it gives one; "" if none."""
+    while True:
+        if isinstance(node, (ast.Subscript, ast.Starred)):
+            node = node.value
+        elif isinstance(node, ast.Call) and isinstance(node.func, ast.Attribute) and node.func.attr in GIVING:
+            node = node.func.value
+        elif isinstance(node, ast.Call) and isinstance(node.func, ast.Name) and node.func.id in GIVING and node.args:
+            node = node.args[0]
+        else:
+            return "" if node is None or isinstance(node, ast.Call) else last_name(node)
 
 
 def last_name(node: ast.AST) -> str:
@@ -94,9 +117,9 @@ class _Reader:
     """Walks over a tree with a list of what is still to be read: a node, its scope, and whether it may be passed by."""
 
     def __init__(self, tree: ast.Module) -> None:
-        self.found = Scopes(Scope("module", None, tree))
+        self.found = Scopes(Scope("module", tree))
         self.left: List[Tuple[ast.AST, Scope, bool]] = []
-        self.later: List[Tuple[str, str, Binding, Scope]] = []
+        self.bound: List[Tuple[Scope, str, Binding]] = []
         self._put(tree.body, self.found.module, False)
 
     def read(self) -> Scopes:
@@ -107,8 +130,7 @@ class _Reader:
                 reader(self, node, scope, conditional)
             else:
                 self._children(node, scope, conditional)
-        for kind, name, binding, scope in self.later:
-            self._bind_outside(kind, name, binding, scope)
+        scoping.settle(self.bound)
         return self.found
 
     def _put(self, nodes: Any, scope: Scope, conditional: bool) -> None:
@@ -126,25 +148,15 @@ class _Reader:
         self.left += [(it, scope, inside) for it in reversed(found)]
 
     def bind(self, name: str, binding: Binding, scope: Scope) -> None:
-        """Adds a binding to the scope. What `global` and `nonlocal` say is known only once all is read."""
-        scope.bindings.setdefault(name, []).append(binding)
-
-    def _bind_outside(self, kind: str, name: str, binding: Binding, scope: Scope) -> None:
-        """Moves the bindings of a name that is said to be of an outer scope there."""
-        target: Optional[Scope] = scope.top()
-        if kind == "nonlocal":
-            target = scope.parent
-            while target is not None and not (target.kind == "function" and name in target.bindings):
-                target = target.parent
-        found = scope.bindings.pop(name, [])
-        if target is not None and target is not scope:
-            target.bindings.setdefault(name, []).extend(found)
+        """Notes a binding. What `global` and `nonlocal` say is known only once all is read."""
+        self.bound.append((scope, name, binding))
 
     def target(self, node: ast.AST, value: Optional[ast.AST], scope: Scope, kind: str, conditional: bool) -> None:
         """Reads what an assignment binds; parts of a pair or a list go with the parts of a value of the same form."""
         if isinstance(node, ast.Name):
             known = "value" if value is not None else kind
             self.bind(node.id, Binding(known, node.lineno, value, scope, conditional=conditional), scope)
+            self._alias(node.id, value)
         elif isinstance(node, (ast.Tuple, ast.List)):
             for part, of in zip(node.elts, _parts(node.elts, value)):
                 self.target(part, of, scope, kind, conditional)
@@ -152,11 +164,30 @@ class _Reader:
             self.target(node.value, None, scope, kind, conditional)
         elif isinstance(node, ast.Attribute):
             self.found.stores.setdefault(node.attr, []).append(Store(node.attr, node.value, scope, value, node.lineno))
+            self._alias(node.attr, value)
             self._put([node.value], scope, conditional)
         elif isinstance(node, ast.Subscript):
             self.found.changed.append((node.value, scope))
             self._open_if_globals(node.value, scope)
             self._put([node.value, node.slice], scope, conditional)
+
+    def _alias(self, name: str, value: Optional[ast.AST]) -> None:
+        """Notes whose object, or whose items, a name may hold from now on."""
+        source = root_name(value)
+        if source and source != name:
+            self.found.aliases.append((name, source))
+
+    def _loop_target(self, node: ast.AST, loop: Any, outside: Scope, scope: Scope, part: Tuple[Tuple[int, int], ...]) -> None:
+        """Reads what a loop binds, with the way from an item to each variable."""
+        if isinstance(node, ast.Name):
+            binding = Binding("loop", node.lineno, loop.iter, outside, conditional=True, loop=loop, part=part)
+            self.bind(node.id, binding, scope)
+            self._alias(node.id, loop.iter.args[0] if isinstance(loop.iter, ast.Call) and loop.iter.args else loop.iter)
+        elif isinstance(node, (ast.Tuple, ast.List)) and not any(isinstance(it, ast.Starred) for it in node.elts):
+            for number, it in enumerate(node.elts):
+                self._loop_target(it, loop, outside, scope, (*part, (number, len(node.elts))))
+        else:
+            self.target(node, None, scope, "loop", True)
 
     def _open_if_globals(self, node: ast.AST, scope: Scope) -> None:
         """Notes that names of the module may be bound by their text: by globals(), or outside of functions by locals() too."""
@@ -166,45 +197,37 @@ class _Reader:
 
     def function(self, node: Any, scope: Scope, conditional: bool) -> None:
         """A function: its head is read outside, its body in a scope of its own."""
-        inside = Scope("function", scope, node)
-        self.found.inner[node] = inside
-        arguments = node.args
+        inside = self._inner("function", node, scope, conditional)
         if not isinstance(node, ast.Lambda):
             self.bind(node.name, Binding("function", node.lineno, node, scope, inside=inside, conditional=conditional), scope)
-            self._put([*node.decorator_list, node.returns], scope, conditional)
-            self._type_names(node, inside)
-        named = [*getattr(arguments, "posonlyargs", []), *arguments.args, *arguments.kwonlyargs]
-        for it in [*named, arguments.vararg, arguments.kwarg]:
-            if it is not None:
-                self.bind(it.arg, Binding("parameter", it.lineno, it, scope), inside)
-                self._put([it.annotation], scope, conditional)
-        self._put([*arguments.defaults, *arguments.kw_defaults], scope, conditional)
-        self._put(node.body if isinstance(node.body, list) else [node.body], inside, False)
-
-    def _type_names(self, node: Any, inside: Scope) -> None:
-        for it in getattr(node, "type_params", []):
-            self.bind(it.name, Binding("type parameter", it.lineno), inside)
+        for it in scoping.parameters(node):
+            self.bind(it.arg, Binding("parameter", it.lineno, it, scope), inside)
 
     def class_(self, node: ast.ClassDef, scope: Scope, conditional: bool) -> None:
         """A class: its bases are read outside, its body in a scope that its methods don't see."""
-        inside = Scope("class", scope, node)
-        self.found.inner[node] = inside
+        inside = self._inner("class", node, scope, conditional)
         self.found.classes.append((node, scope))
         self.bind(node.name, Binding("class", node.lineno, node, scope, inside=inside, conditional=conditional), scope)
-        self._type_names(node, inside)
-        self._put([*node.decorator_list, *node.bases, *node.keywords], scope, conditional)
-        self._put(node.body, inside, False)
 
     def comprehension(self, node: Any, scope: Scope, conditional: bool) -> None:
         """A comprehension: the first sequence is read outside, all else in a scope of its own."""
-        inside = Scope("comprehension", scope, node)
-        self.found.inner[node] = inside
-        elements = [node.key, node.value] if isinstance(node, ast.DictComp) else [node.elt]
+        inside = self._inner("comprehension", node, scope, conditional)
         for number, it in enumerate(node.generators):
-            self.target(it.target, None, inside, "loop", True)
-            self._put([it.iter], scope if number == 0 else inside, conditional)
-            self._put(it.ifs, inside, True)
-        self._put(elements, inside, True)
+            self._loop_target(it.target, it, scope if number == 0 else inside, inside, ())
+
+    def _inner(self, kind: str, node: ast.AST, scope: Scope, conditional: bool) -> Scope:
+        """The scope that a node has of its own. What is read inside of it is always read when it is, but in comprehensions."""
+        inside = self.found.inner[node] = Scope(kind, node, scope)
+        for part in reversed(list(scoping.parts(node))):
+            # (the targets of a comprehension are read by `_loop_target`)
+            if not isinstance(part.parent, ast.comprehension) or part.node is not part.parent.target:
+                self.left.append((part.node, *((inside, part.again) if part.is_inside else (scope, conditional))))
+        return inside
+
+    def type_name(self, node: Any, scope: Scope, conditional: bool) -> None:
+        """A type parameter."""
+        self.bind(node.name, Binding("type parameter", node.lineno), scope)
+        self._children(node, scope, conditional)
 
     def assign(self, node: ast.Assign, scope: Scope, conditional: bool) -> None:
         """An assignment, to one target or several."""
@@ -229,15 +252,12 @@ class _Reader:
 
     def walrus(self, node: ast.NamedExpr, scope: Scope, conditional: bool) -> None:
         """`(name := value)`, which a comprehension binds outside of itself."""
-        outside = scope
-        while outside.kind == "comprehension" and outside.parent is not None:
-            outside = outside.parent
-        self.bind(node.target.id, Binding("walrus", node.lineno, node.value, scope, conditional=True), outside)
+        self.bind(node.target.id, Binding("walrus", node.lineno, node.value, scope, conditional=True), scope.around())
         self._put([node.value], scope, conditional)
 
     def loop(self, node: Any, scope: Scope, conditional: bool) -> None:
         """A `for` loop."""
-        self.target(node.target, None, scope, "loop", True)
+        self._loop_target(node.target, node, scope, scope, ())
         self._put([node.iter], scope, conditional)
         self._put([*node.body, *node.orelse], scope, True)
 
@@ -255,7 +275,7 @@ class _Reader:
 
     def capture(self, node: Any, scope: Scope, conditional: bool) -> None:
         """A part of a `case` that binds a name."""
-        name = node.rest if type(node).__name__ == "MatchMapping" else node.name
+        name = scoping.named_by_text(node)
         if name:
             self.bind(name, Binding("match", node.lineno), scope)
         self._children(node, scope, True)
@@ -267,29 +287,23 @@ class _Reader:
 
     def imports(self, node: ast.Import, scope: Scope, conditional: bool) -> None:
         """`import a.b` binds `a`, and with `as` the module itself."""
-        for it in node.names:
+        for name, it in scoping.imported(node):
             self.found.imported.add(it.name.split(".")[0])
-            name, module = (it.asname, it.name) if it.asname else (it.name.split(".")[0], it.name.split(".")[0])
+            module = it.name if it.asname else name
             self.bind(name, Binding("import", node.lineno, module=module, conditional=conditional), scope)
 
     def imports_from(self, node: ast.ImportFrom, scope: Scope, conditional: bool) -> None:
         """`from .a import b`, and the star."""
         module = "." * node.level + (node.module or "")
         self.found.imported.add(module.split(".")[0])
-        for it in node.names:
-            if it.name == "*":
-                self.found.stars.append((module, node.lineno))
-                continue
+        self.found.stars += [(module, node.lineno) for it in node.names if it.name == "*"]
+        for name, it in scoping.imported(node):
             binding = Binding("import", node.lineno, module=module, member=it.name, conditional=conditional)
-            self.bind(it.asname or it.name, binding, scope)
+            self.bind(name, binding, scope)
 
     def outer(self, node: Any, scope: Scope, conditional: bool) -> None:
         """`global` and `nonlocal`."""
-        kind = "global" if isinstance(node, ast.Global) else "nonlocal"
-        for name in node.names:
-            if name not in scope.outer:
-                scope.outer[name] = kind
-                self.later.append((kind, name, Binding(kind, node.lineno), scope))
+        scope.declare(node)
 
     def call(self, node: ast.Call, scope: Scope, conditional: bool) -> None:
         """A call, which is noted; some change what they are called on."""
@@ -342,28 +356,11 @@ READERS: Dict[str, Callable[[_Reader, Any, Scope, bool], None]] = {
     "AsyncFor": _Reader.loop, "withitem": _Reader.with_item, "ExceptHandler": _Reader.handler, "MatchAs": _Reader.capture,
     "MatchStar": _Reader.capture, "MatchMapping": _Reader.capture, "Delete": _Reader.deleted, "Import": _Reader.imports,
     "ImportFrom": _Reader.imports_from, "Global": _Reader.outer, "Nonlocal": _Reader.outer, "Call": _Reader.call,
-    "TypeAlias": _Reader.alias,
+    "TypeAlias": _Reader.alias, "TypeVar": _Reader.type_name, "ParamSpec": _Reader.type_name,
+    "TypeVarTuple": _Reader.type_name,
 }
 
 
 def read_scopes(tree: ast.Module) -> Scopes:
     """Returns what a parsed source binds, calls and changes."""
     return _Reader(tree).read()
-
-
-def lookup(name: str, scope: Scope) -> Tuple[Optional[Scope], List[Binding]]:
-    """Returns the scope that a name is read from, and the bindings that it has there; None and none if nothing binds it.
-
-    The scope of a class is looked into only by what stands directly in its body.
-    """
-    at: Optional[Scope] = scope
-    is_first = True
-    while at is not None:
-        said = at.outer.get(name)
-        if said == "global":
-            at = scope.top()
-            return at, at.bindings.get(name, [])
-        if said is None and name in at.bindings and (is_first or at.kind != "class"):
-            return at, at.bindings[name]
-        at, is_first = at.parent, False
-    return None, []

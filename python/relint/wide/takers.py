@@ -6,8 +6,8 @@ from pathlib import Path
 from typing import Any, Dict, List, Mapping, Optional, Sequence, Tuple
 
 from ..config import ConfigError, read_toml
+from ..flags import NAMES
 from ..opening import OpenError, read_named
-from .fold import FLAGS
 
 LARGEST_TABLE = 1_048_576
 TABLE = Path(__file__).with_name("takers.toml")
@@ -124,9 +124,9 @@ def _check_key(key: str, value: Any, place: str) -> None:
 def _made(row: Dict[str, Any], place: str) -> Taker:
     always = 0
     for it in row.get("always", []):
-        if it not in FLAGS:
+        if it not in NAMES:
             raise TakersError(f"{place}: {it} is no flag of re")
-        always |= FLAGS[it]
+        always |= NAMES[it]
     calls = tuple(row.get("call", ()))
     named: Optional[str] = calls[0].rpartition(".")[2] if calls else row.get("method") or row.get("attribute")
     return Taker(

@@ -70,18 +70,20 @@ def shown(part: Known, represented: bool = False) -> str:
 
 
 def percent(left: Known, right: Known) -> Known:
-    """Returns `left % right` for the conversions s, d, i, r and %, without a width."""
-    form = left.value
-    if not isinstance(form, str):
+    """Returns `left % right` for the conversions s, d, i, r (b for bytes) and %, without a width."""
+    form, value = left.value, right.value
+    is_bytes = isinstance(form, bytes)
+    if not isinstance(form, (str, bytes)) or (is_bytes and isinstance(value, Table)):
         raise NotKnown("% of other kinds")
-    value = right.value
+    text = form.decode("latin-1") if isinstance(form, bytes) else form
     parts = list(value.items) if isinstance(value, KnownSequence) and not value.is_list else [right]
-    pieces = list(_percents(form, parts, value if isinstance(value, Table) else None))
-    return made(_sum_of([it if isinstance(it, str) else it[0] for it in pieces]),
+    pieces = list(_percents(text, parts, value if isinstance(value, Table) else None, is_bytes))
+    whole = _sum_of([it if isinstance(it, str) else it[0] for it in pieces])
+    return made(whole.encode("latin-1") if is_bytes else whole,
                 (left, right, *(it[1] for it in pieces if not isinstance(it, str))))
 
 
-def _percents(form: str, parts: List[Known], table: Any) -> Iterator[Union[str, Tuple[str, Known]]]:
+def _percents(form: str, parts: List[Known], table: Any, is_bytes: bool) -> Iterator[Union[str, Tuple[str, Known]]]:
     at = taken = 0
     for found in PERCENT.finditer(form):
         yield form[at:found.start()]
@@ -90,16 +92,22 @@ def _percents(form: str, parts: List[Known], table: Any) -> Iterator[Union[str, 
         if kind == "%":
             yield "%"
             continue
-        if kind not in "sdir" or form[found.start():].startswith("% "):
+        if kind not in ("sdib" if is_bytes else "sdir") or form[found.start():].startswith("% "):
             raise NotKnown("formatting with a width")
         part = _named(table, name) if name is not None else _numbered(parts, taken)
         taken += name is None
         if kind in "di" and (not isinstance(part.value, int) or isinstance(part.value, bool)):
             raise NotKnown("formatting of other kinds")
-        yield shown(part, kind == "r"), part
+        yield _shown_bytes(part) if is_bytes and kind in "sb" else shown(part, kind == "r"), part
     if "%" in form[at:] or (table is None and taken != len(parts)):
         raise NotKnown("formatting that fails")
     yield form[at:]
+
+
+def _shown_bytes(part: Known) -> str:
+    if not isinstance(part.value, bytes):
+        raise NotKnown("formatting of other kinds")
+    return part.value.decode("latin-1")
 
 
 def _named(table: Any, name: str) -> Known:
@@ -194,6 +202,7 @@ def _replaced(text: Any, parts: Sequence[Any]) -> Any:
 
 
 def _coded(text: Any, parts: Sequence[Any]) -> Any:
+    """Encodes a str or decodes bytes, as UTF-8, ASCII or Latin-1 and with strict errors. Raises NotKnown for any other."""
     coding = (parts[0] if parts else "utf-8").lower() if not parts or isinstance(parts[0], str) else ""
     if len(parts) > 1 or coding not in ("utf-8", "utf8", "ascii", "latin-1", "latin1", "iso-8859-1"):
         raise NotKnown("method that isn't followed")

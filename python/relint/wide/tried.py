@@ -10,7 +10,8 @@ from dataclasses import dataclass, replace
 from typing import Dict, Iterable, List, Optional, Sequence, Tuple
 
 from ..beyond import Seen
-from ..confirm import CONFIRMED, Job, Limits, Outcome, Trials, python_name
+from ..confirm import CONFIRMED, Job, Outcome, Trials
+from ..rate import python_name
 from ..reports import Entry
 from ..sites import Site
 from .judge import Question, judged
@@ -32,16 +33,30 @@ class Hang:
     seen: Seen
 
 
+def steady(times: Sequence[Tuple[int, float]]) -> List[Tuple[int, float]]:
+    """Returns the times, each at most that of any longer text: a text that took more than a longer one was disturbed."""
+    found: List[Tuple[int, float]] = []
+    least = math.inf
+    for length, took in sorted(times, reverse=True):
+        least = min(least, took)
+        found.append((length, least))
+    return found[::-1]
+
+
 def power_of(outcome: Outcome, seconds: float) -> float:
-    """Returns the power of the length with which the times grew up to the match that passed the limit, or 0."""
+    """Returns the power of the length with which the times grew up to the match that passed the limit, or 0.
+
+    They are measured from the first text whose time can be told, and from the last one before it, which took less than that.
+    """
     if outcome.length is None:
         return 0.0
-    before = [it for it in outcome.times if 0 < it[0] < outcome.length]
+    before = steady([it for it in outcome.times if 0 < it[0] < outcome.length])
     if not before:
         return 0.0
     least = seconds * LEAST_PART
-    length, took = next((it for it in before if it[1] >= least), (before[-1][0], least))
-    return math.log(max(seconds, outcome.seconds or 0.0) / took) / math.log(outcome.length / length)
+    last = max(seconds, outcome.seconds or 0.0)
+    begun = [*[it for it in before if it[1] < least][-1:], *[it for it in before if it[1] >= least][:1]]
+    return max(math.log(last / max(took, least)) / math.log(outcome.length / length) for length, took in begun)
 
 
 def seen_class(entry: Entry, power: float, max_degree: int) -> Optional[Entry]:
@@ -65,20 +80,19 @@ def chosen(all_forms: Sequence[Tuple[Form, Optional[Entry]]], max_degree: int) -
 
 
 def hangs(
-    asked: Iterable[Tuple[Question, bool]], max_degree: int, options: Sequence[str], limits: Limits, jobs: int,
+    asked: Iterable[Tuple[Question, bool]], max_degree: int, options: Sequence[str], trials: Trials, jobs: int,
 ) -> Dict[Question, Hang]:
     """Returns what was seen of the patterns of which something was; each comes with whether relint left it undecided.
 
-    Forms of all patterns are judged by relint first. Raises JudgeError and ProgramError.
+    Forms of all patterns are judged by relint first. No trial goes on after this. Raises JudgeError and ProgramError.
     """
     made = {question: forms(question.pattern, question.flags, undecided) for question, undecided in asked}
     questions = {(question, form): replace(question, pattern=form.pattern) for question, its in made.items() for form in its}
     entries = judged(questions.values(), options, jobs)
-    trials = Trials(limits)
 
     def seen(question: Question) -> Optional[Hang]:
         its = [(form, entries.get(questions[question, form])) for form in made[question]]
-        return _seen(question, chosen(its, max_degree), trials, limits, max_degree)
+        return _seen(question, chosen(its, max_degree), trials, max_degree)
 
     with ThreadPoolExecutor(max(jobs, 1)) as pool:
         try:
@@ -88,17 +102,15 @@ def hangs(
     return {question: it for question, it in zip(made, found) if it is not None}
 
 
-def _seen(
-    question: Question, its: Sequence[Tuple[Form, Entry]], trials: Trials, limits: Limits, max_degree: int,
-) -> Optional[Hang]:
-    site = Site((), question.pattern, question.flags)
+def _seen(question: Question, its: Sequence[Tuple[Form, Entry]], trials: Trials, max_degree: int) -> Optional[Hang]:
+    site, seconds = Site((), question.pattern, question.flags), trials.limits.seconds
     for form, entry in its:
         entry = replace(entry, call=question.mode)
         outcome = trials.outcome(Job(entry, site, mode=question.mode))
         if outcome.result != CONFIRMED:
             continue
-        grown = seen_class(entry, power_of(outcome, limits.seconds), max_degree)
+        grown = seen_class(entry, power_of(outcome, seconds), max_degree)
         if grown is not None:
-            seen = Seen(python_name(), outcome.length or 0, limits.seconds, outcome.k or 0, form.rules, form.pattern)
+            seen = Seen(python_name(), outcome.length or 0, seconds, outcome.k or 0, form.rules, form.pattern)
             return Hang(replace(grown, suggest=None, becomes=None), seen)
     return None

@@ -1,8 +1,10 @@
 """Put first on the path of a program that relint-record runs: notes each pattern that `re` or `regex` is asked for.
 
-It changes nothing else: the module's own function does the work, a sitecustomize that was there before is run, and errors of
-the notes are silent. It imports almost nothing, since it is run at the start of each Python.
+It changes nothing else: the module's own function does the work in a frame of its own, so that warnings name the same place,
+and it can be pickled by its name; a sitecustomize that was there before is run, and errors of the notes are silent. It imports
+almost nothing, since it is run at the start of each Python.
 """
+import _ast
 import os
 import sys
 
@@ -14,6 +16,8 @@ WATCHED = ("re", "regex.regex", "regex._main")
 # Of each process at most so many patterns are noted, and none that is longer.
 MOST = 200000
 LONGEST = 100000
+ONLY_TREE = 0x400
+NAME = "_relint_record"
 FOLDER = os.environ.get("RELINT_RECORD", "")
 
 
@@ -28,7 +32,7 @@ class Notes:
     def note(self, engine: str, module: "Any", pattern: "Any", flags: "Any") -> None:
         """Notes a pattern with the function that was called and the place that called it."""
         try:
-            frame = sys._getframe(2)
+            frame = sys._getframe(3)
             method = frame.f_code
             caller: "Any" = frame
             if frame.f_globals is module.__dict__ and frame.f_back is not None:
@@ -99,16 +103,46 @@ NOTES = Notes()
 def watch(module: "Any") -> None:
     """Has a module note each pattern that its functions are given."""
     inner: "Any" = getattr(module, "_compile", None)
-    if inner is None or hasattr(inner, "relint_record"):
+    if inner is None or hasattr(module, NAME):
         return
     engine = module.__name__.split(".")[0]
 
-    def _compile(pattern: "Any", flags: "Any", *more: "Any", **named: "Any") -> "Any":
+    def note(pattern: "Any", flags: "Any") -> None:
         NOTES.note(engine, module, pattern, flags)
+
+    setattr(module, NAME, note)
+    try:
+        module._compile = noting(module, inner)
+    except Exception:
+        module._compile = calling(inner, note)
+    for name in ("__module__", "__qualname__", "__doc__"):
+        setattr(module._compile, name, getattr(inner, name))
+
+
+def noting(module: "Any", inner: "Any") -> "Any":
+    """Makes a module's function anew from its source, with a call before its first statement that notes what it is given."""
+    path, line = inner.__code__.co_filename, inner.__code__.co_firstlineno
+    with open(path, "rb") as file:
+        tree: "Any" = compile(file.read(), path, "exec", ONLY_TREE, True)
+    found = [it for it in tree.body if isinstance(it, _ast.FunctionDef) and it.name == "_compile" and it.lineno == line]
+    pattern, flags = (it.arg for it in found[0].args.args[:2])
+    text = "{}{}({}, {})".format("\n" * (line - 1), NAME, pattern, flags)
+    call: "Any" = compile(text, path, "exec", ONLY_TREE, True)
+    found[0].body[:0] = call.body
+    tree.body[:] = found
+    names: "Any" = {}
+    exec(compile(tree, path, "exec", 0, True), module.__dict__, names)  # (the def of that one function)
+    return names["_compile"]
+
+
+def calling(inner: "Any", note: "Any") -> "Any":
+    """Makes a function that notes what it is given and calls a module's function, for a module without a source."""
+
+    def _compile(pattern: "Any", flags: "Any", *more: "Any", **named: "Any") -> "Any":
+        note(pattern, flags)
         return inner(pattern, flags, *more, **named)
 
-    _compile.relint_record = True  # type: ignore[attr-defined]
-    module._compile = _compile
+    return _compile
 
 
 def go_on() -> None:

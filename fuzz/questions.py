@@ -1,0 +1,93 @@
+"""The target `spans`: lines for relint-spans, mostly questions, and what has to come of them."""
+from __future__ import annotations
+
+import json
+import os
+import platform
+import subprocess
+from pathlib import Path
+from typing import Any, Dict, List, Optional
+
+from chance import STRANGE, VALUES, Chance
+from program import SECONDS, Ran, Runner
+
+TOP = Path(__file__).resolve().parent.parent
+MODES = ("search", "match", "fullmatch", "one-search")
+TOKENS = [it.encode("utf-8") for it in ('"', "{", "}", ":", ",", "null", "\\u0000", "\\ud800", "[" * 3000, "1e999", *STRANGE)]
+# The keys of each answer.
+ANSWERS = {
+    "same": {"answer"}, "differ": {"answer", "empty", "first", "from", "second", "text"}, "exceeded": {"answer", "limit"},
+    "undecided": {"answer", "cause"}, "refused": {"answer", "cause", "pattern"}, "error": {"answer", "message"}}
+
+
+def found() -> Optional[str]:
+    """The program relint-spans to test: the one that RELINT_SPANS names, else the one built here, else that of the release."""
+    named = os.environ.get("RELINT_SPANS", "")
+    places = [TOP / "crates/relint_spans/out/relint_spans", TOP / "release" / platform.machine() / "relint-spans"]
+    for place in [Path(named)] if named else places:
+        if place.is_file() and os.access(str(place), os.X_OK):
+            return str(place.resolve())
+    return None
+
+
+def _question(chance: Chance) -> Dict[str, Any]:
+    """A question, mostly a right one about two patterns that are near each other."""
+    first = chance.pattern()
+    near = chance.changed(first.encode("utf-8"), [b"a", b"(", b")", b"*", b"?", b"|"]).decode("utf-8", "replace")
+    made: Dict[str, Any] = {"first": first, "second": chance.pick([chance.pattern(), near, near])}
+    for key, value in (("mode", chance.pick(MODES)), ("flags", "".join(chance.some("aimsux", 2))), ("bytes", chance.one(2)),
+                       ("limit", chance.pick([1, 2, 50, 6000, 999999]))):
+        if chance.one(3):
+            made[key] = value
+    if chance.one(8):
+        made[chance.pick([*made, "groups", ""])] = chance.pick(VALUES)
+    return made
+
+
+def spans(runner: Runner, chance: Chance, kept: Optional[bytes]) -> None:
+    """Each line has one answer of a known form; asked the other way round, a pair has the mirrored answer."""
+    program = found()
+    if program is None:
+        return
+    if kept is not None:
+        lines = kept.rstrip(b"\n").split(b"\n")
+    else:
+        lines = [json.dumps(_question(chance)).encode("ascii") for _ in range(1 + chance.below(4))]
+        if chance.one(4):
+            lines = chance.changed(b"\n".join(lines), TOKENS).split(b"\n")
+    lines = [it for it in lines if it] or [b"{}"]
+    answers = _asked(program, lines)
+    _asked_mirrored(program, lines, answers)
+
+
+def _asked(program: str, lines: List[bytes]) -> List[Dict[str, Any]]:
+    """The answers to these lines. Raises Wrong."""
+    given = b"".join(it + b"\n" for it in lines)
+    try:
+        ran = subprocess.run([program, "-"], input=given, stdout=subprocess.PIPE, stderr=subprocess.PIPE, timeout=SECONDS * 10)
+    except subprocess.TimeoutExpired:
+        Ran(["-"], -24, b"", given[:400], 0).need(False, "no answer in %d s" % (SECONDS * 10))
+        raise
+    shown = Ran(["-"], ran.returncode, ran.stdout, ran.stderr or given[:400], 0)
+    shown.need(ran.returncode == 0 and not ran.stderr, "questions have another status than 0, or a message")
+    answers = [json.loads(it) for it in shown.text().split("\n")[:-1]]
+    shown.need(len(answers) == len(lines), "%d lines have %d answers" % (len(lines), len(answers)))
+    for answer in answers:
+        shown.need(set(answer) == ANSWERS.get(answer.get("answer", ""), {"?"}), "an answer of no known form: %r" % (answer,))
+    return answers
+
+
+def _asked_mirrored(program: str, lines: List[bytes], answers: List[Dict[str, Any]]) -> None:
+    """Asks each pair that was compared the other way round: what is the same one way is the same the other way."""
+    mirrored, wanted = [], []
+    for line, answer in zip(lines, answers):
+        if answer["answer"] in ("same", "differ"):
+            question = json.loads(line)
+            question["first"], question["second"] = question["second"], question["first"]
+            mirrored.append(json.dumps(question).encode("ascii"))
+            wanted.append((line, answer["answer"]))
+    if mirrored:
+        for (line, word), answer in zip(wanted, _asked(program, mirrored)):
+            holds = answer["answer"] in (word, "exceeded")
+            shown = Ran([line.decode("utf-8", "replace")], 0, json.dumps(answer).encode(), b"", 0)
+            shown.need(holds, "the other way round: " + word)

@@ -1,0 +1,36 @@
+"""The flags of `re`, told once: their letters, names and values, and how they are written."""
+from __future__ import annotations
+
+from typing import Dict
+
+# By letter, in the order of the alphabet. The values are the same in every version of Python.
+VALUES: Dict[str, int] = {"A": 256, "I": 2, "L": 4, "M": 8, "S": 16, "U": 32, "X": 64}
+WORDS: Dict[str, str] = {
+    "A": "ASCII", "I": "IGNORECASE", "L": "LOCALE", "M": "MULTILINE", "S": "DOTALL", "U": "UNICODE", "X": "VERBOSE",
+}
+# Every name of a flag in the module `re`, short and long. DEBUG only prints, and NOFLAG is none.
+NAMES: Dict[str, int] = {
+    **VALUES, **{word: VALUES[letter] for letter, word in WORDS.items()}, "DEBUG": 128, "NOFLAG": 0,
+}
+# All bits that are a flag of `re` in some version of Python.
+EVERY = 0x1FF
+# The flags that change what relint says of a pattern: UNICODE is what a text has anyway, and LOCALE is no fixed meaning.
+JUDGED = "AIMSX"
+# The letters of a group such as (?i:..), and those of them that may stand behind its minus, for a class of a pattern.
+INLINE, TURNED_OFF = "aiLmsux", "imsx"
+
+
+def letters(flags: int, among: str = JUDGED) -> str:
+    """Returns the letters of the flags that are set, of some of them."""
+    return "".join(it for it in among if flags & VALUES[it])
+
+
+def front(flags: int) -> str:
+    """Returns the group that sets these flags at the front of a pattern, as "(?im)", or nothing where none is set."""
+    found = letters(flags).lower()
+    return f"(?{found})" if found else ""
+
+
+def code(flags: int, among: str = JUDGED) -> str:
+    """Returns the flags as an expression, as "re.I | re.M", or nothing where none is set."""
+    return " | ".join(f"re.{it}" for it in letters(flags, among))
