@@ -9,7 +9,7 @@ use Rattle.rl_marks.specs.declared.asked.How.{How}
 use Rattle.rl_marks.specs.declared.asked.How.TheVariants.{Fullmatch, Match, OneSearch}
 use Rattle.rl_marks.specs.declared.pattern.MarkedPattern.{MarkedPattern}
 use Rattle.rl_spans.specs.Answers.{DifferOn}
-use Rattle.rl_alike.specs.Names.{Text}
+use Rattle.rl_report.specs.Names.{Text}
 use Rattle.rl_alike.specs.Answers.{IsDecided, IsFound, IsRight, IsTellable, first_passes, second_passes, decided, first_refused, second_refused, both_read}
 use Rattle.rl_alike.specs.Patterns.{IsMarkedAs, IsReadAs, IsRefusedFor, cause_text, outside, refused}
 use Rattle.rl_alike.specs.Questions.{Asked}
@@ -75,7 +75,7 @@ decided-told how a b answer.Exceeded h = tt
 decided-told how a b (answer.Passed limit) h = tt
 decided-told how a b (answer.Refused is_first cause) h = absurd h
 
--- a text that a right answer tells is one of the universe
+-- A text that a right answer tells is one of the universe.
 pub right-told : (q : Asked) (found : Answer) → IsRight q found → IsTellable q.terms.universe found
 right-told q _ (first_refused h) = tt
 right-told q _ (second_refused h k) = tt

@@ -26,13 +26,13 @@ pub spans_free : is_simple_and_free spans_app ≡ true
 unfolding clap_on_literals spans_app
 spans_free = refl
 
--- an error that isn't out of memory is a fault
+-- An error that isn't out of memory is a fault.
 pub not_empty : (faults : Kinds) (e : Error) → HasKind faults e → (kind_of e ≡ kind.OutOfMemory → is_empty faults ≡ false) → is_empty faults ≡ false
 not_empty faults e (inl memory) lacks = lacks memory
 not_empty [] e (inr among) lacks = absurd among
 not_empty (fault ∷ faults) e (inr among) lacks = grind (arith, nat_tests)
 
--- a fold over the texts so far, and one more
+-- A fold over the texts so far, and one more.
 pub texts_more : {A : Type 0} (f : A → Text → A) (start now next : A) (names : List (Bor Text)) (i : ℕ) (d : Bor Text) → i < length names
     → now ≡ fold f start (texts (take i names)) → next ≡ f now (get_or names i d).now → next ≡ fold f start (texts (take (i + 1) names))
 texts_more {A} f start now next names i d h so_far more =
@@ -41,14 +41,14 @@ texts_more {A} f start now next names i d h so_far more =
     more ∙ ap (λ a. f a (get_or names i d).now) (so_far ∙ fold-map f text start (take i names))
     ∙ sym (fold_more step start names i d h) ∙ sym (fold-map f text start (take (i + 1) names))
 
--- one more argument
+-- One more argument.
 pub Makes-more : (before now next : App) (arguments : List Arg) (argument : Arg) → Makes before arguments now → argument.global ≡ false
     → with_rule now (rule_of argument) ≡ next → Makes before (arguments ++ argument ∷ []) next
 Makes-more before now next [] argument made local more = (local, ap (λ a. with_rule a (rule_of argument)) made ∙ more)
 Makes-more before now next (first ∷ rest) argument made local more =
     (made.0, Makes-more (with_rule before (rule_of first)) now next rest argument made.1 local more)
 
--- what a command is after the arguments
+-- What a command is after the arguments.
 pub Makes-added : (before after : Command) (arguments : List Arg) (now : App) → Makes (app_of before) arguments now → AddsInTurn AddsArg before arguments after
     → app_of after ≡ now
 Makes-added before after [] now made same = ap app_of (sym same) ∙ made

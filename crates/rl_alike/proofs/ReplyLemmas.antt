@@ -4,7 +4,7 @@ use Rattle.std.specs.Io.KnownBytes.{Appends}
 use Rattle.rl_source.specs.Faults.{Rose}
 use Rattle.serde_json.specs.Data.{Data}
 use Rattle.serde_json.specs.Read.{read}
-use Rattle.rl_alike.specs.Names.{Text}
+use Rattle.rl_report.specs.Names.{Text}
 use Rattle.rl_alike.specs.Lines.{IsReply, IsReplyTo, no_question, answered, of_value, question_read}
 use Rattle.rl_alike.specs.Document.{error_text}
 use Rattle.rl_alike.specs.Questions.{asked}
@@ -43,12 +43,12 @@ pub ok-holds : {T E : Type 0} (r : Result T E) (b : Bool) (P : Type 0) → b ≡
 ok-holds (Ok x) b P e t h = h
 ok-holds (Err x) b P e t h = let never : false ≡ true = sym t ∙ e in absurd cc
 
--- the next line, in a buffer that was empty
+-- The next line, in a buffer that was empty.
 pub line-read : (old : Option Text) (start buf line : Text) → start ≡ [] → line ≡ buf → IfSome old (λ xs. buf ≡ start ++ take_through 10 xs)
     → IfSome old (λ xs. line ≡ take_through 10 xs)
 line-read None start buf line empty same h = tt
 line-read (Some xs) start buf line empty same h = same ∙ h ∙ ap (λ l. l ++ take_through 10 xs) empty
 
--- a count that was lower before rose too
+-- A count that was lower before rose too.
 pub rose-later : (a b c : ℕ) → a ≤ b → Rose b c → Rose a c
 rose-later a b c lower rose = omega arith

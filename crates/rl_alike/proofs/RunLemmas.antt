@@ -1,7 +1,7 @@
 -- The ends of a run.
 use Rattle.std.proofs.Common.{◌≡◌, ℕ, Option, None, Some, refl, subst}
 use Rattle.std.specs.Io.KnownBytes.{Keeps}
-use Rattle.rl_alike.specs.Names.{Text}
+use Rattle.rl_report.specs.Names.{Text}
 use Rattle.rl_alike.specs.Endings.{Ending, EndsBy, GainsMessage, SinkChange}
 
 pub keeps-same : (a : Option Text) → Keeps a a

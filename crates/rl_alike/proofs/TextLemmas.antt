@@ -1,7 +1,7 @@
 -- The groups that are written and those that are left make up the whole.
 use Rattle.std.proofs.Common.{◌≡◌, ◌∙◌, ℕ, ◌+◌, ◌<◌, ◌≤◌, List, [], ◌∷◌, ◌++◌, length, get_or, drop, Option, refl, ap, sym, arith, append_assoc, append-nil}
 use Rattle.std.proofs.lemmas.List.{drop_more, length-drop}
-use Rattle.rl_alike.specs.Names.{Text}
+use Rattle.rl_report.specs.Names.{Text}
 use Rattle.rl_alike.specs.Texts.{group_text, groups_text}
 
 pub groups_more : (out more whole : Text) (values : List (Option (ℕ × ℕ))) (i : ℕ) (d : Option (ℕ × ℕ)) → i < length values
@@ -16,7 +16,7 @@ no_group : (n : ℕ) (values : List (Option (ℕ × ℕ))) → length values ≤
 no_group n [] h = refl
 no_group n (v ∷ values) h = absurd (omega arith)
 
--- at the end nothing is left
+-- At the end nothing is left.
 pub groups_end : (out whole : Text) (values : List (Option (ℕ × ℕ))) (i : ℕ) → length values ≤ i → out ++ groups_text (i + 1) (drop i values) ≡ whole → out ≡ whole
 groups_end out whole values i h inv =
     sym (append-nil out) ∙ ap (λ l. out ++ l) (sym (no_group (i + 1) (drop i values) (omega (arith, length-drop i values)))) ∙ inv

@@ -4,21 +4,22 @@ use Rattle.std.specs.String.{string_bytes}
 use Rattle.serde_json.specs.Data.{Data, Members, boolean, no_members, number, object, put, string, unsigned}
 use Rattle.serde_json.specs.Written.{compact_text}
 use Rattle.rl_ranges.specs.declared.universe.Universe.{Universe}
-use Rattle.rl_alike.specs.Names.{Text}
+use Rattle.rl_report.specs.Names.{Text}
 use Rattle.rl_alike.specs.Texts.{passed_text, quoted_text, sight_text}
 use Rattle.rl_alike.specs.declared.answer.Answer.{Answer}
 use Rattle.rl_alike.specs.declared.answer.Answer.TheVariants as answer
 use Rattle.rl_alike.specs.declared.answer.Difference.{Difference}
 use Rattle.rl_alike.specs.declared.question.Terms.{Terms}
 
+-- A natural number as a value of JSON.
 abbrev pub whole : ℕ → Data
 whole n = number (unsigned n)
 
--- the members of an answer that has only its name
+-- The members of an answer that has only its name.
 abbrev pub named : Text → Members
 named name = put (codes "answer") (string name) no_members
 
--- the members on a text on which two patterns differ
+-- The members that tell a text on which two patterns differ.
 abbrev pub difference_members : Universe → Difference → Members
 difference_members universe d =
     put (codes "text") (string (quoted_text universe d.text))
@@ -28,9 +29,11 @@ difference_members universe d =
     (put (codes "empty") (boolean (not d.advance))
     (named (codes "differ"))))))
 
+-- The name of the pattern: the first one or the second one.
 abbrev pub pattern_name : Bool → Text
 pattern_name is_first = if is_first then codes "first" else codes "second"
 
+-- The members of an answer.
 abbrev pub answer_members : Terms → Answer → Members
 answer_members terms (answer.Refused is_first cause) =
     put (codes "pattern") (string (pattern_name is_first)) (put (codes "cause") (string (string_bytes cause)) (named (codes "refused")))
@@ -39,10 +42,10 @@ answer_members terms answer.Same = named (codes "same")
 answer_members terms (answer.Differ d) = difference_members terms.universe d
 answer_members terms answer.Exceeded = put (codes "limit") (whole terms.limit) (named (codes "exceeded"))
 
--- an answer as a line
+-- An answer as a line.
 abbrev pub reply_text : Terms → Answer → Text
 reply_text terms found = compact_text (object (answer_members terms found)) ++ codes "\n"
 
--- why a line has no answer, as a line
+-- Why a line has no answer, as a line.
 abbrev pub error_text : Text → Text
 error_text message = codes "{\"answer\":\"error\",\"message\":\"" ++ (message ++ codes "\"}\n")

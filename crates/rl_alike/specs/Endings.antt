@@ -5,7 +5,7 @@ use Rattle.std.specs.Io.KnownBytes.{Appends, Keeps}
 use Rattle.std.specs.String.{string_bytes}
 use Rattle.rl_source.specs.Faults.{Rose}
 use Rattle.rl_source.specs.Written.{GainsLess, GainsSome}
-use Rattle.rl_alike.specs.Names.{Text}
+use Rattle.rl_report.specs.Names.{Text}
 use Rattle.rl_alike.specs.Texts.{difference_text, passed_text}
 use Rattle.rl_alike.specs.declared.answer.Answer.{Answer}
 use Rattle.rl_alike.specs.declared.answer.Answer.TheVariants as answer
@@ -13,13 +13,14 @@ use Rattle.rl_alike.specs.declared.question.Terms.{Terms}
 
 -- ---- sinks
 
--- a sink before and after: its bytes, where it tells them, and its count of faults
+-- A sink before and after: its bytes, where it tells them, and its count of faults.
 pub record SinkChange : Type 0 where
   pub old : Option Text
   pub new : Option Text
   pub faults_old : ℕ
   pub faults_new : ℕ
 
+-- The sink before and after a run.
 abbrev pub sink_change : {S : Type 0} → (S → Option Text) → (S → ℕ) → S → S → SinkChange
 sink_change bytes faults old new = record {
   old = bytes old;
@@ -28,21 +29,21 @@ sink_change bytes faults old new = record {
   faults_new = faults new;
 }
 
--- the sink gained a prefix of the message, and the whole of it where no write failed
+-- The sink gained a prefix of the message, and the whole of it where no write failed.
 pub record GainsMessage (message : Text) (sink : SinkChange) : Type 0 where
   pub some : GainsSome sink.old sink.new message
   pub whole : Rose sink.faults_old sink.faults_new ⊎ Appends sink.old sink.new message
 
 -- ---- endings
 
--- what a run is to do
+-- What a run is to do.
 pub data Ending : Type 0 where
-  -- reports this on `err`, since what was asked for is refused
+  -- Reports this on `err`, since what was asked for is refused.
   refuses : Text → Ending
-  -- writes this to `out`; the flag says that it is a difference
+  -- Writes this to `out`; the flag says that it is a difference.
   writes : Text → Bool → Ending
 
--- the ending by an answer
+-- The ending by an answer.
 abbrev pub answer_ending : Terms → Answer → Ending
 answer_ending terms (answer.Refused is_first cause) = refuses (codes "relint: refused " ++ (string_bytes cause ++ codes "\n"))
 answer_ending terms (answer.Passed limit) = writes (codes "undecided " ++ (passed_text limit ++ codes "\n")) false
@@ -50,7 +51,7 @@ answer_ending terms answer.Same = writes (codes "same\n") false
 answer_ending terms (answer.Differ d) = writes (difference_text terms.universe d) true
 answer_ending terms answer.Exceeded = writes (codes "exceeded over " ++ (decimal terms.limit ++ codes "\n")) false
 
--- the statuses, with what the sinks gained; a text is built whole and then written
+-- The statuses, with what the sinks gained; a text is built whole and then written.
 abbrev pub EndsBy : Ending → SinkChange → SinkChange → ℕ → Type 0
 EndsBy (refuses message) out err status = (status ≡ 2) × Keeps out.old out.new × GainsMessage message err
 EndsBy (writes text differs) out err status =

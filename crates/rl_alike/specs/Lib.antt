@@ -1,4 +1,3 @@
-pub mod Names
 pub mod Questions
 pub mod Patterns
 pub mod Answers

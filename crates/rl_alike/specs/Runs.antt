@@ -3,7 +3,7 @@ use Rattle.std.specs.Prelude.{◌≡◌, ℕ, List, [], Option, None, Some, code
 use Rattle.std.specs.Io.KnownBytes.{Appends, IsAtEnd, Keeps}
 use Rattle.rl_source.specs.Faults.{Rose}
 use Rattle.rl_source.specs.Written.{GainsLess}
-use Rattle.rl_alike.specs.Names.{Text}
+use Rattle.rl_report.specs.Names.{Text}
 use Rattle.rl_alike.specs.Answers.{IsRight}
 use Rattle.rl_alike.specs.Endings.{EndsBy, GainsMessage, SinkChange, answer_ending}
 use Rattle.rl_alike.specs.Lines.{IsNextLine, IsReply, Replies}
@@ -13,14 +13,14 @@ use Rattle.rl_alike.specs.declared.answer.Answer.{Answer}
 
 -- ---- many questions
 
--- the replies to the first lines of the input were written, each whole
+-- The replies to the first lines of the input were written, each whole.
 pub record WritesReplies (input : Option Text) (out : SinkChange) : Type 0 where
   pub rest : Option Text
   pub output : Text
   pub replies : Replies input rest output
   pub written : Appends out.old out.new output
 
--- the replies to all lines of the input were written
+-- The replies to all lines of the input were written.
 pub record WritesAllReplies (input : Option Text) (out : SinkChange) : Type 0 where
   pub rest : Option Text
   pub output : Text
@@ -28,7 +28,7 @@ pub record WritesAllReplies (input : Option Text) (out : SinkChange) : Type 0 wh
   pub at_end : IsAtEnd rest
   pub written : Appends out.old out.new output
 
--- the replies to the first lines of the input were written, and a part of the one to the next line, since a write failed
+-- The replies to the first lines of the input were written, and a part of the one to the next line, since a write failed.
 pub record WritesPart (input : Option Text) (out : SinkChange) : Type 0 where
   pub rest : Option Text
   pub after : Option Text
@@ -43,8 +43,8 @@ pub record WritesPart (input : Option Text) (out : SinkChange) : Type 0 where
   pub part : GainsLess held out.new reply
   pub cause : Rose out.faults_old out.faults_new
 
--- to the end of the input; up to where it couldn't be read; up to where a reply couldn't be written; up to a line for which there
--- was no memory
+-- To the end of the input; up to where it couldn't be read; up to where a reply couldn't be written; up to a line for which there
+-- was no memory.
 pub data EndsLines (input : Option Text) (out err : SinkChange) : ℕ → Type 0 where
   at_end : WritesAllReplies input out → GainsMessage [] err → EndsLines input out err 0
   unreadable : WritesReplies input out → GainsMessage (codes "relint: input unreadable\n") err → EndsLines input out err 3
@@ -54,7 +54,7 @@ pub data EndsLines (input : Option Text) (out err : SinkChange) : ℕ → Type 0
 -- ---- the run
 
 -- The words aren't a valid call; or they ask one question, and what is written is a right answer to it; or they ask for the questions of
--- the input, and each line has its reply; or there was no memory before anything was written
+-- the input, and each line has its reply; or there was no memory before anything was written.
 pub data Runs (words : List Text) (input : Option Text) (out err : SinkChange) : ℕ → Type 0 where
   invalid : given_by words ≡ None → Keeps out.old out.new → GainsMessage usage_text err → Runs words input out err 2
   asked_once : {q : Asked} {found : Answer} {status : ℕ} → given_by words ≡ Some (pair q) → IsRight q found

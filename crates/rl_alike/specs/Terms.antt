@@ -8,10 +8,10 @@ use Rattle.rl_marks.specs.declared.asked.How.{How}
 use Rattle.rl_marks.specs.declared.asked.How.TheVariants.{Fullmatch, Match, OneSearch}
 use Rattle.rl_pattern.specs.Codes.{is_in}
 use Rattle.rl_pattern.specs.declared.flags.Flags.{Flags}
-use Rattle.rl_alike.specs.Names.{Text}
+use Rattle.rl_report.specs.Names.{Text}
 use Rattle.rl_alike.specs.declared.terms.TheConstants.{MOST_LIMIT}
 
--- by `match` and by `search` the same is asked: what is found from each place
+-- How patterns are asked, by its word. By `match` and by `search` the same is asked: what is found from each place.
 abbrev pub how_of : Text → Option How
 how_of word = if bytes_eq word (codes "fullmatch") then Some Fullmatch
     else (if bytes_eq word (codes "match") then Some Match
@@ -19,10 +19,11 @@ how_of word = if bytes_eq word (codes "fullmatch") then Some Fullmatch
     else (if bytes_eq word (codes "one-search") then Some OneSearch
     else None)))
 
+-- Whether the text has the letter.
 abbrev pub has_letter : ℕ → Text → Bool
 has_letter letter text = list_any (λ c. c == letter) text
 
--- the flags of these letters, of which each is that of a flag
+-- The flags of these letters, of which each is that of a flag.
 abbrev pub flags_of : Text → Option Flags
 flags_of text =
     if list_all (is_in "aimsuxL") text
@@ -37,9 +38,11 @@ flags_of text =
     })
     else None
 
+-- The codes of bytes patterns, if the flag is true, and of text patterns otherwise.
 abbrev pub universe_of : Bool → Universe
 universe_of true = Bytes
 universe_of false = Str
 
+-- Whether the number may be a limit on pairs.
 abbrev pub is_limit : ℕ → Bool
 is_limit number = nat_le 1 number && nat_le number MOST_LIMIT

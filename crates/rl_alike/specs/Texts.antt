@@ -7,56 +7,59 @@ use Rattle.rl_syntax.specs.declared.limits.TheConstants.{MOST_MOVES, MOST_NODES}
 use Rattle.rl_pystr.specs.Quoting.{is_bytes, quoted}
 use Rattle.rl_marks.specs.declared.limits.TheConstants.{MOST_GROUPS}
 use Rattle.rl_spans.specs.declared.finding.Sight.{Sight}
-use Rattle.rl_alike.specs.Names.{Text}
+use Rattle.rl_report.specs.Names.{Text}
 use Rattle.rl_alike.specs.declared.answer.Difference.{Difference}
 use Rattle.rl_alike.specs.declared.answer.Passed.{Passed}
 use Rattle.rl_alike.specs.declared.answer.Passed.TheVariants.{Size, Letters, Moves, Groups}
 
+-- A span: where it begins, and where it ends.
 abbrev pub span_text : ℕ × ℕ → Text
 span_text s = codes "(" ++ (decimal s.0 ++ (codes ", " ++ (decimal s.1 ++ codes ")")))
 
--- the value of a group, which may have none
+-- The value of a group, which may have none.
 abbrev pub value_text : Option (ℕ × ℕ) → Text
 value_text None = codes "none"
 value_text (Some s) = span_text s
 
+-- The number of a group, and its value.
 abbrev pub group_text : ℕ → Option (ℕ × ℕ) → Text
 group_text n value = codes " " ++ (decimal n ++ (codes "=" ++ value_text value))
 
--- the values of groups, numbered from the given number on
+-- The values of groups, numbered from the given number on.
 abbrev pub groups_text : ℕ → List (Option (ℕ × ℕ)) → Text
 groups_text n [] = []
 groups_text n (value ∷ values) = group_text n value ++ groups_text (n + 1) values
 
--- the group that was closed last, if one was
+-- The group that was closed last, if one was.
 abbrev pub last_text : Option ℕ → Text
 last_text None = []
 last_text (Some n) = codes " last=" ++ decimal n
 
+-- A match: its span, and the values of its groups.
 abbrev pub match_text : Sight → Text
 match_text s = span_text (s.start, s.end) ++ (groups_text 1 s.groups ++ last_text s.last)
 
--- what a pattern finds
+-- What a pattern finds.
 abbrev pub sight_text : Option Sight → Text
 sight_text None = codes "none"
 sight_text (Some s) = match_text s
 
--- a limit that is passed, as `relint` names it
+-- A limit that is passed, as `relint` names it.
 abbrev pub passed_text : Passed → Text
 passed_text Size = codes "size over " ++ decimal MOST_NODES
 passed_text Letters = codes "letters over " ++ decimal MOST_LETTERS
 passed_text Moves = codes "moves over " ++ decimal MOST_MOVES
 passed_text Groups = codes "groups over " ++ decimal MOST_GROUPS
 
--- a text of the universe as a literal of Python
+-- A text of the universe as a literal of Python.
 abbrev pub quoted_text : Universe → List ℕ → Text
 quoted_text universe text = quoted (is_bytes universe) text
 
--- the place from which patterns are asked; the flag says that a match may not be empty there
+-- The place from which patterns are asked; the flag says that a match may not be empty there.
 abbrev pub place_text : ℕ → Bool → Text
 place_text from advance = decimal from ++ (if advance then codes " not-empty" else [])
 
--- the lines on a text on which two patterns differ
+-- The lines on a text on which two patterns differ.
 abbrev pub difference_text : Universe → Difference → Text
 difference_text universe d =
     codes "differ\n  text " ++ (quoted_text universe d.text ++ (codes "\n  from " ++ (place_text d.from d.advance

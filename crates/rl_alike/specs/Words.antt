@@ -11,7 +11,7 @@ use Rattle.clap.specs.Faults.{fault_of}
 use Rattle.clap.specs.declared.builder.action.ArgAction.TheVariants.{Set, SetTrue}
 use Rattle.rl_marks.specs.declared.asked.How.TheVariants.{Match}
 use Rattle.rl_pattern.specs.Codes.{no_flags}
-use Rattle.rl_alike.specs.Names.{Text}
+use Rattle.rl_report.specs.Names.{Text}
 use Rattle.rl_alike.specs.Questions.{Asked}
 use Rattle.rl_alike.specs.Terms.{flags_of, how_of, is_limit, universe_of}
 use Rattle.rl_alike.specs.declared.question.Terms.{Terms}
@@ -19,71 +19,72 @@ use Rattle.rl_alike.specs.declared.terms.TheConstants.{USUAL_LIMIT}
 
 -- ---- the command, in the terms of `clap`
 
--- the patterns, as many as there are
+-- The patterns, as many as there are.
 abbrev pub patterns_rule : Rule
 patterns_rule = record (new_rule (codes "patterns")) {
   range = Some (record { start_inclusive = 0; end_inclusive = usize_max });
 }
 
--- the option `--bytes`, which has no value
+-- The option `--bytes`, which has no value.
 abbrev pub bytes_rule : Rule
 bytes_rule = record (new_rule (codes "bytes")) { long = Some (codes "bytes"); action = Some SetTrue }
 
--- an option `--name` of one value, which may stand once
+-- An option `--name` of one value, which may stand once.
 abbrev pub option_rule : Text → Rule
 option_rule name = record (new_rule name) { long = Some name; action = Some Set }
 
--- no program's name stands before the words, and there is no `--help`
+-- No program's name stands before the words, and there is no `--help`.
 abbrev pub bare_app : App
 bare_app = on_top (λ s. record s { disable_help_flag = true })
     (on_top (λ s. record s { no_binary_name = true }) (new_app (codes "relint-spans")))
 
--- the command with options of one value
+-- The command with options of one value.
 abbrev pub with_options : App → List Text → App
 with_options app names = fold (λ app name. with_rule app (option_rule name)) app names
 
--- the command with its patterns and its four options
+-- The command with its patterns and its four options.
 unfoldable pub spans_app : App
 spans_app = with_options (with_rule (with_rule bare_app patterns_rule) bytes_rule) (codes "mode" ∷ codes "flags" ∷ codes "limit" ∷ [])
 
--- what was found for each argument and option, where the command takes the words
+-- What was found for each argument and option, where the command takes the words.
 unfoldable pub rows_given : List Text → Option (List Row)
 rows_given words = if is_empty (fault_of spans_app words) then Some (matches_of spans_app words) else None
 
 -- ---- values
 
--- one to six ASCII digits
+-- One to six ASCII digits.
 abbrev pub is_numeral : Text → Bool
 is_numeral text = not (length text == 0) && (nat_le (length text) 6 && list_all is_ascii_digit text)
 
--- the limit that one to six ASCII digits write
+-- The limit that one to six ASCII digits write.
 abbrev pub limit_of : Text → Option ℕ
 limit_of text = if is_numeral text && is_limit (digits_value 10 text) then Some (digits_value 10 text) else None
 
--- what a value stands for, or the usual one if none is given; `None` if it is refused
+-- What a value stands for, or the usual one if none is given; `None` if it is refused.
 abbrev pub or_usual : {V A : Type 0} → (V → Option A) → A → Option V → Option A
 or_usual read usual None = Some usual
 or_usual read usual (Some value) = read value
 
--- what follows from a value, where there is one; a `do` block is a chain of these
+-- What follows from a value, where there is one; a `do` block is a chain of these.
 infixl 10 ◌>>=◌
 abbrev pub ◌>>=◌ : {A B : Type 0} → Option A → (A → Option B) → Option B
 o >>= f = option_and_then f o
 
 -- ---- the call
 
--- what a call asks for
+-- What a call asks for.
 pub data Call : Type 0 where
-  -- two patterns
+  -- Two patterns.
   pair : Asked → Call
-  -- the questions of the input, one a line
+  -- The questions of the input, one a line.
   lines : Call
 
--- `--bytes` is given
+-- `--bytes` is given.
 abbrev pub is_bytes : Option Text → Bool
 is_bytes None = false
 is_bytes (Some word) = bytes_eq word (codes "true")
 
+-- How the patterns are compared, by the options.
 abbrev pub terms_given : List Row → Option Terms
 terms_given rows = do
   Some (record {
@@ -93,22 +94,23 @@ terms_given rows = do
     limit = (← or_usual limit_of USUAL_LIMIT (first_of (codes "limit") rows));
   })
 
--- two patterns, or the word `-`, by which the options have no effect
+-- Two patterns, or the word `-`, by which the options have no effect.
 abbrev pub call_of : Terms → List Text → Option Call
 call_of terms (first ∷ second ∷ []) = Some (pair (record { first = first; second = second; terms = terms }))
 call_of terms (word ∷ []) = if bytes_eq word (codes "-") then Some lines else None
 call_of terms _ = None
 
+-- The call that the arguments and options make.
 abbrev pub call_given : List Row → Option Call
 call_given rows = do
   terms ← terms_given rows
   call_of terms (unwrap_or (all_of (codes "patterns") rows) [])
 
--- what the words ask for, where they are a valid call
+-- What the words ask for, where they are a valid call.
 unfoldable pub given_by : List Text → Option Call
 given_by words = rows_given words >>= call_given
 
--- what is told if the words aren't a valid call
+-- What is told if the words aren't a valid call.
 unfoldable pub usage_text : Text
 usage_text =
     codes "usage: relint-spans [--mode MODE] [--flags FLAGS] [--bytes] [--limit N] PATTERN PATTERN\n"

@@ -44,12 +44,12 @@ fn difference(
     })
 }
 
-/// The limit that an error names. Out of memory names none.
+/// The limit that an error names. Out of memory names none. A text of 2^32 codes or more counts as a size; the search tells none.
 fn limit_of(error: SpansError) -> Option<Passed>
     ensures { IfSome result IsOfSearch }
 {
     match error {
-        SpansError::Size => Some(Passed::Size),
+        SpansError::Size | SpansError::Text => Some(Passed::Size),
         SpansError::Letters => Some(Passed::Letters),
         SpansError::Moves => Some(Passed::Moves),
         SpansError::OutOfMemory => None,

@@ -28,7 +28,6 @@ mod codes;
 mod command;
 mod document;
 mod messages;
-mod names;
 mod number;
 mod object;
 mod patterns;

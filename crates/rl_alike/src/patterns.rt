@@ -7,11 +7,11 @@ ghost use Rattle.rl_alike.specs.internal.Reads.{IsMarkedRead, IsPatternRead};
 
 use crate::answer::Passed;
 use crate::codes::{codes_of, is_text};
-use crate::names::feature_name;
 use crate::question::Terms;
 use rl_lists::OutOfMemory;
 use rl_marks::{MarkError, MarkedPattern};
 use rl_pattern::{PatError, parse};
+use rl_report::feature_name;
 use rl_syntax::Pattern;
 use std::alloc::Global;
 

@@ -14,7 +14,7 @@ use Rattle.rl_graph.proofs.MarkedLaws.{there-if, has-if, move-in}
 use Rattle.rl_degree.specs.internal.Entries.{HasLetter, KeepsLetters, AreEntries, AreEntriesUpTo}
 use Rattle.rl_degree.specs.internal.FallingPairs.{falls, falling_moves, shares, is_walked, IsParted}
 
--- a graph and a part of its moves: those of each state that a move of the graph leads to, and maybe others
+-- One graph has some of the moves of another: all moves of each state that a move of the other graph leads to, and maybe more.
 
 module _ (part all : ℕ → ℕ → List ℕ) (within : (q l m : ℕ) → Has m (part q l) → Has m (all q l)) (entered : (p k q l m : ℕ) → Has q (all p k) → Has m (all q l) → Has m (part q l)) where
   part-path : (q r : ℕ) (w : List ℕ) → 1 ≤ paths part q r w → 1 ≤ paths all q r w
@@ -23,14 +23,14 @@ module _ (part all : ℕ → ℕ → List ℕ) (within : (q l m : ℕ) → Has m
       let t = total-there (λ m. paths part m r w) (part q l) h in
       move-path all q t.0 r l w (within q l t.0 t.1) (part-path t.0 r w t.2)
 
-  -- the paths from a state that a move leads to
+  -- The paths from a state that a move leads to are the same in both graphs.
   entered-path : (p k q r : ℕ) (w : List ℕ) → Has q (all p k) → 1 ≤ paths all q r w → 1 ≤ paths part q r w
   entered-path p k q r [] i h = h
   entered-path p k q r (l ∷ w) i h =
       let t = total-there (λ m. paths all m r w) (all q l) h in
       move-path part q t.0 r l w (entered p k q l t.0 i t.1) (entered-path q l t.0 r w t.1 t.2)
 
-  -- a move leads to the end of a path of at least one move
+  -- A move leads to the end of a path of at least one move.
   end-entered : (q r l : ℕ) (w : List ℕ) → 1 ≤ paths all q r (l ∷ w) → (p : ℕ) × (k : ℕ) × Has r (all p k)
   end-entered q r l [] h =
       let t = total-there (λ m. paths all m r []) (all q l) h in
@@ -42,7 +42,7 @@ module _ (part all : ℕ → ℕ → List ℕ) (within : (q l m : ℕ) → Has m
   end-path : (q r s l : ℕ) (v w : List ℕ) → 1 ≤ paths all q r (l ∷ v) → 1 ≤ paths all r s w → 1 ≤ paths part r s w
   end-path q r s l v w h k = let e = end-entered q r l v h in entered-path e.0 e.1 r s w e.2 k
 
-  -- the parts are the same
+  -- Both graphs have the same parts.
   pub parts-entered : (n : ℕ) (p : PartTable) → IsParts part n p → IsParted all n p
   parts-entered n p h = record {
     size = h.size;
@@ -63,16 +63,16 @@ module _ (part all : ℕ → ℕ → List ℕ) (within : (q l m : ℕ) → Has m
       one q r hq hr (l ∷ v) (k ∷ w) a b =
           (h.same q r hq hr).1 ((l ∷ v, end-path r q r k w (l ∷ v) b a), (k ∷ w, end-path q r q l v (k ∷ w) a b))
 
--- pairs
+-- The laws below are about pairs.
 
--- two words with one bit
+-- Two words share a bit that is set in both.
 shared-bit : (a b i : ℕ) → bit_at a i ≡ 1 → bit_at b i ≡ 1 → not (eqb (bit_and a b) 0) ≡ true
 shared-bit a b i h k = not_from_false (eqb (bit_and a b) 0) (ne_eqb (bit_and a b) 0 none)
   where
     none : bit_and a b ≡ 0 → ⊥
     none e = omega (arith, h, k, bit_at_and a b i, ap (λ z. bit_at z i) e, bit_at-zero i)
 
--- a move of the product leads to a pair of states that share a letter
+-- A move of the product leads to a pair of states that share a letter.
 pub pair-shares : (g : Graph) (entries : List ℕ) → IsWhole g → AreEntries g entries → (p l x : ℕ) → Has x (pair_moves (edges_of g) g.states p l) → shares entries g.states x ≡ true
 pair-shares g entries whole are p l x has =
     let n = g.states in
@@ -85,7 +85,7 @@ pair-shares g entries whole are p l x has =
     (subst (λ (z : ℕ). HasLetter entries z l) (sym first) (are.entered (p / n) l a.0 a.1))
     (subst (λ (z : ℕ). HasLetter entries z l) (sym second) (are.entered (p % n) l b.0 b.1))
 
--- the parts of the moves of the pairs that are walked are those of all pairs that fall
+-- The parts of the moves of the pairs that are walked are those of all pairs that fall.
 pub falling-parted : (g : Graph) (levels entries : List ℕ) (p : PartTable) → IsWhole g → AreEntries g entries
     → IsParts (λ x l. cond (is_walked levels entries g.states x) (pair_moves (edges_of g) g.states x l) []) (g.states * g.states) p
     → IsParted (falling_moves (edges_of g) levels g.states) (g.states * g.states) p
@@ -115,7 +115,7 @@ falling-parted g levels entries p whole are h =
         let both = and_from (falls levels g.states x) (shares entries g.states x) b.0 (pair-shares g entries whole are y k x a.1) in
         has-if (is_walked levels entries g.states x) m (pair_moves (edges_of g) g.states x l) both b.1
 
--- one more bit of a word keeps the others
+-- A word with one more bit keeps its other bits.
 pub letter-set : (entries : List ℕ) (t word q l : ℕ) → t < length entries → ((k : ℕ) → bit_at (get_or entries t 0) k ≡ 1 → bit_at word k ≡ 1) → HasLetter entries q l → HasLetter (set entries t word) q l
 letter-set entries t word q l lt kept h = by (cases_eq q t)
   where
@@ -125,7 +125,7 @@ letter-set entries t word q l lt kept h = by (cases_eq q t)
         subst (λ (z : ℕ). HasLetter (set entries t word) z l) (sym e)
         (subst (λ (z : ℕ). bit_at z (l % 64) ≡ 1) (sym (get_or-set_same entries t word 0 lt)) (kept (l % 64) (subst (λ (z : ℕ). HasLetter entries z l) e h)))
 
--- the bits of one more target
+-- The bits of one more target are set.
 pub targets-more : (entries targets : List ℕ) (end word l : ℕ) → get_or targets end 0 < length entries → ((k : ℕ) → bit_at (get_or entries (get_or targets end 0) 0) k ≡ 1 → bit_at word k ≡ 1) → bit_at word (l % 64) ≡ 1
     → ((i : ℕ) → i < end → HasLetter entries (get_or targets i 0) l) → (i : ℕ) → i < end + 1 → HasLetter (set entries (get_or targets end 0) word) (get_or targets i 0) l
 targets-more entries targets end word l lt kept here old i below = by (cases_lt i end)
@@ -137,7 +137,7 @@ targets-more entries targets end word l lt kept here old i below = by (cases_lt 
         subst (λ (z : ℕ). HasLetter (set entries (get_or targets end 0) word) (get_or targets z 0) l) (sym e)
         (subst (λ (z : ℕ). bit_at z (l % 64) ≡ 1) (sym (get_or-set_same entries (get_or targets end 0) word 0 lt)) here)
 
--- the bits of one more letter of a state, where those of the letters before it are set
+-- The bits of one more letter of a state are set, if those of the letters before it are.
 pub own-more : (g : Graph) (state end : ℕ) (old new : List ℕ) → KeepsLetters old new → ((k m : ℕ) → k < end → Has m (edges_of g state k) → HasLetter old m k) → ((m : ℕ) → Has m (edges_of g state end) → HasLetter new m end)
     → (k m : ℕ) → k < end + 1 → Has m (edges_of g state k) → HasLetter new m k
 own-more g state end old new kept own here k m lt has = by (cases_lt k end)
@@ -148,7 +148,7 @@ own-more g state end old new kept own here k m lt has = by (cases_lt k end)
         let e : k ≡ end = omega arith in
         subst (HasLetter new m) (sym e) (here m (subst (λ (z : ℕ). Has m (edges_of g state z)) e has))
 
--- the bits of one more state
+-- The bits of one more state are set.
 pub entries-more : (g : Graph) (state end : ℕ) (entries : List ℕ) → g.letters ≤ end → AreEntriesUpTo g state entries → ((k m : ℕ) → k < end → Has m (edges_of g state k) → HasLetter entries m k)
     → AreEntriesUpTo g (state + 1) entries
 entries-more g state end entries all so_far own = record { size = so_far.size; entered = λ q l m lt has. by q l m lt has (cases_lt q state) }

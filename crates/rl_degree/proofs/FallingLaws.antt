@@ -10,7 +10,7 @@ use Rattle.rl_degree.specs.Leavers.{NeverRises, HasNoEqualSplit}
 use Rattle.rl_degree.specs.FallingNumbers.{IsDoubles, IsTriples}
 use Rattle.rl_degree.proofs.FiveTimes.{falls-along}
 
--- two paths side by side never rise
+-- The number never rises along two paths side by side.
 double-path : (next : ℕ → ℕ → List ℕ) (n : ℕ) (holds : ℕ → ℕ → Bool) (number : ℕ → ℕ → ℕ) → IsDoubles next n holds number
     → (a b t u : ℕ) (w : List ℕ) → IsTrue (holds a b) → 1 ≤ paths next a t w → 1 ≤ paths next b u w → number t u ≤ number a b
 double-path next n holds number d a b t u [] held h k =
@@ -22,7 +22,7 @@ double-path next n holds number d a b t u (l ∷ w) held h k =
     let y = total-there (λ m. paths next m u w) (next b l) k in
     omega (arith, double-path next n holds number d x.0 y.0 t u w (d.closed a b l x.0 y.0 held x.1 y.1) x.2 y.2, d.never_rises a b l x.0 y.0 held x.1 y.1)
 
--- two different paths from a state to one state fall
+-- The number falls along two different paths from a state to one state.
 double-falls : (next : ℕ → ℕ → List ℕ) (n k : ℕ) (holds : ℕ → ℕ → Bool) (number : ℕ → ℕ → ℕ) → IsBounded next n k → IsDoubles next n holds number
     → (s t : ℕ) (p q w : List ℕ) → s < n → p ≢ q → IsPath next s t p w → IsPath next s t q w → number t t < number s s
 double-falls next n k holds number b d s t [] [] [] lt ne f g = absurd (ne refl)
@@ -62,7 +62,7 @@ doubles_exclude next n k holds number b d q w = by w (cases_lt 1 (paths next q q
         let r = two-there next q q (l ∷ w) (omega arith) in
         absurd (omega (arith, double-falls next n k holds number b d q q r.0 r.1 (l ∷ w) (ends q q l w (omega arith)) r.2 r.3 r.4))
 
--- three paths side by side whose states are of one rank
+-- If three paths side by side lead from a triple to states of its rank, these are a triple, and its number is no greater.
 triple-path : (next : ℕ → ℕ → List ℕ) (n k : ℕ) (rank : ℕ → ℕ) (holds : ℕ → ℕ → ℕ → Bool) (number : ℕ → ℕ → ℕ → ℕ) → IsWithin next n k → NeverRises next n rank → IsTriples next n rank holds number
     → (d a b c t u v : ℕ) (w : List ℕ) → a < n → b < n → c < n → rank a ≡ d → rank b ≡ d → rank c ≡ d → rank t ≡ d → rank u ≡ d → rank v ≡ d
     → IsTrue (holds a b c) → 1 ≤ paths next a t w → 1 ≤ paths next b u w → 1 ≤ paths next c v w → IsTrue (holds t u v) × (number t u v ≤ number a b c)

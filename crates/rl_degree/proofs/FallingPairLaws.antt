@@ -14,9 +14,9 @@ use Rattle.rl_kernel.specs.Inner.{IsInner}
 use Rattle.rl_kernel.specs.Seats.{Seats, AreSeats}
 use Rattle.rl_degree.specs.internal.FallingPairs.{falls, falling_moves, is_walked, AreFlagsUpTo}
 
--- flags
+-- The laws below are about flags.
 
--- one more flag
+-- One more flag is right.
 pub flags-more : (levels entries : List ℕ) (n first second end : ℕ) (flags : List Bool) (flag : Bool) → second < n → end ≡ first * n + second
     → flag ≡ (ltb (get_or levels second 0) (get_or levels first 0) && not (eqb (bit_and (get_or entries first 0) (get_or entries second 0)) 0))
     → AreFlagsUpTo levels entries n end flags → AreFlagsUpTo levels entries n (end + 1) (flags ++ flag ∷ [])
@@ -37,7 +37,7 @@ flags-more levels entries n first second end flags flag lt e is f = record {
         let k : x ≡ end = omega arith in
         get_or_push flags flag false x (f.size ∙ sym k) ∙ sym (ap (is_walked levels entries n) (k ∙ e) ∙ last)
 
--- inner moves: they stay in a component, so a pair that falls moves to pairs that fall
+-- Inner moves stay in a component, so a pair that falls moves only to pairs that fall.
 
 module _ (g : Graph) (p : PartTable) (s : Seats) (h : Graph) (seats : AreSeats p g.states g.states s) (inner : IsInner g p s h) where
   level-kept : (i l j : ℕ) → Has j (edges_of h i l) → get_or s.levels j 0 ≡ get_or s.levels i 0
@@ -60,7 +60,7 @@ module _ (g : Graph) (p : PartTable) (s : Seats) (h : Graph) (seats : AreSeats p
   falls-along x y w f k =
       along_moves (λ z. falls s.levels h.states z ≡ true) (pair_moves (edges_of h) h.states) (λ q l m e has. falls-kept q l m has ∙ e) x y w f k
 
-  -- the paths from a pair that falls are those of the product
+  -- The paths from a pair that falls are those of the product.
 
   pub pair-falling : (x y : ℕ) (w : List ℕ) → falls s.levels h.states x ≡ true → 1 ≤ paths (pair_moves (edges_of h) h.states) x y w → 1 ≤ paths (falling_moves (edges_of h) s.levels h.states) x y w
   pair-falling x y [] f k = k

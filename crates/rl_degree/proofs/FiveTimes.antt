@@ -11,12 +11,12 @@ use Rattle.rl_degree.specs.Leavers.{Runs, NeverRises}
 use Rattle.rl_degree.specs.Passages.{Passage, Later, FiveOfOneColour}
 use Rattle.rl_degree.proofs.Pigeons.{Five, five}
 
--- a state, and then those of a function
+-- A state comes first, and then the states of a function.
 abbrev pub first_then : ℕ → (ℕ → ℕ) → ℕ → ℕ
 first_then s f zero = s
 first_then s f (suc j) = f j
 
--- the states of a path
+-- A path has its states.
 pub runs-there : (next : ℕ → ℕ → List ℕ) (s t : ℕ) (w : List ℕ) → 1 ≤ paths next s t w → (at : ℕ → ℕ) × (at 0 ≡ s) × Runs next w at
 runs-there next s t [] h = ((λ j. s), refl, tt)
 runs-there next s t (l ∷ w) h =
@@ -24,7 +24,7 @@ runs-there next s t (l ∷ w) h =
     let r = runs-there next m.0 t w m.2 in
     (first_then s r.0, refl, (subst (λ (x : ℕ). Has x (next s l)) (sym r.1) m.1, r.2))
 
--- the piece of a path between two times
+-- The piece of a path between two times is a path.
 runs-first : (next : ℕ → ℕ → List ℕ) (w : List ℕ) (at : ℕ → ℕ) (d : ℕ) → Runs next w at → d ≤ length w → 1 ≤ paths next (at 0) (at d) (take d w)
 runs-first next w at zero r h = omega (arith, paths-nil next (at 0))
 runs-first next [] at (suc d) r h = absurd (omega arith)
@@ -40,7 +40,7 @@ runs-part next [] at (suc i) (suc j) d r e h = absurd (omega arith)
 runs-part next (l ∷ w) at (suc i) (suc j) d r e h =
     runs-part next w (λ j. at (suc j)) i j d r.1 (omega arith) (omega arith)
 
--- a path never rises, and stays in the graph
+-- The number never rises along a path, and the path stays in the graph.
 pub falls-along : (next : ℕ → ℕ → List ℕ) (n k : ℕ) (level : ℕ → ℕ) → IsWithin next n k → NeverRises next n level → (q r : ℕ) (w : List ℕ) → q < n → 1 ≤ paths next q r w → (r < n) × (level r ≤ level q)
 falls-along next n k level within falls q r w lt h =
     along_moves (λ m. (m < n) × (level m ≤ level q)) next (λ a l m p i. (within.targets a l m p.0 i, lower a l m p i)) q r w (lt, omega arith) h
@@ -48,7 +48,7 @@ falls-along next n k level within falls q r w lt h =
     lower : (a l m : ℕ) → (a < n) × (level a ≤ level q) → Has m (next a l) → level m ≤ level q
     lower a l m p i = omega (arith, falls a l m p.0 i, p.1)
 
--- five things whose paths cross each other in `r` and `q`, and these are a split
+-- The paths of five things cross each other in `r` and `q`, and these two states are a split.
 pub record FiveAlike (next : ℕ → ℕ → List ℕ) (A : Type 0) (time : A → ℕ) (at : A → ℕ → ℕ) (things : List A) : Type 0 where
   pub r : ℕ
   pub q : ℕ
@@ -63,19 +63,19 @@ pub record FiveAlike (next : ℕ → ℕ → List ℕ) (A : Type 0) (time : A �
 -- one behind it.
 module _ (next : ℕ → ℕ → List ℕ) (n k : ℕ) (within : IsWithin next n k) (s : ℕ) (start : s < n) (w : List ℕ) (A : Type 0) (time : A → ℕ) (at : A → ℕ → ℕ) (begins : (x : A) → at x 0 ≡ s) (runs : (x : A) → Runs next w (at x))
     (short : (x : A) → time x < length w) (Before Behind : ℕ → Type 0) (before : (x : A) (i : ℕ) → i ≤ time x → Before (at x i)) (behind : (x : A) (i : ℕ) → time x < i → i ≤ length w → Behind (at x i)) (border : (q : ℕ) → Before q → Behind q → ⊥) where
-  -- the state of the later path at the earlier time, and that of the earlier path at the later time
+  -- The crossing is the state of the later path at the earlier time, and that of the earlier path at the later time.
   abbrev crossing : A → A → ℕ
   crossing x y = at x (time y) * n + at y (time x)
 
-  -- the second one passes the border first
+  -- The second thing passes the border first.
   abbrev IsLater : A → A → Type 0
   IsLater x y = time y < time x
 
-  -- they cross in these two states
+  -- The two paths cross in these two states.
   abbrev CrossIn : ℕ → ℕ → A → A → Type 0
   CrossIn r q x y = (at x (time y) ≡ r) × (at y (time x) ≡ q)
 
-  -- the piece of a path between two times
+  -- The piece of a path between two times is a path.
   piece : (x : A) (i j d : ℕ) → j ≡ i + d → j ≤ length w → 1 ≤ paths next (at x i) (at x j) (take d (drop i w))
   piece x i j d e h = runs-part next w (at x) i j d (runs x) e h
 
@@ -90,7 +90,7 @@ module _ (next : ℕ → ℕ → List ℕ) (n k : ℕ) (within : IsWithin next n
       let in_word : time x < length w = short x in
       mul-add-lt (at x (time y)) n (at y (time x)) n (inside-graph x (time y) (omega arith)) (inside-graph y (time x) (omega arith))
 
-  -- the two states of a crossing
+  -- The number of a crossing tells its two states.
   crossing-left : (x y : A) (v : ℕ) → time y < time x → crossing x y ≡ v → at x (time y) ≡ v / n
   crossing-left x y v h e =
       let in_word : time x < length w = short x in
@@ -101,12 +101,12 @@ module _ (next : ℕ → ℕ → List ℕ) (n k : ℕ) (within : IsWithin next n
       let in_word : time x < length w = short x in
       sym (mod-mul-add (at x (time y)) n (at y (time x)) (inside-graph y (time x) (omega arith))) ∙ ap (λ z. z % n) e
 
-  -- two things with a crossing, told by its number
+  -- Two things with a crossing of this number cross in its two states.
   crossed : (v : ℕ) (x y : A) → IsLater x y × (crossing x y ≡ v) → IsLater x y × CrossIn (v / n) (v % n) x y
   crossed v x y h = (h.0, (crossing-left x y v h.0 h.1, crossing-right x y v h.0 h.1))
 
-  -- five things with one crossing are a split: on the word between two of their times, the last one leads from the
-  -- first state of the crossing to itself, the middle one to the second state, and the first one from that to itself
+  -- Five things with one crossing are a split. Along the word between two of their times, the last one leads from the first
+  -- state of the crossing to itself, the middle one leads to the second state, and the first one leads from that to itself.
   split_of_five : (x y : ℕ) (a b c d e : A) → IsLater a b × CrossIn x y a b → IsLater a d × CrossIn x y a d → IsLater b c × CrossIn x y b c → IsLater b e × CrossIn x y b e → IsLater c d × CrossIn x y c d → IsLater d e × CrossIn x y d e
       → (u : List ℕ) × IsSplit next x y u
   split_of_five x y a b c d e ab ad bc be cd de =
@@ -129,7 +129,7 @@ module _ (next : ℕ → ℕ → List ℕ) (n k : ℕ) (within : IsWithin next n
       moved : (i j x y : ℕ) (u : List ℕ) → i ≡ x → j ≡ y → 1 ≤ paths next i j u → 1 ≤ paths next x y u
       moved i j x y u e f h = rw (← e, ← f) h
 
-  -- so many things, the later ones first, hold five with one crossing
+  -- If there are so many things, the later ones first, five of them have one crossing.
   five-there : (l : List A) → Pairs IsLater l → bound_b n ≤ length l → Five IsLater crossing (λ x. Has x l)
   unfolding bound_b
   five-there l p h = five IsLater crossing (λ x. Has x l) (n * n) l (square n start) (coloured l p) (each-has (λ x. Has x l) l (λ x i. i)) (omega (arith, h, power (n * n) (3 * (n * n) + 1)))
@@ -190,7 +190,7 @@ module _ (next : ℕ → ℕ → List ℕ) (n k : ℕ) (within : IsWithin next n
             small,
           )
 
--- a path from `s` along the word that is on the level of `s` up to a time, and on a lower one behind it
+-- A path from `s` along the word is on the level of `s` up to a time, and on a lower one after it.
 pub record Leaver (next : ℕ → ℕ → List ℕ) (level : ℕ → ℕ) (s : ℕ) (w : List ℕ) : Type 0 where
   pub time : ℕ
   pub at : ℕ → ℕ
@@ -200,12 +200,12 @@ pub record Leaver (next : ℕ → ℕ → List ℕ) (level : ℕ → ℕ) (s : �
   pub on_it : level (at time) ≡ level s
   pub below_it : level (at (suc time)) < level s
 
--- a leaver that leaves after another one
+-- The first leaver leaves at a later time than the second.
 abbrev pub LeavesLater : {next : ℕ → ℕ → List ℕ} {level : ℕ → ℕ} {s : ℕ} {w : List ℕ} → Leaver next level s w → Leaver next level s w → Type 0
 LeavesLater x y = y.time < x.time
 
 module _ (next : ℕ → ℕ → List ℕ) (n k : ℕ) (level : ℕ → ℕ) (within : IsWithin next n k) (falls : NeverRises next n level) (s : ℕ) (start : s < n) (w : List ℕ) where
-  -- the states of a leaver's path are in the graph, and no higher than `s`
+  -- The states of a leaver's path are in the graph, and no higher than `s`.
   no_higher : (x : Leaver next level s w) (i : ℕ) → i ≤ length w → (x.at i < n) × (level (x.at i) ≤ level s)
   no_higher x i h =
       let p : 1 ≤ paths next (x.at 0) (x.at i) (take i w) = runs-part next w x.at 0 i i x.runs (omega arith) h in
@@ -217,7 +217,7 @@ module _ (next : ℕ → ℕ → List ℕ) (n k : ℕ) (level : ℕ → ℕ) (wi
   lower x i j d e h =
       (falls-along next n k level within falls (x.at i) (x.at j) (take d (drop i w)) (no_higher x i (omega arith)).0 (runs-part next w x.at i j d x.runs e h)).1
 
-  -- up to its time a leaver is on the level of `s`, and behind it no more
+  -- Up to its time a leaver is on the level of `s`, and after it no more.
   on_level : (x : Leaver next level s w) (i : ℕ) → i ≤ x.time → level (x.at i) ≡ level s
   on_level x i h =
       let short = x.within in
@@ -226,7 +226,7 @@ module _ (next : ℕ → ℕ → List ℕ) (n k : ℕ) (level : ℕ → ℕ) (wi
   below_level : (x : Leaver next level s w) (i : ℕ) → x.time < i → i ≤ length w → level (x.at i) < level s
   below_level x i h k = omega (arith, lower x (suc x.time) i (i - suc x.time) (omega arith) k, x.below_it)
 
-  -- so many leavers, the later ones first, show a split
+  -- If there are so many leavers, the later ones first, some state has a split.
   pub split_of_many : (l : List (Leaver next level s w)) → Pairs LeavesLater l → bound_b n ≤ length l → (r : ℕ) × (q : ℕ) × (y : List ℕ) × (r < n) × IsSplit next r q y
   split_of_many l p h =
       let f = five_alike next n k within s start w (Leaver next level s w) (λ x. x.time) (λ x. x.at) (λ x. x.start) (λ x. x.runs) (λ x. x.within) (λ q. level q ≡ level s) (λ q. level q < level s) on_level below_level
@@ -234,7 +234,7 @@ module _ (next : ℕ → ℕ → List ℕ) (n k : ℕ) (level : ℕ → ℕ) (wi
       (f.0.r, f.0.q, f.0.word, f.1, f.0.split)
 
 module _ (next : ℕ → ℕ → List ℕ) (n k : ℕ) (within : IsWithin next n k) (s t a b : ℕ) (start : s < n) (apart : Reaches next a b → Reaches next b a → ⊥) (w : List ℕ) where
-  -- up to its time a path that moves from `a` to `b` reaches `a`, and behind it `b` reaches it
+  -- Up to its time a path that moves from `a` to `b` reaches `a`, and after it `b` reaches the path.
   comes : (x : Passage next s t a b w) (i : ℕ) → i ≤ x.time → Reaches next (x.at i) a
   comes x i h =
       let short = x.within in
@@ -244,7 +244,7 @@ module _ (next : ℕ → ℕ → List ℕ) (n k : ℕ) (within : IsWithin next n
   goes x i h k =
       (take (i - suc x.time) (drop (suc x.time) w), subst (λ (q : ℕ). 1 ≤ paths next q (x.at i) (take (i - suc x.time) (drop (suc x.time) w))) x.to (runs-part next w x.at (suc x.time) i (i - suc x.time) x.runs (omega arith) k))
 
-  -- so `a` reaches `b`, and no path leads back
+  -- So `a` reaches `b`, and no path leads back.
   over : Passage next s t a b w → Reaches next a b
   over x =
       let short = x.within in

@@ -5,7 +5,7 @@ use Rattle.std.proofs.lemmas.List.{get_or-replicate, length-replicate, length-se
 use Rattle.rl_graph.specs.Parts.{PartTable, number_of}
 use Rattle.rl_degree.specs.internal.Groups.{IsFirstFrom, AreGroupsFrom}
 
--- what isn't below is the same or above
+-- A number that isn't below another one is the same or above.
 above : (k q : ℕ) → k ≤ q → q ≢ k → k + 1 ≤ q
 above k q h ne = by (cases_lt k q)
   where
@@ -13,7 +13,7 @@ above k q h ne = by (cases_lt k q)
     by (inl lt) = omega arith
     by (inr le) = absurd (ne (omega arith))
 
--- no state yet
+-- From `n` on there are no states.
 pub groups-none : (p : PartTable) (n : ℕ) → AreGroupsFrom p n n (replicate n n) (replicate n n)
 groups-none p n =
     record {
@@ -26,7 +26,7 @@ groups-none p n =
     none : (c : ℕ) → IsFirstFrom p n c n n
     none c = record { above = omega arith; within = omega arith; member = λ h. absurd (omega arith); least = λ q h k e. omega arith }
 
--- one more state, before the others
+-- One more state comes before the others.
 pub groups-more : (p : PartTable) (n k : ℕ) (firsts nexts : List ℕ) → k < n → number_of p k < n → AreGroupsFrom p n (k + 1) firsts nexts
     → AreGroupsFrom p n k (set firsts (number_of p k) k) (set nexts k (get_or firsts (number_of p k) 0))
 groups-more p n k firsts nexts hk hc old =
@@ -63,7 +63,7 @@ groups-more p n k firsts nexts hk hc old =
     to_next q h j (inr ne) =
         subst (IsFirstFrom p n (number_of p q) (q + 1)) (sym (get_or-set_other nexts k q (get_or firsts own 0) 0 ne)) (old.next q (above k q h ne) j)
 
--- what holds of the states of a component before `k` and of `k` holds of those before the next one
+-- If something holds of a component's states before `k` and of `k`, it holds of those before the next one.
 pub each-below : (P : ℕ → Type 0) (p : PartTable) (n k c to : ℕ) → IsFirstFrom p n c (k + 1) to → ((q : ℕ) → q < k → number_of p q ≡ c → P q) → P k → (q : ℕ) → q < to → number_of p q ≡ c → P q
 each-below P p n k c to is old here q h e = by (cases_lt q k) (cases_eq q k)
   where

@@ -8,7 +8,7 @@ use Rattle.rl_graph.proofs.PathLaws.{one-le, Reaches-self, Reaches-move, Reaches
 use Rattle.rl_graph.proofs.FirstSums.{upto, upto-mono, upto-has, upto-less, upto-bound}
 use Rattle.rl_degree.specs.Leavers.{NeverRises}
 
--- an order of numbers that can't be refuted holds
+-- An order of numbers that can't be refuted holds.
 pub stable : (x y : ℕ) → ((x ≤ y → ⊥) → ⊥) → x ≤ y
 stable x y h = by (cases_lt y x)
   where
@@ -16,13 +16,13 @@ stable x y h = by (cases_lt y x)
     by (inl more) = absurd (h (λ le. absurd (omega arith)))
     by (inr le) = le
 
--- a table that says for the first `n` numbers whether a fact holds
+-- The table says for the first `n` numbers whether a fact holds.
 pub record Table (P : ℕ → Type 0) (n : ℕ) : Type 0 where
   pub says : ℕ → Bool
   pub right : (i : ℕ) → i < n → says i ≡ true → P i
   pub whole : (i : ℕ) → i < n → P i → says i ≡ true
 
--- a table with one more entry
+-- A table can have one more entry.
 more : (P : ℕ → Type 0) (n : ℕ) → Table P n → (b : Bool) → (b ≡ true → P n) → (P n → b ≡ true) → Table P (suc n)
 more P n t b if_so if_held = record {
   says = λ i. cond (eqb i n) b (t.says i);
@@ -41,7 +41,7 @@ more P n t b if_so if_held = record {
     whole i lt h (inl e) = rw (eq-eqb i n e) (if_held (subst P e h))
     whole i lt h (inr ne) = rw (ne_eqb i n ne) (t.whole i (below i lt ne) h)
 
--- that there is a table can't be refuted
+-- It can't be refuted that there is a table.
 pub table : (P : ℕ → Type 0) (n : ℕ) → (Table P n → ⊥) → ⊥
 table P zero none = none (record { says = λ i. false; right = λ i lt h. absurd (omega arith); whole = λ i lt h. absurd (omega arith) })
 table P (suc n) none =
@@ -50,18 +50,18 @@ table P (suc n) none =
     no : false ≡ true → ⊥
     no e = cc
 
--- levels of a graph of `n` states
+-- The numbers are levels of a graph of `n` states.
 pub record IsLevel (next : ℕ → ℕ → List ℕ) (n : ℕ) (level : ℕ → ℕ) : Type 0 where
   pub falls : NeverRises next n level
   pub back : (s a : ℕ) → s < n → a < n → level a ≡ level s → Reaches next s a → Reaches next a s
   pub some : (s : ℕ) → s < n → 1 ≤ level s
   pub few : (s : ℕ) → s < n → level s ≤ n
 
--- which states are reached, row by row
+-- The table says row by row which states are reached.
 abbrev pub Reached : (ℕ → ℕ → List ℕ) → ℕ → ℕ → Type 0
 Reached next n j = Reaches next (j / n) (j % n)
 
--- how many states are reached from `q`
+-- The number of states that `q` reaches.
 abbrev pub reach_count : (ℕ → Bool) → ℕ → ℕ → ℕ
 reach_count says n q = upto (λ m. one (says (q * n + m))) n
 
@@ -83,7 +83,7 @@ level-of next n k within t = record {
         t.whole (q * n + m) (mul-add-lt q n m n lq lm)
         (subst (λ (j : ℕ). Reaches next j ((q * n + m) % n)) (sym (div-mul-add q n m lm)) (subst (λ (j : ℕ). Reaches next q j) (sym (mod-mul-add q n m lm)) r))
 
-    -- where one state reaches another, it reaches what that one reaches
+    -- If one state reaches another, it reaches whatever that one reaches.
     more_reached : (q m x : ℕ) → q < n → m < n → x < n → Reaches next q m → one (t.says (m * n + x)) ≤ one (t.says (q * n + x))
     more_reached q m x lq lm lx r = by (cases_Bool (t.says (m * n + x)))
       where

@@ -5,7 +5,7 @@ use Rattle.std.proofs.lemmas.List.{length_push, get_or_push, get_or_append_left}
 use Rattle.rl_graph.specs.Parts.{PartTable, number_of}
 use Rattle.rl_degree.specs.internal.Pairs.{is_wanted, Lists, list_of, row_of, HasOwnList, IsPut, IsBarePlaced, IsHeld, IsPlacedUpTo}
 
--- the start
+-- Nothing is placed yet.
 pub placed-bare : (c : List ℕ) (parts : PartTable) (n : ℕ) (p : Lists) → IsBarePlaced (n * n) p → IsPlacedUpTo c parts n 0 p
 placed-bare c parts n p b = record {
   numbered = b.numbered;
@@ -21,9 +21,9 @@ placed-bare c parts n p b = record {
     none : (k i : ℕ) → i < length (row_of p k) → ⊥
     none k i h = omega (arith, ap length (b.empty k))
 
--- one more pair
+-- The laws below are about one more pair.
 
--- what holds of all members and of the new one
+-- If something holds of all members and of the new one, it holds of all members now.
 each-more : (P : ℕ → ℕ → Type 0) (p new : Lists) (part x : ℕ) → IsPut part x p new → ((k i : ℕ) → i < length (row_of p k) → P k (get_or (row_of p k) i 0)) → P part x
     → (k i : ℕ) → i < length (row_of new k) → P k (get_or (row_of new k) i 0)
 each-more P p new part x put old fresh k i lt = by (cases_eq k part)
@@ -55,7 +55,7 @@ rows-longer p new part x k put = by (cases_eq k part)
         let d = ap (λ z. length (row_of p z)) e in
         (omega (arith, f, g, d), omega (arith, f, g, d))
 
--- a member stays at its place
+-- A member stays at its place.
 row-stays : (p new : Lists) (part x k i : ℕ) → IsPut part x p new → i < length (row_of p k) → get_or (row_of new k) i 0 ≡ get_or (row_of p k) i 0
 row-stays p new part x k i put lt = by (cases_eq k part)
   where
@@ -117,7 +117,7 @@ placed-passed c parts n x p w o = record {
     by y small wy (inr ne) = o.held y (omega arith) wy
     by y small wy (inl e) = let f : true ≡ false = sym wy ∙ (ap (is_wanted c parts n) e ∙ w) in cc
 
--- where a pair is wanted its part has a list of its own
+-- If a pair is wanted, its part has a list of its own.
 pub placed-some : (c : List ℕ) (parts : PartTable) (n x : ℕ) (p : Lists) → IsPlacedUpTo c parts n (n * n) p → x < n * n → is_wanted c parts n x ≡ true → HasOwnList p
 placed-some c parts n x p o lt w = by (cases_eq (list_of p k) 0)
   where

@@ -6,7 +6,7 @@ use Rattle.std.proofs.lemmas.List.Filters.{length-filter_both}
 use Rattle.std.proofs.Math.Nat.{pow-succ', one-le-pow}
 use Rattle.rl_graph.specs.Paths.{Each, Pairs}
 
--- the members of one colour
+-- The members of one colour.
 abbrev pub of_colour : {A : Type 0} → (A → ℕ) → ℕ → List A → List A
 of_colour f v l = filter (λ x. eqb (f x) v) l
 
@@ -18,7 +18,7 @@ Each-filter {A = A} P p (x ∷ l) h = by (p x) (Each-filter P p l h.1)
     by true rest = (h.0, rest)
     by false rest = rest
 
--- what holds of the members that pass
+-- If something holds of whatever passes, it holds of all that a filter lets through.
 Each-passed : {A : Type 0} (P : A → Type 0) (p : A → Bool) (l : List A) → ((x : A) → p x ≡ true → P x) → Each P (filter p l)
 Each-passed P p [] h = tt
 Each-passed {A = A} P p (x ∷ l) h = by (p x) refl (Each-passed P p l h)
@@ -43,7 +43,7 @@ pub Each-map : {A : Type 0} (P Q : A → Type 0) (l : List A) → ((x : A) → P
 Each-map P Q [] f h = tt
 Each-map P Q (x ∷ l) f h = (f x h.0, Each-map P Q l f h.1)
 
--- a filter of a filter is no longer than the filter of all
+-- A filter of a filter is no longer than the filter of all.
 filtered-short : {A : Type 0} (p q : A → Bool) (l : List A) → length (filter p (filter q l)) ≤ length (filter p l)
 filtered-short p q [] = omega arith
 filtered-short {A = A} p q (x ∷ l) = by (q x) (filtered-short p q l)
@@ -82,7 +82,7 @@ others-below f c l h =
     (Each-filter (λ x. f x < suc c) (λ x. not (eqb (f x) c)) l h)
     (Each-passed (λ x. f x ≢ c) (λ x. not (eqb (f x) c)) l (λ x e. differs (f x) c e)))
 
--- of more than `m` times `c` things with colours below `c` more than `m` have one colour
+-- Of more than `m` times `c` things with colours below `c`, more than `m` have one colour.
 pub pigeons : {A : Type 0} (f : A → ℕ) (c m : ℕ) (l : List A) → Each (λ x. f x < c) l → m * c < length l → (v : ℕ) × (v < c) × (m < length (of_colour f v l))
 pigeons f zero m [] h k = absurd (omega arith)
 pigeons f zero m (x ∷ l) h k = absurd (omega (arith, h.0))
@@ -94,12 +94,12 @@ pigeons {A = A} f (suc c) m l h k = by (cases_lt m (length (of_colour f c l))) (
         let r = rest (omega (arith, coloured f c l, k, few)) in
         (r.0, omega (arith, r.1), omega (arith, r.2, filtered-short (λ x. eqb (f x) r.0) (λ x. not (eqb (f x) c)) l))
 
--- one after another things are taken, each with a colour that it has with all that are left
+-- Things are taken one after another. Each has a colour, which it has with all things that are left.
 pub record Taken (A : Type 0) : Type 0 where
   pub thing : A
   pub colour : ℕ
 
--- `n` things were taken, and one is left
+-- `n` things were taken, and one is left.
 pub record Takings {A : Type 0} (R : A → A → Type 0) (col : A → A → ℕ) (P : A → Type 0) (c n : ℕ) : Type 0 where
   pub taken : List (Taken A)
   pub left : A
@@ -110,7 +110,7 @@ pub record Takings {A : Type 0} (R : A → A → Type 0) (col : A → A → ℕ)
   pub order : Pairs (λ t u. R t.thing u.thing × (col t.thing u.thing ≡ t.colour)) taken
   pub before : Each (λ t. R t.thing left × (col t.thing left ≡ t.colour)) taken
 
--- enough are left when those of the commonest colour are kept
+-- Enough things are left if those of the commonest colour are kept.
 kept-enough : (c p len : ℕ) → 0 < c → 1 ≤ p → suc c * p ≤ suc len → (m : ℕ) × (suc m ≡ p) × (m * c < len)
 kept-enough c zero len some h k = absurd (omega arith)
 kept-enough c (suc m) len some h k = (m, refl, omega arith)
@@ -150,7 +150,7 @@ takings {A = A} R col P c (suc n) (x ∷ l) some pairs each h =
         first : Taken A
         first = record { thing = x; colour = v }
 
--- five things, each two of which have one colour
+-- Any two of the five things have the same colour.
 pub record Five {A : Type 0} (R : A → A → Type 0) (col : A → A → ℕ) (P : A → Type 0) : Type 0 where
   pub colour : ℕ
   pub one : A
@@ -161,7 +161,7 @@ pub record Five {A : Type 0} (R : A → A → Type 0) (col : A → A → ℕ) (P
   pub each : Pairs (λ x y. R x y × (col x y ≡ colour)) (one ∷ two ∷ three ∷ four ∷ five ∷ [])
   pub all : Each P (one ∷ two ∷ three ∷ four ∷ five ∷ [])
 
--- four of one colour and what is left
+-- Four things of one colour and the one that is left are five.
 four-and-left : {A : Type 0} (R : A → A → Type 0) (col : A → A → ℕ) (P : A → Type 0) (v : ℕ) (left : A) (ts : List (Taken A)) → 3 < length ts → Each (λ t. t.colour ≡ v) ts → Each (λ t. P t.thing) ts → P left
     → Pairs (λ t u. R t.thing u.thing × (col t.thing u.thing ≡ t.colour)) ts → Each (λ t. R t.thing left × (col t.thing left ≡ t.colour)) ts → Five R col P
 four-and-left R col P v left [] h e a i p b = absurd (omega arith)

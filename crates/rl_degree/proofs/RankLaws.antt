@@ -14,12 +14,12 @@ use Rattle.rl_kernel.specs.Members.{is_member}
 use Rattle.rl_kernel.proofs.MemberLaws.{member-there}
 use Rattle.rl_degree.proofs.SearchLaws.{split-below}
 
--- the better one of two good ones
+-- The better one of two good chains is good.
 pub good-better : (next : ℕ → ℕ → List ℕ) (n : ℕ) (p : PartTable) (bests : List Best) (q : ℕ) (a b r : Best) → (r ≡ a) ⊎ (r ≡ b) → IsGood next n p bests q a → IsGood next n p bests q b → IsGood next n p bests q r
 good-better next n p bests q a b r (inl e) ga gb = subst (IsGood next n p bests q) (sym e) ga
 good-better next n p bests q a b r (inr e) ga gb = subst (IsGood next n p bests q) (sym e) gb
 
--- what is good for a state that is reached
+-- A chain that is good for a state is good for each state that reaches it.
 good-reached : (next : ℕ → ℕ → List ℕ) (n : ℕ) (p : PartTable) (bests : List Best) (q m : ℕ) (b : Best) → Reaches next q m → number_of p m ≤ number_of p q → IsGood next n p bests m b → IsGood next n p bests q b
 good-reached next n p bests q m b r le g = record { small = omega (arith, g.small); chain = by g.chain }
   where
@@ -38,7 +38,7 @@ good-split next n p bests q t are hq ht s lt = record {
   chain = inr (record { from_in = hq; to_in = ht; reached = Reaches-self next q; split = s; rest = refl });
 }
 
--- what is good for one state of a component is good for all
+-- A chain that is good for one state of a component is good for all.
 pub good-same : (next : ℕ → ℕ → List ℕ) (n : ℕ) (p : PartTable) (bests : List Best) (q s : ℕ) (b : Best) → IsParts next n p → q < n → s < n → number_of p q ≡ number_of p s → IsGood next n p bests s b → IsGood next n p bests q b
 good-same next n p bests q s b parts hq hs e g =
     good-reached next n p bests q s b ((parts.same q s hq hs).0 e).0 (omega (arith, e)) g
@@ -46,9 +46,9 @@ good-same next n p bests q s b parts hq hs e g =
 pub good-none : (next : ℕ → ℕ → List ℕ) (n : ℕ) (p : PartTable) (bests : List Best) (q : ℕ) (b : Best) → b.rank ≡ 0 → IsGood next n p bests q b
 good-none next n p bests q b e = record { small = omega (arith, e); chain = inl e }
 
--- moves looked at
+-- The laws below are about the moves of a state.
 
--- the first moves of a row lead to no better chain
+-- The first moves of a row lead to no better chain.
 abbrev pub BeatsFirst : PartTable → List Best → ℕ → List ℕ → ℕ → ℕ → Type 0
 BeatsFirst p bests q row end d =
     (i : ℕ) → i < end → number_of p (get_or row i 0) < number_of p q → (best_at bests (number_of p (get_or row i 0))).rank ≤ d
@@ -83,7 +83,7 @@ letters-all next n k p bests q c d b le old l m has lt = by (cases_lt l c)
     by (inl a) = old l a m has lt
     by (inr a) = absurd (subst (λ (r : List ℕ). Has m r) (b.letters q l (omega arith)) has)
 
--- no split from the state to one of the first states of a list begins a better chain
+-- No split from the state to one of the first states of a list begins a better chain.
 abbrev pub BeatsListed : (ℕ → ℕ → List ℕ) → PartTable → List Best → ℕ → List ℕ → ℕ → ℕ → Type 0
 BeatsListed next p bests q states end d =
     (i : ℕ) → i < end → HasSplit next q (get_or states i 0) → (best_at bests (number_of p (get_or states i 0))).rank + 1 ≤ d
@@ -98,12 +98,12 @@ splits-more next p bests q states end d e old le here i h s = by (cases_lt i end
         let k : i ≡ end = omega arith in
         subst (λ (z : ℕ). (best_at bests (number_of p (get_or states z 0))).rank + 1 ≤ e) (sym k) (here (subst (λ (z : ℕ). HasSplit next q (get_or states z 0)) k s))
 
--- where there is no place
+-- If there is no place, the fact for that case holds.
 pub none-some : {A : Type 0} (o : Option A) (P : Type 0) (Q : A → Type 0) → is_some o ≡ false → MatchOption o P Q → P
 none-some None P Q e h = h
 none-some (Some x) P Q e h = absurd (true≢false e)
 
--- a split leads to a state of the list
+-- A split leads to a state of the list.
 pub splits-all : (next : ℕ → ℕ → List ℕ) (n : ℕ) (p : PartTable) (bests : List Best) (q : ℕ) (states places : List ℕ) (end d : ℕ) → length states ≤ end
     → ((t : ℕ) → t < n → HasSplit next q t → is_member states places t ≡ true) → BeatsListed next p bests q states end d → BeatsSplits next n p bests q d
 splits-all next n p bests q states places end d long there old t h s =
@@ -117,7 +117,7 @@ moves-raised next p bests q d e old le l m has lt = omega (arith, old l m has lt
 pub splits-raised : (next : ℕ → ℕ → List ℕ) (n : ℕ) (p : PartTable) (bests : List Best) (q d e : ℕ) → BeatsSplits next n p bests q d → d ≤ e → BeatsSplits next n p bests q e
 splits-raised next n p bests q d e old le t h s = omega (arith, old t h s)
 
--- one more component
+-- The laws below are about one more component.
 
 pub best-left : (bests : List Best) (b : Best) (k : ℕ) → k < length bests → best_at (bests ++ b ∷ []) k ≡ best_at bests k
 best-left bests b k h = get_or_append_left bests (b ∷ []) no_best k h
@@ -165,9 +165,9 @@ bests-more next n p k bests b parts none are here = record {
         let f : best_at (bests ++ b ∷ []) (number_of p q) ≡ b = get_or_push bests b no_best (number_of p q) (are.size ∙ sym e) in
         subst (IsBest next n p (bests ++ b ∷ []) q) (sym f) (best-kept next n p bests b b q parts none hq (omega (arith, are.size)) (here q hq e))
 
--- ranks
+-- The laws below are about ranks.
 
--- numbers that never rise along a move and fall over a split bound the chains
+-- If numbers never rise along a move and fall over a split, they bound the chains.
 pub chain-bound : (next : ℕ → ℕ → List ℕ) (n : ℕ) (f : ℕ → ℕ) → ((q l m : ℕ) → q < n → Has m (next q l) → (m < n) × (f m ≤ f q)) → ((r q : ℕ) (y : List ℕ) → r < n → q < n → IsSplit next r q y → f q < f r)
     → (s : ℕ) (ms : List Link) → s < n → ChainFrom next s ms → length ms ≤ f s
 chain-bound next n f falls drops s [] hs c = omega arith
@@ -181,7 +181,7 @@ chain-bound next n f falls drops s (m ∷ ms) hs c =
     along s t w hs h =
         along_moves (λ m. (m < n) × (f m ≤ f s)) next (λ q l m i has. let d = falls q l m i.0 has in (d.0, omega (arith, d.1, i.1))) s t w (hs, omega arith) h
 
--- a chain of so many links
+-- There is a chain of as many links as the best one has.
 pub chain-there : (next : ℕ → ℕ → List ℕ) (n : ℕ) (p : PartTable) (bests : List Best) → AreBests next n p n bests → IsParts next n p → (d q : ℕ) → q < n → (best_at bests (number_of p q)).rank ≡ d → (ms : List Link) × ChainFrom next q ms × (length ms ≡ d)
 chain-there next n p bests are parts zero q hq e = ([], tt, refl)
 chain-there next n p bests are parts (suc d) q hq e = by (are.right q hq (parts.below q hq)).good.chain (λ t ht f. chain-there next n p bests are parts d t ht f)
@@ -215,7 +215,7 @@ best-rank next n k p bests b are parts q hq =
     let c = chain-there next n p bests are parts (best_at bests (number_of p q)).rank q hq refl in
     record { chain = c.0; goes = c.1; long = c.2; longest = λ ms goes. best-bound next n k p bests b are parts q ms hq goes }
 
--- one more rank
+-- One more rank is right.
 pub rank-more : (f : ℕ → ℕ) (old new : List ℕ) (k x : ℕ) → length old ≡ k → new ≡ old ++ x ∷ [] → x ≡ f k → ((q : ℕ) → q < k → get_or old q 0 ≡ f q) → (q : ℕ) → q < k + 1 → get_or new q 0 ≡ f q
 rank-more f old new k x size pushed here all q lt = ap (λ (l : List ℕ). get_or l q 0) pushed ∙ by (cases_lt q k)
   where

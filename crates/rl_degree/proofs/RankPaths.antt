@@ -15,7 +15,7 @@ use Rattle.rl_degree.proofs.FiveTimes.{falls-along}
 use Rattle.rl_degree.proofs.WithoutSplit.{without_split}
 use Rattle.rl_degree.proofs.SplitLaws.{ranks-fall, ranks-split}
 
--- a path inside that is not empty ends where the test passes
+-- A path inside that is not empty ends at a state that passes the test.
 ends-inside : (next : ℕ → ℕ → List ℕ) (p : ℕ → Bool) (s t : ℕ) (w : List ℕ) → 1 ≤ length w → 1 ≤ paths (inside p next) s t w → p t ≡ true
 ends-inside next p s t [] some h = absurd (omega arith)
 ends-inside next p s t (l ∷ w) some h =
@@ -23,7 +23,7 @@ ends-inside next p s t (l ∷ w) some h =
     along_moves (λ m. p m ≡ true) (inside p next) (λ a l m q i. Has-passes p m (next a l) i) m.0 t w (Has-passes p m.0 (next s l) m.1) m.2
 
 module _ (next : ℕ → ℕ → List ℕ) (n k : ℕ) (rank : ℕ → ℕ) (within : IsWithin next n k) (no_twin : HasNoTwin next) (falls : NeverRises next n rank) (no_split : HasNoEqualSplit next n rank) where
-  -- the states of one rank
+  -- The states of one rank.
   abbrev of_rank : ℕ → ℕ → Bool
   of_rank c a = eqb (rank a) c
 
@@ -42,7 +42,7 @@ module _ (next : ℕ → ℕ → List ℕ) (n k : ℕ) (rank : ℕ → ℕ) (wit
       more : (a b : ℕ) (y : List ℕ) → 1 ≤ paths (inside (of_rank c) next) a b y → 1 ≤ paths next a b y
       more a b y h = omega (arith, h, inside-less next (of_rank c) a b y)
 
-  -- of one rank the paths are few
+  -- Few paths stay in one rank.
   few-inside : (c s t : ℕ) (w : List ℕ) → s < n → paths (inside (of_rank c) next) s t w ≤ bound_h n k
   few-inside c s t w lt = without_split (inside (of_rank c) next) n k (inside-within next (of_rank c) n k within) (inside-no_twin next (of_rank c) no_twin) (no-split-inside c) s t w lt
 
@@ -50,7 +50,7 @@ module _ (next : ℕ → ℕ → List ℕ) (n k : ℕ) (rank : ℕ → ℕ) (wit
   product-few zero y h c le f = omega (arith, zero-mul y)
   product-few (suc x) y h c le f = mul-le-mul le (f (omega arith))
 
-  -- the paths that leave their rank at one time, where a lower rank has at most `c` paths along what is left
+  -- Few paths leave their rank at one time, if a lower rank has at most `c` paths along what is left.
   rank-share : (s t c : ℕ) (w : List ℕ) → s < n → ((m : ℕ) (u : List ℕ) → m < n → rank m < rank s → length u < length w → paths next m t u ≤ c)
       → (i : ℕ) → shares (inside (of_rank (rank s)) next) (leaving next (of_rank (rank s)) t) n s w i ≤ n * (bound_h n k * (k * c))
   rank-share s t c w lt lower i =
@@ -73,7 +73,7 @@ module _ (next : ℕ → ℕ → List ℕ) (n k : ℕ) (rank : ℕ → ℕ) (wit
           let path : 1 ≤ paths next s a (take i w) = omega (arith, h, inside-less next (of_rank (rank s)) s a (take i w)) in
           leaves-few a (drop i w) (dropped i w) small (falls-along next n k rank within falls s a (take i w) lt path).1
 
-  -- in plain numbers: `x` for the bound within one rank, `y` for the power of the lower ranks, `z` for that of the length
+  -- In plain numbers, `x` is the bound within one rank, `y` is the power of the lower ranks, and `z` is that of the length.
   rank-step : (n k x y z len m : ℕ) → 1 ≤ y → 1 ≤ z → 1 ≤ len → m ≤ x + len * (n * (x * (k * (y * z)))) → m ≤ (x * (1 + n * k) * y) * (len * z)
   rank-step n k x y z len m one-y one-z one-len h =
       let p : 1 ≤ y * (len * z) = positive y (len * z) one-y (positive len z one-len one-z) in
@@ -122,7 +122,7 @@ module _ (next : ℕ → ℕ → List ℕ) (n k : ℕ) (rank : ℕ → ℕ) (wit
           longer : (i j : ℕ) → i < j → suc i ≤ suc j
           longer i j lt = omega arith
 
--- the same for the ranks, the lengths of longest chains
+-- The same holds of the ranks, which are the lengths of longest chains.
 pub by_degree : (next : ℕ → ℕ → List ℕ) (n k : ℕ) (rank : ℕ → ℕ) → IsWithin next n k → HasNoTwin next → ((q : ℕ) → q < n → IsRank next q (rank q))
     → (s t : ℕ) (w : List ℕ) → s < n → paths next s t w ≤ (bound_h n k * (1 + n * k)) ^ suc (rank s) * suc (length w) ^ rank s
 by_degree next n k rank within none ranks s t w lt =

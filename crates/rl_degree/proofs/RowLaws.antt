@@ -22,7 +22,7 @@ use Rattle.rl_kernel.proofs.MemberLaws.{member-there}
 use Rattle.rl_kernel.proofs.InnerPaths.{pair-first}
 use Rattle.rl_degree.proofs.TableLaws.{cell-within, cell-one_back, cell-one_here, cell-one_stays, cell-or_back, cell-or_here, cell-or_stays}
 
--- words
+-- The laws below are about words.
 
 words-stay : (words : List (List ℕ)) (steps : List Step) (k : ℕ) → k < length words → get_or (words_from words steps) k [] ≡ get_or words k []
 words-stay words [] k h = refl
@@ -41,14 +41,14 @@ words-push : (words : List (List ℕ)) (steps : List Step) (s : Step)
 words-push words [] s = refl
 words-push words (x ∷ steps) s = words-push (words ++ (get_or words x.from [] ++ x.letter ∷ []) ∷ []) steps s
 
--- one more step leaves the words of the others
+-- One more step leaves the words of the others as they are.
 pub word-old : (steps : List Step) (s : Step) (k : ℕ) → k ≤ length steps → word_at (steps ++ s ∷ []) k ≡ word_at steps k
 word-old steps s k h =
     let all = words_from ([] ∷ []) steps in
     let w = get_or all s.from [] ++ s.letter ∷ [] in
     ap (λ (v : List (List ℕ)). get_or v k []) (words-push ([] ∷ []) steps s) ∙ get_or_append_left all (w ∷ []) [] k (omega (arith, words-length ([] ∷ []) steps))
 
--- and has the word of the step that it follows and its letter
+-- The new step has the word of the step that it follows, and its letter.
 pub word-new : (steps : List Step) (s : Step) → word_at (steps ++ s ∷ []) (length steps + 1) ≡ word_at steps s.from ++ s.letter ∷ []
 word-new steps s =
     let all = words_from ([] ∷ []) steps in
@@ -69,7 +69,7 @@ words-step words (s ∷ steps) (suc i) n d h e below =
     let w = get_or words s.from [] ++ s.letter ∷ [] in
     words-step (words ++ w ∷ []) steps i n d (omega arith) (omega (arith, length_push words w)) below
 
--- the word of a step by its number, from 1
+-- A step has its word by its number, which counts from 1.
 pub word-step : (steps : List Step) (k : ℕ) (s : Step) → IsRooted steps → 0 < k → k ≤ length steps → s ≡ get_or steps (k - 1) s → word_at steps k ≡ word_at steps s.from ++ s.letter ∷ []
 word-step steps k s rooted some within e =
     let r = rooted (k - 1) s (omega arith) in
@@ -77,14 +77,14 @@ word-step steps k s rooted some within e =
     words-step ([] ∷ []) steps (k - 1) k s (omega arith) (omega arith) (omega (arith, r))
     ∙ ap₂ (λ (x : ℕ) (y : ℕ). word_at steps x ++ y ∷ []) (sym d) (sym (ap (λ (z : Step). z.letter) e))
 
--- what is left to do
+-- The laws below are about the work that is left.
 
 total-set : {A : Type 0} (g : A → ℕ) (l : List A) (i : ℕ) (v d : A) → i < length l → total g (set l i v) + g (get_or l i d) ≡ total g l + g v
 total-set g [] i v d h = absurd (omega arith)
 total-set g (x ∷ l) zero v d h = omega arith
 total-set g (x ∷ l) (suc i) v d h = omega (arith, total-set g l i v d (omega arith))
 
--- a row that holds true where another one does has no more places that hold false
+-- If a row holds true wherever another one does, no more of its places hold false.
 fewer : (a b : List Bool) → length a ≡ length b → ((k : ℕ) → get_or a k false ≡ true → get_or b k false ≡ true) → total (λ x. one (not x)) b ≤ total (λ x. one (not x)) a
 fewer [] [] same more = omega arith
 fewer [] (y ∷ b) same more = absurd (omega arith)
@@ -94,7 +94,7 @@ fewer (true ∷ a) (false ∷ b) same more = absurd (both_ways false refl (more 
 fewer (false ∷ a) (true ∷ b) same more = omega (arith, fewer a b (omega arith) (λ k. more (suc k)))
 fewer (false ∷ a) (false ∷ b) same more = omega (arith, fewer a b (omega arith) (λ k. more (suc k)))
 
--- and fewer where one is new
+-- Fewer of its places hold false if one of them is new.
 one_fewer : (a b : List Bool) (i : ℕ) → length a ≡ length b → ((k : ℕ) → get_or a k false ≡ true → get_or b k false ≡ true) → get_or a i false ≡ false → get_or b i false ≡ true
     → total (λ x. one (not x)) b + 1 ≤ total (λ x. one (not x)) a
 one_fewer [] [] i same more off on = absurd (both_ways false refl on)
@@ -108,13 +108,13 @@ one_fewer (true ∷ a) (false ∷ b) (suc i) same more off on = absurd (both_way
 one_fewer (false ∷ a) (true ∷ b) (suc i) same more off on = omega (arith, one_fewer a b i (omega arith) (λ k. more (suc k)) off on)
 one_fewer (false ∷ a) (false ∷ b) (suc i) same more off on = omega (arith, one_fewer a b i (omega arith) (λ k. more (suc k)) off on)
 
--- one more step
+-- The laws below are about one more step.
 
 one-more : (next : ℕ → ℕ → List ℕ) (q m t l : ℕ) (w : List ℕ) → 1 ≤ paths next q m w → Has t (next m l) → 1 ≤ paths next q t (w ++ l ∷ [])
 one-more next q m t l w h k =
     omega (arith, through_one next q m t w (l ∷ []), positive (paths next q m w) (paths next m t (l ∷ [])) h (move-path next m t t l [] k (omega (arith, paths-nil next t))))
 
--- what a step adds: the states that are new beside a member that the pair of what was found moves to
+-- A step adds the states that are new beside a member that the pair of what was found moves to.
 module _ (d : Field) (f : Found) (l y : ℕ) (image : List Bool) (old : Stand)
     (s : IsSearching d (behind f old)) (img : IsImage d f l image) (move : Has y (d.pairs (get_or d.members f.place 0) l)) (member : is_member d.members d.places y ≡ true) where
   abbrev p : ℕ
@@ -153,7 +153,7 @@ module _ (d : Field) (f : Found) (l y : ℕ) (image : List Bool) (old : Stand)
   waits-stays : (i m : ℕ) → Waits (behind f old) i m → Waits (behind f later) i m
   waits-stays i m w = (w.0, queue-stays w.0 w.1, w.2, w.3)
 
-  -- what is seen now was seen before, or waits
+  -- What is seen now was seen before, or it waits.
   seen-cases : (i m : ℕ) → cell later.seen i m ≡ true → (cell old.seen i m ≡ true) ⊎ Waits (behind f later) i m
   seen-cases i m h = by (cell-or_back old.seen p i m image p-in p-wide h)
     where
@@ -169,7 +169,7 @@ module _ (d : Field) (f : Found) (l y : ℕ) (image : List Bool) (old : Stand)
   abbrev st : Step
   st = record { from = f.step; letter = l }
 
-  -- the steps are the ones before, and the new one where they are kept
+  -- The steps are the ones before, and the new one if steps are kept.
   steps-cases : ((later.steps ≡ old.steps ++ st ∷ []) × (added.step ≡ length old.steps + 1)) ⊎ ((old.keeps ≡ false) × (later.steps ≡ old.steps) × (added.step ≡ 0))
   steps-cases = by (cases_Bool old.keeps)
     where
@@ -303,7 +303,7 @@ further-more d f a b c x y = record {
   work = omega (arith, x.work, y.work);
 }
 
--- a pair is met: the search goes further, and the middle states were seen beside it
+-- If a pair is met, the search goes further, and the middle states were seen beside it.
 pub reach-further : (d : Field) (f : Found) (l y : ℕ) (image : List Bool) (old new : Stand) → IsSearching d (behind f old) → IsImage d f l image
     → Has y (d.pairs (get_or d.members f.place 0) l) → is_member d.members d.places y ≡ true → IsReached f.step l (get_or d.places y 0) image old new
     → IsFurther d f old new × ((k : ℕ) → get_or image k false ≡ true → cell new.seen (get_or d.places y 0) k ≡ true)
@@ -313,17 +313,17 @@ reach-further d f l y image old fresh s img move member (inr a) =
     subst (λ (z : Stand). IsFurther d f old z × ((k : ℕ) → get_or image k false ≡ true → cell z.seen (get_or d.places y 0) k ≡ true)) (sym a.1)
     (further-new d f l y image old s img move member a.0, seen-new d f l y image old s img move member)
 
--- the moves of the pair on a letter, one after the other
+-- The laws below are about the moves of the pair on a letter, one after the other.
 
--- what was met stays so
+-- What was met stays met.
 pub met-stays : (d : Field) (f : Found) (image : List Bool) (y : ℕ) (old new : Stand) → IsFurther d f old new → IsMet d image old y → IsMet d image new y
 met-stays d f image y old new further met member k on = further.grows (get_or d.places y 0) k (met member k on)
 
--- what is no member is met
+-- A pair that is no member is met.
 pub met-passed : (d : Field) (image : List Bool) (y : ℕ) (s : Stand) → is_member d.members d.places y ≡ false → IsMet d image s y
 met-passed d image y s other member k on = absurd (both_ways (is_member d.members d.places y) other member)
 
--- what stays so for the first numbers, and holds for the next one
+-- If something stays so for the first numbers and holds for the next one, it holds for one more.
 pub first-more : (before after : ℕ → Type 0) (end : ℕ) → ((j : ℕ) → before j → after j) → after end → ((j : ℕ) → j < end → before j) → (j : ℕ) → j < end + 1 → after j
 first-more before after end stays here old j lt = by (cases_lt j end)
   where
@@ -331,7 +331,7 @@ first-more before after end stays here old j lt = by (cases_lt j end)
     by (inl a) = stays j (old j a)
     by (inr a) = let e : end ≡ j = omega arith in subst after e here
 
--- what holds at all places of a list holds of its members
+-- If something holds at all places of a list, it holds of all its members.
 pub each-place : (is : ℕ → Type 0) (l : List ℕ) (end : ℕ) → length l ≤ end → ((j : ℕ) → j < end → is (get_or l j 0)) → (y : ℕ) → Has y l → is y
 each-place is l end long all y h =
     let j = at-has y l h in
@@ -340,7 +340,7 @@ each-place is l end long all y h =
 pub has-long : (x : ℕ) (l : List ℕ) → Has x l → length l ≡ 0 → ⊥
 has-long x l h e = let i = at-has x l h in absurd (omega (arith, e, at-short l i.0 x i.1))
 
--- the pairs of the targets of the two states
+-- The targets of the two states are pairs.
 has-both : (n x y : ℕ) (a b : List ℕ) → Has x a → Has y b → Has (x * n + y) (flat_map (λ x. map (λ y. x * n + y) b) a)
 has-both n x y [] b hx hy = absurd hx
 has-both n x y (z ∷ a) b (inl e) hy =
@@ -354,7 +354,7 @@ pub outer-has : (next : ℕ → ℕ → List ℕ) (n p q z l x y : ℕ) (firsts 
 outer-has next n p q z l x y firsts seconds ep eq ef es hx hy =
     has-both n x y (next (z / n) l) (next (z % n) l) (subst (λ (r : List ℕ). Has x r) (ef ∙ ap (λ (i : ℕ). next i l) ep) hx) (subst (λ (r : List ℕ). Has y r) (es ∙ ap (λ (i : ℕ). next i l) eq) hy)
 
--- and no others
+-- The pair moves to no others.
 pub outer-only : (next : ℕ → ℕ → List ℕ) (n p q z l m : ℕ) (firsts seconds : List ℕ) → p ≡ z / n → q ≡ z % n → firsts ≡ next p l → seconds ≡ next q l
     → Has m (pair_moves next n z l) → (x : ℕ) × (y : ℕ) × Has x firsts × Has y seconds × (m ≡ x * n + y)
 outer-only next n p q z l m firsts seconds ep eq ef es h =
@@ -367,11 +367,11 @@ outer-only next n p q z l m firsts seconds ep eq ef es h =
       b.2,
     )
 
--- what was met beside all of them was followed
+-- If all of them were met, what was found was followed.
 pub met-all : (d : Field) (f : Found) (l : ℕ) (image : List Bool) (s : Stand) → IsImage d f l image → ((y : ℕ) → Has y (outer_moves d f l) → IsMet d image s y) → IsFollowedOn d f l s
 met-all d f l image s img all m fresh y k hy member hk = all y hy member k ((img.moves k).1 (m, fresh, hk))
 
--- the letters, one after the other
+-- If what was found was followed on one more letter, it was followed up to the next one.
 pub followed-more : (d : Field) (f : Found) (end : ℕ) (old new : Stand) → IsFurther d f old new → IsFollowedOn d f end new → IsFollowedUpTo d f end old → IsFollowedUpTo d f (end + 1) new
 followed-more d f end old new further here before l lt m fresh y k hy member hk = by (cases_lt l end)
   where
@@ -381,7 +381,7 @@ followed-more d f end old new further here before l lt m fresh y k hy member hk 
         let e : l ≡ end = omega arith in
         here m fresh y k (rw e at hy) member (rw e at hk)
 
--- the image of what was found
+-- The row is the image of what was found.
 pub image-of : (g : Graph) (t : PairTable) (part l : ℕ) (f : Found) (table : List (List Bool)) (row : List Bool) → IsMoveTable g l table → row ≡ rows_image table f.middle g.states
     → IsImage (field_of g t part) f l row
 image-of g t part l f table row on e = record {
@@ -392,13 +392,13 @@ image-of g t part l f table row on e = record {
   );
 }
 
--- where something was found there are tables
+-- If something was found, there are tables.
 pub tables-there : (g : Graph) (t : PairTable) (part : ℕ) (f : Found) (s : Stand) → IsTable g t → IsSearching (field_of g t part) (behind f s) → AreMoveTables g t.inner t.moves.items
 tables-there g t part f s is h =
     let here = (h.found f (inl refl)).place_in in
     is.moves (outer_of (field_of g t part) f) (is.placed.pairs part f.place here) (is.placed.are_wanted part f.place here)
 
--- a letter that its pair moves on is used
+-- A letter that its pair moves on is used.
 pub used-there : (g : Graph) (t : PairTable) (part l p : ℕ) (f : Found) (s : Stand) (firsts : List ℕ) → IsTable g t → IsSearching (field_of g t part) (behind f s) → p ≡ outer_of (field_of g t part) f / t.inner.states
     → firsts ≡ edges_of t.inner p l → eqb (length firsts) 0 ≡ false → IsUsed t.inner l
 used-there g t part l p f s firsts is h ep ef some =
@@ -407,13 +407,13 @@ used-there g t part l p f s firsts is h ep ef some =
     let small = pair-first t.inner.states (outer_of (field_of g t part) f) here in
     (p, get_or firsts 0 0, omega (arith, small, ep), subst (λ (r : List ℕ). Has (get_or firsts 0 0) r) ef (Has-get_or firsts 0 0 (omega (arith, ne))))
 
--- the table of a letter
+-- The table of such a letter is right.
 pub table-at : (g : Graph) (t : PairTable) (part l : ℕ) (f : Found) (s : Stand) (table : List (List Bool)) → IsTable g t → IsSearching (field_of g t part) (behind f s) → l < g.letters → IsUsed t.inner l → table ≡ get_or t.moves.items l table → IsMoveTable g l table
 table-at g t part l f s table is h small used e =
     let are = tables-there g t part f s is h in
     subst (IsMoveTable g l) (sym (get_or_read t.moves.items l table (omega (arith, are.size)) e [])) (are.right l small used)
 
--- what was found is followed
+-- What was found has been followed on all letters.
 
 pub settle : (d : Field) (f : Found) (s : Stand) (letters : ℕ) → ((x l : ℕ) → letters ≤ l → d.pairs x l ≡ []) → IsSearching d (behind f s) → IsFollowedUpTo d f letters s
     → (f.place ≡ s.place → has_middle f s.to ≡ true → ⊥) → IsSearching d s
@@ -447,7 +447,7 @@ settle d f s letters none h all other = record {
     goal (e, inl here, at, fresh) =
         absurd (other (ap (λ (z : Found). z.place) (sym here) ∙ at) (ap (λ (z : Found). has_middle z s.to) (sym here) ∙ fresh))
 
--- the start
+-- The laws below are about the start of a search.
 
 pub searching-start : (d : Field) (keeps : Bool) (hopeless : List Bool) (pairs place from to : ℕ) → pairs ≡ length d.members → place < pairs → from < d.states → length hopeless ≡ d.states
     → ((m l k : ℕ) → get_or hopeless m false ≡ true → Has k (d.next m l) → get_or hopeless k false ≡ true) → (get_or hopeless to false ≡ true → ⊥) → IsSearching d (start_stand keeps hopeless pairs place from to)
@@ -502,7 +502,7 @@ searching-start d keeps hopeless pairs place from to e hp hf wide-row closed lac
     waits : (i m : ℕ) → i ≡ place → m ≡ from → Waits (start_stand keeps hopeless pairs place from to) i m
     waits i m a b = (record { step = 0; place = place; middle = row_with (length hopeless) from }, inl refl, sym a, rw b fresh-first)
 
-    -- a cell of the rows before the start was set
+    -- A cell that is set in the rows before the start is set in the row `hopeless`.
     in-row : (i m : ℕ) → cell (replicate pairs hopeless) i m ≡ true → get_or hopeless m false ≡ true
     in-row i m on =
         let lt : i < pairs = omega (arith, cell-within (replicate pairs hopeless) i m on, length-replicate pairs hopeless) in
@@ -519,9 +519,9 @@ searching-start d keeps hopeless pairs place from to e hp hf wide-row closed lac
     goal (inl a) = absurd (lacks (in-row place to a))
     goal (inr a) = waits place to refl a.1
 
--- the end
+-- The laws below are about the end of a search.
 
--- with nothing left to follow, what is reached was seen
+-- If nothing is left to follow, whatever is reached was seen.
 reached-seen : (d : Field) (s : Stand) → IsSearching d s → s.queue ≡ [] → (z q : ℕ) (w : List ℕ) (v m : ℕ)
     → ((y : ℕ) → Reaches d.pairs v y → Reaches d.pairs y z → is_member d.members d.places y ≡ true)
     → cell s.seen (get_or d.places v 0) m ≡ true → 1 ≤ paths d.pairs v z w → 1 ≤ paths d.next m q w → cell s.seen (get_or d.places z 0) q ≡ true
@@ -542,7 +542,7 @@ reached-seen d s h empty z q (l ∷ w) v m all on p r =
     step x k at member hx hk (inl waits) = absurd (subst (λ (r : List Found). Has waits.0 r) empty waits.1)
     step x k at member hx hk (inr passed) = passed l x k (subst (λ (a : ℕ). Has x (d.pairs a l)) (sym at) hx) member hk
 
--- so what is looked for is not reached
+-- So what is looked for is not reached.
 pub never-reached : (d : Field) (s : Stand) → IsSearching d s → s.queue ≡ [] → (x : ℕ) (w : List ℕ) → get_or d.places x 0 ≡ s.place
     → ((y : ℕ) → Reaches d.pairs x y → Reaches d.pairs y x → is_member d.members d.places y ≡ true) → 1 ≤ paths d.pairs x x w → 1 ≤ paths d.next s.from s.to w → ⊥
 never-reached d s h empty x w at all p r =
@@ -550,9 +550,9 @@ never-reached d s h empty x w at all p r =
     let waits = h.goal (subst (λ (a : ℕ). cell s.seen a s.to ≡ true) at on) in
     absurd (subst (λ (r : List Found). Has waits.0 r) empty waits.1)
 
--- the word on the way back
+-- The laws below are about the word on the way back.
 
--- the letters so far, last first, lead from a step to the one that is asked for
+-- The letters so far, the last one first, lead from a step to the one that is asked for.
 pub record IsWayBack (steps : List Step) (at goal : ℕ) (letters : List ℕ) : Type 0 where
   pub within : at ≤ length steps
   pub word : word_at steps goal ≡ word_at steps at ++ reverse letters

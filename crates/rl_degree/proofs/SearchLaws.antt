@@ -26,13 +26,13 @@ use Rattle.rl_degree.proofs.ReachLaws.{path-reached, hopeless-closed, hopeless-l
 use Rattle.rl_degree.proofs.FallingPairLaws.{falls-along, pair-falling, falling-pair}
 use Rattle.rl_degree.proofs.RowLaws.{searching-start, settle, never-reached}
 
--- pairs
+-- The laws below are about pairs.
 
 pub both-pair : (h : ℕ → ℕ → List ℕ) (n k : ℕ) → IsBounded h n k → (r q : ℕ) (w : List ℕ) → r < n → q < n → 1 ≤ paths h r r w → 1 ≤ paths h q q w → 1 ≤ paths (pair_moves h n) (r * n + q) (r * n + q) w
 both-pair h n k b r q w hr hq p s =
     subst (λ (z : ℕ). 1 ≤ z) (sym (pair_paths h n k b r q r q w hr hq hr hq)) (positive (paths h r r w) (paths h q q w) p s)
 
--- in a graph without a twin a split leads to a lower component
+-- In a graph without a twin, a split leads to a lower component.
 pub split-below : (next : ℕ → ℕ → List ℕ) (n : ℕ) (p : PartTable) → IsParts next n p → HasNoTwin next → (r q : ℕ) (y : List ℕ) → r < n → q < n → IsSplit next r q y → number_of p q < number_of p r
 split-below next n p parts none r q y hr hq s = by (cases_lt (number_of p q) (number_of p r))
   where
@@ -43,15 +43,15 @@ split-below next n p parts none r q y hr hq s = by (cases_lt (number_of p q) (nu
         let back = ((parts.same r q hr hq).0 e).1 in
         absurd (split_falls next r q y back.0 none s back.1)
 
--- tables
+-- The laws below are about tables.
 
--- what a search is for: the split of two states, in the part of their pair
+-- A search is for the split of two states, in the part of their pair.
 pub record IsFor (g : Graph) (t : PairTable) (x part : ℕ) (s : Stand) : Type 0 where
   pub pair : IsPairFor t s.from s.to x
   pub of_part : part ≡ number_of t.parts x
   pub place : s.place ≡ get_or (lists_of t.placed).places x 0
 
--- it is for the same where something is still to be followed
+-- While something is still to be followed, the search is for the same.
 pub for-behind : (g : Graph) (t : PairTable) (x part : ℕ) (s old : Stand) (f : Found) → old ≡ behind f s → IsFor g t x part old → IsFor g t x part s
 for-behind g t x part s old f e is = record {
   pair = subst (λ (z : Stand). IsPairFor t z.from z.to x) e is.pair;
@@ -87,7 +87,7 @@ module _ (g : Graph) (t : PairTable) (whole : IsWhole g) (table : IsTable g t) w
   pub second-in : (x : ℕ) → x < t.inner.states * t.inner.states → second x < g.states
   second-in x h = table.kernel.seats.below (x % t.inner.states) (at-second x h)
 
-  -- what is said of a wanted pair
+  -- A wanted pair lies on a cycle, and its second state is in a lower component.
   wanted-parts : (x : ℕ) → x < t.inner.states * t.inner.states → is_wanted t.kernel.levels.items t.parts t.inner.states x ≡ true → IsTrue (cycle_of t.parts x) × (number_of t.components (second x) < number_of t.components (first x))
   wanted-parts x hx w =
       let n = t.inner.states in
@@ -106,18 +106,18 @@ module _ (g : Graph) (t : PairTable) (whole : IsWhole g) (table : IsTable g t) w
   wanted-from x hx c less =
       and_from (cycle_of t.parts x) (falls t.kernel.levels.items t.inner.states x) c (falls-from x hx less)
 
-  -- a wanted pair falls
+  -- A wanted pair falls.
   wanted-falls : (x : ℕ) → is_wanted t.kernel.levels.items t.parts t.inner.states x ≡ true → falls t.kernel.levels.items t.inner.states x ≡ true
   wanted-falls x w = (and_parts (cycle_of t.parts x) (falls t.kernel.levels.items t.inner.states x) w).1
 
-  -- what a pair that falls reaches
+  -- A pair that falls reaches the same pairs by the moves of the pairs that fall.
   to-falling : (x y : ℕ) → falls t.kernel.levels.items t.inner.states x ≡ true → Reaches product x y → Reaches falling x y
   to-falling x y f r = (r.0, pair-falling g t.components (seats_of t.kernel) t.inner table.kernel.seats table.inner x y r.0 f r.1)
 
   from-falling : (x y : ℕ) → Reaches falling x y → Reaches product x y
   from-falling x y r = (r.0, falling-pair g t.components (seats_of t.kernel) t.inner table.kernel.seats table.inner x y r.0 r.1)
 
-  -- both ways, where it is reached and leads back
+  -- If it reaches a pair that leads back, it does both by these moves.
   round-falling : (x y : ℕ) → falls t.kernel.levels.items t.inner.states x ≡ true → Reaches product x y → Reaches product y x → Reaches falling x y × Reaches falling y x
   round-falling x y f r s =
       (to-falling x y f r, to-falling y x (falls-along g t.components (seats_of t.kernel) t.inner table.kernel.seats table.inner x y r.0 f r.1) s)
@@ -126,7 +126,7 @@ module _ (g : Graph) (t : PairTable) (whole : IsWhole g) (table : IsTable g t) w
   product-in x y h r =
       along_moves (λ m. m < t.inner.states * t.inner.states) product (λ q l m i j. (bounded-pairs (edges_of t.inner) t.inner.states g.letters bounded).targets q l m j) x y r.0 h r.1
 
-  -- what the pairs reach
+  -- If a pair reaches another one, so do its states.
   pub pair-reaches : (x y : ℕ) → x < t.inner.states * t.inner.states → y < t.inner.states * t.inner.states → (w : List ℕ) → 1 ≤ paths product x y w
       → (1 ≤ paths (edges_of g) (first x) (first y) w) × (1 ≤ paths (edges_of g) (second x) (second y) w)
   pair-reaches x y hx hy w p =
@@ -134,7 +134,7 @@ module _ (g : Graph) (t : PairTable) (whole : IsWhole g) (table : IsTable g t) w
       let b = pair-both (edges_of t.inner) n g.letters bounded x y w hx hy p in
       (inner-path g t.inner t.components (seats_of t.kernel) table.inner (x / n) (y / n) w b.0, inner-path g t.inner t.components (seats_of t.kernel) table.inner (x % n) (y % n) w b.1)
 
-  -- one pair of a part is a split where another one is
+  -- If one pair of a part is a split, so is each other one.
   pub part-splits : HasNoTwin (edges_of g) → (x y : ℕ) → x < t.inner.states * t.inner.states → y < t.inner.states * t.inner.states → number_of t.parts x ≡ number_of t.parts y
       → HasSplit (edges_of g) (first x) (second x) → HasSplit (edges_of g) (first y) (second y)
   part-splits none x y hx hy e s =
@@ -145,7 +145,7 @@ module _ (g : Graph) (t : PairTable) (whole : IsWhole g) (table : IsTable g t) w
       let back = pair-reaches x y hx hy come.0 come.1 in
       (go.0 ++ (s.0 ++ come.0), split_in_component (edges_of g) (first x) (second x) (first y) (second y) s.0 go.0 come.0 none s.1 to.0 to.1 back.0 back.1)
 
-  -- with a wanted pair each pair of its part is wanted
+  -- If one pair of a part is wanted, so is each other one.
   pub part-wanted : (x y : ℕ) → x < t.inner.states * t.inner.states → Reaches product x y → Reaches product y x → is_wanted t.kernel.levels.items t.parts t.inner.states x ≡ true → is_wanted t.kernel.levels.items t.parts t.inner.states y ≡ true
   part-wanted x y hx r s w =
       let hy = product-in x y hx r in
@@ -155,7 +155,7 @@ module _ (g : Graph) (t : PairTable) (whole : IsWhole g) (table : IsTable g t) w
       and_from (cycle_of t.parts y) (falls t.kernel.levels.items t.inner.states y) ((table.parts.on_cycle y hy).1 (cycle-same falling x y both.0 both.1 cycle))
       (falls-along g t.components (seats_of t.kernel) t.inner table.kernel.seats table.inner x y r.0 f r.1)
 
-  -- the states of a component are there, where one of them is one of a split
+  -- The list has all states of the components of a split.
   split-there : HasNoTwin (edges_of g) → (r q : ℕ) (y : List ℕ) → r < g.states → q < g.states → IsSplit (edges_of g) r q y
       → (f e : ℕ) → f < g.states → e < g.states → number_of t.components f ≡ number_of t.components r → number_of t.components e ≡ number_of t.components q
       → (is_member (seats_of t.kernel).states (seats_of t.kernel).places f ≡ true) × (is_member (seats_of t.kernel).states (seats_of t.kernel).places e ≡ true)
@@ -169,7 +169,7 @@ module _ (g : Graph) (t : PairTable) (whole : IsWhole g) (table : IsTable g t) w
       table.kernel.covers f e hf he ((table.components.on_cycle f hf).1 cf) ((table.components.on_cycle e he).1 ce)
       (omega (arith, ef, ee, split-below next g.states t.components table.components none r q (l ∷ y) hr hq s))
 
-  -- the word of a split leads the pair of its states to itself
+  -- The word of a split leads the pair of its states to itself.
   split-pair : HasNoTwin (edges_of g) → (x : ℕ) (y : List ℕ) → x < t.inner.states * t.inner.states → IsSplit (edges_of g) (first x) (second x) y → 1 ≤ paths product x x y
   split-pair none x y hx s =
       let n = t.inner.states in
@@ -184,7 +184,7 @@ module _ (g : Graph) (t : PairTable) (whole : IsWhole g) (table : IsTable g t) w
       let c = both-pair (edges_of t.inner) n g.letters bounded (x / n) (x % n) y (pair-first n x hx) (pair-second n x hx) a b in
       subst (λ (z : ℕ). 1 ≤ paths product z z y) (div-add-mod' x n) c
 
-  -- a pair that is a split is wanted
+  -- A pair that is a split is wanted.
   pub split-wanted : HasNoTwin (edges_of g) → (x : ℕ) → x < t.inner.states * t.inner.states → HasSplit (edges_of g) (first x) (second x) → is_wanted t.kernel.levels.items t.parts t.inner.states x ≡ true
   split-wanted none x hx s = wanted-from x hx ((table.parts.on_cycle x hx).1 (cycle s.0 s.1)) less
     where
@@ -195,11 +195,11 @@ module _ (g : Graph) (t : PairTable) (whole : IsWhole g) (table : IsTable g t) w
       cycle [] s = absurd (s.apart (nil-same (edges_of g) (first x) (second x) s.over))
       cycle (l ∷ y) s = (l, y, pair-falling g t.components (seats_of t.kernel) t.inner table.kernel.seats table.inner x x (l ∷ y) (falls-from x hx less) (split-pair none x (l ∷ y) hx s))
 
-  -- a state of a split reaches the other one
+  -- The first state of a split reaches the second.
   pub split-reaches : (r q : ℕ) → r < g.states → q < g.states → HasSplit (edges_of g) r q → reaches t.components t.reached.items r q ≡ true
   split-reaches r q hr hq s = path-reached g t.components t.reached.items whole table.components table.reached r q s.0 hr hq s.1.over
 
-  -- the pair of two states
+  -- The laws below are about the pair of two states.
 
   pub not-there : HasNoTwin (edges_of g) → (r q : ℕ) → r < g.states → q < g.states → HasSplit (edges_of g) r q
       → (is_member (seats_of t.kernel).states (seats_of t.kernel).places r ≡ true) × (is_member (seats_of t.kernel).states (seats_of t.kernel).places q ≡ true)
@@ -226,9 +226,9 @@ module _ (g : Graph) (t : PairTable) (whole : IsWhole g) (table : IsTable g t) w
         to = ap (state_at (seats_of t.kernel)) (ap (λ z. z % m) e ∙ (mod-mul-add i m j hj ∙ pj.place)) ∙ b.1;
       }
 
-  -- the search
+  -- The laws below are about the search.
 
-  -- the members and places of a wanted pair's part
+  -- The members and places of a wanted pair's part.
   pub record IsStart (x : ℕ) (members places : List ℕ) : Type 0 where
     pub members_are : members ≡ row_of (lists_of t.placed) (number_of t.parts x)
     pub places_are : places ≡ (lists_of t.placed).places
@@ -247,7 +247,7 @@ module _ (g : Graph) (t : PairTable) (whole : IsWhole g) (table : IsTable g t) w
         here = ap₂ (λ (r : List ℕ) (z : ℕ). get_or r z 0) e p ∙ held.here;
       }
 
-  -- the members of the part of a wanted pair stand at their places
+  -- The members of the part of a wanted pair stand at their places.
   start-members : (x : ℕ) (members places : List ℕ) → x < t.inner.states * t.inner.states → is_wanted t.kernel.levels.items t.parts t.inner.states x ≡ true → IsStart x members places
       → (v : ℕ) → Reaches product x v → Reaches product v x → is_member members places v ≡ true
   start-members x members places hx w s v to back =
@@ -257,7 +257,7 @@ module _ (g : Graph) (t : PairTable) (whole : IsWhole g) (table : IsTable g t) w
       let there = start-there v (number_of t.parts x) members places hv (part-wanted x v hx to back w) (sym same) s.members_are s.places_are in
       there-member members places v there.within there.here
 
-  -- a word that leads the pair to itself and its first state to its second one is the word of a split
+  -- A word is that of a split if it leads the pair to itself and its first state to its second one.
   path-split : (x : ℕ) (w : List ℕ) → x < t.inner.states * t.inner.states → is_wanted t.kernel.levels.items t.parts t.inner.states x ≡ true
       → 1 ≤ paths product x x w → 1 ≤ paths (edges_of g) (first x) (second x) w → IsSplit (edges_of g) (first x) (second x) w
   path-split x w hx wanted pair over =
@@ -274,8 +274,17 @@ module _ (g : Graph) (t : PairTable) (whole : IsWhole g) (table : IsTable g t) w
   start-of x part s f =
       start-there x part (row_of (lists_of t.placed) part) (lists_of t.placed).places f.pair.within f.pair.wanted f.of_part refl refl
 
-  -- the search begins right
-  pub search-start : (keeps : Bool) (hopeless : List Bool) (x part pairs place r q : ℕ) (s : Stand) → r < g.states → q < g.states → IsHopeless g.states t.components t.reached.items q hopeless → IsPairFor t r q x → part ≡ number_of t.parts x
+  -- The row of the states that can't reach the second state of a pair is there.
+  pub hopeless-there : (r q x : ℕ) → IsPairFor t r q x → IsHopeless g.states t.components t.reached.items (number_of t.components q) (get_or t.hopeless.items (number_of t.components q) [])
+  hopeless-there r q x pair =
+      let i = x % t.inner.states in
+      let at = at-second x pair.within in
+      let e : get_or t.kernel.levels.items i 0 ≡ number_of t.components q = table.kernel.seats.level i at ∙ ap (number_of t.components) pair.to in
+      subst (λ (k : ℕ). IsHopeless g.states t.components t.reached.items k (get_or t.hopeless.items k [])) e
+      (table.hopeless.right i (omega (arith, at, table.kernel.seats.same_length)))
+
+  -- The search begins right.
+  pub search-start : (keeps : Bool) (hopeless : List Bool) (x part pairs place r q : ℕ) (s : Stand) → r < g.states → q < g.states → IsHopeless g.states t.components t.reached.items (number_of t.components q) hopeless → IsPairFor t r q x → part ≡ number_of t.parts x
       → place ≡ get_or (lists_of t.placed).places x 0 → pairs ≡ length (row_of (lists_of t.placed) part) → s ≡ start_stand keeps hopeless pairs place r q
       → IsSearching (field_of g t part) s × IsFor g t x part s
   search-start keeps hopeless x part pairs place r q s hr hq lost pair of_part at long es =
@@ -286,7 +295,7 @@ module _ (g : Graph) (t : PairTable) (whole : IsWhole g) (table : IsTable g t) w
         subst (IsFor g t x part) (sym es) is,
       )
 
-  -- and goes on right
+  -- The search goes on right.
   pub search-further : (x part : ℕ) (s new : Stand) (f : Found) → IsFor g t x part s → IsFurther (field_of g t part) f s new → IsFollowedUpTo (field_of g t part) f g.letters new
       → (f.place ≡ s.place → has_middle f s.to ≡ true → ⊥) → IsSearching (field_of g t part) new × IsFor g t x part new
   search-further x part s new f is further all other = (
@@ -299,7 +308,7 @@ module _ (g : Graph) (t : PairTable) (whole : IsWhole g) (table : IsTable g t) w
     },
   )
 
-  -- a word to what is looked for is that of a split
+  -- A word to what is looked for is that of a split.
   pub search-found : (x part : ℕ) (s : Stand) (f : Found) → IsFor g t x part s → (h : IsSearching (field_of g t part) (behind f s)) → f.place ≡ s.place → has_middle f s.to ≡ true
       → IsSplit (edges_of g) s.from s.to (h.found f (inl refl)).word
   search-found x part s f is h at fresh =
@@ -314,13 +323,13 @@ module _ (g : Graph) (t : PairTable) (whole : IsWhole g) (table : IsTable g t) w
       subst (λ (z : ℕ). IsSplit (edges_of g) z s.to d.word) is.pair.from (subst (λ (z : ℕ). IsSplit (edges_of g) (first x) z d.word) is.pair.to
       (path-split x d.word is.pair.within is.pair.wanted pair over))
 
-  -- that of its step, where steps are kept
+  -- If steps are kept, the word of its step is that word.
   pub search-word : (x part : ℕ) (s : Stand) (f : Found) (word : List ℕ) → IsFor g t x part s → IsSearching (field_of g t part) (behind f s) → f.place ≡ s.place → has_middle f s.to ≡ true
       → s.keeps ≡ true → word ≡ word_at s.steps f.step → IsSplit (edges_of g) s.from s.to word
   search-word x part s f word is h at fresh keeps e =
       subst (IsSplit (edges_of g) s.from s.to) ((h.found f (inl refl)).kept keeps ∙ sym e) (search-found x part s f is h at fresh)
 
-  -- where nothing is left to follow, there is no split
+  -- If nothing is left to follow, there is no split.
   pub search-none : HasNoTwin (edges_of g) → (x part : ℕ) (s : Stand) → IsFor g t x part s → IsSearching (field_of g t part) s → s.queue ≡ [] → HasSplit (edges_of g) s.from s.to → ⊥
   search-none none x part s is h empty split =
       let start = start-of x part s is in
@@ -330,7 +339,7 @@ module _ (g : Graph) (t : PairTable) (whole : IsWhole g) (table : IsTable g t) w
       (start-members x (row_of (lists_of t.placed) part) (lists_of t.placed).places is.pair.within is.pair.wanted start)
       (split-pair none x split.0 is.pair.within here) split.1.over
 
-  -- marks
+  -- The laws below are about marks.
 
   pub split-marked : (marks : List (Option Bool)) (r q x k : ℕ) (b : Bool) → AreMarks g t marks → IsPairFor t r q x → k ≡ number_of t.parts x
       → get_or marks k None ≡ Some b → IsTrue b ↔ HasSplit (edges_of g) r q
@@ -338,7 +347,7 @@ module _ (g : Graph) (t : PairTable) (whole : IsWhole g) (table : IsTable g t) w
       subst (λ (z : ℕ). IsTrue b ↔ HasSplit (edges_of g) r z) pair.to
       (subst (λ (z : ℕ). IsTrue b ↔ HasSplit (edges_of g) z (second x)) pair.from (are.right k b at x pair.within pair.wanted (sym e)))
 
-  -- whether one pair of a part is a split tells it of all of them
+  -- Whether one pair of a part is a split tells it of all of them.
   pub mark-of : HasNoTwin (edges_of g) → (r q x k : ℕ) (b : Bool) → IsPairFor t r q x → k ≡ number_of t.parts x → IsTrue b ↔ HasSplit (edges_of g) r q → IsMark g t k b
   mark-of none r q x k b pair ek both y hy w e =
       let hx = pair.within in
@@ -347,12 +356,12 @@ module _ (g : Graph) (t : PairTable) (whole : IsWhole g) (table : IsTable g t) w
       subst (λ (z : ℕ). IsTrue b ↔ HasSplit (edges_of g) z (second x)) (sym pair.from) (subst (λ (z : ℕ). IsTrue b ↔ HasSplit (edges_of g) r z) (sym pair.to) both) in
       (λ h. part-splits none x y hx hy same (at.0 h), λ s. at.1 (part-splits none y x hy hx (sym same) s))
 
-  -- what a search answers
+  -- The answer of a search tells whether there is a split.
   pub search-tells : {A : Type 0} (r q : ℕ) (o : Option A) (b : Bool) → b ≡ is_some o → IfSome o (λ w. HasSplit (edges_of g) r q) → IfNone o (HasSplit (edges_of g) r q → ⊥) → IsTrue b ↔ HasSplit (edges_of g) r q
   search-tells r q (Some w) b e s o = (λ h. s, λ h. e)
   search-tells r q None b e s o = (λ h. absurd (both_ways b e h), λ h. absurd (o h))
 
--- no mark
+-- No mark is known yet.
 pub marks-none : (g : Graph) (t : PairTable) (marks : List (Option Bool)) → marks ≡ replicate (t.inner.states * t.inner.states) None → AreMarks g t marks
 marks-none g t marks e = record {
   size = ap length e ∙ length-replicate n None;
@@ -369,7 +378,7 @@ marks-none g t marks e = record {
     unknown k b at (inl lt) = none-some b (sym (get_or-replicate n k None None lt) ∙ at)
     unknown k b at (inr past) = none-some b (sym (get_or_past (replicate n None) k None (omega (arith, length-replicate {A = Option Bool} n None, past))) ∙ at)
 
--- one more mark
+-- One more mark is right.
 pub marks-set : (g : Graph) (t : PairTable) (marks : List (Option Bool)) (k : ℕ) (b : Bool) → AreMarks g t marks → k < length marks → IsMark g t k b → AreMarks g t (set marks k (Some b))
 marks-set g t marks k b are h here = record {
   size = length-set marks k (Some b) ∙ are.size;

@@ -9,11 +9,11 @@ use Rattle.rl_degree.proofs.Leaving.{strictly}
 use Rattle.rl_degree.proofs.FiveTimes.{falls-along}
 use Rattle.rl_degree.proofs.Levels.{stable, table, IsLevel, level-of, Reached, reach_count}
 
--- a way and then a way
+-- Two paths, one after the other, are a path.
 pub ways : (next : ℕ → ℕ → List ℕ) (s m t : ℕ) (u v : List ℕ) → 1 ≤ paths next s m u → 1 ≤ paths next m t v → 1 ≤ paths next s t (u ++ v)
 ways next s m t u v a b = omega (arith, positive (paths next s m u) (paths next m t v) a b, through_one next s m t u v)
 
--- two different states on the way back to one state are a twin of it
+-- If two different states are reached from a state on one word, and lead back to it on one word, the state has a twin.
 pub apart_and_back : (next : ℕ → ℕ → List ℕ) (s a b : ℕ) (t u : List ℕ) → HasNoTwin next → a ≢ b → 1 ≤ paths next s a t → 1 ≤ paths next s b t → 1 ≤ paths next a s u → 1 ≤ paths next b s u → ⊥
 apart_and_back next s a b t u none ne to_a to_b from_a from_b =
     absurd (omega (
@@ -24,7 +24,7 @@ apart_and_back next s a b t u none ne to_a to_b from_a from_b =
       positive (paths next s b t) (paths next b s u) to_b from_b,
     ))
 
--- a pair that is reached from a split's pair, and reaches it, is a split
+-- A pair that is reached from a split's pair and reaches it is a split.
 pub split_in_component : (next : ℕ → ℕ → List ℕ) (r q r2 q2 : ℕ) (v t u : List ℕ) → HasNoTwin next → IsSplit next r q v
     → 1 ≤ paths next r2 r t → 1 ≤ paths next q2 q t → 1 ≤ paths next r r2 u → 1 ≤ paths next q q2 u → IsSplit next r2 q2 (t ++ (v ++ u))
 split_in_component next r q r2 q2 v t u none split tr tq ur uq = record {
@@ -40,7 +40,7 @@ split_in_component next r q r2 q2 v t u none split tr tq ur uq = record {
     to_same : r2 ≡ q2 → 1 ≤ paths next q r2 u
     to_same e = subst (λ (x : ℕ). 1 ≤ paths next q x u) (sym e) uq
 
--- no path leads back over a split
+-- No path leads back over a split.
 pub split_falls : (next : ℕ → ℕ → List ℕ) (r q : ℕ) (v z : List ℕ) → HasNoTwin next → IsSplit next r q v → 1 ≤ paths next q r z → ⊥
 split_falls next r q v z none split back =
     let home : 1 ≤ paths next r r (v ++ (z ++ v)) = ways next r q r v (z ++ v) split.over (ways next q r r z v back split.before) in
@@ -48,25 +48,25 @@ split_falls next r q v z none split back =
     let again : 1 ≤ paths next q r (v ++ (z ++ v)) = ways next q q r v (z ++ v) split.behind (ways next q r r z v back split.before) in
     apart_and_back next r r q (v ++ (z ++ v)) (v ++ (z ++ v)) none split.apart home over home again
 
--- chains
+-- The laws below are about chains.
 
--- what a chain is reached from
+-- If a state reaches another one, a chain from that one is a chain from it.
 pub chain-before : (next : ℕ → ℕ → List ℕ) (s m : ℕ) (links : List Link) → Reaches next s m → ChainFrom next m links → ChainFrom next s links
 chain-before next s m [] r c = tt
 chain-before next s m (link ∷ links) r c = (Reaches-trans next s m link.from r c.0, c.1, c.2)
 
--- a state that is reached has no higher rank
+-- A state that is reached has no higher rank.
 pub rank_falls : (next : ℕ → ℕ → List ℕ) (s m d e : ℕ) → IsRank next s d → IsRank next m e → Reaches next s m → e ≤ d
 rank_falls next s m d e here there r =
     omega (arith, there.long, here.longest there.chain (chain-before next s m there.chain r there.goes))
 
--- behind a split the rank is lower
+-- After a split the rank is lower.
 pub rank_split : (next : ℕ → ℕ → List ℕ) (r q d e : ℕ) (y : List ℕ) → IsRank next r d → IsRank next q e → IsSplit next r q y → e < d
 rank_split next r q d e y here there split =
     let link : Link = record { lead = []; from = r; to = q; word = y } in
     omega (arith, there.long, here.longest (link ∷ there.chain) (Reaches-self next r, split, there.goes))
 
--- ranks are numbers that never rise, and no split has equal ones
+-- Ranks are numbers that never rise, and no split has equal ones.
 pub ranks-fall : (next : ℕ → ℕ → List ℕ) (n k : ℕ) (rank : ℕ → ℕ) → IsWithin next n k → ((q : ℕ) → q < n → IsRank next q (rank q)) → NeverRises next n rank
 ranks-fall next n k rank within ranks q l m lt i =
     rank_falls next q m (rank q) (rank m) (ranks q lt) (ranks m (within.targets q l m lt i)) (Reaches-move next q m l i)
@@ -76,7 +76,7 @@ ranks-split next n k rank within ranks r q y lt e split =
     let small = falls-along next n k rank within (ranks-fall next n k rank within ranks) r q y lt split.over in
     absurd (omega (arith, e, rank_split next r q (rank r) (rank q) y (ranks r lt) (ranks q small.0) split))
 
--- a chain has fewer links than the graph has states
+-- A chain has fewer links than the graph has states.
 chain-levels : (next : ℕ → ℕ → List ℕ) (n k : ℕ) (level : ℕ → ℕ) → IsWithin next n k → IsLevel next n level → HasNoTwin next → (s : ℕ) (links : List Link) → s < n → ChainFrom next s links → length links < level s
 chain-levels next n k level within levels none s [] lt c = omega (arith, levels.some s lt)
 chain-levels next n k level within levels none s (m ∷ links) lt c =
@@ -91,11 +91,11 @@ chain_short next n k within none s links lt c =
     (λ no_bound. table (Reached next n) (n * n)
     (λ found. let levels = level-of next n k within found in no_bound (omega (arith, chain-levels next n k (reach_count found.says n) within levels none s links lt c, levels.few s lt))))
 
--- a state without moves has rank 0
+-- A state without moves has rank 0.
 pub rank_still : (next : ℕ → ℕ → List ℕ) (s : ℕ) → ((l : ℕ) → next s l ≡ []) → IsRank next s 0
 rank_still next s still = record { chain = []; goes = tt; long = refl; longest = none }
   where
-    -- a path from it is empty
+    -- Each path from it is empty.
     stays : (t l : ℕ) (w : List ℕ) → 1 ≤ paths next s t (l ∷ w) → ⊥
     stays t l w h = nothing (next s l) (still l) h
       where

@@ -10,9 +10,9 @@ use Rattle.rl_graph.specs.Graph.{Graph, edges_of, IsWhole}
 use Rattle.rl_graph.proofs.Sums.{at-has, at-short, at-get_or, Has-get_or}
 use Rattle.rl_degree.specs.internal.Moves.{cell, with_cell, IsMoveTable, IsMoveTableUpTo, IsUsed}
 
--- one more bit
+-- The laws below are about one more bit of a table.
 
--- a bit that holds true lies in its table
+-- A bit that holds true lies in its table.
 pub cell-within : (rows : List (List Bool)) (i k : ℕ) → cell rows i k ≡ true → i < length rows
 cell-within rows i k h = by (cases_lt i (length rows))
   where
@@ -51,7 +51,7 @@ cell-none n len i k h =
     both_ways (get_or (get_or (replicate n (replicate len false)) i []) k false)
     (ap (λ (r : List Bool). get_or r k false) (get_or-replicate n i (replicate len false) [] lt) ∙ get_or-replicate_false len k) h
 
--- one row joined with another one
+-- One row is joined with another one.
 
 abbrev pub joined : List (List Bool) → ℕ → List Bool → List (List Bool)
 joined rows p image = set rows p (list_or (get_or rows p []) image)
@@ -85,9 +85,9 @@ cell-or_stays rows p i k image hp same h = by (cases_eq i p)
         rw e (ap (λ (r : List Bool). get_or r k false) (get_or-set_same rows p (list_or (get_or rows p []) image) [] hp)
         ∙ (get_or-list_or (get_or rows p []) image k same ∙ or_left (get_or (get_or rows p []) k false) (get_or image k false) (rw e at h)))
 
--- the moves on a letter
+-- The laws below are about the moves on a letter.
 
--- the targets of the first moves of a state are marked
+-- The targets of the first moves of a state are marked.
 pub record IsMarkedUpTo (g : Graph) (letter state end : ℕ) (rows : List (List Bool)) : Type 0 where
   pub so_far : IsMoveTableUpTo g letter state rows
   pub first : (i : ℕ) → i < end → cell rows state (get_or (edges_of g state letter) i 0) ≡ true
@@ -140,7 +140,7 @@ marked-all g letter state end rows long m = record {
         let f = at-get_or (edges_of g state letter) i.0 x 0 i.1 in
         rw e (subst (λ (z : ℕ). cell rows state z ≡ true) f (m.first i.0 (omega (arith, at-short (edges_of g state letter) i.0 x i.1))))
 
--- one more table
+-- One more table is right.
 pub tables-more : (g inner : Graph) (end : ℕ) (old new : List (List (List Bool))) (table : List (List Bool)) → length old ≡ end → new ≡ old ++ table ∷ [] → (IsUsed inner end → IsMoveTable g end table)
     → ((k : ℕ) → k < end → IsUsed inner k → IsMoveTable g k (get_or old k [])) → (k : ℕ) → k < end + 1 → IsUsed inner k → IsMoveTable g k (get_or new k [])
 tables-more g inner end old new table long e here before k lt used = by (cases_lt k end)

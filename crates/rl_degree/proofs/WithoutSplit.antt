@@ -14,7 +14,7 @@ use Rattle.rl_degree.proofs.Leaving.{leaving, stay_or_leave, inside-less, inside
 use Rattle.rl_degree.proofs.FiveTimes.{first_then, runs-there, runs-part, falls-along, Leaver, LeavesLater, split_of_many}
 use Rattle.rl_degree.proofs.Levels.{stable, table, IsLevel, level-of, Reached, reach_count}
 
--- a path that is where a test passes at one time, and where it does not at the next
+-- The path passes a test at one time, and does not pass it at the next.
 record Leaves (next : ℕ → ℕ → List ℕ) (p : ℕ → Bool) (s i : ℕ) (w : List ℕ) : Type 0 where
   at : ℕ → ℕ
   start : at 0 ≡ s
@@ -23,7 +23,7 @@ record Leaves (next : ℕ → ℕ → List ℕ) (p : ℕ → Bool) (s i : ℕ) (
   in_it : p (at i) ≡ true
   out_of_it : p (at (suc i)) ≡ false
 
--- a product that isn't 0 has factors that aren't 0
+-- If a product isn't 0, its factors aren't 0.
 factors : (x y : ℕ) → 1 ≤ x * y → (1 ≤ x) × (1 ≤ y)
 factors zero y h = absurd (omega (arith, zero-mul y))
 factors (suc x) zero h = absurd (omega arith)
@@ -62,11 +62,11 @@ leaves-there next p t (suc i) s a (l ∷ w) here h k =
     }
 
 module _ (next : ℕ → ℕ → List ℕ) (n k : ℕ) (level : ℕ → ℕ) (within : IsWithin next n k) (levels : IsLevel next n level) (no_twin : HasNoTwin next) (no_split : HasNoSplit next n) where
-  -- the states on the level of `s`
+  -- The states on the level of `s`.
   abbrev on : ℕ → ℕ → Bool
   on s a = eqb (level a) (level s)
 
-  -- on one level at most one path leads from a state to another along a word
+  -- On one level, at most one path leads from a state to another along a word.
   single : (s q : ℕ) (u : List ℕ) → s < n → paths (inside (on s) next) s q u ≤ 1
   single s q u lt = by (cases_lt 1 (paths (inside (on s) next) s q u))
     where
@@ -83,7 +83,7 @@ module _ (next : ℕ → ℕ → List ℕ) (n k : ℕ) (level : ℕ → ℕ) (wi
           more : paths (inside (on s) next) s q u ≤ paths next s q u → 2 ≤ paths next s q u
           more h = omega arith
 
-  -- a path that leaves the level
+  -- A path that leaves the level is one of a leaver.
   leaver : (s i : ℕ) (w : List ℕ) → s < n → Leaves next (on s) s i w → (x : Leaver next level s w) × (x.time ≡ i)
   leaver s i w lt x = (record { time = i; at = x.at; start = x.start; runs = x.runs; within = x.within; on_it = eqb-true (level (x.at i)) (level s) x.in_it; below_it = less }, refl)
     where
@@ -94,7 +94,7 @@ module _ (next : ℕ → ℕ → List ℕ) (n k : ℕ) (level : ℕ → ℕ) (wi
           let r = falls-along next n k level within levels.falls (x.at 0) (x.at (suc i)) (take (suc i) w) small p in
           strictly (level (x.at (suc i))) (level s) (subst (λ (q : ℕ). level (x.at (suc i)) ≤ level q) x.start r.1) (eqb-false (level (x.at (suc i))) (level s) x.out_of_it)
 
-  -- a leaver for each time at which a path leaves, the later ones first
+  -- There is a leaver for each time at which a path leaves, the later ones first.
   gathered : (s : ℕ) (w : List ℕ) (f : ℕ → ℕ) (c m : ℕ) → ((i : ℕ) → f i ≤ c) → ((i : ℕ) → 1 ≤ f i → (x : Leaver next level s w) × (x.time ≡ i))
       → (l : List (Leaver next level s w)) × Pairs LeavesLater l × Each (λ x. x.time < m) l × (upto f m ≤ length l * c)
   gathered s w f c zero h there = ([], tt, tt, omega arith)
@@ -120,7 +120,7 @@ module _ (next : ℕ → ℕ → List ℕ) (n k : ℕ) (level : ℕ → ℕ) (wi
           )
       by (inr none) r = (r.0, r.1, Each-map (λ y. y.time < m) (λ y. y.time < suc m) r.0 (λ y lt. wider y.time m lt) r.2, omega (arith, r.3))
 
-  -- the paths that leave at one time, where a lower level has at most `c` paths
+  -- Few paths leave at one time, if a lower level has at most `c` paths.
   share-few : (s t c : ℕ) (w : List ℕ) → s < n → ((m : ℕ) (u : List ℕ) → m < n → level m < level s → paths next m t u ≤ c)
       → (i : ℕ) → shares (inside (on s) next) (leaving next (on s) t) n s w i ≤ n * (k * c)
   share-few s t c w lt lower i = upto-bound (λ a. paths (inside (on s) next) s a (take i w) * leaving next (on s) t a (drop i w)) (k * c) n (λ a small. by a small (cases_lt 0 (paths (inside (on s) next) s a (take i w))))
@@ -147,14 +147,14 @@ module _ (next : ℕ → ℕ → List ℕ) (n k : ℕ) (level : ℕ → ℕ) (wi
           let r = falls-along next n k level within levels.falls s a (take i w) lt there in
           once (paths (inside (on s) next) s a (take i w)) (leaving next (on s) t a (drop i w)) (k * c) (single s a (take i w) lt) (leaves-few a (drop i w) small r.1)
 
-  -- a path that leaves at a time
+  -- If a path is counted, it leaves at that time.
   share-there : (s t : ℕ) (w : List ℕ) → s < n → (i : ℕ) → 1 ≤ shares (inside (on s) next) (leaving next (on s) t) n s w i → (x : Leaver next level s w) × (x.time ≡ i)
   share-there s t w lt i h =
       let a = upto-there (λ a. paths (inside (on s) next) s a (take i w) * leaving next (on s) t a (drop i w)) n h in
       let both = factors (paths (inside (on s) next) s a.0 (take i w)) (leaving next (on s) t a.0 (drop i w)) a.2 in
       leaver s i w lt (leaves-there next (on s) t i s a.0 w (eq-eqb (level s) (level s) refl) both.0 both.1)
 
-  -- in plain numbers
+  -- The step in plain numbers.
   level-step : (n k b y few m : ℕ) → 1 ≤ n → 1 ≤ y → few ≤ b → m ≤ 1 + few * (n * (k * y)) → m ≤ (1 + n * n * k * b) * y
   level-step n k b y few m some one-y h le =
       let z : few * (n * (k * y)) ≤ b * (n * (k * y)) = mul-le-mul h (same (n * (k * y))) in
@@ -190,7 +190,7 @@ without_split next n k within no_twin no_split s t w lt =
     (λ found. let levels = level-of next n k within found in
     none (by_levels next n k (reach_count found.says n) within levels no_twin no_split t n s w lt (levels.few s lt))))
 
--- between two states that reach each other at most one path leads along a word
+-- Between two states that reach each other, at most one path leads along a word.
 pub one_path_inside : (next : ℕ → ℕ → List ℕ) → HasNoTwin next → (s t : ℕ) (w z : List ℕ) → 1 ≤ paths next t s z → paths next s t w ≤ 1
 one_path_inside next none s t w z back = once (paths next s t w) (paths next t s z) (paths next s s (w ++ z)) back (through_one next s t s w z) (none s (w ++ z))
   where
@@ -200,7 +200,7 @@ one_path_inside next none s t w z back = once (paths next s t w) (paths next t s
         same : (x : ℕ) → x ≤ x
         same x = omega arith
 
--- without a cycle there is neither a twin nor a split
+-- Without a cycle there is neither a twin nor a split.
 pub without_cycle : (next : ℕ → ℕ → List ℕ) (n k : ℕ) → IsWithin next n k → ((q l : ℕ) (w : List ℕ) → paths next q q (l ∷ w) ≡ 0) → (s t : ℕ) (w : List ℕ) → s < n → paths next s t w ≤ bound_h n k
 without_cycle next n k within none s t w lt = without_split next n k within no_twin no_split s t w lt
   where

@@ -33,6 +33,7 @@ mod chains;
 mod entries;
 mod falling;
 mod groups;
+mod hopeless;
 mod kernel;
 pub mod laws;
 mod moves;

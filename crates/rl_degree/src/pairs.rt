@@ -8,6 +8,7 @@ ghost use Rattle.rl_degree.specs.internal.Moves.{AreMoveTables};
 ghost use Rattle.rl_degree.specs.internal.Pairs.{is_wanted, lists_of, row_of, HasOwnList, HaveOwnLists, IsOwnList, IsPut, IsBarePlaced, IsPlaced, IsWalked, IsTable};
 
 use crate::falling::falling_parts;
+use crate::hopeless::hopeless_rows;
 use crate::kernel::kernel_of;
 use crate::moves::move_tables;
 use crate::reached::reached_rows;
@@ -26,14 +27,16 @@ pub(crate) struct Placed {
     pub(crate) places: Vec<u64>,
 }
 
-/// What the search for splits goes by: the components of the graph, those that are reached from each of them, the states that a split may lead from or to, the inner moves
-/// between these, the parts of the product of two copies of the inner moves with only the moves of the pairs that fall, and the
-/// pairs of each part. `moves` has a table of the graph's moves for each letter. The table is empty if no inner move is on the
-/// letter, and there are no tables at all if no part has a pair.
+/// What the search for splits goes by: the components of the graph, those that are reached from each of them, the states that a
+/// split may lead from or to, the inner moves between these, the parts of the product of two copies of the inner moves with only
+/// the moves of the pairs that fall, and the pairs of each part. `hopeless` has a row for each component that a split may lead
+/// to: the states that can't reach it. `moves` has a table of the graph's moves for each letter. The table is empty if no inner
+/// move is on the letter, and there are no tables at all if no part has a pair.
 #[derive(Drop)]
 pub(crate) struct PairTable {
     pub(crate) components: Components,
     pub(crate) reached: Vec<BitRow>,
+    pub(crate) hopeless: Vec<BitRow>,
     pub(crate) kernel: Kernel,
     pub(crate) inner: Multigraph,
     pub(crate) parts: Parts,
@@ -232,6 +235,7 @@ pub(crate) fn table_of(
 {
     let reached = reached_rows(alloc, g, &components)?;
     let kernel = kernel_of(alloc, &components, g.states())?;
+    let hopeless = hopeless_rows(alloc, g, &components, &reached, &kernel.levels)?;
     let inner = inner_graph(alloc, g, &components, &kernel)?;
     let walked = walked_of(alloc, g, &inner, &kernel.levels)?;
     let Walked {
@@ -242,6 +246,7 @@ pub(crate) fn table_of(
     Ok(PairTable {
         components,
         reached,
+        hopeless,
         kernel,
         inner,
         parts,

@@ -8,7 +8,7 @@ ghost use Rattle.rl_graph.specs.Twins.{HasNoTwin};
 ghost use Rattle.rl_degree.specs.internal.Groups.{AreGroupsFrom};
 ghost use Rattle.rl_degree.specs.internal.Pairs.{IsTable};
 ghost use Rattle.rl_degree.specs.internal.Splits.{HasSplit, AreMarks};
-ghost use Rattle.rl_degree.specs.internal.Ranks.{best_at, IsGood, BeatsLetter, BeatsMoves, BeatsSplits, IsBest, AreBests};
+ghost use Rattle.rl_degree.specs.internal.Ranks.{best_at, IsGood, IsGoodIn, BeatsLetter, BeatsMoves, BeatsMovesIn, BeatsSplits, BeatsSplitsIn, IsBest, AreBests};
 ghost use Rattle.rl_degree.specs.Chains.{AreRanks};
 
 use crate::groups::{Groups, groups_of};
@@ -161,7 +161,71 @@ fn best_by_splits(
     Ok(best)
 }
 
-/// The best chain of a component, by those of the lower components.
+/// The best of the chains of the lower components that the moves of a component's states lead to.
+fn best_by_all_moves(
+    g: &Multigraph,
+    components: &Components,
+    groups: &Groups,
+    bests: &[Best],
+    component: u32,
+) -> Best
+    requires parts { IsParts (edges_of g.now) g.now.states components.now }
+    requires component_in { component < g.now.states }
+    requires groups { AreGroupsFrom components.now g.now.states 0 groups.now.firsts.items groups.now.nexts.items }
+    requires bests { AreBests (edges_of g.now) g.now.states components.now component bests.now }
+    ensures good { IsGoodIn (edges_of g.now) g.now.states components.now bests.now component result }
+    ensures moves { BeatsMovesIn (edges_of g.now) g.now.states components.now bests.now component result.rank }
+{
+    let mut best = Best {
+        rank: 0,
+        from: 0,
+        to: 0,
+    };
+    let count = g.states();
+    let mut state = groups.firsts[component as usize];
+    while state < count {
+        best = best_by_moves(g, components, bests, state, best);
+        let next = groups.nexts[state as usize];
+        state = next;
+    }
+    best
+}
+
+/// The best of a chain and the chains that begin with a split from a component's states.
+fn best_by_all_splits(
+    g: &Multigraph,
+    table: &PairTable,
+    groups: &Groups,
+    marks: &mut Vec<Option<bool>>,
+    bests: &[Best],
+    component: u32,
+    start: Best,
+) -> Result<Best, OutOfMemory>
+    requires table { IsTable g.now table.now }
+    requires no_twin { HasNoTwin (edges_of g.now) }
+    requires marks { AreMarks g.now table.now marks.old.items }
+    requires component_in { component < g.now.states }
+    requires groups { AreGroupsFrom table.now.components g.now.states 0 groups.now.firsts.items groups.now.nexts.items }
+    requires bests { AreBests (edges_of g.now) g.now.states table.now.components component bests.now }
+    requires start { IsGoodIn (edges_of g.now) g.now.states table.now.components bests.now component start }
+    ensures good { IfOk result (IsGoodIn (edges_of g.now) g.now.states table.now.components bests.now component) }
+    ensures least { IfOk result (λ b. start.rank ≤ b.rank) }
+    ensures splits { IfOk result (λ b. BeatsSplitsIn (edges_of g.now) g.now.states g.now.states table.now.components bests.now component b.rank) }
+    ensures marks { OnOk result (AreMarks g.now table.now marks.new.items) }
+{
+    let mut best = start;
+    let count = g.states();
+    let mut state = groups.firsts[component as usize];
+    while state < count {
+        best = best_by_splits(g, table, marks, bests, state, best)?;
+        let next = groups.nexts[state as usize];
+        state = next;
+    }
+    Ok(best)
+}
+
+/// The best chain of a component, by those of the lower components. Splits come last: the longer the chain is that the moves
+/// lead to, the fewer splits lengthen it, and only those are looked for.
 fn best_of(
     g: &Multigraph,
     table: &PairTable,
@@ -179,19 +243,8 @@ fn best_of(
     ensures best { IfOk result (λ b. (q : ℕ) → q < g.now.states → number_of table.now.components q ≡ component → IsBest (edges_of g.now) g.now.states table.now.components bests.now q b) }
     ensures marks { OnOk result (AreMarks g.now table.now marks.new.items) }
 {
-    let mut best = Best {
-        rank: 0,
-        from: 0,
-        to: 0,
-    };
-    let count = g.states();
-    let mut state = groups.firsts[component as usize];
-    while state < count {
-        let by_moves = best_by_moves(g, &table.components, bests, state, best);
-        best = best_by_splits(g, table, marks, bests, state, by_moves)?;
-        let next = groups.nexts[state as usize];
-        state = next;
-    }
+    let by_moves = best_by_all_moves(g, &table.components, groups, bests, component);
+    let best = best_by_all_splits(g, table, groups, marks, bests, component, by_moves)?;
     Ok(best)
 }
 

@@ -44,7 +44,14 @@ pub(crate) struct SplitSearch {
 }
 
 /// `count` copies of a row.
-fn copies_of(alloc: Global, row: &BitRow, count: usize) -> Result<Vec<BitRow>, OutOfMemory>
+///
+/// # Errors
+/// [`OutOfMemory`] if there was no memory for them.
+pub(crate) fn copies_of(
+    alloc: Global,
+    row: &BitRow,
+    count: usize,
+) -> Result<Vec<BitRow>, OutOfMemory>
     ensures { IfOk result (λ v. v.items ≡ replicate count row.now) }
 {
     let mut copies = Vec::with_capacity(alloc, count)?;

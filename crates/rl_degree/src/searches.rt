@@ -4,7 +4,7 @@ ghost use Rattle.std.specs.Prelude.{◌≡◌, ◌<◌, ◌+◌, ◌*◌, ◌↔
 ghost use Rattle.rl_graph.specs.Graph.{edges_of};
 ghost use Rattle.rl_graph.specs.Twins.{HasNoTwin, IsSplit};
 ghost use Rattle.rl_degree.specs.internal.Pairs.{IsTable};
-ghost use Rattle.rl_degree.specs.internal.Reached.{reaches as has_reached, IsHopeless};
+ghost use Rattle.rl_degree.specs.internal.Reached.{reaches as has_reached};
 ghost use Rattle.rl_degree.specs.internal.Rows.{stand_of, word_at, HasWord};
 ghost use Rattle.rl_degree.specs.internal.Splits.{HasSplit, IsPairFor, AreMarks};
 
@@ -24,24 +24,6 @@ fn reaches(g: &Multigraph, table: &PairTable, from: u32, to: u32) -> bool
 {
     let row = &table.reached[table.components.of(from) as usize];
     row.get(table.components.of(to) as usize)
-}
-
-/// A row of all states that can't reach a state.
-fn hopeless_for(
-    alloc: Global,
-    g: &Multigraph,
-    table: &PairTable,
-    to: u32,
-) -> Result<BitRow, OutOfMemory>
-    requires table { IsTable g.now table.now }
-    requires to_in { to < g.now.states }
-    ensures { IfOk result (IsHopeless g.now.states table.now.components table.now.reached.items to) }
-{
-    let mut row = BitRow::zeros(alloc, g.states() as usize)?;
-    for state in 0..g.states() {
-        row.set(state as usize, !reaches(g, table, state, to));
-    }
-    Ok(row)
 }
 
 /// The number of the pair of two states. Returns `None` only if they are not a split.
@@ -109,8 +91,8 @@ fn search_for(
     let place = table.placed.places[pair as usize] as usize;
     let pairs = table.members_of(part).len();
     let mut image = BitRow::zeros(alloc, states as usize)?;
-    let hopeless = hopeless_for(alloc, g, table, to)?;
-    let mut search = SplitSearch::new(alloc, keeps, &hopeless, pairs, place, from, to)?;
+    let hopeless = &table.hopeless[table.components.of(to) as usize];
+    let mut search = SplitSearch::new(alloc, keeps, hopeless, pairs, place, from, to)?;
     while let Some(found) = search.next() {
         if search.is_goal(&found) {
             return Ok(Some(Goal { search, found }));

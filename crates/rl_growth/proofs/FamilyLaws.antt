@@ -38,9 +38,6 @@ rest-some a (l ∷ w) rest = omega arith
 pub rest-front : (a : Automaton) (r : List ℕ) → IsRest a r → to_end a (take (length r - 1) r) ≡ r
 rest-front a r rest = front a (length r - 1) r rest (omega (arith, rest-some a r rest))
 
-pub some-rest : (a : Automaton) (r : List ℕ) → IsRest a r → 0 < length r
-some-rest = rest-some
-
 heads-of : (links : List Link) (x last : List ℕ) → map (λ (m : Link). m.lead) links ++ (x ∷ (last ∷ [])) ≡ chain_heads links x last
 heads-of [] x last = refl
 heads-of (m ∷ links) x last = ap (λ (l : List (List ℕ)). m.lead ∷ l) (heads-of links x last)

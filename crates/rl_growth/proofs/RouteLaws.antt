@@ -12,9 +12,6 @@ use Rattle.rl_degree.specs.Chains.{link_of, links_of}
 use Rattle.rl_pairs.specs.Families.{Chained}
 use Rattle.rl_growth.specs.Routes.{split_at, state_before, state_after, bare, IsRoute, IsWay}
 
-pub before-first : (splits : List Split) (k : ℕ) → k ≡ 0 → state_before splits k ≡ 0
-before-first splits k e = rw e refl
-
 pub before-more : (splits : List Split) (k j : ℕ) → k ≡ j + 1 → state_before splits k ≡ (split_at splits j).to
 before-more splits k j e = rw (e, ne_eqb (j + 1) 0 (omega arith)) (ap (λ i. (split_at splits i).to) (omega arith))
 

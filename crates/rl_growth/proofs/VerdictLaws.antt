@@ -128,7 +128,11 @@ decided q a next at n (Ok v) stands codes s l m g few sets h =
 decided q a next at n (Err e) stands codes s l m g few sets h = tt
 
 -- The texts of a right verdict.
-pub texts_right : (q : Question) (v : Verdict) → RightVerdict q v → HasTexts q.universe v
-texts_right q (Degree d f) h = (h.0.family.head_texts, h.0.family.pump_texts)
-texts_right q (Expo f) h = (h.family.head_texts, h.family.pump_texts)
-texts_right q (Undecided limit) h = tt
+texts-right : (q : Question) (v : Verdict) → RightVerdict q v → HasTexts q.universe v
+texts-right q (Degree d f) h = (h.0.family.head_texts, h.0.family.pump_texts)
+texts-right q (Expo f) h = (h.family.head_texts, h.family.pump_texts)
+texts-right q (Undecided limit) h = tt
+
+pub texts_ok : {E : Type 0} (q : Question) (r : Result Verdict E) → IfOk r (RightVerdict q) → IfOk r (HasTexts q.universe)
+texts_ok q (Ok v) h = texts-right q v h
+texts_ok q (Err e) h = tt

@@ -38,9 +38,7 @@ fn exponential(
     ensures class { IfOk result (IsClassOf (moves_in g.now)) }
 {
     let words = twin_words(alloc, g, twin)?;
-    let family = family_of(alloc, a, &words);
-    drop(words);
-    Ok(Verdict::Expo(family?))
+    Ok(Verdict::Expo(family_of(alloc, a, &words)?))
 }
 
 /// Returns the family with one empty head and no pump.
@@ -73,20 +71,11 @@ fn polynomial(
 {
     let chain = degree_over(alloc, g.graph(), components)?;
     match &chain.cycle {
-        None => {
-            drop(chain);
-            Ok(Verdict::Degree(0, flat(alloc)?))
-        }
+        None => Ok(Verdict::Degree(0, flat(alloc)?)),
         Some(cycle) => {
-            let Ok(words) = chain_words(alloc, g, chain.links.as_slice(), cycle) else {
-                drop(chain);
-                return Err(OutOfMemory);
-            };
+            let words = chain_words(alloc, g, chain.links.as_slice(), cycle)?;
             let power = chain.links.len() as u32 + 1;
-            drop(chain);
-            let family = family_of(alloc, a, &words);
-            drop(words);
-            Ok(Verdict::Degree(power, family?))
+            Ok(Verdict::Degree(power, family_of(alloc, a, &words)?))
         }
     }
 }
@@ -100,61 +89,9 @@ fn judged(alloc: Global, a: &Prio, g: &PairGraph) -> Result<Verdict, OutOfMemory
 {
     let graph = g.graph();
     let components = graph.components()?;
-    let Ok(twin) = twin_over(alloc, graph, &components) else {
-        drop(components);
-        return Err(OutOfMemory);
-    };
-    match twin {
-        Some(twin) => {
-            drop(components);
-            let verdict = exponential(alloc, a, g, &twin);
-            drop(twin);
-            verdict
-        }
+    match twin_over(alloc, graph, &components)? {
+        Some(twin) => exponential(alloc, a, g, &twin),
         None => polynomial(alloc, a, g, components),
-    }
-}
-
-/// Returns the verdict on a tree that is within the limit on its size.
-fn judged_small(
-    alloc: Global,
-    l: &Lowered,
-    u: Universe,
-    max_pairs: u32,
-) -> Result<Verdict, OutOfMemory>
-    requires some { 1 ≤ max_pairs }
-    requires few { max_pairs ≤ MOST_PAIRS }
-    requires inside { IsOver u (tree_of l.now.tree) }
-    requires small { size (tree_of l.now.tree) ≤ MOST_NODES }
-    ensures right { IfOk result (RightVerdict (question_of l.now u max_pairs)) }
-    ensures class { IfOk result (HasClass (question_of l.now u max_pairs)) }
-{
-    let a = match Prio::build(alloc, &l.tree, l.ending, u) {
-        Ok(a) => a,
-        Err(PrioError::Letters) => return Ok(Verdict::Undecided(Limit::Letters)),
-        Err(PrioError::Moves) => return Ok(Verdict::Undecided(Limit::Moves)),
-        Err(PrioError::OutOfMemory) => return Err(OutOfMemory),
-    };
-    let _states = a.states();
-    match pairs(alloc, &a, max_pairs) {
-        Ok(g) => {
-            let verdict = judged(alloc, &a, &g);
-            drop(g);
-            drop(a);
-            verdict
-        }
-        Err(PairsError::Sets) => {
-            drop(a);
-            Ok(Verdict::Undecided(Limit::Sets))
-        }
-        Err(PairsError::Pairs) => {
-            drop(a);
-            Ok(Verdict::Undecided(Limit::Pairs))
-        }
-        Err(PairsError::OutOfMemory) => {
-            drop(a);
-            Err(OutOfMemory)
-        }
     }
 }
 
@@ -187,6 +124,18 @@ pub fn classify(
     if l.tree.nodes() > MOST_NODES {
         return Ok(Verdict::Undecided(Limit::Size));
     }
-    let verdict = judged_small(alloc, l, u, max_pairs)?;
-    Ok(verdict)
+    let a = match Prio::build(alloc, &l.tree, l.ending, u) {
+        Ok(a) => a,
+        Err(PrioError::Letters) => return Ok(Verdict::Undecided(Limit::Letters)),
+        Err(PrioError::Moves) => return Ok(Verdict::Undecided(Limit::Moves)),
+        Err(PrioError::OutOfMemory) => return Err(OutOfMemory),
+    };
+    // The contract of `states` says that the automaton is well formed.
+    let _states = a.states();
+    match pairs(alloc, &a, max_pairs) {
+        Ok(g) => judged(alloc, &a, &g),
+        Err(PairsError::Sets) => Ok(Verdict::Undecided(Limit::Sets)),
+        Err(PairsError::Pairs) => Ok(Verdict::Undecided(Limit::Pairs)),
+        Err(PairsError::OutOfMemory) => Err(OutOfMemory),
+    }
 }

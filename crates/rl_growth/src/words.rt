@@ -79,10 +79,7 @@ pub fn twin_words(
 {
     let lead = copy(alloc, g.lead(twin.state))?;
     let mut words = FamilyWords::new(alloc);
-    let Ok(()) = put_cycle(alloc, g, &mut words, lead, twin.state, &twin.word) else {
-        drop(words);
-        return Err(OutOfMemory);
-    };
+    put_cycle(alloc, g, &mut words, lead, twin.state, &twin.word)?;
     Ok(words)
 }
 

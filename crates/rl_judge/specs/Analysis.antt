@@ -83,7 +83,7 @@ bare_part literal span = record { byte = code_place literal span.from; text = No
 abbrev pub quoted_part : Literal → Span → Part
 quoted_part literal span = record { byte = code_place literal span.from; text = Some (quoted_text literal.universe (codes_of span literal.codes)) }
 
--- Lists without parts.
+-- No parts: all three lists are empty.
 abbrev pub no_parts : Parts
 no_parts = record { dropped = []; merged = []; passed = [] }
 
@@ -122,20 +122,20 @@ IsUniverseOfRun source run u =
 
 -- The analysis is right for a site of the source with these tokens.
 pub data IsAnalysisOf (source : List ℕ) (tokens : List Token) (options : AnalysisOptions) (site : Site) (a : Analysis) : Type 0 where
-  -- the first argument isn't only its first run of literals
+  -- The first argument isn't only its first run of literals.
   is_not_whole : {u : Universe} → site.whole ≡ false → IsUniverseOfRun source (run_of tokens site) u
       → a ≡ refusal u None outcome.NotWhole → IsAnalysisOf source tokens options site a
-  -- the literals have no value
+  -- The literals have no value.
   has_no_value : {e : StrError} → site.whole ≡ true → value_of_run source (run_of tokens site) ≡ Err e → e ≢ valuing.OutOfMemory
       → a ≡ refusal universe.Str (literal_fault e) (outcome.Literal e) → IsAnalysisOf source tokens options site a
-  -- the flags aren't known
+  -- The flags aren't known.
   has_unknown_flags : {literal : Literal} → site.whole ≡ true → IsValue source (run_of tokens site) literal → site.flags ≡ Unknown
       → a ≡ refusal literal.universe None outcome.FlagsUnknown → IsAnalysisOf source tokens options site a
-  -- the code points don't spell a pattern that can be judged under the flags
+  -- The code points don't spell a pattern that can be judged under the flags.
   has_no_pattern : {literal : Literal} {flags : Flags} {e : PatError} → site.whole ≡ true → IsValue source (run_of tokens site) literal
       → site.flags ≡ Known flags → IsParsed flags literal.universe literal.codes (Err e) → e ≢ parsing.OutOfMemory
       → a ≡ refusal literal.universe (pattern_fault literal e) (outcome.Pattern e) → IsAnalysisOf source tokens options site a
-  -- the code points spell a pattern under the flags, and the analysis is right for this pattern
+  -- The code points spell a pattern under the flags, and the analysis is right for this pattern.
   is_judged : {literal : Literal} {flags : Flags} {p : Pattern} → site.whole ≡ true → IsValue source (run_of tokens site) literal
       → site.flags ≡ Known flags → IsParsed flags literal.universe literal.codes (Ok p) → IsJudged flags options literal p a
       → IsAnalysisOf source tokens options site a

@@ -83,10 +83,10 @@ pub record IsSiteEntry (path source : List ℕ) (tokens : List Token) (s : Setti
 
 -- The entries are right for the source.
 pub data AreRight (path source : List ℕ) (s : Settings) (entries : List Entry) : Type 0 where
-  -- the source can't be cut into tokens: one entry says why
+  -- The source can't be cut into tokens: one entry says why.
   has_fault : {e : LexError} → IsFault source e → e ≢ lexing.OutOfMemory
       → entries ≡ path_entry path (option_map (place_of source) (source_fault e)) (outcome.Source e) ∷ [] → AreRight path source s entries
-  -- the source has these tokens: there is one entry for each site, in their order
+  -- The source has these tokens: there is one entry for each site, in their order.
   has_tokens : {tokens : List Token} → IsTokenList source tokens → AllZip (IsSiteEntry path source tokens s) (sites_of source tokens) entries
       → AreRight path source s entries
 

@@ -54,7 +54,7 @@ module _ (R : Type 0) (old new : Moment) where
     failed = λ fault. cause (sym (ap has_fault is) ∙ fault);
   }
 
-  -- no call of the tree failed
+  -- No call of the tree failed.
   quiet : (ending : Ending) (text : Text) (finding : Bool) → ending ≡ writes text finding false → HasCause R old new ending
   quiet ending text finding is = writing ending text finding false is (λ never. cc)
 

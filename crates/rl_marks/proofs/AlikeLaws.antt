@@ -31,7 +31,7 @@ code-lies : (u : Universe) (code : ℕ) → is_code u code ≡ true → code < c
 unfolding is_code
 code-lies u code e = ltb-true code (code_count u) e
 
--- the sets of the matcher whose matches are looked at lie in the universe
+-- The sets of the matcher whose matches are looked at lie in the universe.
 pub asked-over : (how : How) (u : Universe) (m : Matcher) → IsOver u (plain m.tree) → IsOver u (plain (asked_in how u m).tree)
 asked-over Fullmatch u m h = h
 asked-over Match u m h = h

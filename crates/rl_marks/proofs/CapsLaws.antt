@@ -40,7 +40,7 @@ held-put n s (t ∷ l) =
     ∙ swap (n == s.number) (n == t.number) (Some (s.from, s.upto)) (Some (t.from, t.upto)) (held_span n l)
     (λ h k. not_both (s.number == t.number) e (eq-eqb s.number t.number (sym (eqb-true n s.number h) ∙ eqb-true n t.number k)))))
 
--- the span that is held of a group is the last one
+-- The span that is held of a group is the last one.
 pub group-caps : (n : ℕ) (spans : List GroupSpan) (c : Caps) → held_span n (caps_after spans c).held ≡ group_after n (held_span n c.held) spans
 group-caps n [] c = refl
 group-caps n (s ∷ spans) c = group-caps n spans (added s c) ∙ ap (λ k. group_after n k spans) (held-put n s c.held)

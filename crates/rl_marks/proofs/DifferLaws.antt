@@ -24,7 +24,7 @@ differ-unlike Fullmatch p q w i d alike = d.1.differ (alike w d.1.text i d.1.wit
 differ-unlike Match p q w i d alike = d.1.differ (alike w d.1.text i d.1.within d.0)
 differ-unlike OneSearch p q w i d alike = d.0.differ (alike w d.0.text)
 
--- matches of the matchers that are looked at differ only if those of the patterns do
+-- Matches of the matchers that are looked at differ only if those of the patterns do.
 pub asked-differ : (how : How) (p q : MarkedPattern) (w : List ℕ) → IsText p.universe w → (advance : Bool) (i : ℕ) → i ≤ length w → IsFrom (origin_in how) advance i
     → (SameHit (match_at (asked_in how p.universe (matcher_in how p)) w advance i) (match_at (asked_in how p.universe (matcher_in how q)) w advance i) → ⊥)
     → FindDifferently how p q w i
@@ -40,7 +40,7 @@ asked-differ OneSearch p q w text advance i le from h = (
   from.0,
 )
 
--- a step of a run: what the threads find from a place on, or else what was found before
+-- A step of a run: what the threads find from a place on, or else what was found before.
 pub run-code : (m : Marked) (w : List ℕ) (hit : ℕ → Bool) (i code : ℕ) → slice_get w i ≡ Some code → (threads : List Thread) (found : Option Ended)
     → or_else (first_ended hit (walks m w threads i)) found
     ≡ or_else (first_ended hit (walks m w (moved m (hit i) (code_before w i) code i threads) (suc i))) (or_else (ended_at i (halted m (hit i) (code_before w i) (Some code) i threads)) found)
@@ -48,7 +48,7 @@ run-code m w hit i code next threads found =
     ap (λ x. or_else x found) (step-code m w hit i code next threads)
     ∙ or_else-assoc (first_ended hit (walks m w (moved m (hit i) (code_before w i) code i threads) (suc i))) (ended_at i (halted m (hit i) (code_before w i) (Some code) i threads)) found
 
--- matches that are the same end their runs alike
+-- Matches that are the same end their runs alike.
 pub same-ends : (x y : Option Found) → SameHit x y → LikeEnded (option_kept x) (option_kept y)
 same-ends None None h = tt
 same-ends None (Some y) h = absurd h

@@ -29,7 +29,7 @@ ends-closed n i (x ∷ l) = ap (λ m. x.end ∷ m) (ends-closed n i l)
 ends-append : (l m : List Found) → ends (l ++ m) ≡ ends l ++ ends m
 ends-append l m = map-append (λ (x : Found). x.end) l m
 
--- the ends of what follows are what follows from the ends
+-- The ends of what follows are what follows from the ends.
 ends-onward : (next : ℕ → List Found) (l : List Found) → ends (onward l next) ≡ followed (ends l) (λ j. ends (next j))
 ends-onward next [] = refl
 ends-onward next (x ∷ l) =
@@ -45,7 +45,7 @@ followed-same : (f g : ℕ → List ℕ) → ((j : ℕ) → f j ≡ g j) → (l 
 followed-same f g h [] = refl
 followed-same f g h (j ∷ l) = ap₂ (λ a b. a ++ b) (h j) (followed-same f g h l)
 
--- what follows ends alike, if both sides do
+-- What follows ends alike, if both sides do.
 onward_alike : (next : ℕ → List Found) (other : ℕ → List Step) → ((j : ℕ) → ends (next j) ≡ run_ends (other j))
     → (l : List Found) (m : List Step) → ends l ≡ run_ends m → ends (onward l next) ≡ run_ends (Run.onward m other)
 onward_alike next other h l m e =

@@ -7,7 +7,7 @@ use Rattle.rl_syntax.proofs.RunLaws.{Goes, Goes-trans, is_in-below}
 use Rattle.rl_marks.specs.Marked.{Marked, empty, one, guard, both, either, many, further, mark, takes_code}
 use Rattle.rl_marks.specs.Finds.{GroupSpan, Found, ended, later, onward, closed, rounds, finds, ends}
 
--- each place of the list has the property
+-- Each place of the list has the property.
 abbrev pub Each : (ℕ → Type 0) → List ℕ → Type 0
 Each P [] = Unit {0}
 Each P (j ∷ l) = P j × Each P l
@@ -38,7 +38,7 @@ Each-one_more P true j l p q = Each-append P l (ended j ∷ []) q (p, tt)
 Each-one_more P false j l p q = (p, q)
 
 module _ (w : List ℕ) (body : ℕ → List Found) (goes : (i : ℕ) → Each (Goes w i) (ends (body i))) where
-  -- what follows an end of the body, if it took a code
+  -- What follows an end of the body, if it took a code.
   pub further_go : (next : ℕ → List Found) → ((j : ℕ) → Each (Goes w j) (ends (next j))) → (i : ℕ)
       → Each (Goes w i) (ends (onward (body i) (λ j. if nat_lt i j then next j else ended j ∷ [])))
   further_go next f i =
@@ -54,7 +54,7 @@ module _ (w : List ℕ) (body : ℕ → List Found) (goes : (i : ℕ) → Each (
       Each-one_more (Goes w i) greedy i (onward (body i) (λ j. if nat_lt i j then rounds body greedy n j else ended j ∷ [])) (omega arith, λ h. omega arith)
       (further_go (rounds body greedy n) (rounds_go greedy n) i)
 
--- each end is at the place or further on, and no further than the text
+-- Each end is at the place or further on, and no further than the text.
 pub finds_go : (m : Marked) (w : List ℕ) (i : ℕ) → Each (Goes w i) (ends (finds m w i))
 finds_go empty w i = ((omega arith, λ h. omega arith), tt)
 finds_go (one set) w i =
@@ -83,7 +83,7 @@ and_right : (a b : Bool) → (a && b) ≡ true → b ≡ true
 and_right true b e = e
 and_right false b e = cc
 
--- a tree that always takes a code ends further on
+-- A tree that always takes a code ends further on.
 pub takes : (m : Marked) (w : List ℕ) (i : ℕ) → takes_code m ≡ true → Each (λ j. i < j) (ends (finds m w i))
 takes empty w i e = cc
 takes (one set) w i e =

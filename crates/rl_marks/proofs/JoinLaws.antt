@@ -16,7 +16,7 @@ one_of-two [] f w = refl
 one_of-two (x ∷ []) f w = refl
 one_of-two (x ∷ y ∷ l) f w = ap (either x) (one_of-two (y ∷ l) f w)
 
--- the list of the trees, the last of which was taken off
+-- The list of the trees, the last of which was taken off.
 pub taken_off : (l left : List MarkTree) (last : MarkTree) → l ≡ left ++ last ∷ [] → map marked_of l ≡ map marked_of left ++ marked_of last ∷ []
 taken_off l left last e = ap (map marked_of) e ∙ map-join marked_of left (last ∷ [])
 
@@ -38,7 +38,7 @@ one_of-step l left first whole new trees e n h =
     ∙ ap (λ m. one_of (m ++ marked_of whole ∷ [])) (sym (taken_off l left first e))
     ∙ h
 
--- one more copy at the end
+-- One more copy at the end.
 replicate-last : (n : ℕ) (t : Marked) → replicate n t ++ t ∷ [] ≡ replicate (suc n) t
 replicate-last zero t = refl
 replicate-last (suc n) t = ap (λ l. t ∷ l) (replicate-last n t)
@@ -51,7 +51,7 @@ copies-step n m t copies copy e h c =
     ∙ replicate-last n t
     ∙ ap (λ k. replicate k t) (sym e)
 
--- the copies, with what follows them
+-- The copies, with what follows them.
 pub copies-tail : (least : ℕ) (most : Option ℕ) (greedy : Bool) (t : Marked) (copies : List MarkTree) (o : Option MarkTree)
     → map marked_of copies ≡ replicate least t → held o ≡ tail_of greedy t least most → map marked_of copies ++ held o ≡ replicate least t ++ tail_of greedy t least most
 copies-tail least most greedy t copies o h e = ap₂ (λ a b. a ++ b) h e

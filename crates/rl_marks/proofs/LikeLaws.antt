@@ -43,7 +43,7 @@ SameKind-onward : (sets : List (ℕ → Bool)) (c d : ℕ) (o : Option ℕ) → 
 SameKind-onward sets c d None h k = absurd k
 SameKind-onward sets c d (Some e) h k = alike-onward sets c d e h k
 
--- the sets tell apart what the acts do
+-- The sets tell apart what the acts do.
 abbrev ActsKnown : List (ℕ → Bool) → List Act → Type 0
 ActsKnown sets [] = Unit {0}
 ActsKnown sets (check g ∷ acts) = Finer sets (sets_named g) × ActsKnown sets acts
@@ -193,7 +193,7 @@ module _ (u : Universe) (origin : Origin) (s t : Matcher) (R : ThreadPair → Ty
       (Finer-right (sets_of_both s t) (sets_in (plain s.tree)) (guard_sets (plain s.tree)) s_sets)
       (Finer-right (sets_of_both s t) (sets_in (plain t.tree)) (guard_sets (plain t.tree)) t_sets)
 
-  -- the pair after another code of the same kind
+  -- The pair after another code of the same kind.
   abbrev after_other : ThreadPair → Option ℕ → ThreadPair
   after_other p o = record { left = p.left; right = p.right; agree = p.agree; before = o }
 
@@ -212,7 +212,7 @@ module _ (u : Universe) (origin : Origin) (s t : Matcher) (R : ThreadPair → Ty
       ∙ halted-like (guards_of_both s t) p.before o next last like like_next t.tree t_guards (other t.ending) 0 (named suc p.right)))
       h)
 
-  -- the pair behind a last line feed doesn't depend on which code of its kind is before
+  -- The pair behind a last line feed doesn't depend on which code of its kind is before.
   last_pair-like : (accepts : Bool) (p : ThreadPair) (o : Option ℕ) → SameKind (guards_of_both s t) p.before o → (agree : Bool)
       → last_pair s t accepts p agree ≡ last_pair s t accepts (after_other p o) agree
   last_pair-like accepts p o like agree =

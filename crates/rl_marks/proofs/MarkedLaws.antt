@@ -14,7 +14,7 @@ use Rattle.rl_marks.specs.Marking.{in_turn, one_of, option_of, in_rounds, option
 use Rattle.rl_marks.specs.IsMarked.{IsMarked}
 use Rattle.rl_marks.proofs.LoweringLaws.{plain-marked}
 
--- there are no fewer nodes with the groups than without them
+-- There are no fewer nodes with the groups than without them.
 pub size-plain : (t : Marked) → size (plain t) ≤ nodes t
 size-plain empty = omega arith
 size-plain (one set) = omega arith
@@ -36,7 +36,7 @@ size-marked p leading n =
     let c : size (plain (marked p n)) ≡ size (lowered p) = ap size (plain-marked p n) in
     omega arith
 
--- groups are numbered from 1 on
+-- Groups are numbered from 1 on.
 
 all_true : List Marked → Type 0
 all_true [] = Unit {0}

@@ -118,12 +118,12 @@ pub named-twice : (g f : ℕ → ℕ) (l : List Thread) → named g (named f l) 
 named-twice g f [] = refl
 named-twice g f (t ∷ l) = ap₂ (λ (c : Caps) m. record { state = t.state; caps = c } ∷ m) (caps-twice g f t.caps) (named-twice g f l)
 
--- the place of a step, in front of the names before
+-- The place of a step, in front of the names before.
 abbrev pub behind : ℕ → (ℕ → ℕ) → ℕ → ℕ
 behind i names zero = i
 behind i names (suc k) = names k
 
--- the step of named threads is the named step of a pair's threads
+-- The step of named threads is the named step of a pair's threads.
 pub moved-behind : (i : ℕ) (names : ℕ → ℕ) (m : Marked) (accepts : Bool) (before : Option ℕ) (code : ℕ) (l : List Thread)
     → moved m accepts before code i (named names l) ≡ named (behind i names) (moved m accepts before code 0 (named suc l))
 moved-behind i names m accepts before code l =

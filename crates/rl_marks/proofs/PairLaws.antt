@@ -21,7 +21,7 @@ use Rattle.rl_marks.proofs.WalkLaws.{walk-finds}
 use Rattle.rl_marks.proofs.ThreadLaws.{or_else, or_else-assoc, ended_at, step-code, step-end}
 use Rattle.rl_marks.proofs.NameLaws.{option_named, named-twice, behind, moved-behind, halted-behind}
 
--- the same end, with the same spans held
+-- The same end, with the same spans held.
 abbrev SameEnded : Option Ended → Option Ended → Type 0
 SameEnded None None = Unit {0}
 SameEnded (Some x) (Some y) = (x.place ≡ y.place) × SameCaps x.caps y.caps
@@ -36,7 +36,7 @@ agrees-same i names agree (Some c) (Some d) x y h f =
 agrees-same i names agree None (Some d) x y h f = absurd h
 agrees-same i names agree (Some c) None x y h f = absurd h
 
--- where a match may end: at the end of the text, before its last code, and before
+-- Where a match may end: at the end of the text, before its last code, and before.
 
 may_end_here : (ending : MatchEnding) (w : List ℕ) (i : ℕ) → length w ≡ i → slice_get w i ≡ None → may_end ending w i ≡ ends_before ending None
 may_end_here AtEnd w i size none = eq-eqb i (length w) (sym size)
@@ -68,7 +68,7 @@ may_end_last AtLastLine w i code size next feed =
     (ap₂ (λ a b. a && b) (eq-eqb (suc i) (length w) size) (ap (is_in is_line_feed) next ∙ feed))
 may_end_last Anywhere w i code size next feed = refl
 
--- if no side tells the last line feed apart, it is like any other code
+-- If no side tells the last line feed apart, it is like any other code.
 last_alike : (ending : MatchEnding) (code : ℕ) → tells_last ending ≡ false → ends_before_last ending ≡ ends_before ending (Some code)
 last_alike AtEnd code e = refl
 last_alike AtLastLine code e = cc
@@ -86,7 +86,7 @@ or-right : (a b : Bool) → (a || b) ≡ false → b ≡ false
 or-right true b e = cc
 or-right false b e = e
 
--- the same names
+-- The same names.
 
 spans-named_same : (l : List GroupSpan) → map (span_named (λ k. k)) l ≡ l
 spans-named_same [] = refl
@@ -103,7 +103,7 @@ named-same (t ∷ l) =
     (ap₂ (λ (o : List ℕ) (h : List GroupSpan). record { opens = o; held = h; last = t.caps.last }) (map-same t.caps.opens) (spans-named_same t.caps.held))
     (named-same l)
 
--- one side of a pair: what named threads find is what the pair's own threads find, by other names
+-- One side of a pair: what named threads find is what the pair's own threads find, by other names.
 
 end_side : (m : Marked) (w : List ℕ) (hit : ℕ → Bool) (i : ℕ) → slice_get w i ≡ None → (before : Option ℕ) → before ≡ code_before w i
     → (stop : Bool) → hit i ≡ stop → (names : ℕ → ℕ) (l : List Thread)
@@ -125,7 +125,7 @@ code_side m w hit i code next before at stop counts names f l n e =
     (halted-behind i names m stop before (Some code) l)
 
 module _ (s t : Matcher) (w : List ℕ) (hit_s hit_t : ℕ → Bool) where
-  -- from the threads of a pair at a place both sides find the same, or else found the same before: `x` and `y`
+  -- From the threads of a pair at a place both sides find the same, or else found the same before: `x` and `y`.
   abbrev Same : ℕ → (ℕ → ℕ) → ThreadPair → Option Ended → Option Ended → Type 0
   Same i names p x y =
       SameEnded (or_else (first_ended hit_s (walks s.tree w (named names p.left) i)) x) (or_else (first_ended hit_t (walks t.tree w (named names p.right) i)) y)
@@ -165,7 +165,7 @@ module _ (s t : Matcher) (w : List ℕ) (hit_s hit_t : ℕ → Bool) where
       after)
 
 module _ (u : Universe) (origin : Origin) (s t : Matcher) (R : ThreadPair → Type 0) (closed : IsClosed u origin s t R) (w : List ℕ) (hit_s hit_t : ℕ → Bool) where
-  -- the hits of a side: at the place `i`, if ends count there, and further on
+  -- The hits of a side: at the place `i`, if ends count there, and further on.
   pub record Counts (accepts : Bool) (i : ℕ) (ending : MatchEnding) (hit : ℕ → Bool) : Type 0 where
     pub here : hit i ≡ (accepts && may_end ending w i)
     pub on : (j : ℕ) → i < j → hit j ≡ may_end ending w j
@@ -173,7 +173,7 @@ module _ (u : Universe) (origin : Origin) (s t : Matcher) (R : ThreadPair → Ty
   next_counts : (accepts : Bool) (i : ℕ) (ending : MatchEnding) (hit : ℕ → Bool) → Counts accepts i ending hit → Counts true (suc i) ending hit
   next_counts accepts i ending hit counts = record { here = counts.on (suc i) (omega arith); on = λ j lt. counts.on j (omega arith) }
 
-  -- what is left of the text is `r`; `x` and `y` are what was found before, if nothing comes of the threads
+  -- What is left of the text is `r`; `x` and `y` are what was found before, if nothing comes of the threads.
   goes-same : (r : List ℕ) (i : ℕ) → ((m : ℕ) → slice_get w (i + m) ≡ slice_get r m) → length w ≡ i + length r → All (λ c. c < code_count u) r
       → (accepts : Bool) (p : ThreadPair) → Keeps u s t R accepts p → p.before ≡ code_before w i
       → Counts accepts i s.ending hit_s → Counts accepts i t.ending hit_t
@@ -233,7 +233,7 @@ module _ (u : Universe) (origin : Origin) (s t : Matcher) (R : ThreadPair → Ty
       (found.3.same_before ∙ sym next) (next_counts accepts i s.ending hit_s counts_s) (next_counts accepts i t.ending hit_t counts_t)
       (λ k. behind i names (found.0 k)) a b agree)
 
--- what is left of a text from a place on
+-- What is left of a text from a place on.
 abbrev rest_at : ℕ → List ℕ → List ℕ
 rest_at zero w = w
 rest_at (suc i) [] = []
@@ -301,7 +301,7 @@ same_hit (Some x) (Some y) h = record {
 same_hit None (Some y) h = absurd h
 same_hit (Some x) None h = absurd h
 
--- the match from a place is what the walk of the first thread finds
+-- The match from a place is what the walk of the first thread finds.
 pub match-walks : (m : Matcher) (w : List ℕ) (advance : Bool) (i : ℕ)
     → first_ended (is_hit_from m.ending advance w i) (walks m.tree w (thread 0 no_caps ∷ []) i) ≡ option_kept (match_at m w advance i)
 unfolding match_at

@@ -22,7 +22,7 @@ match_goes : (m : Matcher) (advance : Bool) (w : List ℕ) (i : ℕ) → OnEnd (
 unfolding match_at
 match_goes m advance w i = first_hit-end (Goes w i) (is_hit_from m.ending advance w i) (finds m.tree w i) (finds_go m.tree w i)
 
--- a match ends in the text
+-- A match ends in the text.
 abbrev Within : List ℕ → Option Match → Type 0
 Within w None = Unit {0}
 Within w (Some x) = x.found.end ≤ length w

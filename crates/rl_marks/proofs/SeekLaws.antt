@@ -16,7 +16,7 @@ use Rattle.rl_marks.specs.SameFinds.{SameFirstSearch}
 use Rattle.rl_marks.specs.internal.Seeking.{seeking}
 use Rattle.rl_marks.proofs.FindLaws.{finds-many}
 
--- if no group has the number 0, no span has
+-- If no group has the number 0, no span has.
 
 abbrev Numbered : List GroupSpan → Type 0
 Numbered [] = Unit {0}
@@ -85,7 +85,7 @@ finds-numbered (further e f) h w i =
 finds-numbered (mark zero e) h w i = cc
 finds-numbered (mark (suc n) e) h w i = all-closed (suc n) i (λ e. absurd (omega arith)) (finds e w i) (finds-numbered e h w i)
 
--- the group 0 of spans that don't have it, and the group that was closed last
+-- The group 0 of spans that don't have it, and the group that was closed last.
 
 abbrev IsNumbered : Option Found → Type 0
 IsNumbered None = Unit {0}
@@ -111,7 +111,7 @@ same-last (s ∷ l) (t ∷ m) p q e = e
 same-last [] (t ∷ m) p q e = absurd (not_zero_last t.number q.0 m q.1 e)
 same-last (s ∷ l) [] p q e = absurd (not_zero_last s.number p.0 l p.1 (sym e))
 
--- what is sought, with the group 0 in front
+-- What is sought, with the group 0 in front.
 
 abbrev front : ℕ → GroupSpan
 front k = record { number = 0; from = 0; upto = k }
@@ -165,13 +165,13 @@ sought-numbered m h w (suc n) advance i =
     begun-numbered i (match_at m w advance i) (sought m w n false (suc i))
     (first_hit-numbered (is_hit_from m.ending advance w i) (finds m.tree w i) (finds-numbered m.tree h w i)) (sought-numbered m h w n false (suc i))
 
--- any codes, as few as can be
+-- Any codes, as few as can be.
 
 later-none : (l : List Found) → map (later []) l ≡ l
 later-none [] = refl
 later-none (x ∷ l) = ap (λ m. x ∷ m) (later-none l)
 
--- the ends at `n + 1` places from `i` on
+-- The ends at `n + 1` places from `i` on.
 abbrev starts : ℕ → ℕ → List Found
 starts zero i = ended i ∷ []
 starts (suc n) i = ended i ∷ starts n (suc i)
@@ -234,7 +234,7 @@ unfolding or_found
 with_begun i None p = refl
 with_begun i (Some x) p = refl
 
--- what follows each start is what is sought
+-- What follows each start is what is sought.
 starts-sought : (m : Matcher) (w : List ℕ) (n i : ℕ)
     → first_hit (is_hit_from m.ending false w 0) (onward (map (closed 0 0) (starts n i)) (finds m.tree w)) ≡ with_front (sought m w n false i)
 unfolding match_at or_found
@@ -265,7 +265,7 @@ seeking-searches u s t ns nt same w text =
     (subst (λ z. SameHit z (with_front (search_from t w false 0))) (match-seeks u s w text)
     (subst (λ z. SameHit (match_at (seeking u s) w false 0) z) (match-seeks u t w text) (same w text)))
 
--- and the other way round: searches that find the same are matches that do
+-- And the other way round: searches that find the same are matches that do.
 
 some_after : (k : ℕ) (l : List GroupSpan) → None ≡ last_after (Some k) l → ⊥
 some_after k [] e = cc

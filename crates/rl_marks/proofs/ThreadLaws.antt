@@ -11,7 +11,7 @@ use Rattle.rl_marks.specs.internal.Threads.{Thread, thread, items_at, spread, ta
 use Rattle.rl_marks.proofs.Following.{map-join, followed-alike, followed-followed}
 use Rattle.rl_marks.proofs.WalkLaws.{trace_goes}
 
--- the first, or the second if there is none
+-- The first, or the second if there is none.
 abbrev pub or_else : Option Ended → Option Ended → Option Ended
 or_else None y = y
 or_else (Some x) y = Some x
@@ -32,7 +32,7 @@ first_ended-append hit (x ∷ l) m = split (hit x.place) (first_ended hit (l ++ 
     split true y z e = refl
     split false y z e = e
 
--- the places of the ends don't depend on what is known of the groups
+-- The places of the ends don't depend on what is known of the groups.
 
 abbrev pub places_in : List Ended → List ℕ
 places_in l = map (λ (x : Ended). x.place) l
@@ -103,7 +103,7 @@ none_where : (x : Option Ended) → place_of x ≡ None → x ≡ None
 none_where None e = refl
 none_where (Some x) e = cc
 
--- if ends at the same places hold no hit, there is none
+-- If ends at the same places hold no hit, there is none.
 none-alike : (hit : ℕ → Bool) (l m : List Ended) → places_in l ≡ places_in m → first_ended hit l ≡ None → first_ended hit m ≡ None
 none-alike hit l m e none =
     none_where (first_ended hit m) (first_place-ended hit m ∙ ap (first_place hit) (sym e) ∙ sym (first_place-ended hit l) ∙ ap place_of none)
@@ -138,7 +138,7 @@ pub distinct-same : (m : Marked) (w : List ℕ) (hit : ℕ → Bool) (i : ℕ) (
     → first_ended hit (walks m w (distinct threads) i) ≡ first_ended hit (walks m w threads i)
 distinct-same m w hit i threads = dropped m w hit i threads
 
--- the step of a list
+-- The step of a list.
 
 abbrev pub ended_at : ℕ → Option Caps → Option Ended
 ended_at i None = None
@@ -154,7 +154,7 @@ module _ (m : Marked) (w : List ℕ) (hit : ℕ → Bool) (i : ℕ) where
       (λ (t : Thread). trace_goes (set_of m 0) (after m 0) w (items_at m t.state) i t.caps) threads
       ∙ sym (followed-followed (λ (t : Thread). tries (code_before w i) (slice_get w i) i (items_at m t.state) t.caps) onto threads)
 
-  -- an end here, or what is found otherwise
+  -- An end here, or what is found otherwise.
   stop_split : (b : Bool) (c : Caps) (code : ℕ) (l : List Try) (y : Option Ended)
       → y ≡ or_else (first_ended hit (walks m w (taken m b code l) (suc i))) (ended_at i (stopped b l))
       → ◌≡◌ {A = Option Ended} (if b then Some (record { place = i; caps = c }) else y)
@@ -201,7 +201,7 @@ module _ (m : Marked) (w : List ℕ) (hit : ℕ → Bool) (i : ℕ) where
       none_split (is_in (set_of m 0 p) (slice_get w i)) (ap (is_in (set_of m 0 p)) next) (walk m w (after m 0 p) (suc i) c) (followed l onto) (ended_at i (stopped (hit i) l)) (pursue-end next l)
   pursue-end next (stops c ∷ l) = end_split (hit i) c l (first_ended hit (followed l onto)) (pursue-end next l)
 
-  -- the first hit of the threads is that of the threads on the next code, or else what they find here
+  -- The first hit of the threads is that of the threads on the next code, or else what they find here.
   pub step-code : (code : ℕ) → slice_get w i ≡ Some code → (threads : List Thread)
       → first_ended hit (walks m w threads i)
       ≡ or_else (first_ended hit (walks m w (moved m (hit i) (code_before w i) code i threads) (suc i))) (ended_at i (halted m (hit i) (code_before w i) (Some code) i threads))

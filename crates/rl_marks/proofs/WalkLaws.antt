@@ -16,7 +16,7 @@ use Rattle.rl_marks.proofs.Following.{followed-append, followed-alike, followed_
 use Rattle.rl_marks.proofs.CapsLaws.{caps_after-append, caps_after-opened}
 use Rattle.rl_marks.proofs.FindLaws.{finds-many}
 
--- items that are put together
+-- Items that are put together.
 
 pub all_prefixed-nil : (l : List MarkItem) → all_prefixed [] l ≡ l
 all_prefixed-nil [] = refl
@@ -58,11 +58,11 @@ replaced-kept [] = refl
 replaced-kept (test_at acts p ∷ l) = ap (λ n. test_at acts p ∷ n) (replaced-kept l)
 replaced-kept (pass acts ∷ l) = ap₂ (λ bs n. pass bs ∷ n) (append-nil acts) (replaced-kept l)
 
--- the ends of a group's body are where it is closed
+-- The ends of a group's body are where it is closed.
 replaced-closed : (l c : List MarkItem) (acts : List Act) → replaced (replaced l (pass acts ∷ [])) c ≡ replaced l (all_prefixed acts c)
 replaced-closed l c acts = replaced-twice l (pass acts ∷ []) c ∙ ap (replaced l) (append-nil (all_prefixed acts c))
 
--- acts in turn
+-- Acts in turn.
 
 allowed-append : (acts bs : List Act) (before next : Option ℕ) → allowed (acts ++ bs) before next ≡ (allowed acts before next && allowed bs before next)
 allowed-append [] bs before next = refl
@@ -82,7 +82,7 @@ performed-append (check g ∷ acts) bs i c = performed-append acts bs i c
 performed-append (open_group ∷ acts) bs i c = performed-append acts bs i _
 performed-append (close_group n ∷ acts) bs i c = performed-append acts bs i _
 
--- tries
+-- Tries.
 
 pub tries-append : (before next : Option ℕ) (i : ℕ) (l m : List MarkItem) (c : Caps) → tries before next i (l ++ m) c ≡ tries before next i l c ++ tries before next i m c
 tries-append before next i [] m c = refl
@@ -110,7 +110,7 @@ tries-prefixed before next i acts (pass bs ∷ l) c =
     ∙ ap (λ d. (if allowed acts before next && allowed bs before next then stops d ∷ [] else []) ++ (if allowed acts before next then tries before next i l (performed acts i c) else [])) (performed-append acts bs i c)
     ∙ guard_out (allowed acts before next) (allowed bs before next) (stops (performed bs i (performed acts i c)) ∷ []) (tries before next i l (performed acts i c))
 
--- what is found, carried on with what is known of the groups
+-- What is found, carried on with what is known of the groups.
 
 abbrev pub carried : List Found → Caps → (ℕ → Caps → List Ended) → List Ended
 carried l c next = followed l (λ x. next x.end (caps_after x.spans c))
@@ -162,7 +162,7 @@ tried-same sets w next other i f l c =
     followed-alike (pursued sets w next i) (pursued sets w other i) (pursued-same sets w next other i f) (tries (code_before w i) (slice_get w i) i l c)
 
 module _ (sets : ℕ → ℕ → Bool) (nexts : ℕ → List MarkItem) (w : List ℕ) where
-  -- the rule of the trace needs no count
+  -- The rule of the trace needs no count.
   pub trace_goes : (l : List MarkItem) (i : ℕ) (c : Caps) → trace sets nexts w l i c ≡ tried sets w (λ p d. trace sets nexts w (nexts p) (suc i) d) l i c
   unfolding trace
   trace_goes l i c = by_count (length w - i) refl
@@ -197,7 +197,7 @@ module _ (sets : ℕ → ℕ → Bool) (nexts : ℕ → List MarkItem) (w : List
   trace-test : (b i : ℕ) (c : Caps) → trace sets nexts w (test_at [] b ∷ []) i c ≡ (if is_in (sets b) (slice_get w i) then trace sets nexts w (nexts b) (suc i) c else [])
   trace-test b i c = trace_goes (test_at [] b ∷ []) i c ∙ append-nil (if is_in (sets b) (slice_get w i) then trace sets nexts w (nexts b) (suc i) c else [])
 
-  -- what follows an end: `d` if no code was read since the place `i`, and `c` further on
+  -- What follows an end: `d` if no code was read since the place `i`, and `c` further on.
   abbrev follow : ℕ → List MarkItem → List MarkItem → ℕ → Caps → List Ended
   follow i c d j k = if nat_lt i j then trace sets nexts w c j k else trace sets nexts w d j k
 
@@ -212,7 +212,7 @@ module _ (sets : ℕ → ℕ → Bool) (nexts : ℕ → List MarkItem) (w : List
       cond_both (nat_lt j l) (trace sets nexts w c l k) (trace sets nexts w c l k) (λ x. x ≡ trace sets nexts w c l k) (λ _. refl) (λ _. refl)
       ∙ sym (follow-on i l c d k (omega arith))
 
-  -- a tree whose first place has the number `b` and that is followed by the items `c` is in the tables
+  -- A tree whose first place has the number `b` and that is followed by the items `c` is in the tables.
   abbrev Sits : Marked → ℕ → List MarkItem → Type 0
   Sits empty b c = Unit {0}
   Sits (one s) b c = ((x : ℕ) → sets b x ≡ s x) × (nexts b ≡ c)
@@ -223,7 +223,7 @@ module _ (sets : ℕ → ℕ → Bool) (nexts : ℕ → List MarkItem) (w : List
   Sits (further e f) b c = Sits e b (replaced (first f (b + places e)) c) × Sits f (b + places e) c
   Sits (mark n e) b c = Sits e b (all_prefixed (close_group n ∷ []) c)
 
-  -- the claim on a tree
+  -- The claim on a tree.
   abbrev Expands : Marked → ℕ → List MarkItem → Type 0
   Expands e b c = (d : List MarkItem) (i : ℕ) (k : Caps) → trace sets nexts w (replaced (first e b) d) i k ≡ carried (finds e w i) k (follow i c d)
 
@@ -350,7 +350,7 @@ module _ (sets : ℕ → ℕ → Bool) (nexts : ℕ → List MarkItem) (w : List
   expands (further e f) b c sit d i k = expands-further e f b c (expands e b (replaced (first f (b + places e)) c) sit.0) (expands f (b + places e) c sit.1) d i k
   expands (mark n e) b c sit d i k = expands-mark n e b c (expands e b (all_prefixed (close_group n ∷ []) c) sit) d i k
 
-  -- a tree is in tables that have its own sets and items at its places
+  -- A tree is in tables that have its own sets and items at its places.
   sits : (e : Marked) (b : ℕ) (c : List MarkItem)
       → ((p : ℕ) → b ≤ p → p < b + places e → ((x : ℕ) → sets p x ≡ set_of e b p x) × (nexts p ≡ replaced (after e b p) c))
       → Sits e b c
@@ -416,7 +416,7 @@ module _ (sets : ℕ → ℕ → Bool) (nexts : ℕ → List MarkItem) (w : List
       let row = rows p low high in
       (row.0, row.1 ∙ replaced-closed (after e b p) c (close_group n ∷ [])))
 
--- the walk of a tree's items finds what the tree finds
+-- The walk of a tree's items finds what the tree finds.
 pub walk-finds : (m : Marked) (w : List ℕ) (i : ℕ) (k : Caps) → walk m w (first m 0) i k ≡ map (kept k) (finds m w i)
 walk-finds m w i k =
     let last = pass [] ∷ [] in

@@ -7,39 +7,39 @@ use Rattle.rl_syntax.specs.Run.{one_more}
 pub use Rattle.rl_marks.specs.declared.spans.GroupSpan.{GroupSpan}
 use Rattle.rl_marks.specs.Marked.{Marked, empty, one, guard, both, either, many, further, mark}
 
--- an end, with the spans of the groups that were closed on the way, in order
+-- An end, with the spans of the groups that were closed on the way, in order.
 pub record Found : Type 0 where
   pub end : ℕ
   pub spans : List GroupSpan
 
--- each item replaced by what follows from it
+-- Each item replaced by what follows from it.
 abbrev pub followed : {A B : Type 0} → List A → (A → List B) → List B
 followed [] next = []
 followed (x ∷ l) next = next x ++ followed l next
 
--- an end at which no group was closed
+-- An end at which no group was closed.
 abbrev pub ended : ℕ → Found
 ended i = record { end = i; spans = [] }
 
--- what was found, after the spans of an earlier part
+-- What was found, after the spans of an earlier part.
 abbrev pub later : List GroupSpan → Found → Found
 later spans x = record { end = x.end; spans = spans ++ x.spans }
 
--- what is found from the ends of an earlier part on
+-- What is found from the ends of an earlier part on.
 abbrev pub onward : List Found → (ℕ → List Found) → List Found
 onward l next = followed l (λ x. map (later x.spans) (next x.end))
 
--- what was found from the place `i` on, with the span of the group
+-- What was found from the place `i` on, with the span of the group.
 abbrev pub closed : ℕ → ℕ → Found → Found
 closed n i x = record { end = x.end; spans = x.spans ++ record { number = n; from = i; upto = x.end } ∷ [] }
 
--- at most `n` rounds of the body and one more, from the place `i` on
+-- At most `n` rounds of the body and one more, from the place `i` on.
 abbrev pub rounds : (ℕ → List Found) → Bool → ℕ → ℕ → List Found
 rounds body greedy zero i = one_more greedy (ended i) (body i)
 rounds body greedy (suc n) i =
     one_more greedy (ended i) (onward (body i) (λ j. if nat_lt i j then rounds body greedy n j else ended j ∷ []))
 
--- what a tree finds on a text from a place on. As each round of `many` takes a code, the codes that are left bound the rounds.
+-- What a tree finds on a text from a place on. As each round of `many` takes a code, the codes that are left bound the rounds.
 abbrev pub finds : Marked → List ℕ → ℕ → List Found
 finds empty w i = ended i ∷ []
 finds (one set) w i = if is_in set (slice_get w i) then ended (suc i) ∷ [] else []
@@ -50,28 +50,28 @@ finds (many e greedy) w i = rounds (finds e w) greedy (length w - i) i
 finds (further e f) w i = onward (finds e w i) (λ j. if nat_lt i j then finds f w j else ended j ∷ [])
 finds (mark n e) w i = map (closed n i) (finds e w i)
 
--- only the ends
+-- Only the ends.
 abbrev pub ends : List Found → List ℕ
 ends l = map (λ (x : Found). x.end) l
 
--- the span, if it is one of the group; else what is known of the group
+-- The span, if it is one of the group; else what is known of the group.
 abbrev pub span_or : ℕ → Option (ℕ × ℕ) → GroupSpan → Option (ℕ × ℕ)
 span_or n known s = if n == s.number then Some (s.from, s.upto) else known
 
--- the last span of the group among spans in order; what is known of it before, if there is none
+-- The last span of the group among spans in order; what is known of it before, if there is none.
 abbrev pub group_after : ℕ → Option (ℕ × ℕ) → List GroupSpan → Option (ℕ × ℕ)
 group_after n known [] = known
 group_after n known (s ∷ spans) = group_after n (span_or n known s) spans
 
--- the value of a group: its last span, or none
+-- The value of a group: its last span, or none.
 abbrev pub group : ℕ → List GroupSpan → Option (ℕ × ℕ)
 group n spans = group_after n None spans
 
--- the group that was closed last, or what is known of it before
+-- The group that was closed last, or what is known of it before.
 abbrev pub last_after : Option ℕ → List GroupSpan → Option ℕ
 last_after known [] = known
 last_after known (s ∷ spans) = last_after (Some s.number) spans
 
--- the number of the group that was closed last, or none: `lastindex`
+-- The number of the group that was closed last, or none: `lastindex`.
 abbrev pub last_group : List GroupSpan → Option ℕ
 last_group spans = last_after None spans

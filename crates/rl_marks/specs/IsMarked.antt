@@ -9,12 +9,13 @@ use Rattle.rl_syntax.specs.Tree.{Tree, empty, one, guard, both, either, many, Is
 use Rattle.rl_syntax.specs.IsPattern.{LiesIn-prop}
 use Rattle.rl_marks.specs.Marked.{Marked, plain, nodes, is_numbered}
 
+-- The tree is one of a pattern over the universe.
 pub record IsMarked (u : Universe) (t : Marked) : Type 0 where
   pub over : IsOver u (plain t)
   pub numbered : IsTrue (is_numbered t)
   pub small : nodes t ≤ MOST_NODES
 
--- each of these facts has one proof at most
+-- Each of these facts has one proof at most.
 pub AllLieIn-prop : (u : Universe) (sets : List (ℕ → Bool)) → IsProp (AllLieIn u sets)
 AllLieIn-prop u [] = Unit-prop
 AllLieIn-prop u (set ∷ sets) = ×_prop (LiesIn-prop u set) (AllLieIn-prop u sets)

@@ -4,6 +4,8 @@ pub mod Hits
 pub mod Searches
 pub mod SameFinds
 pub mod Marking
+pub mod MarkItems
+pub mod Seeking
 pub mod IsMarked
 pub mod RunEnds
 pub mod internal

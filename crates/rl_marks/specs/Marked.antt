@@ -7,27 +7,28 @@ use Rattle.rl_syntax.specs.Tree.{Tree}
 use Rattle.rl_syntax.specs.Tree as Plain
 use Rattle.rl_marks.specs.declared.tree.MarkTree.{MarkTree, Empty, One, Both', Either', Many', Further', Mark', Guard as GuardTree}
 
+-- A tree with groups.
 pub data Marked : Type 0 where
-  -- nothing
+  -- Nothing.
   empty : Marked
-  -- one code of a set
+  -- One code of a set.
   one : (ℕ → Bool) → Marked
-  -- a test of the place
+  -- A test of the place.
   guard : Guard → Marked
-  -- the one and then the other
+  -- The one and then the other.
   both : Marked → Marked → Marked
-  -- the one or the other, the first tried first
+  -- The one or the other, the first tried first.
   either : Marked → Marked → Marked
-  -- any number of times; the flag says that one more is tried before none
+  -- Any number of times; the flag says that one more is tried before none.
   many : Marked → Bool → Marked
-  -- the one, and then the other if the one took a code. A round of a counted repeat and those after it are joined so, since
+  -- The one, and then the other if the one took a code. A round of a counted repeat and those after it are joined so, since
   -- CPython tries no round after one that took nothing. This shows in the groups: `(?:()|(a)){0,2}b` matches `ab` with the
   -- empty group 1 behind the `a`, in the second round. With `both` it would be before the `a`, in the first.
   further : Marked → Marked → Marked
-  -- the body of the capturing group with the number
+  -- The body of the capturing group with the number.
   mark : ℕ → Marked → Marked
 
--- the tree that the program's value is
+-- The tree that the program's value is.
 abbrev pub marked_of : MarkTree → Marked
 marked_of Empty = empty
 marked_of (One set) = one (has set)
@@ -38,7 +39,7 @@ marked_of (Many' p e greedy) = many (marked_of e) greedy
 marked_of (Further' p e q f) = further (marked_of e) (marked_of f)
 marked_of (Mark' n p e) = mark n (marked_of e)
 
--- the number of nodes
+-- The number of nodes.
 abbrev pub nodes : Marked → ℕ
 nodes empty = 1
 nodes (one set) = 1
@@ -49,7 +50,7 @@ nodes (many e greedy) = suc (nodes e)
 nodes (further e f) = suc (nodes e + nodes f)
 nodes (mark n e) = suc (nodes e)
 
--- whether no group has the number 0
+-- Whether no group has the number 0.
 abbrev pub is_numbered : Marked → Bool
 is_numbered empty = true
 is_numbered (one set) = true
@@ -61,7 +62,7 @@ is_numbered (further e f) = is_numbered e && is_numbered f
 is_numbered (mark zero e) = false
 is_numbered (mark (suc n) e) = is_numbered e
 
--- the tree without its groups
+-- The tree without its groups.
 abbrev pub plain : Marked → Tree
 plain empty = Plain.empty
 plain (one set) = Plain.one set
@@ -72,7 +73,7 @@ plain (many e greedy) = Plain.many (plain e) greedy
 plain (further e f) = Plain.both (plain e) (plain f)
 plain (mark n e) = plain e
 
--- whether the tree takes a code in any case
+-- Whether the tree takes a code in any case.
 abbrev pub takes_code : Marked → Bool
 takes_code empty = false
 takes_code (one set) = true
@@ -83,7 +84,7 @@ takes_code (many e greedy) = false
 takes_code (further e f) = takes_code e
 takes_code (mark n e) = takes_code e
 
--- each round of a counted repeat takes a code in any case
+-- Each round of a counted repeat takes a code in any case.
 abbrev pub IsStrict : Marked → Type 0
 IsStrict empty = Unit {0}
 IsStrict (one set) = Unit {0}

@@ -8,11 +8,12 @@
 //!
 //! # What is proved
 //!
-//! The tree is the one that the definition gives, and [`MarkError::TooLarge`] comes exactly if it has more than 4,000 nodes.
-//! Above all this crate defines what it means that two patterns find the same: from each place, or by one search from the
-//! start of a text, the same matches with the same ends and the same groups. By the laws of [`laws`], a tree without its groups
-//! is the tree of `rl_syntax`, the ends of what is found are those of its run, and matchers that find the same from each place
-//! find the same in each search and each sequence of searches, as those of `finditer`.
+//! The tree is the one that the definition gives. [`MarkedPattern::of`] answers one only if it has at most 4,000 nodes and the
+//! pattern at most 100 groups, and its error says that there are more only if there are. Above all this crate defines what it
+//! means that two patterns find the same: from each place, or by one search from the start of a text, the same matches with the
+//! same ends and the same groups. By the laws of [`laws`], a tree without its groups is the tree of `rl_syntax`, the ends of what
+//! is found are those of its run, and matchers that find the same from each place find the same in each search and each sequence
+//! of searches, as those of `finditer`.
 //!
 //! The module `thread_laws` has the theory of a check. A text is read by lists of threads, later threads in the state of an
 //! earlier one are dropped, and places are kept by names. A relation on pairs of such lists that is closed under the next code

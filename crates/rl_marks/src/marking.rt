@@ -36,6 +36,7 @@ struct Parts {
 pub(crate) fn mark_part(alloc: Global, part: &Pat, number: u32) -> Result<Part, MarkError>
     ensures tree { IfOk result (λ r. marked_of r.tree ≡ marked (pat_of part.now) number) }
     ensures next { IfOk result (λ r. r.next ≡ number + groups_in (pat_of part.now)) }
+    ensures few { IfOk result (λ r. number ≤ MOST_GROUPS + 1 → r.next ≤ MOST_GROUPS + 1) }
     ensures small { IfErr result (λ e. e ≢ error.TooLarge) }
     ensures many { IfErr result (λ e. e ≡ error.TooManyGroups → MOST_GROUPS + 1 < number + groups_in (pat_of part.now)) }
 {
@@ -99,6 +100,7 @@ pub(crate) fn mark_part(alloc: Global, part: &Pat, number: u32) -> Result<Part, 
 fn mark_group(alloc: Global, body: &Pat, number: u32) -> Result<Part, MarkError>
     ensures tree { IfOk result (λ r. marked_of r.tree ≡ Marked.mark number (marked (pat_of body.now) (number + 1))) }
     ensures next { IfOk result (λ r. r.next ≡ number + 1 + groups_in (pat_of body.now)) }
+    ensures few { IfOk result (λ r. r.next ≤ MOST_GROUPS + 1) }
     ensures small { IfErr result (λ e. e ≢ error.TooLarge) }
     ensures many { IfErr result (λ e. e ≡ error.TooManyGroups → MOST_GROUPS + 1 < number + 1 + groups_in (pat_of body.now)) }
 {
@@ -118,6 +120,7 @@ fn mark_group(alloc: Global, body: &Pat, number: u32) -> Result<Part, MarkError>
 fn mark_items(alloc: Global, items: &[Pat], number: u32) -> Result<Parts, MarkError>
     ensures trees { IfOk result (λ r. map marked_of r.trees ≡ items_marked (items_of (map pat_of items.now)) number) }
     ensures next { IfOk result (λ r. r.next ≡ number + groups_in_items (items_of (map pat_of items.now))) }
+    ensures few { IfOk result (λ r. number ≤ MOST_GROUPS + 1 → r.next ≤ MOST_GROUPS + 1) }
     ensures small { IfErr result (λ e. e ≢ error.TooLarge) }
     ensures many { IfErr result (λ e. e ≡ error.TooManyGroups → MOST_GROUPS + 1 < number + groups_in_items (items_of (map pat_of items.now))) }
 {
@@ -136,6 +139,7 @@ fn mark_items(alloc: Global, items: &[Pat], number: u32) -> Result<Parts, MarkEr
 fn mark_branches(alloc: Global, branches: &[Branch], number: u32) -> Result<Parts, MarkError>
     ensures trees { IfOk result (λ r. map marked_of r.trees ≡ branches_marked (branches_of (map branch_tree branches.now)) number) }
     ensures next { IfOk result (λ r. r.next ≡ number + groups_in_branches (branches_of (map branch_tree branches.now))) }
+    ensures few { IfOk result (λ r. number ≤ MOST_GROUPS + 1 → r.next ≤ MOST_GROUPS + 1) }
     ensures small { IfErr result (λ e. e ≢ error.TooLarge) }
     ensures many { IfErr result (λ e. e ≡ error.TooManyGroups → MOST_GROUPS + 1 < number + groups_in_branches (branches_of (map branch_tree branches.now))) }
 {

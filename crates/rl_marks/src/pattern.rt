@@ -28,7 +28,7 @@ pub struct MarkedPattern {
 }
 
 impl MarkedPattern {
-    ghost use Rattle.std.specs.Prelude.{◌≡◌, ◌<◌, IfOk, IfErr};
+    ghost use Rattle.std.specs.Prelude.{◌≡◌, ◌<◌, ◌≤◌, IfOk, IfErr};
     ghost use Rattle.rl_syntax.specs.Pattern.{body_of, trail_of, universe_of};
     ghost use Rattle.rl_marks.specs.declared.error.MarkError.TheVariants as error;
     ghost use Rattle.rl_marks.specs.Marked.{marked_of, nodes};
@@ -37,13 +37,16 @@ impl MarkedPattern {
     /// The pattern with its groups, numbered from 1 on in the order in which they are opened.
     ///
     /// # Errors
-    /// [`MarkError::TooLarge`] exactly if the tree has more than [`MOST_NODES`], [`MarkError::TooManyGroups`] only if there are
-    /// more than [`MOST_GROUPS`](crate::MOST_GROUPS), [`MarkError::OutOfMemory`] if there was no memory for the tree.
+    /// [`MarkError::TooLarge`] only if the tree has more than [`MOST_NODES`] nodes, and [`MarkError::TooManyGroups`] only if the
+    /// pattern has more than [`MOST_GROUPS`](crate::MOST_GROUPS) groups; a pattern that passes either limit gets an error in any
+    /// case. [`MarkError::OutOfMemory`] if there was no memory for the tree.
     pub fn of(alloc: Global, p: &Pattern) -> Result<MarkedPattern, MarkError>
         ensures tree { IfOk result (λ m. marked_of m.tree ≡ pattern_marked p.now) }
         ensures trailing { IfOk result (λ m. m.trailing ≡ trail_of p.now) }
         ensures universe { IfOk result (λ m. m.universe ≡ universe_of p.now) }
         ensures groups { IfOk result (λ m. m.groups ≡ groups_in (body_of p.now)) }
+        ensures small { IfOk result (λ m. nodes (marked_of m.tree) ≤ MOST_NODES) }
+        ensures few { IfOk result (λ m. m.groups ≤ MOST_GROUPS) }
         ensures too_large { IfErr result (λ e. e ≡ error.TooLarge → MOST_NODES < nodes (pattern_marked p.now)) }
         ensures too_many { IfErr result (λ e. e ≡ error.TooManyGroups → MOST_GROUPS < groups_in (body_of p.now)) }
     {

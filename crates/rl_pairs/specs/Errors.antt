@@ -4,7 +4,7 @@ use Rattle.rl_sets.specs.declared.error.SetsError.TheVariants.{Sets as TooManySe
 use Rattle.rl_pairs.specs.declared.error.PairsError.{PairsError}
 use Rattle.rl_pairs.specs.declared.error.PairsError.TheVariants.{Sets, OutOfMemory}
 
--- The error of the search for live pairs for an error of the walk over sets.
+-- The error that a search for live pairs returns if its walk over sets returns this one.
 abbrev pub sets_error : SetsError → PairsError
 sets_error TooManySets = Sets
 sets_error NoRoom = OutOfMemory

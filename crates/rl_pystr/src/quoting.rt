@@ -172,9 +172,9 @@ fn push_quoted_body(out: &mut Vec<u8>, bytes: bool, codes: &[u32]) -> Result<(),
     }
 }
 
-/// Returns the literal for a text of a universe. It is raw if each code point is from 0x20 to 0x7E, none is `"`, and the last
-/// isn't a backslash; otherwise it has escapes. If it has at most 4,194,304 bytes, its value is the original text, by the law
-/// [`read_back`](crate::read_back).
+/// Returns a Python literal in double quotes for a text, or for bytes with the prefix `b`. It is a raw literal if each code
+/// point is from 0x20 to 0x7E, none is `"`, and the last isn't a backslash; otherwise it is an ordinary literal with escapes.
+/// The value of a literal of at most 4,194,304 bytes is the original text, by the law [`read_back`](crate::read_back).
 ///
 /// # Errors
 /// [`OutOfMemory`] if memory runs out.

@@ -246,18 +246,18 @@ fn run_of(tokens: &TokenList, first: u32, count: u32) -> &[Token]
     &tokens.as_slice()[first..first + count as usize]
 }
 
-/// Returns the value of a run of literals, which is the values of its literals joined together. The run consists of `count`
-/// tokens of the source, beginning with `first`. They must be literals and comments, and the first and the last must be
-/// literals.
+/// Returns the value of a run of literals: the values of its literals, joined together. The run consists of `count` tokens of
+/// the source, beginning with `first`. They must be literals and comments, and the first and the last must be literals.
 ///
 /// # Errors
-/// The first of these that holds:
-/// - [`StrError::FString`] if and only if a literal has an `f` in its prefix
-/// - [`StrError::Mixed`] if and only if one literal has a `b` in its prefix and another doesn't
-/// - [`StrError::BadEscape`] or [`StrError::NamedEscape`], with the place of the backslash, or [`StrError::NotAscii`], with the
-///   place of the code point, if and only if the first fault by place is such an escape, or a code point of at least 0x80 in
-///   bytes
-/// - [`StrError::OutOfMemory`] if memory runs out
+/// These are checked in order:
+/// - [`StrError::FString`] if a literal has an `f` in its prefix
+/// - [`StrError::Mixed`] if one literal has a `b` in its prefix and another doesn't
+/// - the first fault in the literals, by place: [`StrError::BadEscape`] for an escape without a value and
+///   [`StrError::NamedEscape`] for an escape by name, with the place of the backslash, or [`StrError::NotAscii`] for a code
+///   point of at least 0x80 in bytes, with its place
+///
+/// Instead of any result, [`StrError::OutOfMemory`] is returned if memory runs out.
 #[tactic(auto, using(crate::proofs::Ends::ends))]
 pub fn value(
     alloc: Global,

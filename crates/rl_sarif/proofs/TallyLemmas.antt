@@ -20,7 +20,7 @@ unwrap-cond true w o = refl
 unwrap-cond false w o = refl
 
 module _ {S : Type 0} (m n : IndexMap Key ℕ S) (k : Key) where
-  -- the tally after a number is stored at the key k
+  -- The tally after a number is stored at the key k.
   left-put : (w : ℕ) → ((q : Key) → get key.eq-value.it n q ≡ cond (key.eq-value.it k q) (Some w) (get key.eq-value.it m q)) → (q : Key)
       → left n (key_in q) ≡ cond (same_key (key_in q) (key_in k)) w (left m (key_in q))
   left-put w puts q =
@@ -33,7 +33,7 @@ module _ {S : Type 0} (m n : IndexMap Key ℕ S) (k : Key) where
   added-at true w q e is = is ∙ ap (λ (a : EntryKey). left m a + 1) (sym (same_key-equal q (key_in k) e))
   added-at false w q e is = omega arith
 
-  -- one more occurrence of the key
+  -- One more occurrence of the key.
   pub added : (w : ℕ) → w ≡ left m (key_in k) + 1
       → ((q : Key) → get key.eq-value.it n q ≡ cond (key.eq-value.it k q) (Some w) (get key.eq-value.it m q))
       → Holds n (λ q. left m q + one_if_same q (key_in k))
@@ -44,7 +44,7 @@ module _ {S : Type 0} (m n : IndexMap Key ℕ S) (k : Key) where
   taken-at true w q e is = is ∙ ap (λ (a : EntryKey). left m a - 1) (sym (same_key-equal q (key_in k) e))
   taken-at false w q e is = omega arith
 
-  -- one occurrence of the key less
+  -- One occurrence of the key less.
   pub taken : (w : ℕ) → w ≡ left m (key_in k) - 1
       → ((q : Key) → get key.eq-value.it n q ≡ cond (key.eq-value.it k q) (Some w) (get key.eq-value.it m q))
       → Holds n (λ q. left m q - one_if_same q (key_in k))

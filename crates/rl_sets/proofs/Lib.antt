@@ -1,5 +1,6 @@
 pub mod SetLemmas
 pub mod RowLemmas
+pub mod SplitLemmas
 pub mod WalkLemmas
 pub mod AcceptLemmas
 pub mod LiveLemmas

@@ -59,15 +59,14 @@ IsLife-kept a routes others set (Live r) h = HasRoute-kept a routes others set r
 IsLife-kept a routes others set Dead h = h
 
 -- The walk with one more route.
-pub IsMadeFor-route : (w : Walk) (a : Automaton) (x : Route) → IsMadeFor w a → IsMadeFor (record { sets = w.sets; limit = w.limit; kept = record { states = w.kept.states; tables = w.kept.tables; images = w.kept.images; routes = w.kept.routes ++ x ∷ []; lives = w.kept.lives } }) a
+pub IsMadeFor-route : (w : Walk) (a : Automaton) (x : Route) → IsMadeFor w a → IsMadeFor (record { sets = w.sets; limit = w.limit; kept = record { states = w.kept.states; split = w.kept.split; images = w.kept.images; routes = w.kept.routes ++ x ∷ []; lives = w.kept.lives } }) a
 IsMadeFor-route w a x made = record {
   sets = made.sets;
   apart = made.apart;
   few = made.few;
   low = made.low;
   states = made.states;
-  letters = made.letters;
-  tables = made.tables;
+  split = made.split;
   few_images = made.few_images;
   images = made.images;
   first_route = get_kept w.kept.routes (x ∷ []) 0 End made.first_route;
@@ -76,15 +75,14 @@ IsMadeFor-route w a x made = record {
 }
 
 -- The walk with other notes.
-pub IsMadeFor-lives : (w : Walk) (a : Automaton) (lives : List Life) → IsMadeFor w a → length lives ≤ length w.sets → ((n : ℕ) → n < length w.sets → IsLife a w.kept.routes (set_at w n) (get_or lives n Unknown)) → IsMadeFor (record { sets = w.sets; limit = w.limit; kept = record { states = w.kept.states; tables = w.kept.tables; images = w.kept.images; routes = w.kept.routes; lives = lives } }) a
+pub IsMadeFor-lives : (w : Walk) (a : Automaton) (lives : List Life) → IsMadeFor w a → length lives ≤ length w.sets → ((n : ℕ) → n < length w.sets → IsLife a w.kept.routes (set_at w n) (get_or lives n Unknown)) → IsMadeFor (record { sets = w.sets; limit = w.limit; kept = record { states = w.kept.states; split = w.kept.split; images = w.kept.images; routes = w.kept.routes; lives = lives } }) a
 IsMadeFor-lives w a lives made few each = record {
   sets = made.sets;
   apart = made.apart;
   few = made.few;
   low = made.low;
   states = made.states;
-  letters = made.letters;
-  tables = made.tables;
+  split = made.split;
   few_images = made.few_images;
   images = made.images;
   first_route = made.first_route;

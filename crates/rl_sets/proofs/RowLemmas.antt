@@ -3,18 +3,15 @@ use Rattle.std.proofs.Common.{◌≡◌, ◌≢◌, ℕ, ◌+◌, ◌<◌, ◌�
 use Rattle.std.specs.List.{list_any, flat_map}
 use Rattle.std.proofs.lemmas.Bool.{cases_lt, cases_eq, eq-eqb, ne_eqb, cond-true, cond-false, false≢true}
 use Rattle.std.proofs.lemmas.List.{flat_map_more, set-set, at_drop_more, get_or-set_same, get_or-set_other, length-set, length-replicate, ext_get_or}
-use Rattle.std.proofs.lemmas.List.Elements.{All-from_get_or}
 use Rattle.std.proofs.lemmas.List.Folds.{list_any-append}
-use Rattle.rl_lanes.specs.Rows.{list_or, NoneFrom, IsLeastFrom}
-use Rattle.rl_lanes.specs.Tables.{image as rows_image}
-use Rattle.rl_lanes.proofs.RowLemmas.{place_within, get_or-replicate_false, length-list_or, get_or-list_or}
-use Rattle.rl_lanes.proofs.ImageLemmas.{get_or-image, length-image}
+use Rattle.rl_lanes.specs.Rows.{list_or, list_and_not, Meets, NoneFrom, IsLeastFrom}
+use Rattle.rl_lanes.proofs.RowLemmas.{place_within, get_or-replicate_false, length-list_or, get_or-list_or, length-list_and_not, get_or-list_and_not}
 use Rattle.rl_prio.specs.Automaton.{Automaton, dead_state, moves_at}
-use Rattle.rl_sets.specs.Live.{below, holds, set_where, image, joined}
+use Rattle.rl_sets.specs.Live.{below, holds, set_where, image, joined, left_out}
 use Rattle.rl_sets.specs.Walk.{set_of}
-use Rattle.rl_sets.specs.Rows.{members_of, marked, IsTableOn}
+use Rattle.rl_sets.specs.Rows.{members_of, marked}
 use Rattle.rl_sets.specs.internal.Moves.{targets_of, IsReached, MoveAlike}
-use Rattle.rl_sets.proofs.SetLemmas.{same_tests, filter_same, filter_gap, filter_next, any-there, any-from, holds-there, holds-from}
+use Rattle.rl_sets.proofs.SetLemmas.{same_tests, filter_same, filter_both, filter_gap, filter_next, any-there, any-from, holds-there, holds-from}
 
 -- A state is a member if its bit is set.
 pub holds-members : (row : List Bool) (q : ℕ) → holds (members_of row) q ≡ get_or row q false
@@ -77,23 +74,8 @@ length-marked_zeros n qs = length-marked (replicate n false) qs ∙ length-repli
 abbrev reaches : Automaton → ℕ → List ℕ → ℕ → Bool
 reaches a letter members t = list_any (λ q. holds (moves_at a q letter) t) members
 
--- The union of the rows of the members holds what they move to.
-image_reaches : (a : Automaton) (letter : ℕ) (table : List (List Bool)) (row : List Bool) (t : ℕ) → IsTableOn a letter table → length row ≡ a.states → t < a.states
-    → get_or (rows_image table row a.states) t false ≡ reaches a letter (members_of row) t
-unfolding members_of
-image_reaches a letter table row t on long lt =
-    let f = λ (q : ℕ). holds (moves_at a q letter) t in
-    let p = λ (q : ℕ). get_or row q false in
-    let both = get_or-image table row a.states t on.wide in
-    same_tests _ _ (λ e.
-    let h = both.0 e in
-    let small : h.0 < length row = place_within row h.0 h.1 in
-    any-from f p (length row) h.0 small h.1 (sym (on.moves h.0 t (omega arith) lt) ∙ h.2)) (λ e.
-    let h = any-there f p (length row) e in
-    both.1 (h.0, h.2, on.moves h.0 t (omega arith) lt ∙ h.3))
-
--- The same without the dead state.
-image_says : (a : Automaton) (letter : ℕ) (into : List Bool) (members : List ℕ) (t : ℕ) → length into ≡ a.states → t < a.states → get_or into t false ≡ reaches a letter members t
+-- The test of an image, by a row that says whether it reaches each state but the dead one.
+image_says : (a : Automaton) (letter : ℕ) (into : List Bool) (members : List ℕ) (t : ℕ) → length into ≡ a.states → t < a.states → (t < dead_state a → get_or into t false ≡ reaches a letter members t)
     → get_or (set into (dead_state a) false) t false ≡ (not (eqb t (dead_state a)) && reaches a letter members t)
 image_says a letter into members t long lt same = by (cases_eq t (dead_state a))
   where
@@ -104,7 +86,7 @@ image_says a letter into members t long lt same = by (cases_eq t (dead_state a))
         ∙ ap (λ b. not b && reaches a letter members t) (sym (eq-eqb t (dead_state a) here))
     by (inr other) =
         get_or-set_other into (dead_state a) t false false other
-        ∙ same
+        ∙ same (omega arith)
         ∙ ap (λ b. not b && reaches a letter members t) (sym (ne_eqb t (dead_state a) other))
 
 -- The row of the states to which the members move, without the dead state, is the row of the image.
@@ -112,17 +94,10 @@ pub members-reached : (a : Automaton) (letter : ℕ) (members : List ℕ) (row :
 unfolding image
 members-reached a letter members row r =
     members-where a (set row (dead_state a) false) (λ t. not (eqb t (dead_state a)) && reaches a letter members t) (length-set row (dead_state a) false ∙ r.wide) (λ t lt.
-    image_says a letter row members t r.wide lt (r.moves t lt))
-
--- The union of the rows of the members is that row.
-pub reached-by_table : (a : Automaton) (letter : ℕ) (table : List (List Bool)) (row : List Bool) → IsTableOn a letter table → length row ≡ a.states → IsReached a (members_of row) letter (rows_image table row a.states)
-reached-by_table a letter table row on long = record {
-  wide = length-image table row a.states on.wide;
-  moves = λ t lt. image_reaches a letter table row t on long lt;
-}
+    image_says a letter row members t r.wide lt (r.moves t))
 
 -- A state is a target if a member moves to it.
-holds-targets : (a : Automaton) (letter : ℕ) (members : List ℕ) (t : ℕ) → holds (targets_of a members letter) t ≡ reaches a letter members t
+pub holds-targets : (a : Automaton) (letter : ℕ) (members : List ℕ) (t : ℕ) → holds (targets_of a members letter) t ≡ list_any (λ q. holds (moves_at a q letter) t) members
 holds-targets a letter [] t = refl
 holds-targets a letter (q ∷ qs) t =
     list_any-append (λ x. eqb x t) (moves_at a q letter) (targets_of a qs letter) ∙ ap (λ b. holds (moves_at a q letter) t || b) (holds-targets a letter qs t)
@@ -133,7 +108,7 @@ reached-by_moves a letter members row e =
     let targets = targets_of a members letter in
     record {
       wide = ap length e ∙ length-marked_zeros a.states targets;
-      moves = λ t lt. ap (λ r. get_or r t false) e ∙ get_or-marked_zeros a.states targets t lt ∙ holds-targets a letter members t;
+      moves = λ t lt. ap (λ r. get_or r t false) e ∙ get_or-marked_zeros a.states targets t (omega arith) ∙ holds-targets a letter members t;
     }
 
 marked-append : (row : List Bool) (ps qs : List ℕ) → marked row (ps ++ qs) ≡ marked (marked row ps) qs
@@ -224,37 +199,6 @@ IsMarking-more old now new at i q qs in' lt read m e =
       long = ap length row_is ∙ length-set row q true ∙ m.long;
     }
 
--- The state of the filling of a table, before the row `q`.
-pub record IsFilling (a : Automaton) (letter : ℕ) (table : List (List Bool)) (q : ℕ) : Type 0 where
-  pub high : length table ≡ a.states
-  pub filled : (r : ℕ) → r < q → get_or table r [] ≡ marked (replicate a.states false) (moves_at a r letter)
-  pub bare : (r : ℕ) → q ≤ r → r < a.states → get_or table r [] ≡ replicate a.states false
-
-pub IsFilling-more : (a : Automaton) (letter q : ℕ) (now new : List (List Bool)) → q < a.states → IsFilling a letter now q → new ≡ set now q (marked (get_or now q []) (moves_at a q letter)) → IsFilling a letter new (q + 1)
-IsFilling-more a letter q now new lt f e =
-    let row = marked (get_or now q []) (moves_at a q letter) in
-    let here : get_or new q [] ≡ row = ap (λ t. get_or t q []) e ∙ get_or-set_same now q row [] (omega (arith, f.high)) in
-    let others : (r : ℕ) → r ≢ q → get_or new r [] ≡ get_or now r [] = λ r other. ap (λ t. get_or t r []) e ∙ get_or-set_other now q r row [] other in
-    record {
-      high = ap length e ∙ length-set now q row ∙ f.high;
-      filled = λ r below. elim (cases_lt r q) [
-        | inl less ↦ others r (λ s. omega arith) ∙ f.filled r less
-        | inr more ↦
-            let same : q ≡ r = omega arith in
-            subst (λ k. get_or new k [] ≡ marked (replicate a.states false) (moves_at a k letter)) same (here ∙ ap (λ x. marked x (moves_at a q letter)) (f.bare q (omega arith) lt))
-      ];
-      bare = λ r from small. others r (λ s. omega arith) ∙ f.bare r (omega arith) small;
-    }
-
-pub IsFilling-all : (a : Automaton) (letter q : ℕ) (table : List (List Bool)) → a.states ≤ q → IsFilling a letter table q → IsTableOn a letter table
-IsFilling-all a letter q table all f =
-    let row = λ (r : ℕ). marked (replicate a.states false) (moves_at a r letter) in
-    record {
-      high = f.high;
-      wide = All-from_get_or (λ r. length r ≡ a.states) table [] (λ i lt. ap length (f.filled i (omega (arith, f.high))) ∙ length-marked_zeros a.states (moves_at a i letter));
-      moves = λ q2 t lt small. ap (λ r. get_or r t false) (f.filled q2 (omega arith)) ∙ get_or-marked_zeros a.states (moves_at a q2 letter) t small;
-    }
-
 -- ---- the rows of listed and of joined sets
 -- the union of a row with one that holds nothing
 pub list_or-zeros : (row : List Bool) → list_or (replicate (length row) false) row ≡ row
@@ -286,3 +230,25 @@ members-joined a row t long lt other =
         get_or-set_other row t x true false apart
         ∙ sym (holds-members row x)
         ∙ ap (λ b. b || holds (members_of row) x) (sym (ne_eqb x t apart))
+
+-- ---- rows of other states
+-- The row of a set meets another if the set has a member there.
+pub meets-members : (row states : List Bool) (r : Bool) → ((r ≡ true → Meets row states) × (Meets row states → r ≡ true)) → r ≡ list_any (λ q. get_or states q false) (members_of row)
+unfolding members_of
+meets-members row states r says =
+    let p = λ (q : ℕ). get_or row q false in
+    let f = λ (q : ℕ). get_or states q false in
+    same_tests _ _ (λ e.
+    let h = says.0 e in
+    any-from f p (length row) h.0 (place_within row h.0 h.1) h.1 h.2) (λ e.
+    let h = any-there f p (length row) e in
+    says.1 (h.0, h.2, h.3))
+
+-- The row without the states of another.
+pub members-left_out : (row states : List Bool) → length row ≡ length states → members_of (list_and_not row states) ≡ left_out states (members_of row)
+unfolding members_of left_out
+members-left_out row states same =
+    let kept = λ (q : ℕ). not (get_or states q false) in
+    ap (λ n. filter (λ q. get_or (list_and_not row states) q false) (below n)) (length-list_and_not row states same)
+    ∙ filter_same (λ q. get_or (list_and_not row states) q false) (λ q. get_or row q false && kept q) (length row) (λ q lt. get_or-list_and_not row states q same)
+    ∙ sym (filter_both kept (λ q. get_or row q false) (below (length row)))

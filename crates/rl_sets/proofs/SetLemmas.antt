@@ -6,7 +6,7 @@ use Rattle.std.proofs.lemmas.List.{append-nil}
 use Rattle.std.proofs.lemmas.List.Elements.{filter-append}
 use Rattle.std.proofs.lemmas.List.Folds.{list_any-append, list_any_none}
 use Rattle.rl_prio.specs.Automaton.{Automaton, dead_state, moves_at}
-use Rattle.rl_sets.specs.Live.{below, holds, set_where, image, joined}
+use Rattle.rl_sets.specs.Live.{below, holds, set_where, image, joined, left_out}
 use Rattle.rl_sets.specs.Walk.{set_of, IsSetOf}
 
 -- Two tests that give each other are equal.
@@ -60,6 +60,18 @@ any-from f p (suc n) q lt in' h =
           let here : q ≡ n = omega arith in
           split ∙ or_right front last (last_from f (p n) n (subst (λ k. p k ≡ true) here in') (subst (λ k. f k ≡ true) here h))
     ]
+
+-- Two tests, one after the other.
+pub filter_both : (f p : ℕ → Bool) (xs : List ℕ) → filter f (filter p xs) ≡ filter (λ q. p q && f q) xs
+filter_both f p [] = refl
+filter_both f p (x ∷ xs) = by (p x) (filter_both f p xs)
+  where
+    both : ℕ → Bool
+    both q = p q && f q
+
+    by : (b : Bool) → filter f (filter p xs) ≡ filter both xs → filter f (cond b (x ∷ filter p xs) (filter p xs)) ≡ cond (b && f x) (x ∷ filter both xs) (filter both xs)
+    by true rest = ap (λ r. cond (f x) (x ∷ r) r) rest
+    by false rest = rest
 
 -- A member is a number below `n` for which the test is true.
 pub holds-there : (p : ℕ → Bool) (n q : ℕ) → holds (filter p (below n)) q ≡ true → (q < n) × (p q ≡ true)
@@ -138,6 +150,13 @@ joined-member a t set is in' =
     one_of : (x : ℕ) → (eqb x t ≡ true) ⊎ (holds set x ≡ true) → holds set x ≡ true
     one_of x (inl e) = subst (λ k. holds set k ≡ true) (sym (eqb-true x t e)) in'
     one_of x (inr e) = e
+
+pub IsSetOf-left_out : (a : Automaton) (states : List Bool) (set : List ℕ) → IsSetOf a set → IsSetOf a (left_out states set)
+unfolding left_out
+IsSetOf-left_out a states set is =
+    let kept = λ (q : ℕ). not (get_or states q false) in
+    subst (IsSetOf a) (sym (ap (filter kept) is.rising ∙ filter_both kept (holds set) (below a.states)))
+    (IsSetOf-where a (λ q. holds set q && kept q) (ap (λ b. b && kept (dead_state a)) is.no_dead))
 
 pub IsSetOf-listed : (a : Automaton) (qs : List ℕ) → All (λ q. (q < a.states) × (q ≢ dead_state a)) qs → IsSetOf a (set_of a qs)
 IsSetOf-listed a qs each =

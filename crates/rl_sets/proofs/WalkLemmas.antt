@@ -1,26 +1,34 @@
 -- Lemmas on the rows of a walk and the sets that they represent.
-use Rattle.std.proofs.Common.{set as put, ◌*◌, ◌≡◌, ◌≢◌, ℕ, zero, suc, ◌<◌, ◌≤◌, ◌⊎◌, Bool, true, false, List, [], ◌∷◌, ◌++◌, length, get_or, map, replicate, if◌then◌else◌, slice_get, position, Option, Some, None, Result, Ok, Err, is_some, IfOk, OnErr, set, Contains, refl, sym, ap, ◌∙◌, subst, inl, inr, arith}
+use Rattle.std.proofs.Common.{set as put, ◌*◌, ◌≡◌, ◌≢◌, ℕ, zero, suc, ◌<◌, ◌≤◌, ◌⊎◌, Bool, true, false, List, [], ◌∷◌, ◌++◌, length, get_or, map, if◌then◌else◌, slice_get, position, Option, Some, None, Result, Ok, Err, IfOk, IfErr, OnErr, set, Contains, sym, ap, ◌∙◌, subst, inl, inr, arith}
 use Rattle.std.specs.List.{list_any}
 use Rattle.std.specs.Option.{option_map}
-use Rattle.std.proofs.lemmas.Bool.{false≢true, both_ways, cases_lt, cases_eq}
+use Rattle.std.proofs.lemmas.Bool.{both_ways, cases_lt, cases_eq}
 use Rattle.std.proofs.lemmas.List.{get_or-set_same, get_or-set_other, get_or_past, length-set, get_or_default, length_push, get_or_push, get_or_append_left, length-map, get_or-map}
 use Rattle.std.proofs.lemmas.List.Elements.{All-push}
 use Rattle.std.proofs.lemmas.List.Folds.{list_any_at}
 use Rattle.std.proofs.lemmas.List.Quantifiers.{position-Some}
-use Rattle.std.proofs.lemmas.Option.{slice_get-map, slice_get-get_or, slice_get_read, slice_get_within, get_or_from_slice_get}
+use Rattle.std.proofs.lemmas.Option.{slice_get-map, slice_get-get_or, slice_get_within, get_or_from_slice_get}
 use Rattle.indexmap.specs.IndexSet.{insert_key}
 use Rattle.rl_lanes.specs.Rows.{row_eq, row_eq_decides}
 use Rattle.rl_sets.specs.declared.error.SetsError.{SetsError}
+use Rattle.rl_sets.specs.declared.error.SetsError.TheVariants.{Sets}
 use Rattle.rl_sets.specs.declared.life.Life.TheVariants.{Unknown}
 use Rattle.std.proofs.Math.Nat.{mul-le-mul_right}
 use Rattle.std.proofs.lemmas.Nat.{same_from_place}
 use Rattle.rl_sets.specs.Live.{image}
 use Rattle.rl_sets.specs.Rests.{IsLife}
-use Rattle.rl_sets.specs.Rows.{members_of, IsTableOn}
+use Rattle.rl_sets.specs.Rows.{members_of, marked}
 use Rattle.rl_prio.specs.Automaton.{letters_count, Automaton}
-use Rattle.rl_sets.specs.Walk.{set_at, image_place, Walk, IsSetOf, IsMadeFor, IsListed, IsFull, AreRows}
+use Rattle.rl_sets.specs.Walk.{set_at, image_place, Walk, IsSetOf, IsMadeFor, IsListed, IsFull, AreRows, AreKept, AreFields}
+use Rattle.rl_sets.specs.declared.split.SplitMoves.{SplitMoves}
+use Rattle.rl_sets.specs.declared.split.SetMoves.{SetMoves}
+use Rattle.rl_sets.specs.Split.{IsSplit, AreMovesOf}
+use Rattle.rl_sets.specs.internal.Steps.{IsAsked}
 use Rattle.rl_sets.specs.Live.{holds}
 use Rattle.rl_sets.proofs.RowLemmas.{same_rows, holds-members}
+use Rattle.rl_sets.proofs.SplitLemmas.{targets_wide, unsplit_wide, reached-by_split}
+use Rattle.rl_lanes.specs.Rows.{list_and_not}
+use Rattle.rl_sets.specs.internal.Moves.{targets_of, IsReached}
 
 -- The sets that rows represent.
 abbrev pub sets_of : List (List Bool) → List (List ℕ)
@@ -70,12 +78,6 @@ pub row_stored : (rows : List (List Bool)) (row : List Bool) (n : ℕ) → (k : 
 row_stored rows row n s =
     slice_get-map members_of rows n ∙ ap (option_map members_of) s.1 ∙ ap (λ r. Some (members_of r)) (sym ((row_eq_decides row s.0).0 s.2))
 
--- No table is made of the letters of a new walk.
-pub none_made : (n letter : ℕ) (table : List (List Bool)) → slice_get (replicate {A = Option (List (List Bool))} n None) letter ≡ Some (Some table) → ⊥
-none_made zero letter table e = cc
-none_made (suc n) zero table e = cc
-none_made (suc n) (suc letter) table e = none_made n letter table e
-
 -- Membership in a set, by the row of the set.
 pub row_at : (rows : List (List Bool)) (row : List Bool) (n : ℕ) → slice_get rows n ≡ Some row → members_of row ≡ get_or (sets_of rows) n []
 row_at rows row n read = sym (get_or_from_slice_get (sets_of rows) n (members_of row) [] (slice_get-map members_of rows n ∙ ap (option_map members_of) read))
@@ -106,8 +108,7 @@ IsMadeFor-pushed old a set made is none room = record {
   few = omega (arith, length_push old.sets set);
   low = made.low;
   states = made.states;
-  letters = made.letters;
-  tables = made.tables;
+  split = made.split;
   few_images = omega (arith, made.few_images, mul-le-mul_right {m = length old.sets} {n = length (old.sets ++ set ∷ [])} (suc (letters_count a)) (omega (arith, length_push old.sets set)));
   images = λ n letter m lt small e. by_images n letter m (cases_lt n (length old.sets)) (omega (arith, length_push old.sets set)) small e;
   first_route = made.first_route;
@@ -152,6 +153,11 @@ pub IsMadeFor-added : (old new : Walk) (a : Automaton) (set : List ℕ) (r : Res
 IsMadeFor-added old new a set (Ok n) made is listed same few f g = IsMadeFor-listed old new a set n made is listed few f g
 IsMadeFor-added old new a set (Err e) made is listed same few f g = IsMadeFor-same old new a made same f g
 
+-- The sets that were there stay where they are.
+pub set_stays : (old new : List (List ℕ)) (set : List ℕ) (n k : ℕ) → IsListed old new set n → k < length old → get_or new k [] ≡ get_or old k []
+set_stays old new set n k listed lt =
+    elim listed.grown [ inl same ↦ ap (λ l. get_or l k []) same | inr more ↦ ap (λ l. get_or l k []) more.1 ∙ get_or_append_left old (set ∷ []) [] k lt ]
+
 -- A set that is listed, or that no room is left for, in equal lists.
 pub IsListed-same : (old mid new last : List (List ℕ)) (set members : List ℕ) (n : ℕ) → IsListed mid new members n → mid ≡ old → last ≡ new → members ≡ set → IsListed old last set n
 IsListed-same old mid new last set members n listed before after same =
@@ -162,73 +168,110 @@ pub IsFull-same : (old mid : List (List ℕ)) (limit before_limit : ℕ) (set me
 IsFull-same old mid limit before_limit set members full before limits same =
     subst (λ (s : List ℕ). IsFull old limit s) same (subst (λ (n : ℕ). IsFull old n members) limits (subst (λ (l : List (List ℕ)). IsFull l before_limit members) before full))
 
--- ---- tables
-get_set_same : {X : Type 0} (xs : List X) (i : ℕ) (v : X) (o : Option X) → slice_get (set xs i v) i ≡ o → (o ≡ Some v) ⊎ (o ≡ None)
-get_set_same [] i v o e = inr (sym e)
-get_set_same (x ∷ xs) zero v o e = inl (sym e)
-get_set_same (x ∷ xs) (suc i) v o e = get_set_same xs i v o e
+-- ---- a walk that is asked for a set
+-- The walk after a set was added or refused.
+pub IsAsked-added : (old new : Walk) (a : Automaton) (set members : List ℕ) (r : Result ℕ SetsError) → IsMadeFor old a → IsSetOf a set → members ≡ set → IfOk r (IsListed old.sets new.sets members) → IfOk r (λ n. n < length new.sets) → length old.sets ≤ length new.sets → length new.sets ≤ new.limit → new.limit ≡ old.limit → new.kept ≡ old.kept
+    → IfErr r (λ e. e ≡ Sets → IsFull old.sets old.limit members) → OnErr r (new.sets ≡ old.sets) → IsAsked a old new set r
+IsAsked-added old new a set members r made is same listed inside longer few limit kept full unchanged =
+    let here = subst (λ (s : List ℕ). IfOk r (IsListed old.sets new.sets s)) same listed in
+    record {
+      listed = here;
+      inside = inside;
+      longer = longer;
+      made = IsMadeFor-added old new a set r made is here unchanged few limit kept;
+      limit = limit;
+      full = subst (λ (s : List ℕ). IfErr r (λ (e : SetsError). e ≡ Sets → IsFull old.sets old.limit s)) same full;
+      unchanged = unchanged;
+    }
 
-get_set_other : {X : Type 0} (xs : List X) (i j : ℕ) (v : X) → j ≢ i → slice_get (set xs i v) j ≡ slice_get xs j
-get_set_other [] i j v other = refl
-get_set_other (x ∷ xs) zero zero v other = absurd (other refl)
-get_set_other (x ∷ xs) zero (suc j) v other = refl
-get_set_other (x ∷ xs) (suc i) zero v other = refl
-get_set_other (x ∷ xs) (suc i) (suc j) v other = get_set_other xs i j v (λ e. other (ap suc e))
+-- Steps before and after that leave the sets as they are.
+pub IsAsked-same : (old mid new last : Walk) (a : Automaton) (set : List ℕ) (r : Result ℕ SetsError) → IsAsked a mid new set r → mid.sets ≡ old.sets → mid.limit ≡ old.limit → last.sets ≡ new.sets → last.limit ≡ new.limit → IsMadeFor last a → IsAsked a old last set r
+IsAsked-same old mid new last a set r asked before limit_before after limit_after made = record {
+  listed = subst (λ (l : List (List ℕ)). IfOk r (IsListed l last.sets set)) before (subst (λ (l : List (List ℕ)). IfOk r (IsListed mid.sets l set)) (sym after) asked.listed);
+  inside = subst (λ (l : List (List ℕ)). IfOk r (λ n. n < length l)) (sym after) asked.inside;
+  longer = omega (arith, asked.longer, ap length before, ap length after);
+  made = made;
+  limit = limit_after ∙ asked.limit ∙ limit_before;
+  full = subst (λ (n : ℕ). IfErr r (λ (e : SetsError). e ≡ Sets → IsFull old.sets n set)) limit_before (subst (λ (l : List (List ℕ)). IfErr r (λ (e : SetsError). e ≡ Sets → IsFull l mid.limit set)) before asked.full);
+  unchanged = subst (λ (l : List (List ℕ)). OnErr r (last.sets ≡ l)) before (subst (λ (l : List (List ℕ)). OnErr r (l ≡ mid.sets)) (sym after) asked.unchanged);
+}
 
--- The walk with one more table.
-pub IsMadeFor-table : (old new : Walk) (a : Automaton) (letter : ℕ) (table : List (List Bool)) → IsMadeFor old a → IsTableOn a letter table → new.sets ≡ old.sets → new.limit ≡ old.limit → new.kept ≡ record { states = old.kept.states; tables = set old.kept.tables letter (Some table); images = old.kept.images; routes = old.kept.routes; lives = old.kept.lives } → IsMadeFor new a
-IsMadeFor-table old new a letter table made on e f g =
-    subst (λ (w : Walk). IsMadeFor w a) (sym (same_walk new (record { sets = old.sets; limit = old.limit; kept = record { states = old.kept.states; tables = set old.kept.tables letter (Some table); images = old.kept.images; routes = old.kept.routes; lives = old.kept.lives } }) e f g)) (record {
-      sets = made.sets;
-      apart = made.apart;
-      few = made.few;
-      low = made.low;
-      states = made.states;
-      letters = length-set old.kept.tables letter (Some table) ∙ made.letters;
-      tables = λ l t at. by l t at (cases_eq l letter);
-      few_images = made.few_images;
-      images = made.images;
-      first_route = made.first_route;
-      few_lives = made.few_lives;
-      lives = made.lives;
-    })
-  where
-    by : (l : ℕ) (t : List (List Bool)) → slice_get (set old.kept.tables letter (Some table)) l ≡ Some (Some t) → (l ≡ letter) ⊎ (l ≡ letter → ⊥) → IsTableOn a l t
-    by l t at (inl here) =
-        elim (get_set_same old.kept.tables letter (Some table) (Some (Some t)) (subst (λ (k : ℕ). slice_get (set old.kept.tables letter (Some table)) k ≡ Some (Some t)) here at)) [
-          | inl same ↦ let e : t ≡ table = cc in subst (λ (k : ℕ). IsTableOn a k t) (sym here) (subst (IsTableOn a letter) (sym e) on)
-          | inr none ↦ cc
-        ]
-    by l t at (inr other) = made.tables l t (sym (get_set_other old.kept.tables letter l (Some table) other) ∙ at)
+-- ---- split moves
+-- The walk with split moves.
+pub IsMadeFor-split : (w : Walk) (a : Automaton) (s : SplitMoves) → IsMadeFor w a → IsSplit a s
+    → IsMadeFor (record { sets = w.sets; limit = w.limit; kept = record { states = w.kept.states; split = Some s; images = w.kept.images; routes = w.kept.routes; lives = w.kept.lives } }) a
+IsMadeFor-split w a s made is = record {
+  sets = made.sets;
+  apart = made.apart;
+  few = made.few;
+  low = made.low;
+  states = made.states;
+  split = λ r e. let same : s ≡ r = cc in subst (IsSplit a) same is;
+  few_images = made.few_images;
+  images = made.images;
+  first_route = made.first_route;
+  few_lives = made.few_lives;
+  lives = made.lives;
+}
 
-pub get_set_here : {X : Type 0} (xs : List X) (i : ℕ) (v : X) → i < length xs → slice_get (set xs i v) i ≡ Some v
-get_set_here xs i v lt = slice_get-get_or (set xs i v) i v (omega (arith, length-set xs i v)) ∙ ap Some (get_or-set_same xs i v v lt)
+-- No moves are kept.
+pub AreKept-none : (keys : List (List Bool)) (split : Option SplitMoves) (recent : List SetMoves) → recent ≡ [] → AreKept keys split recent
+AreKept-none keys split recent none s e i d lt = absurd (omega (arith, ap length none))
 
--- The table of a letter that is read from the fields of a walk with the view `v`.
-pub table_read : (v now : Walk) (a : Automaton) (letter : ℕ) (o : Option (List (List Bool))) (table : List (List Bool)) → v ≡ now → IsMadeFor now a
-    → (t : List (List Bool)) × (slice_get now.kept.tables letter ≡ Some (Some t)) → o ≡ get_or v.kept.tables letter o → o ≡ Some table → IsTableOn a letter table
-table_read v now a letter o table same made there read is =
-    let tables = v.kept.tables in
-    let at : slice_get tables letter ≡ Some (Some there.0) = subst (λ (w : Walk). slice_get w.kept.tables letter ≡ Some (Some there.0)) (sym same) there.1 in
-    let found : slice_get tables letter ≡ Some (Some table) = slice_get_read tables (length tables) letter o refl (slice_get_within tables letter (Some there.0) at) read ∙ ap Some is in
-    made.tables letter table (subst (λ (w : Walk). slice_get w.kept.tables letter ≡ Some (Some table)) same found)
+-- The kept moves of one set.
+pub kept_moves : (keys : List (List Bool)) (row : List Bool) (split : Option SplitMoves) (s : SplitMoves) (recent items : List SetMoves) (m : SetMoves) (set i : ℕ) → AreKept keys split recent → split ≡ Some s → items ≡ recent → i < length items → m ≡ get_or items i m → m.set ≡ set → slice_get keys set ≡ Some row → AreMovesOf s row m
+kept_moves keys row split s recent items m set i kept e same lt read here stands =
+    let each = subst (AreKept keys split) (sym same) kept s e i m lt in
+    let own : AreMovesOf s (get_or keys m.set []) m = subst (λ (n : SetMoves). AreMovesOf s (get_or keys n.set []) n) (sym read) each.1 in
+    let row_is : get_or keys m.set [] ≡ row = ap (λ n. get_or keys n []) here ∙ get_or_from_slice_get keys set row [] stands in
+    subst (λ (r : List Bool). AreMovesOf s r m) row_is own
 
-pub there_is : {X : Type 0} (o : Option X) → is_some o ≡ true → (x : X) × (o ≡ Some x)
-there_is None e = absurd (false≢true e)
-there_is (Some x) e = (x, refl)
+-- The moves of another set.
+pub AreKept-more : (keys : List (List Bool)) (row : List Bool) (split : Option SplitMoves) (s : SplitMoves) (recent : List SetMoves) (m : SetMoves) (set : ℕ) → AreKept keys split recent → split ≡ Some s → m.set ≡ set → slice_get keys set ≡ Some row → AreMovesOf s row m → AreKept keys split (recent ++ m ∷ [])
+AreKept-more keys row split s recent m set kept e here stands moves r f =
+    let same : s ≡ r = cc in
+    let within : m.set < length keys = omega (arith, slice_get_within keys set row stands) in
+    let row_is : row ≡ get_or keys m.set [] = sym (ap (λ n. get_or keys n []) here ∙ get_or_from_slice_get keys set row [] stands) in
+    All-push (λ (n : SetMoves). (n.set < length keys) × AreMovesOf r (get_or keys n.set []) n) recent m (kept r f) (within, subst (λ (t : SplitMoves). AreMovesOf t (get_or keys m.set []) m) same (subst (λ (x : List Bool). AreMovesOf s x m) row_is moves))
+
+-- The kept moves of sets stay right when another row is appended.
+pub AreKept-push : (rows : List (List Bool)) (row : List Bool) (split : Option SplitMoves) (recent : List SetMoves) → AreKept rows split recent → AreKept (rows ++ row ∷ []) split recent
+AreKept-push rows row split recent kept s e i d lt =
+    let h = kept s e i d lt in
+    (omega (arith, h.0, length_push rows row), subst (λ (r : List Bool). AreMovesOf s r (get_or recent i d)) (sym (get_or_append_left rows (row ∷ []) [] (get_or recent i d).set h.0)) h.1)
+
+-- What the fields of a walk with the view `v` say of the row of a set and of the moves of its members.
+module _ (a : Automaton) (v now : Walk) (keys : List (List Bool)) (split : Option SplitMoves) (recent : List SetMoves) (row : List Bool) (set : ℕ) (view : v ≡ now) (made : IsMadeFor now a) (fields : AreFields v.kept.states v.limit keys split recent) (stands : slice_get keys set ≡ Some row) where
+  pub row_long : length row ≡ a.states
+  row_long = row_wide v.kept.states v.limit keys row set fields.rows stands ∙ ap (λ (w : Walk). w.kept.states) view ∙ made.states
+
+  pub row_members : v.sets ≡ sets_of keys → members_of row ≡ set_at now set
+  row_members same = row_at keys row set stands ∙ ap (λ l. get_or l set []) (sym same) ∙ ap (λ (w : Walk). set_at w set) view
+
+  module _ (s : SplitMoves) (m : SetMoves) (letter : ℕ) (small : letter ≤ letters_count a) (is : v.kept.split ≡ Some s) (moves : AreMovesOf s row m) where
+    is_split : IsSplit a s
+    is_split = made.split s (ap (λ (w : Walk). w.kept.split) (sym view) ∙ is)
+
+    pub kept_targets_wide : length m.targets ≡ a.states
+    kept_targets_wide = targets_wide a s row m letter is_split row_long small moves
+
+    pub kept_unsplit_wide : length m.unsplit ≡ a.states
+    kept_unsplit_wide = unsplit_wide a s row m letter is_split row_long small moves
+
+    pub kept_reached : v.sets ≡ sets_of keys → (marks : List Bool) → marks ≡ marked (list_and_not m.targets (get_or s.barred.items letter [])) (targets_of a (members_of m.unsplit) letter) → IsReached a (set_at now set) letter marks
+    kept_reached same marks e = subst (λ (x : List ℕ). IsReached a x letter marks) (row_members same) (reached-by_split a s row m letter is_split row_long small moves marks e)
 
 -- ---- numbers of images
 module _ (w : Walk) (a : Automaton) (longer : List (Option ℕ)) (made : IsMadeFor w a) (same : (i : ℕ) → get_or longer i None ≡ get_or w.kept.images i None) (few : length longer ≤ length w.sets * suc (letters_count a)) where
   -- The walk with room for more.
-  pub IsMadeFor-room : IsMadeFor (record { sets = w.sets; limit = w.limit; kept = record { states = w.kept.states; tables = w.kept.tables; images = longer; routes = w.kept.routes; lives = w.kept.lives } }) a
+  pub IsMadeFor-room : IsMadeFor (record { sets = w.sets; limit = w.limit; kept = record { states = w.kept.states; split = w.kept.split; images = longer; routes = w.kept.routes; lives = w.kept.lives } }) a
   IsMadeFor-room = record {
     sets = made.sets;
     apart = made.apart;
     few = made.few;
     low = made.low;
     states = made.states;
-    letters = made.letters;
-    tables = made.tables;
+    split = made.split;
     few_images = few;
     images = λ n letter m lt small e. made.images n letter m lt small (sym (same (image_place a n letter)) ∙ e);
     first_route = made.first_route;
@@ -238,15 +281,14 @@ module _ (w : Walk) (a : Automaton) (longer : List (Option ℕ)) (made : IsMadeF
 
 -- The walk with one more number.
 pub IsMadeFor-image : (w : Walk) (a : Automaton) (set letter number : ℕ) → IsMadeFor w a → letter ≤ letters_count a → image_place a set letter < length w.kept.images → slice_get w.sets number ≡ Some (image a (set_at w set) letter)
-    → IsMadeFor (record { sets = w.sets; limit = w.limit; kept = record { states = w.kept.states; tables = w.kept.tables; images = put w.kept.images (image_place a set letter) (Some number); routes = w.kept.routes; lives = w.kept.lives } }) a
+    → IsMadeFor (record { sets = w.sets; limit = w.limit; kept = record { states = w.kept.states; split = w.kept.split; images = put w.kept.images (image_place a set letter) (Some number); routes = w.kept.routes; lives = w.kept.lives } }) a
 IsMadeFor-image w a set letter number made small there is = record {
   sets = made.sets;
   apart = made.apart;
   few = made.few;
   low = made.low;
   states = made.states;
-  letters = made.letters;
-  tables = made.tables;
+  split = made.split;
   few_images = omega (arith, made.few_images, length-set w.kept.images (image_place a set letter) (Some number));
   images = λ n l m lt low e. by n l m lt low e (cases_eq (image_place a n l) (image_place a set letter));
   first_route = made.first_route;

@@ -1,5 +1,6 @@
 pub mod Live
 pub mod Rows
+pub mod Split
 pub mod Rests
 pub mod Walk
 pub mod internal

@@ -1,7 +1,7 @@
 -- Live sets. A set of states is the list of its members in increasing order. It refuses a rest if none of its members accepts
 -- it, and it is live if it refuses some rest. The accepting state accepts every rest; any other state accepts a rest if the
 -- walk from it on the rest has a hit.
-use Rattle.std.specs.Prelude.{◌≡◌, ℕ, zero, suc, ◌<◌, ◌⊎◌, Bool, true, not, ◌||◌, ◌&&◌, ◌==◌, List, [], ◌∷◌, ◌++◌, filter, if◌then◌else◌}
+use Rattle.std.specs.Prelude.{◌≡◌, ℕ, zero, suc, ◌<◌, ◌⊎◌, Bool, true, false, not, ◌||◌, ◌&&◌, ◌==◌, List, [], ◌∷◌, ◌++◌, filter, slice_index_or, if◌then◌else◌}
 use Rattle.std.specs.List.{list_any}
 use Rattle.rl_prio.specs.Automaton.{Automaton, letters_count, accepting_state, dead_state, moves_at}
 
@@ -31,6 +31,10 @@ image a set letter = set_where a (λ t. not (t == dead_state a) && list_any (λ 
 -- The set with one more member, unless it is the dead state, which is left out.
 unfoldable pub joined : Automaton → ℕ → List ℕ → List ℕ
 joined a t set = if t == dead_state a then set else set_where a (λ x. x == t || holds set x)
+
+-- The set without the states whose bits are set in a row.
+unfoldable pub left_out : List Bool → List ℕ → List ℕ
+left_out states set = filter (λ q. not (slice_index_or states q false)) set
 
 -- Whether no member of the set accepts the letters.
 unfoldable pub refuses : Automaton → List ℕ → List ℕ → Bool

@@ -7,13 +7,15 @@ use Rattle.rl_sets.specs.declared.life.Life.TheVariants.{Unknown}
 use Rattle.rl_sets.specs.declared.life.Route.{Route}
 use Rattle.rl_sets.specs.declared.life.Route.TheVariants.{End}
 use Rattle.rl_sets.specs.Rests.{IsLife}
-use Rattle.rl_sets.specs.Rows.{IsTableOn}
+use Rattle.rl_sets.specs.declared.split.SplitMoves.{SplitMoves}
+use Rattle.rl_sets.specs.declared.split.SetMoves.{SetMoves}
+use Rattle.rl_sets.specs.Split.{IsSplit, AreMovesOf}
 
--- What a walk keeps beside its sets: the number of states, the tables of the letters that were used, the numbers of images,
--- set by set and letter by letter, the routes of refused rests, and what is known of the first sets.
+-- What a walk keeps beside its sets: the number of states, the split moves if they have been made, the numbers of images, set
+-- by set and letter by letter, the routes of refused rests, and what is known of the first sets.
 pub record Kept : Type 0 where
   pub states : ℕ
-  pub tables : List (Option (List (List Bool)))
+  pub split : Option SplitMoves
   pub images : List (Option ℕ)
   pub routes : List Route
   pub lives : List Life
@@ -43,7 +45,7 @@ pub record IsSetOf (a : Automaton) (set : List ℕ) : Type 0 where
   pub no_dead : holds set (dead_state a) ≡ false
 
 -- The walk belongs to the automaton: its sets are different sets of the automaton's states without the dead state, there are
--- no more of them than the limit allows, and all tables, images, routes and findings that it keeps are right for the
+-- no more of them than the limit allows, and the split moves, images, routes and findings that it keeps are right for the
 -- automaton.
 pub record IsMadeFor (w : Walk) (a : Automaton) : Type 0 where
   pub sets : (n : ℕ) → n < length w.sets → IsSetOf a (set_at w n)
@@ -51,8 +53,7 @@ pub record IsMadeFor (w : Walk) (a : Automaton) : Type 0 where
   pub few : length w.sets ≤ w.limit
   pub low : w.limit ≤ 60000
   pub states : w.kept.states ≡ a.states
-  pub letters : length w.kept.tables ≡ suc (letters_count a)
-  pub tables : (letter : ℕ) (table : List (List Bool)) → slice_get w.kept.tables letter ≡ Some (Some table) → IsTableOn a letter table
+  pub split : (s : SplitMoves) → w.kept.split ≡ Some s → IsSplit a s
   pub few_images : length w.kept.images ≤ length w.sets * suc (letters_count a)
   pub images : (n letter m : ℕ) → n < length w.sets → letter ≤ letters_count a → slice_index_or w.kept.images (image_place a n letter) None ≡ Some m → slice_get w.sets m ≡ Some (image a (set_at w n) letter)
   pub first_route : slice_get w.kept.routes 0 ≡ Some End
@@ -76,3 +77,13 @@ pub record AreRows (states limit : ℕ) (rows : List (List Bool)) : Type 0 where
   pub few : length rows ≤ limit
   pub wide : All (λ row. length row ≡ states) rows
   pub apart : (m n : ℕ) → m < n → n < length rows → slice_index_or rows m [] ≢ slice_index_or rows n []
+
+-- The moves of sets that a walk keeps are right for the rows of these sets, if the split moves have been made.
+abbrev pub AreKept : List (List Bool) → Option SplitMoves → List SetMoves → Type 0
+AreKept rows split recent =
+    (s : SplitMoves) → split ≡ Some s → All (λ m. (m.set < length rows) × AreMovesOf s (slice_index_or rows m.set []) m) recent
+
+-- The fields of a walk are well formed.
+pub record AreFields (states limit : ℕ) (keys : List (List Bool)) (split : Option SplitMoves) (moves : List SetMoves) : Type 0 where
+  pub rows : AreRows states limit keys
+  pub recent : AreKept keys split moves

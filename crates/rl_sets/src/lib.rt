@@ -32,6 +32,7 @@ mod fill;
 mod life;
 mod rests;
 mod rows;
+mod split;
 mod walk;
 
 pub use error::SetsError;

@@ -1,8 +1,8 @@
-//! Rows of bits for sets of states, and the table of the moves on one letter.
+//! Rows of bits for sets of states.
 
 ghost use Rattle.std.specs.Prelude.{◌≡◌, ◌-◌, ◌<◌, ◌≤◌, ◌^◌, All, [], length, slice_index_or, slice_set, IsTrue, IfOk};
 ghost use Rattle.rl_prio.specs.Automaton.{letters_count};
-ghost use Rattle.rl_sets.specs.Rows.{members_of, marked, IsTableOn};
+ghost use Rattle.rl_sets.specs.Rows.{members_of, marked};
 ghost use Rattle.rl_sets.specs.internal.Moves.{targets_of, MoveAlike};
 
 use rl_lanes::{BitRow, BitTable};
@@ -21,27 +21,19 @@ pub(crate) fn mark(row: &mut BitRow, states: &[u32])
     }
 }
 
-/// Sets the bits of the states to which the members of a set move on a letter, and returns true. If the members have more
-/// moves than there are states, it stops after some of them and returns false.
-pub(crate) fn mark_moves(row: &mut BitRow, a: &Prio, set: &BitRow, letter: u32) -> bool
+/// Sets the bits of the states to which the members of a set move on a letter.
+pub(crate) fn mark_moves(row: &mut BitRow, a: &Prio, set: &BitRow, letter: u32)
     requires letter_in { letter ≤ letters_count a.now }
     requires set_in { length set.now ≡ a.now.states }
     requires wide { length row.old ≡ a.now.states }
-    ensures marked { IsTrue result → row.new ≡ marked row.old (targets_of a.now (members_of set.now) letter) }
-    ensures len { length row.new ≡ length row.old }
+    ensures { row.new ≡ marked row.old (targets_of a.now (members_of set.now) letter) }
 {
-    let mut left = a.states() as usize;
+    let _states = a.states();
     let mut from = 0;
     while let Some(state) = set.next_from(from) {
-        let states = a.moves(state as u32, letter);
-        if left < states.len() {
-            return false;
-        }
-        mark(row, states);
-        left -= states.len();
+        mark(row, a.moves(state as u32, letter));
         from = state + 1;
     }
-    true
 }
 
 /// Whether each member of a set has the same moves on a letter as on the letter before it.
@@ -63,7 +55,7 @@ pub(crate) fn move_alike(a: &Prio, set: &BitRow, letter: u32) -> bool
 }
 
 /// Sets the bits of the given states in one row of a table.
-fn mark_row(table: &mut BitTable, at: usize, states: &[u32])
+pub(crate) fn mark_row(table: &mut BitTable, at: usize, states: &[u32])
     requires row_in { at < length table.old }
     requires states_in { All (λ q. q < length (slice_index_or table.old at [])) states.now }
     ensures { table.new ≡ slice_set table.old at (marked (slice_index_or table.old at []) states.now) }
@@ -71,20 +63,6 @@ fn mark_row(table: &mut BitTable, at: usize, states: &[u32])
     for q in states {
         table.set(at, *q as usize, true);
     }
-}
-
-/// Returns the table of the moves of an automaton on a letter or the end letter.
-pub(crate) fn table_on(alloc: Global, a: &Prio, letter: u32) -> Result<BitTable, OutOfMemory>
-    requires { letter ≤ letters_count a.now }
-    ensures { IfOk result (IsTableOn a.now letter) }
-{
-    let states = a.states() as usize;
-    let mut table = BitTable::zeros(alloc, states, states)?;
-    for q in 0..a.states() {
-        mark_row(&mut table, q as usize, a.moves(q, letter));
-    }
-    table.find_runs()?;
-    Ok(table)
 }
 
 /// Returns the members of the set that a row represents, in increasing order.

@@ -1,14 +1,13 @@
 //! Walks over sets of states.
 
-ghost use Rattle.std.specs.Prelude.{◌≡◌, ◌≢◌, ℕ, ◌<◌, ◌≤◌, [], ◌∷◌, length, replicate, All, slice_get, None, Some, IsTrue, IfOk, IfErr, IfSome, OnOk, OnErr, List, Bool};
+ghost use Rattle.std.specs.Prelude.{◌≡◌, ◌≢◌, ℕ, ◌<◌, ◌≤◌, [], ◌∷◌, length, All, slice_index_or, IfOk, IfErr, OnErr, false};
+ghost use Rattle.std.specs.List.{list_any};
 ghost use Rattle.rl_prio.specs.Automaton.{Automaton, letters_count, dead_state};
 ghost use Rattle.rl_sets.specs.declared.error.SetsError.TheVariants.{Sets};
 ghost use Rattle.rl_sets.specs.declared.life.Route.TheVariants.{End};
-ghost use Rattle.rl_sets.specs.Live.{holds, image, joined};
+ghost use Rattle.rl_sets.specs.Live.{holds, image, joined, left_out};
 ghost use Rattle.rl_sets.specs.Rows.{members_of};
 ghost use Rattle.rl_sets.specs.Walk.{set_at, set_of, IsMadeFor, IsListed, IsFull};
-ghost use Rattle.rl_sets.specs.internal.Moves.{IsReached};
-ghost use Rattle.rl_sets.specs.internal.Search.{found_of, root_of};
 
 mod images;
 mod lives;
@@ -16,9 +15,10 @@ mod lives;
 use crate::error::SetsError;
 use crate::life::{Life, Route};
 use crate::rests::RestSearch;
-use crate::rows::{mark, mark_moves, members, move_alike, table_on};
+use crate::rows::{mark, members};
+use crate::split::{SetMoves, SplitMoves};
 use indexmap::IndexSet;
-use rl_lanes::{BitRow, BitTable};
+use rl_lanes::BitRow;
 use rl_lists::{Members, OutOfMemory};
 use rl_prio::Prio;
 use std::alloc::Global;
@@ -31,7 +31,9 @@ const FIRST_SETS: usize = 18;
 /// number, which is its place in the walk's list.
 ///
 /// A row that turns out to represent a known set is kept as a spare, so that looking up a known set allocates no memory. In
-/// the same way, the last search for a refused rest is kept, so that the next search can use its memory.
+/// the same way, the last search for a refused rest is kept, so that the next search can use its memory. Images are found
+/// from the moves of the members, or, once that has been much work, from the split moves of the automaton and of the sets
+/// that were looked at last.
 #[derive(Drop)]
 pub struct SetWalk {
     states: u32,
@@ -39,7 +41,11 @@ pub struct SetWalk {
     rows: IndexSet<BitRow>,
     spare: Option<BitRow>,
     idle: Option<RestSearch>,
-    tables: Vec<Option<BitTable>>,
+    /// The number of members that were passed over to find images before the moves were split.
+    work: usize,
+    split: Option<SplitMoves>,
+    /// The moves of the sets looked at last, once the moves are split.
+    recent: Vec<SetMoves>,
     images: Vec<Option<u32>>,
     routes: Vec<Route>,
     lives: Vec<Life>,
@@ -48,13 +54,13 @@ pub struct SetWalk {
 impl Model for SetWalk {
     ghost use Rattle.std.specs.Prelude.{map};
     ghost use Rattle.rl_sets.specs.Rows.{members_of};
-    ghost use Rattle.rl_sets.specs.Walk.{Walk, AreRows};
+    ghost use Rattle.rl_sets.specs.Walk.{Walk, AreFields};
 
     ghost Value = { Walk };
 
-    ghost view = { λ w. record { sets = map members_of w.rows.keys; limit = w.limit; kept = record { states = w.states; tables = w.tables.items; images = w.images.items; routes = w.routes.items; lives = w.lives.items } } };
+    ghost view = { λ w. record { sets = map members_of w.rows.keys; limit = w.limit; kept = record { states = w.states; split = w.split; images = w.images.items; routes = w.routes.items; lives = w.lives.items } } };
 
-    ghost invariant = { λ w. AreRows w.states w.limit w.rows.keys };
+    ghost invariant = { λ w. AreFields w.states w.limit w.rows.keys w.split w.recent.items };
 }
 
 /// Returns a list with only the route of the end letter, with room for more routes.
@@ -64,17 +70,6 @@ fn first_routes(alloc: Global) -> Result<Vec<Route>, OutOfMemory>
     let mut routes = Vec::with_capacity(alloc, FIRST_SETS)?;
     routes.push(Route::End)?;
     Ok(routes)
-}
-
-/// Returns a list with an empty place for the table of each letter.
-fn no_tables(alloc: Global, letters: usize) -> Result<Vec<Option<BitTable>>, OutOfMemory>
-    ensures { IfOk result (λ tables. tables.items ≡ replicate letters None) }
-{
-    let mut tables = Vec::with_capacity(alloc, letters)?;
-    for _letter in 0..letters {
-        tables.push(None)?;
-    }
-    Ok(tables)
 }
 
 impl SetWalk {
@@ -90,7 +85,6 @@ impl SetWalk {
         ensures made { IfOk result (λ w. IsMadeFor w a.now) }
     {
         let letters = a.letters().count() as usize + 1;
-        let tables = no_tables(alloc, letters)?;
         let routes = first_routes(alloc)?;
         let rows = IndexSet::with_capacity(alloc, FIRST_SETS)?;
         let images = Vec::with_capacity(alloc, FIRST_SETS * letters)?;
@@ -101,7 +95,9 @@ impl SetWalk {
             rows,
             spare: None,
             idle: None,
-            tables,
+            work: 0,
+            split: None,
+            recent: Vec::new(alloc),
             images,
             routes,
             lives,
@@ -123,6 +119,15 @@ impl SetWalk {
         ensures { result ≡ holds (set_at self.now set) state }
     {
         self.rows[set as usize].get(state as usize)
+    }
+
+    /// Whether some member of the set with the given number is one of the states whose bits are set in a row.
+    pub fn meets(&self, set: u32, states: &BitRow) -> bool
+        requires set_in { set < length self.now.sets }
+        requires wide { length states.now ≡ self.now.kept.states }
+        ensures { result ≡ list_any (λ q. slice_index_or states.now q false) (set_at self.now set) }
+    {
+        self.rows[set as usize].meets(states)
     }
 
     /// Returns the number of the set of the listed states, which is appended if it is new.
@@ -198,6 +203,27 @@ impl SetWalk {
         self.add(row)
     }
 
+    /// Returns the number of the set without the states whose bits are set in a row. This set is appended if it is new.
+    ///
+    /// # Errors
+    /// [`SetsError::Sets`] if the set is new and the walk already has as many sets as its limit allows;
+    /// [`SetsError::OutOfMemory`] if there is not enough memory for it. In both cases, the walk's sets are unchanged.
+    pub fn leave_out(&mut self, set: u32, states: &BitRow) -> Result<u32, SetsError>
+        requires set_in { set < length self.old.sets }
+        requires wide { length states.now ≡ self.old.kept.states }
+        ensures listed { IfOk result (IsListed self.old.sets self.new.sets (left_out states.now (set_at self.old set))) }
+        ensures inside { IfOk result (λ n. n < length self.new.sets) }
+        ensures longer { length self.old.sets ≤ length self.new.sets }
+        ensures made { (a : Automaton) → IsMadeFor self.old a → IsMadeFor self.new a }
+        ensures limit { self.new.limit ≡ self.old.limit }
+        ensures full { IfErr result (λ e. e ≡ Sets → IsFull self.old.sets self.old.limit (left_out states.now (set_at self.old set))) }
+        ensures unchanged { OnErr result (self.new.sets ≡ self.old.sets) }
+    {
+        let mut row = self.row_of(set)?;
+        row.subtract(states);
+        self.add(row)
+    }
+
     /// Returns the members of the set with the given number, in increasing order.
     ///
     /// # Errors
@@ -213,80 +239,7 @@ impl SetWalk {
 
     /// Returns the allocator of the walk.
     pub(crate) fn allocator(&self) -> Global {
-        *self.tables.allocator()
-    }
-
-    /// Builds the table of a letter unless it exists.
-    fn prepare(&mut self, a: &Prio, letter: u32) -> Result<(), OutOfMemory>
-        requires made { IsMadeFor self.old a.now }
-        requires letter_in { letter ≤ letters_count a.now }
-        ensures there { OnOk result ((table : List (List Bool)) × (slice_get self.new.kept.tables letter ≡ Some (Some table))) }
-        ensures made { IsMadeFor self.new a.now }
-        ensures sets { self.new.sets ≡ self.old.sets }
-        ensures limit { self.new.limit ≡ self.old.limit }
-    {
-        if self.tables[letter as usize].is_none() {
-            let table = table_on(self.allocator(), a, letter)?;
-            self.tables[letter as usize] = Some(table);
-        }
-        Ok(())
-    }
-
-    /// Sets `row` to the states to which the members of a set move on a letter, move by move, and returns true. Returns false
-    /// if the letter has a table or the members have more moves than there are states.
-    fn reach_by_moves(&self, a: &Prio, set: u32, letter: u32, row: &mut BitRow) -> bool
-        requires made { IsMadeFor self.now a.now }
-        requires set_in { set < length self.now.sets }
-        requires letter_in { letter ≤ letters_count a.now }
-        requires wide { length row.old ≡ a.now.states }
-        ensures reached { IsTrue result → IsReached a.now (set_at self.now set) letter row.new }
-        ensures len { length row.new ≡ length row.old }
-    {
-        if self.tables[letter as usize].is_some() {
-            return false;
-        }
-        row.clear();
-        mark_moves(row, a, &self.rows[set as usize], letter)
-    }
-
-    /// Sets `row` to the states to which the members of a set move on a letter, using the table of the letter, which must
-    /// exist.
-    fn reach_by_table(&self, a: &Prio, set: u32, letter: u32, row: &mut BitRow)
-        requires made { IsMadeFor self.now a.now }
-        requires set_in { set < length self.now.sets }
-        requires there { (table : List (List Bool)) × (slice_get self.now.kept.tables letter ≡ Some (Some table)) }
-        requires wide { length row.old ≡ a.now.states }
-        ensures { IsReached a.now (set_at self.now set) letter row.new }
-    {
-        let Some(table) = &self.tables[letter as usize] else {
-            unreachable!()
-        };
-        table.image(&self.rows[set as usize], row);
-    }
-
-    /// Sets `row` to the states to which the members of a set move on a letter.
-    fn reach(
-        &mut self,
-        a: &Prio,
-        set: u32,
-        letter: u32,
-        row: &mut BitRow,
-    ) -> Result<(), OutOfMemory>
-        requires made { IsMadeFor self.old a.now }
-        requires set_in { set < length self.old.sets }
-        requires letter_in { letter ≤ letters_count a.now }
-        requires wide { length row.old ≡ a.now.states }
-        ensures reached { OnOk result (IsReached a.now (set_at self.old set) letter row.new) }
-        ensures made { IsMadeFor self.new a.now }
-        ensures sets { self.new.sets ≡ self.old.sets }
-        ensures limit { self.new.limit ≡ self.old.limit }
-    {
-        if self.reach_by_moves(a, set, letter, row) {
-            return Ok(());
-        }
-        self.prepare(a, letter)?;
-        self.reach_by_table(a, set, letter, row);
-        Ok(())
+        *self.images.allocator()
     }
 
     /// Returns a row with `states` bits of any values: the spare row if it has the right length, or a new one.
@@ -298,26 +251,6 @@ impl SetWalk {
             Some(row) if row.len() == states => Ok(row),
             _ => BitRow::zeros(self.allocator(), states),
         }
-    }
-
-    /// Returns a search that begins with a set: the kept search, restarted, or a new one.
-    pub(crate) fn take_search(&mut self, set: u32) -> Result<RestSearch, OutOfMemory>
-        ensures root { IfOk result (λ s. found_of s ≡ root_of set) }
-        ensures same { self.new ≡ self.old }
-    {
-        let mut search = match self.idle.take() {
-            Some(search) => search,
-            None => RestSearch::new(self.allocator()),
-        };
-        search.begin(set)?;
-        Ok(search)
-    }
-
-    /// Keeps a search for later use.
-    pub(crate) fn keep_search(&mut self, search: RestSearch)
-        ensures { self.new ≡ self.old }
-    {
-        self.idle = Some(search);
     }
 
     /// Returns a copy of the row of a set.
@@ -332,88 +265,6 @@ impl SetWalk {
         row.clear();
         row.or_into(&self.rows[set as usize]);
         Ok(row)
-    }
-
-    /// Returns the row of the image of a set on a letter.
-    fn image_row(&mut self, a: &Prio, set: u32, letter: u32) -> Result<BitRow, OutOfMemory>
-        requires made { IsMadeFor self.old a.now }
-        requires set_in { set < length self.old.sets }
-        requires letter_in { letter ≤ letters_count a.now }
-        ensures image { IfOk result (λ row. members_of row ≡ image a.now (set_at self.old set) letter) }
-        ensures len { IfOk result (λ row. length row ≡ a.now.states) }
-        ensures made { IsMadeFor self.new a.now }
-        ensures sets { self.new.sets ≡ self.old.sets }
-        ensures limit { self.new.limit ≡ self.old.limit }
-    {
-        let states = a.states() as usize;
-        let mut row = self.take_row(states)?;
-        self.reach(a, set, letter, &mut row)?;
-        row.set(states - 1, false);
-        Ok(row)
-    }
-
-    /// Finds the image of a set on a letter, records its number, and returns it. If the members move alike on this letter and
-    /// the one before, the number is taken from that letter; otherwise the row of the image is computed. The function isn't
-    /// inlined, so that `step` stays small.
-    #[inline(never)]
-    fn find_image(&mut self, a: &Prio, set: u32, letter: u32) -> Result<u32, SetsError>
-        requires made { IsMadeFor self.old a.now }
-        requires set_in { set < length self.old.sets }
-        requires letter_in { letter ≤ letters_count a.now }
-        ensures listed { IfOk result (IsListed self.old.sets self.new.sets (image a.now (set_at self.old set) letter)) }
-        ensures inside { IfOk result (λ n. n < length self.new.sets) }
-        ensures longer { length self.old.sets ≤ length self.new.sets }
-        ensures made { IsMadeFor self.new a.now }
-        ensures limit { self.new.limit ≡ self.old.limit }
-        ensures full { IfErr result (λ e. e ≡ Sets → IsFull self.old.sets self.old.limit (image a.now (set_at self.old set) letter)) }
-        ensures unchanged { OnErr result (self.new.sets ≡ self.old.sets) }
-    {
-        let Some(number) = self.image_before(a, set, letter) else {
-            return self.make_image(a, set, letter);
-        };
-        self.make_room(a, set)?;
-        self.keep_image(a, set, letter, number);
-        Ok(number)
-    }
-
-    /// Returns the number of the image of a set on the letter before if it is known and the members move alike on both
-    /// letters. If the letter has a table, sets have many moves, and computing the image by the table is cheaper than
-    /// comparing the moves.
-    fn image_before(&self, a: &Prio, set: u32, letter: u32) -> Option<u32>
-        requires made { IsMadeFor self.now a.now }
-        requires set_in { set < length self.now.sets }
-        requires letter_in { letter ≤ letters_count a.now }
-        ensures { IfSome result (λ n. slice_get self.now.sets n ≡ Some (image a.now (set_at self.now set) letter)) }
-    {
-        if letter == 0 || self.tables[letter as usize].is_some() {
-            return None;
-        }
-        let number = self.known_image(a, set, letter - 1)?;
-        if move_alike(a, &self.rows[set as usize], letter) {
-            Some(number)
-        } else {
-            None
-        }
-    }
-
-    /// Computes the image of a set on a letter, records its number, and returns it.
-    fn make_image(&mut self, a: &Prio, set: u32, letter: u32) -> Result<u32, SetsError>
-        requires made { IsMadeFor self.old a.now }
-        requires set_in { set < length self.old.sets }
-        requires letter_in { letter ≤ letters_count a.now }
-        ensures listed { IfOk result (IsListed self.old.sets self.new.sets (image a.now (set_at self.old set) letter)) }
-        ensures inside { IfOk result (λ n. n < length self.new.sets) }
-        ensures longer { length self.old.sets ≤ length self.new.sets }
-        ensures made { IsMadeFor self.new a.now }
-        ensures limit { self.new.limit ≡ self.old.limit }
-        ensures full { IfErr result (λ e. e ≡ Sets → IsFull self.old.sets self.old.limit (image a.now (set_at self.old set) letter)) }
-        ensures unchanged { OnErr result (self.new.sets ≡ self.old.sets) }
-    {
-        let row = self.image_row(a, set, letter)?;
-        self.make_room(a, set)?;
-        let number = self.add(row)?;
-        self.keep_image(a, set, letter, number);
-        Ok(number)
     }
 
     /// Returns the number of the set that a row represents, which is appended if it is new.

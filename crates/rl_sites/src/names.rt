@@ -1,8 +1,8 @@
 //! The meanings of names: the module, its nine functions that take a pattern first, and its flags.
-ghost use Rattle.std.specs.Prelude.{◌≡◌, ◌||◌, ℕ, List, None, IfOk, OnOk, bytes_eq};
-ghost use Rattle.rl_sites.specs.Names.{is_module, call_named, flag_named, call_aliased, flag_aliased};
+ghost use Rattle.std.specs.Prelude.{◌≡◌, ℕ, List, None, IfOk, OnOk};
+ghost use Rattle.rl_sites.specs.Names.{is_module, call_named, call_word, flag_named, call_aliased, flag_aliased};
 ghost use Rattle.rl_sites.specs.Significant.{word_of};
-ghost use Rattle.rl_sites.specs.internal.Meanings.{call_rank, flag_rank, earlier, joined, own_meaning, meaning_with, meaning_of, meaning_in, IsMeant, call_of, flag_of};
+ghost use Rattle.rl_sites.specs.internal.Meanings.{call_rank, flag_rank, flag_words, is_word_of, earlier, joined, own_meaning, meaning_with, meaning_of, meaning_in, IsMeant, call_of, flag_of};
 
 use crate::Call;
 use crate::flag::Flag;
@@ -22,11 +22,34 @@ pub struct Names<'a> {
     pub meanings: IndexMap<&'a [u8], Meaning>,
 }
 
-/// Whether the word is this name.
-fn is_same(word: &[u8], name: &[u8]) -> bool
-    ensures { result ≡ bytes_eq word.now name.now }
+/// The functions in their order.
+const CALLS: [Call; 9] = [
+    Call::Compile,
+    Call::Match,
+    Call::Search,
+    Call::Fullmatch,
+    Call::Findall,
+    Call::Finditer,
+    Call::Split,
+    Call::Sub,
+    Call::Subn,
+];
+
+/// Returns the name of a function.
+fn call_word(call: Call) -> &'static [u8]
+    ensures { result.now ≡ call_word call }
 {
-    word == name
+    match call {
+        Call::Compile => b"compile",
+        Call::Match => b"match",
+        Call::Search => b"search",
+        Call::Fullmatch => b"fullmatch",
+        Call::Findall => b"findall",
+        Call::Finditer => b"finditer",
+        Call::Split => b"split",
+        Call::Sub => b"sub",
+        Call::Subn => b"subn",
+    }
 }
 
 /// Returns the function with this name, if there is one.
@@ -34,68 +57,61 @@ fn is_same(word: &[u8], name: &[u8]) -> bool
 fn call_of(word: &[u8]) -> Option<Call>
     ensures { result ≡ call_of word.now }
 {
-    if is_same(word, b"compile") {
-        Some(Call::Compile)
-    } else if is_same(word, b"match") {
-        Some(Call::Match)
-    } else if is_same(word, b"search") {
-        Some(Call::Search)
-    } else if is_same(word, b"fullmatch") {
-        Some(Call::Fullmatch)
-    } else if is_same(word, b"findall") {
-        Some(Call::Findall)
-    } else if is_same(word, b"finditer") {
-        Some(Call::Finditer)
-    } else if is_same(word, b"split") {
-        Some(Call::Split)
-    } else if is_same(word, b"sub") {
-        Some(Call::Sub)
-    } else if is_same(word, b"subn") {
-        Some(Call::Subn)
-    } else {
-        None
+    CALLS.iter().copied().find(|call| word == call_word(*call))
+}
+
+/// The flags in their order.
+const FLAGS: [Flag; 8] = [
+    Flag::Ascii,
+    Flag::IgnoreCase,
+    Flag::Locale,
+    Flag::Multiline,
+    Flag::DotAll,
+    Flag::Unicode,
+    Flag::Verbose,
+    Flag::Nothing,
+];
+
+/// Returns the two names of a flag.
+fn flag_words(flag: Flag) -> (&'static [u8], &'static [u8])
+    ensures first { result.0.now ≡ (flag_words flag).0 }
+    ensures second { result.1.now ≡ (flag_words flag).1 }
+{
+    match flag {
+        Flag::Ascii => (b"A", b"ASCII"),
+        Flag::IgnoreCase => (b"I", b"IGNORECASE"),
+        Flag::Locale => (b"L", b"LOCALE"),
+        Flag::Multiline => (b"M", b"MULTILINE"),
+        Flag::DotAll => (b"S", b"DOTALL"),
+        Flag::Unicode => (b"U", b"UNICODE"),
+        Flag::Verbose => (b"X", b"VERBOSE"),
+        Flag::Nothing => (b"DEBUG", b"NOFLAG"),
     }
 }
 
-/// Whether the word is one of two names.
-fn is_either(word: &[u8], first: &[u8], second: &[u8]) -> bool
-    ensures { result ≡ (bytes_eq word.now first.now || bytes_eq word.now second.now) }
+/// Whether the word is one of the names of a flag.
+fn is_word_of(word: &[u8], flag: Flag) -> bool
+    ensures { result ≡ is_word_of word.now flag }
 {
-    is_same(word, first) || is_same(word, second)
+    let (first, second) = flag_words(flag);
+    word == first || word == second
 }
 
 /// Returns the flag with this name, if there is one.
-#[tactic(auto, unfolding(crate::specs::internal::Meanings::flag_of))]
 fn flag_of(word: &[u8]) -> Option<Flag>
     ensures { result ≡ flag_of word.now }
 {
-    if is_either(word, b"A", b"ASCII") {
-        Some(Flag::Ascii)
-    } else if is_either(word, b"I", b"IGNORECASE") {
-        Some(Flag::IgnoreCase)
-    } else if is_either(word, b"L", b"LOCALE") {
-        Some(Flag::Locale)
-    } else if is_either(word, b"M", b"MULTILINE") {
-        Some(Flag::Multiline)
-    } else if is_either(word, b"S", b"DOTALL") {
-        Some(Flag::DotAll)
-    } else if is_either(word, b"U", b"UNICODE") {
-        Some(Flag::Unicode)
-    } else if is_either(word, b"X", b"VERBOSE") {
-        Some(Flag::Verbose)
-    } else if is_either(word, b"DEBUG", b"NOFLAG") {
-        Some(Flag::Nothing)
-    } else {
-        None
-    }
+    FLAGS.iter().copied().find(|flag| is_word_of(word, *flag))
 }
 
+/// Returns the position of a function in their order.
 fn call_rank(call: Call) -> u8
     ensures { result ≡ call_rank call }
 {
     call as u8
 }
 
+/// Returns the position of a flag in their order.
 fn flag_rank(flag: Flag) -> u8
     ensures { result ≡ flag_rank flag }
 {
@@ -106,18 +122,10 @@ fn flag_rank(flag: Flag) -> u8
 fn earlier_call(first: Option<Call>, second: Option<Call>) -> Option<Call>
     ensures { result ≡ earlier call_rank first second }
 {
-    match first {
-        None => second,
-        Some(a) => match second {
-            None => Some(a),
-            Some(b) => {
-                if call_rank(b) < call_rank(a) {
-                    Some(b)
-                } else {
-                    Some(a)
-                }
-            }
-        },
+    match (first, second) {
+        (Some(a), Some(b)) if call_rank(b) < call_rank(a) => second,
+        (Some(_), _) => first,
+        (None, _) => second,
     }
 }
 
@@ -125,21 +133,14 @@ fn earlier_call(first: Option<Call>, second: Option<Call>) -> Option<Call>
 fn earlier_flag(first: Option<Flag>, second: Option<Flag>) -> Option<Flag>
     ensures { result ≡ earlier flag_rank first second }
 {
-    match first {
-        None => second,
-        Some(a) => match second {
-            None => Some(a),
-            Some(b) => {
-                if flag_rank(b) < flag_rank(a) {
-                    Some(b)
-                } else {
-                    Some(a)
-                }
-            }
-        },
+    match (first, second) {
+        (Some(a), Some(b)) if flag_rank(b) < flag_rank(a) => second,
+        (Some(_), _) => first,
+        (None, _) => second,
     }
 }
 
+/// Returns the meaning that a name gets from two lists of aliases together.
 fn joined(first: Meaning, second: Meaning) -> Meaning
     ensures { result ≡ joined first second }
 {

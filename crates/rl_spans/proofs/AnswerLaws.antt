@@ -10,7 +10,7 @@ use Rattle.rl_marks.specs.internal.Seeking.{asked_in, origin_in, IsFrom}
 use Rattle.rl_marks.proofs.DifferLaws.{asked-differ}
 use Rattle.rl_spans.specs.Answers.{DifferOn}
 
--- matches of the matchers that are looked at differ only if those of the patterns do
+-- Matches of the matchers that are looked at differ only if those of the patterns do.
 asked-on : (how : How) (p q : MarkedPattern) (w : List ℕ) → IsText p.universe w → (advance : Bool) (i : ℕ) → i ≤ length w → IsFrom (origin_in how) advance i
     → (SameHit (match_at (asked_in how p.universe (matcher_in how p)) w advance i) (match_at (asked_in how p.universe (matcher_in how q)) w advance i) → ⊥)
     → DifferOn how p q w i advance

@@ -96,7 +96,7 @@ module _ (n : ℕ) where
       tries_join (if allowed acts before next then stops (performed acts i c) ∷ [] else []) (tries before next i l c)
       (when (allowed acts before next) (stops (performed acts i c)) tt) (tries-below before next i l c p)
 
-  -- what threads of a tree try names its places alone
+  -- What threads of a tree try names its places alone.
   pub spread-below : (m : Marked) → places m ≤ n → (before next : Option ℕ) (i : ℕ) (l : List Thread) → AreBelow n (spread m before next i l)
   spread-below m le before next i [] = tt
   spread-below m le before next i (t ∷ l) =

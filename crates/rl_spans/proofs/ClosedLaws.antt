@@ -78,7 +78,7 @@ places-few (many e greedy) = omega (arith, places-few e)
 places-few (further e f) = omega (arith, places-few e, places-few f)
 places-few (mark n e) = omega (arith, places-few e)
 
--- what a closed relation of a machine shows of two patterns
+-- What a closed relation of a machine shows of two patterns.
 pub closed-alike : (how : How) (p q : MarkedPattern) (s t : Matcher) (pairs : List ThreadPair) (codes : List ℕ)
     → s ≡ asked_in how p.universe (matcher_in how p) → t ≡ asked_in how p.universe (matcher_in how q)
     → AreEnough (sets_of_both s t) (code_count p.universe) codes → IsClosedOn (origin_in how) s t pairs codes → FindAlike how p q

@@ -1,5 +1,5 @@
 -- What a side's threads try and come to at a place of a text, and the runs of a text.
-use Rattle.std.proofs.Common.{◌≡◌, ℕ, ◌<◌, ◌≤◌, Bool, List, [], ◌∷◌, length, All, Option, None, Some, suc, zero, slice_get, refl, sym, ap, ap₂, subst, ◌∙◌, arith}
+use Rattle.std.proofs.Common.{◌≡◌, ℕ, ◌<◌, Bool, List, [], ◌∷◌, length, All, Option, None, Some, suc, zero, slice_get, refl, sym, ap, ap₂, subst, ◌∙◌, arith}
 use Rattle.rl_syntax.specs.Guards.{code_before}
 use Rattle.rl_marks.specs.Marked.{Marked}
 use Rattle.rl_marks.specs.declared.threads.MarkItem.{MarkItem}
@@ -38,7 +38,7 @@ or_else-later : (i : ℕ) (o : Option Caps) (x : Option Ended) → or_else (ende
 or_else-later i None x = refl
 or_else-later i (Some c) x = refl
 
--- a step of a run: what is found from the next place on, or else what was found before
+-- A step of a run: what is found from the next place on, or else what was found before.
 pub run-step : (m : Marked) (w : List ℕ) (hit : ℕ → Bool) (i next code : ℕ) → slice_get w i ≡ Some code → next ≡ suc i → (accepts : Bool) → accepts ≡ hit i
     → (before : Option ℕ) → before ≡ code_before w i → (threads onward : List Thread) → onward ≡ moved m accepts before code i threads
     → (stop : Option Caps) → stop ≡ halted m accepts before (Some code) i threads → (found new : Option Ended) → new ≡ later_of i stop found → (whole : Option Ended)
@@ -57,7 +57,7 @@ get-past [] i e = refl
 get-past (c ∷ w) zero e = cc
 get-past (c ∷ w) (suc i) e = get-past w i (omega arith)
 
--- the end of a run
+-- The end of a run.
 pub run-end : (m : Marked) (w : List ℕ) (hit : ℕ → Bool) (i : ℕ) → slice_get w i ≡ None → (accepts : Bool) → accepts ≡ hit i
     → (before : Option ℕ) → before ≡ code_before w i → (threads : List Thread) (stop : Option Caps) → stop ≡ halted m accepts before None i threads
     → (found new : Option Ended) → new ≡ later_of i stop found → (whole : Option Ended)
@@ -69,7 +69,7 @@ run-end m w hit i none accepts counts before was threads stop is_stop found new 
     ∙ ap (λ x. or_else x found) (sym (step-end m w hit i none threads))
     ∙ h
 
--- runs that end differently show that the matches differ
+-- Runs that end differently show that the matches differ.
 pub hits-differ : (s t : Side) (w : List ℕ) (advance : Bool) (i : ℕ) (x y : Option Hit) → ended_of x ≡ found_at s w advance i → ended_of y ≡ found_at t w advance i
     → (LikeEnded (ended_of x) (ended_of y) → ⊥) → SameHit (match_at (matcher_of s) w advance i) (match_at (matcher_of t) w advance i) → ⊥
 hits-differ s t w advance i x y e f unlike same =

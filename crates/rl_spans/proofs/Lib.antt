@@ -1,6 +1,9 @@
 pub mod ShownLaws
 pub mod BelowLaws
 pub mod ItemLaws
+pub mod ShortLaws
+pub mod LongLaws
+pub mod StateLaws
 pub mod TestLaws
 pub mod StepLaws
 pub mod KindLaws

@@ -49,7 +49,7 @@ shown_tries_are before next b n p q i (test_at acts k ∷ l) c =
 shown_tries_are before next b n p q i (pass acts ∷ l) c =
     ap₂ (λ v m. (if v then stops (performed acts i c) ∷ [] else []) ++ m) (all_met_allowed acts before next b n p q) (shown_tries_are before next b n p q i l c)
 
--- where the rows have the items of each state, and the threads are in these states
+-- Where the rows have the items of each state, and the threads are in these states.
 pub spread_are : (m : Marked) (rows : List (List MarkItem)) → ((q : ℕ) → q < length rows → slice_index_or rows q [] ≡ items_at m q)
     → (before next : Shown) (b n : Option ℕ) → IsShown b before → IsShown n next → (i : ℕ) (l : List Thread) → All (λ (t : Thread). t.state < length rows) l
     → shown_spread rows before next i l ≡ spread m b n i l
@@ -60,7 +60,7 @@ spread_are m rows h before next b n p q i (t ∷ l) all =
     ∙ ap (λ items. tries b n i items t.caps) (h t.state (All-head (λ (t : Thread). t.state < length rows) t l all)))
     (spread_are m rows h before next b n p q i l (All-tail (λ (t : Thread). t.state < length rows) t l all))
 
--- the tests are of places that the table has
+-- The tests are of places that the table has.
 abbrev pub AreBelow : ℕ → List Try → Type 0
 AreBelow n [] = Unit {0}
 AreBelow n (goes p c ∷ l) = (p < n) × AreBelow n l

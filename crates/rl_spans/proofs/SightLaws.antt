@@ -38,13 +38,13 @@ found-sight side count i w advance e s found is =
     is ∙ ap (option_map (held_sight count i)) (found ∙ match-walks (matcher_of side) w advance i)
     ∙ kept-sight count i (match_at (matcher_of side) w advance i)
 
--- a place at which nothing is found is passed over
+-- A place at which nothing is found is passed over.
 sight-none : (count i : ℕ) (x : Option Found) (s : Option Sight) (b : Bool) → s ≡ option_map (sight_of count) (begun i x None) → b ≡ is_some s → b ≡ false
     → (p : Option Match) → begun i x p ≡ p
 sight-none count i None s b e is isnt p = refl
 sight-none count i (Some y) s b e is isnt p = let never : true ≡ false = sym (is ∙ ap is_some e) ∙ isnt in absurd cc
 
--- the first place at which something is found
+-- The first place at which something is found.
 sight-some : (count i : ℕ) (x : Option Found) (s : Option Sight) (b : Bool) → s ≡ option_map (sight_of count) (begun i x None) → b ≡ is_some s → b ≡ true
     → (p : Option Match) → s ≡ option_map (sight_of count) (begun i x p)
 sight-some count i None s b e is found p = let never : false ≡ true = sym (is ∙ ap is_some e) ∙ found in absurd cc
@@ -63,7 +63,7 @@ sought-end m w i h k =
     let none : length w - length w ≡ 0 = omega arith in
     ap (λ j. sought m w (length w - j) false j) here ∙ ap (λ n. sought m w n false (length w)) none
 
--- a search that finds nothing at a place goes on from the next one
+-- A search that finds nothing at a place goes on from the next one.
 pub sought-on : (count : ℕ) (side : Side) (w : List ℕ) (i : ℕ) (s : Option Sight) (b : Bool) → i < length w → s ≡ sight_in count side w false i
     → b ≡ is_some s → b ≡ false → sight_sought_in count side w (i + 1) ≡ sight_sought_in count side w i
 unfolding sight_in sight_sought_in
@@ -72,7 +72,7 @@ sought-on count side w i s b h e is isnt =
     let rest = sought m w (length w - (i + 1)) false (i + 1) in
     ap (option_map (sight_of count)) (sym (sight-none count i (match_at m w false i) s b e is isnt rest) ∙ sym (sought-step m w i h))
 
--- a search that finds something at a place ends there
+-- A search that finds something at a place ends there.
 pub sought-here : (count : ℕ) (side : Side) (w : List ℕ) (i : ℕ) (s : Option Sight) (b : Bool) → i < length w → s ≡ sight_in count side w false i
     → b ≡ is_some s → b ≡ true → s ≡ sight_sought_in count side w i
 unfolding sight_in sight_sought_in
@@ -81,12 +81,12 @@ sought-here count side w i s b h e is found =
     let rest = sought m w (length w - (i + 1)) false (i + 1) in
     sight-some count i (match_at m w false i) s b e is found rest ∙ ap (option_map (sight_of count)) (sym (sought-step m w i h))
 
--- a search from the end of the text finds what there is at the end
+-- A search from the end of the text finds what there is at the end.
 pub sought-last : (count : ℕ) (side : Side) (w : List ℕ) (i : ℕ) → length w ≤ i → i ≤ length w → sight_in count side w false (length w) ≡ sight_sought_in count side w i
 unfolding sight_in sight_sought_in
 sought-last count side w i h k = ap (option_map (sight_of count)) (sym (sought-end (matcher_of side) w i h k))
 
--- what a side finds is what its pattern finds
+-- What a side finds is what its pattern finds.
 pub side-finds : (how : How) (p : MarkedPattern) (side : Side) (count : ℕ) (w : List ℕ) (advance : Bool) (i : ℕ) → matcher_of side ≡ matcher_in how p
     → sight_asked how count side w advance i ≡ option_map (sight_of count) (found_in how p w advance i)
 unfolding sight_in sight_sought_in

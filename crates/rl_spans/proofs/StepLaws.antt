@@ -20,7 +20,7 @@ use Rattle.rl_spans.proofs.ShownLaws.{spread_are, taken_are, stopped_none}
 use Rattle.rl_spans.proofs.BelowLaws.{spread-below}
 use Rattle.rl_spans.proofs.TestLaws.{tests-count, tests-are}
 
--- threads in a side's states, which are other threads by another name of the list
+-- Threads in a side's states, which are other threads by another name of the list.
 pub spread-side : (m : Marked) (rows : List (List MarkItem)) → HasItems m rows → (before next : Shown) (b n : Option ℕ) → IsShown b before → IsShown n next
     → (states : ℕ) → states ≡ length rows → (threads others : List Thread) → All (λ (t : Thread). t.state < states) threads → threads ≡ others
     → shown_spread rows before next 0 threads ≡ spread m b n 0 others
@@ -40,7 +40,7 @@ none-where accepts l e = sym (subst (λ a. stopped a l ≡ None) (sym e) (stoppe
 pub tests-few : (m : Marked) (code : ℕ) (tests : List Bool) → tests ≡ tests_at m code → places m ≤ MOST_NODES → length tests ≤ MOST_NODES
 tests-few m code tests e few = subst (λ l. length l ≤ MOST_NODES) (sym e) (omega (arith, tests-count m code, few))
 
--- a pair that is the step of another one, but for names, is its move
+-- A pair that is the step of another one, but for names, is its move.
 pub move-kept : (s t : Matcher) (pairs : List ThreadPair) (accepts : Bool) (p q : ThreadPair) (code : ℕ) (names : List ℕ) (before : Option ℕ) (sl sr agree : Bool) (left right : List Thread)
     → Contains pairs q → before ≡ p.before → sl ≡ stops_at accepts (Some code) s.ending → sr ≡ stops_at accepts (Some code) t.ending
     → left ≡ moved s.tree sl before code 0 (named suc p.left) → right ≡ moved t.tree sr before code 0 (named suc p.right)

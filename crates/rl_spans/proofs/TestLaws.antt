@@ -33,7 +33,7 @@ set_parts e f b k c d lt left right = elim (cases_lt k (places e)) [
       ∙ sym (cond-false (nat_lt (b + k) (b + places e)) (set_of e b (b + k) c) (set_of f (b + places e) (b + k) c) (le-ltb (b + k) (b + places e) (omega arith)))
 ]
 
--- the set at a place
+-- The set at a place.
 set_at : (t : Tree) (b k c : ℕ) (d : ℕ → Bool) → k < places t → get_or (sets_in t) k d c ≡ set_of t b (b + k) c
 set_at empty b k c d lt = absurd (omega arith)
 set_at (one s) b k c d lt = let at : k ≡ 0 = omega arith in ap (λ j. get_or (s ∷ []) j d c) at

@@ -7,13 +7,13 @@ use Rattle.rl_marks.specs.SameFinds.{FindAlike, DifferFrom, DifferInSearch, matc
 use Rattle.rl_spans.specs.declared.comparing.SameFinds.{SameFinds}
 use Rattle.rl_spans.specs.declared.comparing.SameFinds.TheVariants.{Same, Differ, Exceeded}
 
--- on the text, from the place on, the two patterns find different matches; the flag says that these may not be empty
+-- On the text, from the place on, the two patterns find different matches; the flag says that these may not be empty.
 abbrev pub DifferOn : How → MarkedPattern → MarkedPattern → List ℕ → ℕ → Bool → Type 0
 DifferOn Fullmatch a b w i advance = DifferFrom a.universe (matcher_in Fullmatch a) (matcher_in Fullmatch b) w advance i
 DifferOn Match a b w i advance = DifferFrom a.universe (matcher_in Match a) (matcher_in Match b) w advance i
 DifferOn OneSearch a b w i advance = DifferInSearch a.universe (matcher_in OneSearch a) (matcher_in OneSearch b) w × (i ≡ 0) × (advance ≡ false)
 
--- the two patterns find alike; or they differ on the text; or nothing is said
+-- The two patterns find alike; or they differ on the text; or nothing is said.
 abbrev pub IsAnswer : How → MarkedPattern → MarkedPattern → SameFinds → Type 0
 IsAnswer how a b (Same relation) = FindAlike how a b
 IsAnswer how a b (Differ text from advance) = DifferOn how a b text from advance

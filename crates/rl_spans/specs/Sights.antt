@@ -10,17 +10,17 @@ use Rattle.rl_marks.specs.declared.asked.How.TheVariants.{Fullmatch, Match as Ea
 use Rattle.rl_marks.specs.declared.pattern.MarkedPattern.{MarkedPattern}
 use Rattle.rl_spans.specs.declared.finding.Sight.{Sight}
 
--- the values of the groups from 1 up to a number
+-- The values of the groups from 1 up to a number.
 abbrev pub group_values : ℕ → List GroupSpan → List (Option (ℕ × ℕ))
 group_values zero spans = []
 group_values (suc n) spans = group_values n spans ++ group (suc n) spans ∷ []
 
--- a match as it is shown, with so many groups
+-- A match as it is shown, with so many groups.
 abbrev pub sight_of : ℕ → Match → Sight
 sight_of groups m = record { start = m.start; end = m.found.end; groups = group_values groups m.found.spans; last = last_group m.found.spans }
 
--- what a pattern finds on a text, by how it is asked: from the place on, where the flag says that the match may not be empty; or by
--- one search from the text's start
+-- What a pattern finds on a text, by how it is asked: from the place on, where the flag says that the match may not be empty; or by
+-- one search from the text's start.
 abbrev pub found_in : How → MarkedPattern → List ℕ → Bool → ℕ → Option Match
 found_in Fullmatch p w advance i = begun i (match_at (matcher_in Fullmatch p) w advance i) None
 found_in EachMatch p w advance i = begun i (match_at (matcher_in EachMatch p) w advance i) None

@@ -1,12 +1,13 @@
 //! The machine of two patterns that are asked alike.
 
-ghost use Rattle.std.specs.Prelude.{◌≡◌, ◌++◌, IfOk};
+ghost use Rattle.std.specs.Prelude.{◌≡◌, ◌++◌, IfErr, IfOk};
 ghost use Rattle.rl_ranges.specs.Text.{code_count};
 ghost use Rattle.rl_syntax.specs.Tree.{IsOver};
 ghost use Rattle.rl_marks.specs.Marked.{marked_of, plain};
 ghost use Rattle.rl_marks.specs.SameFinds.{matcher_in};
 ghost use Rattle.rl_marks.specs.internal.PairLetters.{sets_of_both};
 ghost use Rattle.rl_marks.specs.internal.Seeking.{asked_in, origin_in};
+ghost use Rattle.rl_spans.specs.Limits.{IsCause};
 ghost use Rattle.rl_spans.specs.internal.Codes.{AreEnough};
 ghost use Rattle.rl_spans.specs.internal.Machines.{IsMachine};
 ghost use Rattle.rl_spans.specs.internal.Sides.{matcher_of};
@@ -51,8 +52,8 @@ fn asked_tree(
 /// The machine of two patterns over one universe that are asked alike.
 ///
 /// # Errors
-/// [`SpansError::Size`], [`SpansError::Letters`] or [`SpansError::Moves`] for a limit that is passed,
-/// [`SpansError::OutOfMemory`] where there was no memory for it.
+/// [`SpansError::Size`], [`SpansError::Letters`] or [`SpansError::Moves`] only for a limit that is passed,
+/// [`SpansError::OutOfMemory`] if there was no memory for it.
 pub(crate) fn machine_of(
     alloc: Global,
     how: How,
@@ -64,6 +65,7 @@ pub(crate) fn machine_of(
     ensures first { IfOk result (λ m. matcher_of m.first ≡ asked_in how a.now.universe (matcher_in how a.now)) }
     ensures second { IfOk result (λ m. matcher_of m.second ≡ asked_in how a.now.universe (matcher_in how b.now)) }
     ensures codes { IfOk result (λ m. AreEnough (sets_of_both (matcher_of m.first) (matcher_of m.second)) (code_count a.now.universe) m.codes) }
+    ensures causes { IfErr result (IsCause how a.now b.now) }
 {
     let first = asked_tree(alloc, how, a.universe, a)?;
     let second = asked_tree(alloc, how, a.universe, b)?;

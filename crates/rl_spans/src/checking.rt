@@ -1,6 +1,6 @@
 //! Whether a relation is closed.
 
-ghost use Rattle.std.specs.Prelude.{◌≡◌, ◌<◌, ◌||◌, ℕ, Bool, true, false, Option, Some, None, IfOk, IsTrue, List, length, slice_index_or, Contains, ◌∷◌, []};
+ghost use Rattle.std.specs.Prelude.{◌≡◌, ◌<◌, ◌||◌, ℕ, Bool, true, false, Option, Some, None, IfErr, IfOk, IsTrue, List, length, slice_index_or, Contains, ◌∷◌, []};
 ghost use Rattle.rl_marks.specs.Hits.{Matcher};
 ghost use Rattle.rl_marks.specs.SameFinds.{FindAlike};
 ghost use Rattle.rl_marks.specs.internal.Pairs.{begin, stops_at, AgreesBefore, KeepsLast, tells_last};
@@ -8,6 +8,7 @@ ghost use Rattle.rl_marks.specs.internal.Caps.{no_caps};
 ghost use Rattle.rl_marks.specs.internal.Threads.{thread};
 ghost use Rattle.rl_marks.specs.declared.threads.ThreadPair.{ThreadPair};
 ghost use Rattle.rl_marks.specs.internal.Seeking.{IsAsked};
+ghost use Rattle.rl_spans.specs.Limits.{IsCause};
 ghost use Rattle.rl_spans.specs.internal.Shown.{IsShown};
 ghost use Rattle.rl_spans.specs.internal.Sides.{matcher_of};
 ghost use Rattle.rl_spans.specs.internal.Machines.{IsMachine, IsMove, KeepsCodes, IsOneOf, IsClosedOn};
@@ -345,8 +346,8 @@ pub(crate) fn is_closed(
 /// begins, and if both sides agree at the end of the text.
 ///
 /// # Errors
-/// [`SpansError::Size`], [`SpansError::Letters`] or [`SpansError::Moves`] for a limit that is passed,
-/// [`SpansError::OutOfMemory`] where there was no memory for the check.
+/// [`SpansError::Size`], [`SpansError::Letters`] or [`SpansError::Moves`] only for a limit that is passed,
+/// [`SpansError::OutOfMemory`] if there was no memory for the check.
 pub fn check(
     alloc: Global,
     a: &MarkedPattern,
@@ -354,7 +355,8 @@ pub fn check(
     how: How,
     relation: &SpanRelation,
 ) -> Result<bool, SpansError>
-    ensures { IfOk result (λ ok. IsTrue ok → FindAlike how a.now b.now) }
+    ensures alike { IfOk result (λ ok. IsTrue ok → FindAlike how a.now b.now) }
+    ensures causes { IfErr result (IsCause how a.now b.now) }
 {
     if a.universe != b.universe {
         return Ok(false);

@@ -1,15 +1,16 @@
 //! Codes that stand for the letters of two trees.
 
-ghost use Rattle.std.specs.Prelude.{◌≡◌, ◌++◌, ◌<◌, ℕ, All, map, true, IfOk, length, slice_index_or};
+ghost use Rattle.std.specs.Prelude.{◌≡◌, ◌++◌, ◌<◌, ℕ, All, map, true, IfErr, IfOk, length, slice_index_or};
 ghost use Rattle.rl_ranges.specs.Codes.{has, IsInside};
-ghost use Rattle.rl_ranges.specs.Letters.{alike, IsLetters};
+ghost use Rattle.rl_ranges.specs.Letters.{alike, classes, IsLetters};
+ghost use Rattle.rl_ranges.specs.declared.letters.TheConstants.{MOST_LETTERS};
+ghost use Rattle.rl_ranges.specs.declared.letters.LettersError.TheVariants as error;
 ghost use Rattle.rl_ranges.specs.Text.{code_count};
 ghost use Rattle.rl_syntax.specs.Tree.{tree_of, IsOver};
 ghost use Rattle.rl_prio.specs.Letters.{all_sets};
 ghost use Rattle.rl_marks.specs.Marked.{marked_of, plain};
 ghost use Rattle.rl_spans.specs.internal.Codes.{AreEnough};
 
-use crate::error::SpansError;
 use crate::plain::plain_of;
 use rl_lists::{Items, OutOfMemory};
 use rl_marks::MarkTree;
@@ -47,24 +48,22 @@ fn samples_of(alloc: Global, letters: &Letters) -> Result<Items<u32>, OutOfMemor
 /// A code for each letter that two trees tell apart.
 ///
 /// # Errors
-/// [`SpansError::Letters`] where there are too many, [`SpansError::OutOfMemory`] where there was no memory for them.
+/// [`LettersError::TooMany`] only if there are more than [`MOST_LETTERS`](rl_ranges::MOST_LETTERS),
+/// [`LettersError::OutOfMemory`] if there was no memory for them.
 pub(crate) fn codes_of(
     alloc: Global,
     first: &MarkTree,
     second: &MarkTree,
     universe: Universe,
-) -> Result<Items<u32>, SpansError>
+) -> Result<Items<u32>, LettersError>
     requires first { IsOver universe (plain (marked_of first.now)) }
     requires second { IsOver universe (plain (marked_of second.now)) }
-    ensures { IfOk result (AreEnough (all_sets (plain (marked_of first.now)) ++ all_sets (plain (marked_of second.now))) (code_count universe)) }
+    ensures enough { IfOk result (AreEnough (all_sets (plain (marked_of first.now)) ++ all_sets (plain (marked_of second.now))) (code_count universe)) }
+    ensures many { IfErr result (λ e. e ≡ error.TooMany
+        → MOST_LETTERS < length (classes (all_sets (plain (marked_of first.now)) ++ all_sets (plain (marked_of second.now))) (code_count universe))) }
 {
     let sets = sets_of(alloc, first, second)?;
-    match Letters::of(alloc, &sets, universe) {
-        Ok(letters) => {
-            let codes = samples_of(alloc, &letters)?;
-            Ok(codes)
-        }
-        Err(LettersError::TooMany) => Err(SpansError::Letters),
-        Err(LettersError::OutOfMemory) => Err(SpansError::OutOfMemory),
-    }
+    let letters = Letters::of(alloc, &sets, universe)?;
+    let codes = samples_of(alloc, &letters)?;
+    Ok(codes)
 }

@@ -1,10 +1,11 @@
 //! Whether two patterns find the same spans and groups.
 
-ghost use Rattle.std.specs.Prelude.{◌≡◌, ◌<◌, ◌≤◌, ◌↔◌, All, IsTrue, IfOk, length};
+ghost use Rattle.std.specs.Prelude.{◌≡◌, ◌<◌, ◌≤◌, ◌↔◌, All, IsTrue, IfErr, IfOk, length};
 ghost use Rattle.rl_ranges.specs.Text.{IsText};
 ghost use Rattle.rl_marks.specs.SameFinds.{matcher_in};
 ghost use Rattle.rl_marks.specs.internal.Seeking.{asked_in, origin_in, IsFrom};
 ghost use Rattle.rl_spans.specs.Answers.{IsAnswer};
+ghost use Rattle.rl_spans.specs.Limits.{IsCause};
 ghost use Rattle.rl_spans.specs.internal.Machines.{IsMachine};
 ghost use Rattle.rl_spans.specs.internal.Sides.{matcher_of};
 
@@ -27,13 +28,14 @@ use std::alloc::Global;
 pub enum SameFinds {
     /// They do, as the relation shows.
     Same(SpanRelation),
-    /// They don't: on the text they find different matches from the place on; the flag says that these may not be empty.
+    /// They don't: on `text`, they find different matches from position `from` on. If `advance` is set, only matches that aren't
+    /// empty count.
     Differ {
         text: Codes,
         from: u32,
         advance: bool,
     },
-    /// More pairs than the limit are reached, so it isn't known.
+    /// It isn't known: the search reaches more pairs than the limit, the universes differ, or its result can't be confirmed.
     Exceeded,
 }
 
@@ -69,7 +71,8 @@ fn confirmed(
     how: How,
     relation: SpanRelation,
 ) -> Result<SameFinds, SpansError>
-    ensures { IfOk result (IsAnswer how a.now b.now) }
+    ensures answer { IfOk result (IsAnswer how a.now b.now) }
+    ensures causes { IfErr result (IsCause how a.now b.now) }
 {
     let closed = check(alloc, a, b, how, &relation)?;
     if closed {
@@ -91,7 +94,8 @@ fn seen_apart(
     requires machine { IsMachine machine.now }
     requires first { matcher_of machine.now.first ≡ asked_in how a.now.universe (matcher_in how a.now) }
     requires second { matcher_of machine.now.second ≡ asked_in how a.now.universe (matcher_in how b.now) }
-    ensures { IfOk result (IsAnswer how a.now b.now) }
+    ensures answer { IfOk result (IsAnswer how a.now b.now) }
+    ensures causes { IfErr result (IsCause how a.now b.now) }
 {
     let Witness {
         text,
@@ -119,11 +123,13 @@ fn seen_apart(
     }
 }
 
-/// Whether two patterns over one universe find the same spans and groups in every text, by how they are asked, unless more pairs of
-/// thread lists than the limit are reached. Of patterns over different universes it isn't known either.
+/// Returns whether two patterns find the same spans and groups in every text, if they are used as `how` says.
+///
+/// The result is [`SameFinds::Exceeded`], which promises nothing, if the search reaches more than `limit` pairs of thread
+/// lists, if its result can't be confirmed, or if the patterns are over different universes.
 ///
 /// # Errors
-/// [`SpansError::Size`], [`SpansError::Letters`] or [`SpansError::Moves`] for a limit that is exceeded,
+/// [`SpansError::Size`], [`SpansError::Letters`] or [`SpansError::Moves`] only for a limit that is exceeded,
 /// [`SpansError::OutOfMemory`] if there was no memory for the search.
 pub fn same_finds(
     alloc: Global,
@@ -132,7 +138,8 @@ pub fn same_finds(
     how: How,
     limit: u32,
 ) -> Result<SameFinds, SpansError>
-    ensures { IfOk result (IsAnswer how a.now b.now) }
+    ensures answer { IfOk result (IsAnswer how a.now b.now) }
+    ensures causes { IfErr result (IsCause how a.now b.now) }
 {
     if a.universe != b.universe {
         return Ok(SameFinds::Exceeded);

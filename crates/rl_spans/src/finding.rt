@@ -1,10 +1,14 @@
 //! What one pattern finds on a text, with the values of its groups.
 
-ghost use Rattle.std.specs.Prelude.{◌≡◌, ◌≤◌, ℕ, [], IfOk, false, true, length, option_map};
+ghost use Rattle.std.specs.Prelude.{◌≡◌, ◌≤◌, ◌^◌, ℕ, [], IfErr, IfOk, false, true, length, option_map};
 ghost use Rattle.rl_ranges.specs.Codes.{has};
 ghost use Rattle.rl_syntax.specs.Guards.{is_word};
 ghost use Rattle.rl_marks.specs.SameFinds.{matcher_in};
 ghost use Rattle.rl_marks.specs.internal.Caps.{held_span};
+ghost use Rattle.rl_marks.specs.Marked.{marked_of};
+ghost use Rattle.rl_spans.specs.declared.items.ListError.TheVariants as list;
+ghost use Rattle.rl_spans.specs.declared.stepping.StepError.TheVariants as error;
+ghost use Rattle.rl_spans.specs.Limits.{IsCauseAlone, IsShort};
 ghost use Rattle.rl_spans.specs.Sights.{found_in, sight_of};
 ghost use Rattle.rl_spans.specs.internal.Hits.{ended_of};
 ghost use Rattle.rl_spans.specs.internal.HeldSights.{held_sight, held_values, sight_asked, sight_in, sight_sought_in};
@@ -12,13 +16,13 @@ ghost use Rattle.rl_spans.specs.internal.Sides.{IsSide, matcher_of};
 
 use crate::differing::span_held;
 use crate::error::SpansError;
+use crate::items::ListError;
 use crate::running::{Hit, found_from, place_of};
 use crate::shown::Words;
 use crate::side::Side;
 use crate::stepping::StepError;
 use rl_lists::{Items, OutOfMemory};
 use rl_marks::{GroupSpan, How, MarkedPattern, ending_of};
-use rl_syntax::MOST_NODES;
 use std::alloc::Global;
 
 /// What a pattern finds on a text.
@@ -87,7 +91,8 @@ fn sight_at(
     requires all { (c : ℕ) → has words.now.all c ≡ is_word false c }
     requires ascii { (c : ℕ) → has words.now.ascii c ≡ is_word true c }
     requires start { start ≤ length text.now }
-    ensures { IfOk result (λ s. s ≡ sight_in count side.now text.now advance start) }
+    ensures sight { IfOk result (λ s. s ≡ sight_in count side.now text.now advance start) }
+    ensures outside { IfErr result (λ e. e ≡ error.Outside → 2 ^ 32 ≤ length text.now) }
 {
     let place = place_of(start)?;
     let hit = found_from(alloc, side, &[], words, text, advance, start)?;
@@ -106,7 +111,8 @@ fn sight_sought(
     requires side { IsSide [] side.now }
     requires all { (c : ℕ) → has words.now.all c ≡ is_word false c }
     requires ascii { (c : ℕ) → has words.now.ascii c ≡ is_word true c }
-    ensures { IfOk result (λ s. s ≡ sight_sought_in count side.now text.now 0) }
+    ensures sight { IfOk result (λ s. s ≡ sight_sought_in count side.now text.now 0) }
+    ensures outside { IfErr result (λ e. e ≡ error.Outside → 2 ^ 32 ≤ length text.now) }
 {
     let size = text.len();
     for start in 0..size {
@@ -134,7 +140,8 @@ fn sight_by(
     requires all { (c : ℕ) → has words.now.all c ≡ is_word false c }
     requires ascii { (c : ℕ) → has words.now.ascii c ≡ is_word true c }
     requires from { from ≤ length text.now }
-    ensures { IfOk result (λ s. s ≡ sight_asked how count side.now text.now advance from) }
+    ensures sight { IfOk result (λ s. s ≡ sight_asked how count side.now text.now advance from) }
+    ensures outside { IfErr result (λ e. e ≡ error.Outside → 2 ^ 32 ≤ length text.now) }
 {
     match how {
         How::Fullmatch | How::Match => sight_at(alloc, side, words, count, text, advance, from),
@@ -143,14 +150,12 @@ fn sight_by(
 }
 
 /// The side of a pattern alone.
-fn side_alone(alloc: Global, pattern: &MarkedPattern, how: How) -> Result<Side, SpansError>
+fn side_alone(alloc: Global, pattern: &MarkedPattern, how: How) -> Result<Side, ListError>
     ensures side { IfOk result (IsSide []) }
     ensures matcher { IfOk result (λ side. matcher_of side ≡ matcher_in how pattern.now) }
+    ensures long { IfErr result (λ e. e ≡ list.TooLong → ¬ IsShort (marked_of pattern.now.tree) 0) }
 {
     let tree = pattern.tree.copy(alloc)?;
-    if tree.nodes() > MOST_NODES {
-        return Err(SpansError::Size);
-    }
     Side::new(alloc, tree, ending_of(how, pattern.trailing), &[])
 }
 
@@ -158,7 +163,8 @@ fn side_alone(alloc: Global, pattern: &MarkedPattern, how: How) -> Result<Side, 
 /// from the place on; the flag says that the match may not be empty then.
 ///
 /// # Errors
-/// [`SpansError::Size`] or [`SpansError::Moves`] for a limit that is exceeded, [`SpansError::OutOfMemory`] if there was no memory.
+/// [`SpansError::Moves`] only if too many items are tried in the tree, [`SpansError::Text`] only if the text has 2^32 codes or
+/// more, [`SpansError::OutOfMemory`] if there was no memory.
 pub fn found_by(
     alloc: Global,
     pattern: &MarkedPattern,
@@ -168,7 +174,8 @@ pub fn found_by(
     from: usize,
 ) -> Result<Option<Sight>, SpansError>
     requires { from ≤ length text.now }
-    ensures { IfOk result (λ s. s ≡ option_map (sight_of pattern.now.groups) (found_in how pattern.now text.now advance from)) }
+    ensures found { IfOk result (λ s. s ≡ option_map (sight_of pattern.now.groups) (found_in how pattern.now text.now advance from)) }
+    ensures causes { IfErr result (IsCauseAlone pattern.now text.now) }
 {
     let side = side_alone(alloc, pattern, how)?;
     let words = Words::new(alloc)?;
@@ -176,7 +183,7 @@ pub fn found_by(
     let sight = sight_by(alloc, &side, &words, how, count, text, advance, from);
     match sight {
         Ok(sight) => Ok(sight),
-        Err(StepError::Outside) => Err(SpansError::Size),
+        Err(StepError::Outside) => Err(SpansError::Text),
         Err(StepError::OutOfMemory) => Err(SpansError::OutOfMemory),
     }
 }

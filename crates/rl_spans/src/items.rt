@@ -1,18 +1,39 @@
 //! The items of trees with groups.
 
-ghost use Rattle.std.specs.Prelude.{◌≡◌, ◌≤◌, ◌<◌, ◌+◌, ◌∷◌, ◌++◌, [], ℕ, suc, length, IfOk, OnOk, slice_index_or};
+ghost use Rattle.std.specs.Prelude.{◌≡◌, ◌≤◌, ◌<◌, ◌+◌, ◌∷◌, ◌++◌, [], ℕ, suc, length, IfOk, IfErr, OnOk, slice_index_or};
 ghost use Rattle.rl_syntax.specs.Run.{one_more};
-ghost use Rattle.rl_syntax.specs.declared.limits.TheConstants.{MOST_NODES};
+ghost use Rattle.rl_syntax.specs.declared.limits.TheConstants.{MOST_MOVES, MOST_NODES};
+ghost use Rattle.rl_spans.specs.declared.items.ListError.TheVariants as error;
+ghost use Rattle.rl_spans.specs.Limits.{IsShort, IsShortBehind};
 ghost use Rattle.rl_marks.specs.Marked.{marked_of};
-ghost use Rattle.rl_marks.specs.internal.MarkItems.{prefixed, all_prefixed, replaced, places, first, after};
+ghost use Rattle.rl_marks.specs.MarkItems.{prefixed, all_prefixed, replaced, places, first, after};
 ghost use Rattle.rl_marks.specs.internal.Threads.{items_at};
 
-use crate::error::SpansError;
 use rl_lists::{Items, OutOfMemory};
 use rl_marks::MarkTree;
 use rl_marks::threads::{Act, MarkItem};
 use rl_syntax::{MOST_MOVES, MOST_NODES};
 use std::alloc::Global;
+
+/// Why there is no list of items.
+#[derive(Clone, Copy)]
+pub(crate) enum ListError {
+    /// The list would have more than [`MOST_MOVES`] items.
+    TooLong,
+    /// Out of memory.
+    OutOfMemory,
+}
+
+impl From<OutOfMemory> for ListError {
+    ghost use Rattle.std.specs.Prelude.{◌≡◌};
+    ghost use Rattle.rl_spans.specs.declared.items.ListError.TheVariants as error;
+
+    ghost from_gives = { λ _ e. e ≡ error.OutOfMemory };
+
+    fn from(_: OutOfMemory) -> Self {
+        ListError::OutOfMemory
+    }
+}
 
 /// The number of places of a tree.
 pub(crate) fn places_of(tree: &MarkTree) -> u32
@@ -57,11 +78,15 @@ fn prefixed_by(alloc: Global, acts: &[Act], item: &MarkItem) -> Result<MarkItem,
 }
 
 /// Appends an item.
-fn put(list: &mut Items<MarkItem>, item: MarkItem) -> Result<(), SpansError>
-    ensures { OnOk result (list.new ≡ list.old ++ item ∷ []) }
+///
+/// # Errors
+/// [`ListError::TooLong`] if the list has [`MOST_MOVES`] items.
+fn put(list: &mut Items<MarkItem>, item: MarkItem) -> Result<(), ListError>
+    ensures put { OnOk result (list.new ≡ list.old ++ item ∷ []) }
+    ensures long { IfErr result (λ e. e ≡ error.TooLong → MOST_MOVES ≤ length list.old) }
 {
     if list.len() >= MOST_MOVES {
-        return Err(SpansError::Moves);
+        return Err(ListError::TooLong);
     }
     list.push(item)?;
     Ok(())
@@ -73,8 +98,9 @@ fn add_prefixed(
     list: &mut Items<MarkItem>,
     acts: &[Act],
     items: &[MarkItem],
-) -> Result<(), SpansError>
-    ensures { OnOk result (list.new ≡ list.old ++ all_prefixed acts.now items.now) }
+) -> Result<(), ListError>
+    ensures put { OnOk result (list.new ≡ list.old ++ all_prefixed acts.now items.now) }
+    ensures long { IfErr result (λ e. e ≡ error.TooLong → MOST_MOVES < length list.old + length items.now) }
 {
     for item in items {
         let whole = prefixed_by(alloc, acts, item)?;
@@ -88,8 +114,9 @@ fn replaced_by(
     alloc: Global,
     items: &[MarkItem],
     others: &[MarkItem],
-) -> Result<Items<MarkItem>, SpansError>
-    ensures { IfOk result (λ l. l ≡ replaced items.now others.now) }
+) -> Result<Items<MarkItem>, ListError>
+    ensures replaced { IfOk result (λ l. l ≡ replaced items.now others.now) }
+    ensures long { IfErr result (λ e. e ≡ error.TooLong → MOST_MOVES < length (replaced items.now others.now)) }
 {
     let mut list = Items::new(alloc);
     for item in items {
@@ -105,7 +132,7 @@ fn replaced_by(
 }
 
 /// The list of one item.
-fn single(alloc: Global, item: MarkItem) -> Result<Items<MarkItem>, SpansError>
+fn single(alloc: Global, item: MarkItem) -> Result<Items<MarkItem>, OutOfMemory>
     ensures { IfOk result (λ l. l ≡ item ∷ []) }
 {
     let mut list = Items::new(alloc);
@@ -114,7 +141,7 @@ fn single(alloc: Global, item: MarkItem) -> Result<Items<MarkItem>, SpansError>
 }
 
 /// The list of the end behind one act.
-fn end_behind(alloc: Global, act: Act) -> Result<Items<MarkItem>, SpansError>
+fn end_behind(alloc: Global, act: Act) -> Result<Items<MarkItem>, OutOfMemory>
     ensures { IfOk result (λ l. l ≡ MarkItem.Pass (act ∷ []) ∷ []) }
 {
     let acts = Items::from_slice(alloc, &[act])?;
@@ -122,12 +149,9 @@ fn end_behind(alloc: Global, act: Act) -> Result<Items<MarkItem>, SpansError>
 }
 
 /// Appends items.
-fn add_items(
-    alloc: Global,
-    list: &mut Items<MarkItem>,
-    items: &[MarkItem],
-) -> Result<(), SpansError>
-    ensures { OnOk result (list.new ≡ list.old ++ items.now) }
+fn add_items(alloc: Global, list: &mut Items<MarkItem>, items: &[MarkItem]) -> Result<(), ListError>
+    ensures added { OnOk result (list.new ≡ list.old ++ items.now) }
+    ensures long { IfErr result (λ e. e ≡ error.TooLong → MOST_MOVES < length list.old + length items.now) }
 {
     add_prefixed(alloc, list, &[], items)
 }
@@ -137,8 +161,9 @@ fn items_of_both(
     alloc: Global,
     items: &[MarkItem],
     others: &[MarkItem],
-) -> Result<Items<MarkItem>, SpansError>
-    ensures { IfOk result (λ l. l ≡ items.now ++ others.now) }
+) -> Result<Items<MarkItem>, ListError>
+    ensures both { IfOk result (λ l. l ≡ items.now ++ others.now) }
+    ensures long { IfErr result (λ e. e ≡ error.TooLong → MOST_MOVES < length items.now + length others.now) }
 {
     let mut list = Items::new(alloc);
     add_items(alloc, &mut list, items)?;
@@ -151,14 +176,24 @@ pub(crate) fn first_of(
     alloc: Global,
     tree: &MarkTree,
     base: u32,
-) -> Result<Items<MarkItem>, SpansError>
+) -> Result<Items<MarkItem>, ListError>
     requires { base + places (marked_of tree.now) ≤ MOST_NODES }
-    ensures { IfOk result (λ l. l ≡ first (marked_of tree.now) base) }
+    ensures first { IfOk result (λ l. l ≡ first (marked_of tree.now) base) }
+    ensures long { IfErr result (λ e. e ≡ error.TooLong → ¬ IsShort (marked_of tree.now) base) }
 {
     match tree {
-        MarkTree::Empty => single(alloc, MarkItem::Pass(Items::new(alloc))),
-        MarkTree::One(_) => single(alloc, MarkItem::Test(Items::new(alloc), base)),
-        MarkTree::Guard(guard) => end_behind(alloc, Act::Check(*guard)),
+        MarkTree::Empty => {
+            let end = single(alloc, MarkItem::Pass(Items::new(alloc)))?;
+            Ok(end)
+        }
+        MarkTree::One(_) => {
+            let test = single(alloc, MarkItem::Test(Items::new(alloc), base))?;
+            Ok(test)
+        }
+        MarkTree::Guard(guard) => {
+            let end = end_behind(alloc, Act::Check(*guard))?;
+            Ok(end)
+        }
         MarkTree::Both(head, tail) => {
             let items = first_of(alloc, head, base)?;
             let others = first_of(alloc, tail, base + places_of(head))?;
@@ -196,13 +231,18 @@ pub(crate) fn after_of(
     tree: &MarkTree,
     base: u32,
     place: u32,
-) -> Result<Items<MarkItem>, SpansError>
+) -> Result<Items<MarkItem>, ListError>
     requires { base + places (marked_of tree.now) ≤ MOST_NODES }
-    ensures { IfOk result (λ l. l ≡ after (marked_of tree.now) base place) }
+    ensures after { IfOk result (λ l. l ≡ after (marked_of tree.now) base place) }
+    ensures long { IfErr result (λ e. e ≡ error.TooLong → base ≤ place → place < base + places (marked_of tree.now)
+        → ¬ IsShortBehind (marked_of tree.now) base) }
 {
     match tree {
         MarkTree::Empty | MarkTree::Guard(_) => Ok(Items::new(alloc)),
-        MarkTree::One(_) => single(alloc, MarkItem::Pass(Items::new(alloc))),
+        MarkTree::One(_) => {
+            let end = single(alloc, MarkItem::Pass(Items::new(alloc)))?;
+            Ok(end)
+        }
         MarkTree::Both(head, tail) | MarkTree::Further(head, tail) => {
             let middle = base + places_of(head);
             if place < middle {

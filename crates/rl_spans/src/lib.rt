@@ -15,6 +15,10 @@
 //! place, and so by `search`, `finditer`, `findall`, `split` and `sub`, or by one search from the text's start. They end at the
 //! same place, give each group the same value, and close the same group last. Nothing is promised if it says no.
 //!
+//! An error that names a limit comes only if that limit is exceeded: [`SpansError::Size`] if one of the trees has too many nodes,
+//! [`SpansError::Letters`] if both tell too many letters apart, and [`SpansError::Moves`] if too many items are tried in one of
+//! them. `specs/Limits.antt` says what is counted.
+//!
 //! [`same_finds`] answers `Same` only if both patterns find the same in this sense, and `Differ` only with a text on which they find
 //! different matches from the place on. `Exceeded` promises nothing.
 //!

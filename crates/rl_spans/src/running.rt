@@ -1,12 +1,14 @@
 //! What one side finds on a text, by the list of its threads.
 
-ghost use Rattle.std.specs.Prelude.{◌≡◌, ◌<◌, ◌≤◌, ◌∷◌, [], ℕ, All, IsTrue, IfOk, None, Some, length, slice_get, true, false};
+ghost use Rattle.std.specs.Prelude.{◌≡◌, ◌<◌, ◌≤◌, ◌∷◌, [], ◌^◌, ℕ, All, IfErr, IfOk, None, Some, length, slice_get, true, false};
 ghost use Rattle.rl_ranges.specs.Codes.{has};
 ghost use Rattle.rl_syntax.specs.Guards.{is_word, code_before as before_place};
 ghost use Rattle.rl_syntax.specs.declared.limits.TheConstants.{MOST_NODES};
 ghost use Rattle.rl_marks.specs.Marked.{marked_of};
 ghost use Rattle.rl_marks.specs.Hits.{may_end, is_hit_from};
 ghost use Rattle.rl_marks.specs.internal.Threads.{spread, moved, halted};
+ghost use Rattle.rl_marks.specs.declared.threads.Thread.{Thread};
+ghost use Rattle.rl_spans.specs.declared.stepping.StepError.TheVariants as error;
 ghost use Rattle.rl_spans.specs.internal.Hits.{ended_of, later_of, found_at};
 ghost use Rattle.rl_spans.specs.internal.Shown.{IsShown};
 ghost use Rattle.rl_spans.specs.internal.Sides.{IsSide};
@@ -67,18 +69,6 @@ fn code_before(text: &[u32], place: usize) -> Option<u32>
     }
 }
 
-/// Whether each thread is in one of the states.
-fn are_inside(threads: &[Thread], states: usize) -> bool
-    ensures { IsTrue result → All (λ (t : Thread). t.state < states) threads.now }
-{
-    for thread in threads {
-        if thread.state as usize >= states {
-            return false;
-        }
-    }
-    true
-}
-
 /// What the threads of a side try at a place.
 fn tries_at_place(
     alloc: Global,
@@ -88,24 +78,21 @@ fn tries_at_place(
     next: Seen,
     place: u32,
     threads: &[Thread],
-) -> Result<Items<Try>, StepError>
+) -> Result<Items<Try>, OutOfMemory>
     requires side { IsSide codes.now side.now }
     requires before { IsShown before.code before.shown }
     requires next { IsShown next.code next.shown }
+    requires inside { All (λ (t : Thread). t.state < length side.now.rows) threads.now }
     ensures { IfOk result (λ l. l ≡ spread (marked_of side.now.tree) before.code next.code place threads.now) }
 {
-    if !are_inside(threads, side.rows.len()) {
-        return Err(StepError::Outside);
-    }
-    let tries = spread_of(
+    spread_of(
         alloc,
         side.rows.as_slice(),
         before.shown,
         next.shown,
         place,
         threads,
-    )?;
-    Ok(tries)
+    )
 }
 
 /// What a side's threads come to on a code at a place.
@@ -119,13 +106,15 @@ fn step_at(
     code: u32,
     place: u32,
     threads: &[Thread],
-) -> Result<Step, StepError>
+) -> Result<Step, OutOfMemory>
     requires side { IsSide codes.now side.now }
     requires before { IsShown before.code before.shown }
     requires next { IsShown next.code next.shown }
     requires code { next.code ≡ Some code }
+    requires inside { All (λ (t : Thread). t.state < length side.now.rows) threads.now }
     ensures stop { IfOk result (λ r. r.stop ≡ halted (marked_of side.now.tree) accepts before.code (Some code) place threads.now) }
     ensures threads { IfOk result (λ r. r.threads ≡ moved (marked_of side.now.tree) accepts before.code code place threads.now) }
+    ensures inside { IfOk result (λ r. All (λ (t : Thread). t.state < length side.now.rows) r.threads) }
 {
     let tests = tests_of(alloc, &side.tree, code)?;
     let tries = tries_at_place(alloc, side, codes, before, next, place, threads)?;
@@ -150,7 +139,8 @@ fn later(place: u32, stop: Option<Caps>, found: Option<Hit>) -> Option<Hit>
 
 /// The place as a number of a thread list.
 pub(crate) fn place_of(index: usize) -> Result<u32, StepError>
-    ensures { IfOk result (λ p. p ≡ index) }
+    ensures place { IfOk result (λ p. p ≡ index) }
+    ensures great { IfErr result (λ _. 2 ^ 32 ≤ index) }
 {
     match u32::try_from(index) {
         Ok(place) => Ok(place),
@@ -180,7 +170,8 @@ pub(crate) fn found_from(
     requires all { (c : ℕ) → has words.now.all c ≡ is_word false c }
     requires ascii { (c : ℕ) → has words.now.ascii c ≡ is_word true c }
     requires start { start ≤ length text.now }
-    ensures { IfOk result (λ hit. ended_of hit ≡ found_at side.now text.now advance start) }
+    ensures found { IfOk result (λ hit. ended_of hit ≡ found_at side.now text.now advance start) }
+    ensures outside { IfErr result (λ e. e ≡ error.Outside → 2 ^ 32 ≤ length text.now) }
 {
     let size = text.len();
     let mut threads = begin_threads(alloc)?;

@@ -1,16 +1,17 @@
 //! One side of a comparison: a tree with what is known of its states.
 
-ghost use Rattle.std.specs.Prelude.{◌≡◌, ◌≤◌, ◌<◌, ◌∷◌, ◌++◌, ℕ, suc, List, length, map, IfOk, OnOk, Some, slice_get, slice_index_or};
+ghost use Rattle.std.specs.Prelude.{◌≡◌, ◌≤◌, ◌<◌, ◌∷◌, ◌++◌, ℕ, suc, List, length, map, IfErr, IfOk, OnOk, Some, slice_get, slice_index_or};
 ghost use Rattle.rl_ranges.specs.Codes.{has};
 ghost use Rattle.rl_syntax.specs.Tree.{sets_in};
 ghost use Rattle.rl_syntax.specs.declared.limits.TheConstants.{MOST_NODES};
 ghost use Rattle.rl_marks.specs.Marked.{marked_of, plain};
-ghost use Rattle.rl_marks.specs.internal.MarkItems.{places};
+ghost use Rattle.rl_marks.specs.MarkItems.{places};
 ghost use Rattle.rl_marks.specs.internal.Threads.{items_at};
+ghost use Rattle.rl_spans.specs.declared.items.ListError.TheVariants as error;
+ghost use Rattle.rl_spans.specs.Limits.{IsShort};
 ghost use Rattle.rl_spans.specs.internal.Sides.{HasItems, HasTests, IsSide};
 
-use crate::error::SpansError;
-use crate::items::{after_of, first_of, places_of};
+use crate::items::{ListError, after_of, first_of, places_of};
 use rl_lists::{Items, OutOfMemory};
 use rl_marks::threads::MarkItem;
 use rl_marks::{MarkTree, MatchEnding};
@@ -30,9 +31,10 @@ pub(crate) struct Side {
 }
 
 /// The items of each state of a tree: of the start, and of each place.
-fn rows_of(alloc: Global, tree: &MarkTree) -> Result<Items<Items<MarkItem>>, SpansError>
+fn rows_of(alloc: Global, tree: &MarkTree) -> Result<Items<Items<MarkItem>>, ListError>
     requires { places (marked_of tree.now) ≤ MOST_NODES }
-    ensures { IfOk result (HasItems (marked_of tree.now)) }
+    ensures items { IfOk result (HasItems (marked_of tree.now)) }
+    ensures long { IfErr result (λ e. e ≡ error.TooLong → ¬ IsShort (marked_of tree.now) 0) }
 {
     let mut rows = Items::new(alloc);
     let begin = first_of(alloc, tree, 0)?;
@@ -95,17 +97,19 @@ impl Side {
     /// The side of a tree, for the codes of a list.
     ///
     /// # Errors
-    /// [`SpansError::Moves`] where a state has too many items, [`SpansError::OutOfMemory`] where there was no memory.
+    /// [`ListError::TooLong`] only if too many items are tried on entering the tree or behind one of its places,
+    /// [`ListError::OutOfMemory`] if there was no memory.
     pub(crate) fn new(
         alloc: Global,
         tree: MarkTree,
         ending: MatchEnding,
         codes: &[u32],
-    ) -> Result<Side, SpansError>
+    ) -> Result<Side, ListError>
         requires { places (marked_of tree) ≤ MOST_NODES }
         ensures side { IfOk result (IsSide codes.now) }
         ensures tree { IfOk result (λ side. side.tree ≡ tree) }
         ensures ending { IfOk result (λ side. side.ending ≡ ending) }
+        ensures long { IfErr result (λ e. e ≡ error.TooLong → ¬ IsShort (marked_of tree) 0) }
     {
         let rows = rows_of(alloc, &tree)?;
         let tests = tests_of_all(alloc, &tree, codes)?;

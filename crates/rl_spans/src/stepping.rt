@@ -21,13 +21,18 @@ use std::alloc::Global;
 /// Why there is no step.
 #[derive(Clone, Copy)]
 pub(crate) enum StepError {
-    /// A thread is in no state of the side, or a name is too great.
+    /// A thread is in no state of the side, or a name or a place is too great.
     Outside,
     /// Out of memory.
     OutOfMemory,
 }
 
 impl From<OutOfMemory> for StepError {
+    ghost use Rattle.std.specs.Prelude.{◌≡◌};
+    ghost use Rattle.rl_spans.specs.declared.stepping.StepError.TheVariants as error;
+
+    ghost from_gives = { λ _ e. e ≡ error.OutOfMemory };
+
     fn from(_: OutOfMemory) -> Self {
         StepError::OutOfMemory
     }

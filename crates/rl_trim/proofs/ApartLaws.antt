@@ -21,7 +21,7 @@ pub run-push : (a : Automaton) (keep : List Bool) (p : SetPair) (word : List ℕ
 run-push a keep p [] letter = refl
 run-push a keep p (l ∷ word) letter = run-push a keep (trim_on a keep p l) word letter
 
--- the pair to which the first letters of a word lead
+-- The pair to which the first letters of a word lead.
 pub record IsRunning (a : Automaton) (keep : List Bool) (v w : Walk) (word : List ℕ) (read : ℕ) (key : Key) : Type 0 where
   pub grown : IsGrown a v w
   pub inside : IsInside w key
@@ -60,7 +60,7 @@ running-apart a keep v w word read key all r e =
       apart = ap (λ (l : List ℕ). trim_differs a (trim_run a keep first_pair l)) (sym whole) ∙ ap (trim_differs a) (sym r.is) ∙ e;
     }
 
--- such a word leads to it in the order of pairs too
+-- Such a word leads to it in the order of pairs too.
 next-get : (a : Automaton) (keep : List Bool) (p : SetPair) (letter : ℕ) → letter < letters_count a → slice_get ((trim_pairs a keep).nexts p) letter ≡ Some (trim_on a keep p letter)
 next-get a keep p letter lt =
     let f = trim_on a keep p in

@@ -134,11 +134,11 @@ module _ (u : Universe) (a : Automaton) (s t : Tree) (base : IsBase u t a) (fewe
     second_whole = other-whole;
   }
 
--- a closed relation of the set pairs keeps the languages equal
+-- A closed relation of the set pairs keeps the languages equal.
 pub same-language : (u : Universe) (a : Automaton) (s t : Tree) (relation : List SetPair) → IsBase u t a → TellsNoMore t s → IsClosed (set_pairs u t s) relation → SameLanguage u t s
 same-language u a s t relation base fewer closed = closed-same u t s a (other u a s t base fewer) relation (stand-beside u a s t base fewer) closed
 
--- what a judgement tells of the languages
+-- What a judgement tells of the languages.
 pub judged-told : (u : Universe) (a : Automaton) (s t : Tree) (keep : List Bool) (limit : ℕ) (j : Judgement) → IsBase u t a → Without keep s t → IsJudged (set_pairs u t s) limit j → IsTold u t s j
 judged-told u a s t keep limit Equal base without h = same-language u a s t h.0 base (without_tells without) h.1.closed
 judged-told u a s t keep limit Apart base without h = tt

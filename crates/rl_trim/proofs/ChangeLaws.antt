@@ -1,9 +1,9 @@
 -- Laws of letters on which states move otherwise than on the letter before.
-use Rattle.std.proofs.Common.{◌≡◌, ◌∙◌, ℕ, zero, suc, ◌+◌, ◌-◌, ◌<◌, ◌≤◌, ◌⊎◌, inl, inr, List, [], ◌∷◌, ◌++◌, length, get_or, set, take, replicate, All, Bool, true, false, not, ◌&&◌, ◌||◌, cond, eqb, refl, sym, ap, ap₂, subst, arith}
+use Rattle.std.proofs.Common.{◌≡◌, ◌∙◌, ℕ, suc, ◌+◌, ◌-◌, ◌<◌, ◌≤◌, ◌⊎◌, inl, inr, List, [], ◌∷◌, ◌++◌, length, get_or, set, take, replicate, All, Bool, true, false, not, ◌&&◌, eqb, sym, ap, subst, arith}
 use Rattle.std.specs.List.{list_any}
 use Rattle.std.proofs.lemmas.Bool.{cases_lt, cases_eq, both_ways, or_left, or_right, false_from_ne_true}
 use Rattle.std.proofs.lemmas.List.{length_push, length-set, length-replicate, get_or-set_same, get_or-set_other, get_or_push, get_or_append_left, get_or_default, take_all}
-use Rattle.std.proofs.lemmas.List.Elements.{All-head, All-tail, All-more, All-weaker}
+use Rattle.std.proofs.lemmas.List.Elements.{All-more, All-weaker}
 use Rattle.rl_lanes.specs.Rows.{list_or}
 use Rattle.rl_lanes.proofs.RowLemmas.{length-list_or, get_or-list_or}
 use Rattle.rl_prio.specs.Automaton.{Automaton, letters_count, dead_state, moves_at}
@@ -71,18 +71,18 @@ joined-less a row added e k none = (
   false_from_ne_true (get_or added k false) (λ h. both_ways (get_or (list_or row added) k false) none (get_or-list_or row added k e ∙ or_right (get_or row k false) (get_or added k false) h)),
 )
 
--- a row that was read
+-- A row that was read.
 pub row-read : (a : Automaton) (rows : List (List Bool)) (q : ℕ) (row : List Bool) → row ≡ get_or rows q row → AreRows a a.states rows → q < a.states → IsWide a row × IsSame a row q
 row-read a rows q row e are lt =
     subst (λ (r : List Bool). IsWide a r × IsSame a r q) (get_or_default rows q [] row (omega (arith, lt, are.0)) ∙ sym e) (are.1 q lt)
 
--- a member of a set of a walk
+-- A member of a set of a walk.
 pub member-low : (a : Automaton) (w : Walk) (n i : ℕ) (members : List ℕ) → IsMadeFor w a → n < length w.sets → members ≡ set_at w n → i < length members → get_or members i 0 < a.states
 member-low a w n i members made lt e =
     subst (λ (l : List ℕ). i < length l → get_or l i 0 < a.states) (sym e)
     (λ small. member-small a (set_at w n) (made.sets n lt) (get_or (set_at w n) i 0) (holds-member (set_at w n) i 0 small))
 
--- what holds of the rows of the first members
+-- What holds of the rows of the first members.
 pub record IsAdding (a : Automaton) (old now : List Bool) (set : List ℕ) (i : ℕ) : Type 0 where
   pub wide : IsWide a now
   pub marked : StaysMarked old now
@@ -108,7 +108,7 @@ adding-more a old now more added set i q lt here e wide same f = subst (λ (r : 
 pub adding-all : (a : Automaton) (old now : List Bool) (set : List ℕ) (i : ℕ) → length set ≤ i → IsAdding a old now set i → IsSameOn a now set
 adding-all a old now set i le f = subst (IsSameOn a now) (take_all i set le) f.same
 
--- what holds of a set stays so of a row that holds more
+-- What holds of a set stays so of a row that holds more.
 pub same-stays : (a : Automaton) (old new : List Bool) (set : List ℕ) → StaysMarked old new → IsSameOn a old set → IsSameOn a new set
 same-stays a old new set stays h =
     All-weaker (IsSame a old) (IsSame a new)
@@ -126,7 +126,7 @@ image-alike a set l same =
 image-same : (a : Automaton) (row : List Bool) (set : List ℕ) (l : ℕ) → suc l < letters_count a → get_or row (suc l) false ≡ false → IsSameOn a row set → image a set l ≡ image a set (suc l)
 image-same a row set l small none h = image-alike a set l (All-weaker (IsSame a row) (λ q. moves_at a q l ≡ moves_at a q (suc l)) (λ q each. each l small none) set h)
 
--- the next pair is that of the letter before
+-- The next pair is that of the letter before.
 pub next-alike : (a : Automaton) (keep row : List Bool) (p : SetPair) (l : ℕ) → suc l < letters_count a → get_or row (suc l) false ≡ false → IsSameOn a row p.first → IsSameOn a row p.second
     → trim_on a keep p l ≡ trim_on a keep p (suc l)
 next-alike a keep row p l small none one two =

@@ -10,7 +10,7 @@ use Rattle.rl_trim.specs.Reached.{HasImage, IsClosedTo}
 use Rattle.rl_trim.specs.internal.Quick.{IsGrown, IsNumbered}
 use Rattle.rl_trim.proofs.SetLaws.{numbered}
 
--- the start alone
+-- The start alone.
 pub begun : (a : Automaton) (v w : Walk) (n : ℕ) → 3 ≤ a.states → v.sets ≡ [] → IsMadeFor w a → n < length w.sets → IsListed v.sets w.sets (set_of a (0 ∷ [])) n → IsClosedTo a w 0 (length w.sets)
 begun a v w n three none made inside listed = record {
   made = made;
@@ -28,7 +28,7 @@ begun a v w n three none made inside listed = record {
     first : 0 ≡ n
     first = omega (arith, inside, few-sets listed.grown)
 
--- the image of a set is that set's in the walk that has grown
+-- The image of a set is that set's in the walk that has grown.
 pub image-grown : (a : Automaton) (v w : Walk) (count most k letter : ℕ) → IsGrown a v w → count ≤ length v.sets → count ≤ most → k < length v.sets → HasImage a v count k letter → HasImage a w most k letter
 image-grown a v w count most k letter g few more lt h = record {
   number = h.number;
@@ -46,7 +46,7 @@ closed-grown a v w done count most g more few c = record {
   images = λ k letter lt small. image-grown a v w count most k letter g c.few more (omega (arith, c.reached, c.few)) (c.images k letter lt small);
 }
 
--- the walk has grown, and the first sets are as closed as they were
+-- The walk has grown, and the first sets are as closed as they were.
 pub closed-stays : (a : Automaton) (v w : Walk) (done count : ℕ) → IsGrown a v w → IsClosedTo a v done count → IsClosedTo a w done count
 closed-stays a v w done count g c = closed-grown a v w done count count g (omega arith) (omega (arith, c.few, g.longer)) c
 
@@ -63,7 +63,7 @@ stored-begun a w done count c = record {
   images = λ k letter lt small. absurd (omega arith);
 }
 
--- the image of a set that a walk was given
+-- The image of a set that a walk was given.
 pub image-found : (a : Automaton) (v w : Walk) (k letter n : ℕ) → k < length v.sets → IsNumbered a v w (image a (set_at v k) letter) n → HasImage a w (length w.sets) k letter
 image-found a v w k letter n lt is = record {
   number = n;
@@ -71,7 +71,7 @@ image-found a v w k letter n lt is = record {
   is = is.is ∙ ap (λ (s : List ℕ). image a s letter) (sym (is.grown.same k lt));
 }
 
--- the images of one set on the first letters
+-- The images of one set on the first letters.
 pub record IsExpanding (a : Automaton) (w : Walk) (set letters : ℕ) : Type 0 where
   pub closed : IsClosedTo a w set (length w.sets)
   pub inside : set < length w.sets

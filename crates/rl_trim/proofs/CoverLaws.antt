@@ -85,7 +85,7 @@ found-apart d (suc k) = subst AreApart (sym (found-step d k)) (looked-apart d (f
 
 -- ---- different set pairs of a list are no more than it has
 
--- where a set pair stands in a list
+-- Where a set pair stands in a list.
 abbrev spot : List SetPair → SetPair → ℕ
 spot [] p = 0
 spot (q ∷ l) p = cond (same_pair p q) 0 (suc (spot l p))
@@ -138,7 +138,7 @@ module _ (d : SetPairs) (limit : ℕ) (cover : List SetPair) (first_in : Contain
   found-few : length cover ≤ limit → length (found_after d limit) ≤ limit
   found-few few = omega (arith, few, few-apart cover (found_after d limit) (found-apart d limit) (found-in limit (omega arith)))
 
--- where none of the first ones shows a difference, no word leads to one
+-- Where none of the first ones shows a difference, no word leads to one.
 cover-same : (d : SetPairs) (limit : ℕ) (cover : List SetPair) → length cover ≤ limit → Contains cover first_pair
     → All (λ p. (differs d p ≡ true) ⊎ All (Contains cover) (d.nexts p)) cover → NoneDiffers d limit
     → (q : SetPair) (word : List ℕ) → Reads d first_pair word q → differs d q ≡ false
@@ -160,7 +160,7 @@ cover_apart d limit cover few first_in covered q word reads apart = by (list_any
         let none : NoneDiffers d limit = λ k x lt. false_from_ne_true (differs d (get_or firsts k x)) (λ h. both_ways (list_any (differs d) firsts) e (list_any_at (differs d) firsts k x lt h)) in
         absurd (both_ways (differs d q) (cover-same d limit cover few first_in covered none q word reads) apart)
 
--- where the list holds the next ones of each, and none shows a difference, the first ones are all
+-- Where the list holds the next ones of each, and none shows a difference, the first ones are all.
 pub cover_equal : (d : SetPairs) (limit : ℕ) (cover : List SetPair) → length cover ≤ limit → Contains cover first_pair
     → All (λ p. (differs d p ≡ false) × All (Contains cover) (d.nexts p)) cover → IsFound d limit Equal
 cover_equal d limit cover few first_in calm =

@@ -1,8 +1,7 @@
 -- Laws of the states that the end letter leads to the accepting state.
-use Rattle.std.proofs.Common.{◌≡◌, ◌≢◌, ◌∙◌, ℕ, ◌+◌, ◌<◌, ◌≤◌, ◌⊎◌, inl, inr, List, [], ◌∷◌, ◌++◌, length, get_or, All, Bool, false, not, ◌&&◌, ◌||◌, eqb, refl, sym, ap, ap₂, subst, arith}
+use Rattle.std.proofs.Common.{◌≡◌, ◌≢◌, ◌∙◌, ℕ, ◌<◌, ◌≤◌, List, [], ◌∷◌, get_or, All, Bool, false, not, ◌&&◌, ◌||◌, eqb, refl, sym, ap, ap₂, arith}
 use Rattle.std.specs.List.{list_any}
-use Rattle.std.proofs.lemmas.Bool.{cases_lt, ne_eqb}
-use Rattle.std.proofs.lemmas.List.{length_push, get_or_push, get_or_append_left}
+use Rattle.std.proofs.lemmas.Bool.{ne_eqb}
 use Rattle.std.proofs.lemmas.List.Elements.{All-head, All-tail, All-weaker}
 use Rattle.rl_prio.specs.Automaton.{Automaton, letters_count, accepting_state, dead_state, moves_at}
 use Rattle.rl_sets.specs.Live.{holds, image}
@@ -11,29 +10,11 @@ use Rattle.rl_sets.proofs.SetLemmas.{holds-filter}
 use Rattle.rl_trim.specs.internal.Trims.{state_ends, AreEnding, set_ends}
 use Rattle.rl_trim.proofs.SetLaws.{members-states}
 
--- ---- the flags of the states
-
-pub flags-none : (a : Automaton) (flags : List Bool) → flags ≡ [] → AreEnding a 0 flags
-flags-none a flags e = (ap length e, λ q lt. absurd (omega arith))
-
-pub flags-more : (a : Automaton) (states : ℕ) (flags more : List Bool) (b : Bool) → more ≡ flags ++ b ∷ [] → b ≡ state_ends a states → AreEnding a states flags → AreEnding a (states + 1) more
-flags-more a states flags more b e is are = subst (AreEnding a (states + 1)) (sym e) (omega (arith, length_push flags b, are.0), λ q lt. by q lt (cases_lt q states))
-  where
-    by : (q : ℕ) → q < states + 1 → (q < states) ⊎ (states ≤ q) → get_or (flags ++ b ∷ []) q false ≡ state_ends a q
-    by q lt (inl less) = get_or_append_left flags (b ∷ []) false q (omega (arith, less, are.0)) ∙ are.1 q less
-    by q lt (inr late) =
-        let here : states ≡ q = omega arith in
-        get_or_push flags b false q (omega (arith, length_push flags b, here, are.0)) ∙ is ∙ ap (state_ends a) here
-
 -- ---- the members of a set
 
 pub any-alike : (f g : ℕ → Bool) (xs : List ℕ) → All (λ x. f x ≡ g x) xs → list_any f xs ≡ list_any g xs
 any-alike f g [] e = refl
 any-alike f g (x ∷ xs) e = ap₂ (λ y z. y || z) (All-head (λ x. f x ≡ g x) x xs e) (any-alike f g xs (All-tail (λ x. f x ≡ g x) x xs e))
-
-pub members-small : (a : Automaton) (n : ℕ) (set members : List ℕ) → n ≡ a.states → IsSetOf a set → members ≡ set → All (λ q. q < n) members
-members-small a n set members n_is is e =
-    subst (All (λ q. q < n)) (sym e) (All-weaker (λ q. (q < a.states) × (q ≢ dead_state a)) (λ q. q < n) (λ q h. omega (arith, h.0, n_is)) set (members-states a set is))
 
 image-ends : (a : Automaton) (set : List ℕ) (letter : ℕ) → 3 ≤ a.states → holds (image a set letter) (accepting_state a) ≡ list_any (λ q. holds (moves_at a q letter) (accepting_state a)) set
 unfolding image
@@ -43,7 +24,7 @@ image-ends a set letter three =
     holds-filter (λ t. not (eqb t (dead_state a)) && list_any (λ q. holds (moves_at a q letter) t) set) a.states t (omega (arith, three))
     ∙ ap (λ b. not b && there) (ne_eqb t (dead_state a) (λ e. omega (arith, e, three)))
 
--- a set is led to the accepting state where a member of it is
+-- A set is led to the accepting state where a member of it is.
 pub ending-any : (a : Automaton) (set members : List ℕ) (flags : List Bool) → 3 ≤ a.states → IsSetOf a set → AreEnding a a.states flags → members ≡ set → list_any (λ q. get_or flags q false) members ≡ set_ends a set
 ending-any a set members flags three is are e =
     ap (list_any (λ q. get_or flags q false)) e

@@ -1,5 +1,5 @@
 -- Laws of the table that has it for each state which sets hold it, and of the sets that hold a state that isn't kept.
-use Rattle.std.proofs.Common.{◌≡◌, ◌∙◌, ℕ, ◌+◌, ◌<◌, ◌≤◌, ◌⊎◌, inl, inr, List, [], ◌∷◌, ◌++◌, length, get_or, set, take, replicate, Option, None, Some, All, Bool, true, false, ◌||◌, eqb, eqb-true, sym, ap, subst, arith}
+use Rattle.std.proofs.Common.{◌≡◌, ◌∙◌, ℕ, ◌+◌, ◌<◌, ◌≤◌, ◌⊎◌, inl, inr, List, [], ◌∷◌, ◌++◌, length, get_or, set, take, replicate, Option, None, Some, All, Bool, true, false, not, ◌||◌, eqb, eqb-true, sym, ap, subst, arith}
 use Rattle.std.proofs.lemmas.Bool.{cases_Bool, cases_lt, cases_eq, both_ways, or_cases, false≢true}
 use Rattle.std.proofs.lemmas.List.{take_more, length-set, length-replicate, get_or-set_same, get_or-set_other}
 use Rattle.std.proofs.lemmas.List.Folds.{list_any-append}
@@ -12,8 +12,8 @@ use Rattle.rl_trim.specs.declared.store.Reached.{Reached}
 use Rattle.rl_trim.specs.Reached.{IsClosedTo, IsNoted, AreHolders, AreReached, IsStored}
 use Rattle.rl_trim.specs.internal.Sunk.{is_kept}
 use Rattle.rl_trim.specs.internal.Trims.{trimmed}
-use Rattle.rl_trim.specs.internal.Noting.{IsWide, IsNoting, AreChosen, AreTouched}
-use Rattle.rl_trim.specs.internal.Quick.{IsGrown}
+use Rattle.rl_trim.specs.internal.Noting.{IsWide, IsNoting, AreTouched}
+use Rattle.rl_trim.specs.internal.Quick.{IsGrown, AreGone}
 use Rattle.rl_trim.proofs.SetLaws.{filter-all, holds-member, member-small}
 use Rattle.rl_trim.proofs.ClosingLaws.{closed-stays, closed-longer, stored-begun}
 
@@ -120,39 +120,10 @@ filling-more a w count done table more states e n f = record {
 pub filling-all : (a : Automaton) (w : Walk) (count done : ℕ) (table : List (List Bool)) → done ≡ count → IsFilling a w count done table → AreHolders a w count table
 filling-all a w count done table e f = record { high = f.high; wide = f.wide; noted = λ k q lt small h. f.noted k q (omega (arith, e)) small h }
 
--- ---- states that aren't kept
-
-pub record IsChoosing (keep : List Bool) (states done : ℕ) (row : List Bool) : Type 0 where
-  pub wide : length row ≡ states
-  pub chosen : (q : ℕ) → q < done → is_kept keep q ≡ false → get_or row q false ≡ true
-
-pub choosing-none : (keep : List Bool) (states : ℕ) (row : List Bool) → row ≡ replicate states false → IsChoosing keep states 0 row
-choosing-none keep states row e = record { wide = ap length e ∙ length-replicate states false; chosen = λ q lt gone. absurd (omega arith) }
-
-pub choosing-kept : (keep : List Bool) (states done : ℕ) (row : List Bool) → is_kept keep done ≡ true → IsChoosing keep states done row → IsChoosing keep states (done + 1) row
-choosing-kept keep states done row e c = record { wide = c.wide; chosen = λ q lt gone. by q lt gone (cases_lt q done) }
-  where
-    by : (q : ℕ) → q < done + 1 → is_kept keep q ≡ false → (q < done) ⊎ (done ≤ q) → get_or row q false ≡ true
-    by q lt gone (inl before) = c.chosen q before gone
-    by q lt gone (inr after) = let same : done ≡ q = omega arith in absurd (both_ways (is_kept keep q) gone (subst (λ (k : ℕ). is_kept keep k ≡ true) same e))
-
-pub choosing-more : (keep : List Bool) (states done : ℕ) (row more : List Bool) → more ≡ set row done true → done < states → IsChoosing keep states done row → IsChoosing keep states (done + 1) more
-choosing-more keep states done row more e small c = subst (IsChoosing keep states (done + 1)) (sym e) (record {
-  wide = length-set row done true ∙ c.wide;
-  chosen = λ q lt gone. by q lt gone (cases_eq q done);
-})
-  where
-    by : (q : ℕ) → q < done + 1 → is_kept keep q ≡ false → (q ≡ done) ⊎ (q ≡ done → ⊥) → get_or (set row done true) q false ≡ true
-    by q lt gone (inl same) = ap (λ (k : ℕ). get_or (set row done true) k false) same ∙ get_or-set_same row done true false (omega (arith, c.wide))
-    by q lt gone (inr other) = let less : q < done = grind (arith, lt, other) in get_or-set_other row done q true false other ∙ c.chosen q less gone
-
-pub choosing-all : (keep : List Bool) (states done : ℕ) (row : List Bool) → done ≡ states → IsChoosing keep states done row → AreChosen keep states row
-choosing-all keep states done row e c = record { wide = c.wide; chosen = λ q lt gone. c.chosen q (omega (arith, e)) gone }
-
 -- ---- sets that hold one
 
 pub touched-sets : (a : Automaton) (keep : List Bool) (w : Walk) (count : ℕ) (table : List (List Bool)) (chosen row : List Bool) → IsMadeFor w a → count ≤ length w.sets → AreHolders a w count table
-    → AreChosen keep a.states chosen → row ≡ union table chosen count → AreTouched keep w count row
+    → AreGone keep a.states chosen → row ≡ union table chosen count → AreTouched keep w count row
 touched-sets a keep w count table chosen row made few h c e = subst (AreTouched keep w count) (sym e) (record {
   wide = length-image table chosen count h.wide;
   whole = λ k lt none. filter-all (is_kept keep) (set_at w k) (λ i d small. by k lt none (get_or (set_at w k) i d) (holds-member (set_at w k) i d small) (cases_Bool (is_kept keep (get_or (set_at w k) i d))));
@@ -162,7 +133,7 @@ touched-sets a keep w count table chosen row made few h c e = subst (AreTouched 
     by k lt none q there (inl kept) = kept
     by k lt none q there (inr gone) =
         let small = member-small a (set_at w k) (made.sets k (omega arith)) q there in
-        absurd (both_ways (get_or (union table chosen count) k false) none ((get_or-image table chosen count k h.wide).1 (q, c.chosen q small gone, h.noted k q lt small there)))
+        absurd (both_ways (get_or (union table chosen count) k false) none ((get_or-image table chosen count k h.wide).1 (q, c.exact q small ∙ ap not gone, h.noted k q lt small there)))
 
 -- ---- walks that grow
 
@@ -182,7 +153,7 @@ holders-grown a v w count table g few h = record {
 pub reached-grown : (a : Automaton) (v w : Walk) (r : Reached) → IsGrown a v w → AreReached a v r → AreReached a w r
 reached-grown a v w r g h = record { closed = closed-stays a v w r.count r.count g h.closed; holders = holders-grown a v w r.count r.holders g h.closed.few h.holders }
 
--- what is known of a walk stays known of it
+-- What is known of a walk stays known of it.
 pub stored-grown : (a : Automaton) (v w : Walk) (o : Option Reached) → IsGrown a v w → IsStored a v o → IsStored a w o
 stored-grown a v w None g c = closed-longer a v w 0 g c
 stored-grown a v w (Some r) g c = reached-grown a v w r g c

@@ -13,6 +13,7 @@ use Rattle.rl_equiv.specs.SetPairs.{first_pair, SetPairs}
 use Rattle.rl_equiv.specs.Numbering.{same_pair, with_one, with_more}
 use Rattle.rl_equiv.proofs.SearchLaws.{more-grows}
 use Rattle.rl_trim.specs.declared.key.Key.{Key}
+use Rattle.rl_trim.specs.declared.order.Arrived.{Arrived}
 use Rattle.rl_trim.specs.declared.judgement.Judgement.TheVariants.{Apart}
 use Rattle.rl_trim.specs.Judged.{IsFound}
 use Rattle.rl_trim.specs.internal.Trims.{trim_on, trim_nexts}
@@ -47,7 +48,7 @@ each-grown a v w (k ∷ keys) g each =
 pub pairs-grown : (a : Automaton) (v w : Walk) (keys : List Key) → IsGrown a v w → AreKeys a v keys → pairs_in w keys ≡ pairs_in v keys
 pairs-grown a v w keys g r = each-grown a v w keys g r.inside
 
--- one set has one number
+-- One set has one number.
 number-same : (a : Automaton) (w : Walk) (m n : ℕ) → IsMadeFor w a → m < length w.sets → n < length w.sets → set_at w m ≡ set_at w n → m ≡ n
 number-same a w m n made x y e = by (cases_lt m n) (cases_lt n m)
   where
@@ -56,7 +57,7 @@ number-same a w m n made x y e = by (cases_lt m n) (cases_lt n m)
     by (inr ge) (inl less) = absurd (made.apart n m less x (sym e))
     by (inr ge) (inr le) = omega arith
 
--- pairs are the same exactly where their keys are
+-- Pairs are the same exactly where their keys are.
 one-same : (a : Automaton) (w : Walk) (x y : Key) → IsMadeFor w a → IsInside w x → IsInside w y → same_pair (pair_of w x) (pair_of w y) ≡ key_is x y
 one-same a w x y made i j =
     same_tests (same_pair (pair_of w x) (pair_of w y)) (key_is x y)
@@ -122,7 +123,7 @@ one-twice found p = by (list_any (same_pair p) found) refl
         list_any-append (same_pair p) found (p ∷ []) ∙ or_right (list_any (same_pair p) found) (same_pair p p || false) (or_left (same_pair p p) false (same-pairs p p refl)) in
         ap (λ (b : Bool). cond b (found ++ p ∷ []) ((found ++ p ∷ []) ++ p ∷ [])) there
 
--- a letter with the next pair of the letter before adds none
+-- A letter with the next pair of the letter before adds none.
 more-skipped : (found : List SetPair) (on : ℕ → SetPair) (l : ℕ) → on l ≡ on (suc l) → with_more found (map on (below (suc l))) ≡ with_more found (map on (below (suc (suc l))))
 more-skipped found on l same =
     let first = with_more found (map on (below l)) in
@@ -134,7 +135,7 @@ more-skipped found on l same =
     ∙ ap₂ (λ (x : List SetPair) (p : SetPair). with_one x p) (sym one) same
     ∙ sym two
 
--- the next pairs on the first letters were put behind
+-- The next pairs on the first letters were put behind.
 pub record IsFollowing (a : Automaton) (keep : List Bool) (v w : Walk) (keys more : List Key) (place letters : ℕ) : Type 0 where
   pub grown : IsGrown a v w
   pub are : AreKeys a w more
@@ -196,7 +197,7 @@ module _ (a : Automaton) (keep : List Bool) (v w : Walk) (keys more : List Key) 
 
 -- ---- looking at the pairs
 
--- the pair at a place was looked at
+-- The pair at a place was looked at.
 module _ (a : Automaton) (keep : List Bool) (v w : Walk) (keys : List Key) (limit place : ℕ) (told : Bool) (l : IsLooking (trim_pairs a keep) limit place (pairs_in v keys)) (lt : place < length keys)
     (is : told ≡ trim_differs a (pair_at v keys place)) where
   abbrev d : SetPairs
@@ -225,7 +226,7 @@ module _ (a : Automaton) (keep : List Bool) (v w : Walk) (keys : List Key) (limi
       looking-more d limit place (pairs_in v keys) l (pairs_in x more) there (omega (arith, few, pairs-length v keys)) (tells ∙ e)
       (put ∙ ap₂ (λ (ps : List SetPair) (q : SetPair). with_more ps (trim_nexts a keep q)) same pair ∙ ap (with_more (pairs_in v keys)) (sym (trim-nexts a keep p)))
 
--- the first pair's key
+-- The first pair's key.
 pub keys-start : (a : Automaton) (w : Walk) (keys : List Key) (done count : ℕ) → IsClosedTo a w done count → keys ≡ no_key ∷ [] → AreKeys a w keys
 keys-start a w keys done count c e = subst (AreKeys a w) (sym e) (record { made = c.made; inside = by })
   where
@@ -243,14 +244,14 @@ pairs-start a w keys done count c e =
 pub walked-judged : (a b : Automaton) (v w : Walk) → b ≡ a → IsGrown b v w → IsClosedTo a v 0 (length v.sets) → IsClosedTo a w 0 (length w.sets)
 walked-judged a b v w e g c = closed-longer a v w 0 (subst (λ (x : Automaton). IsGrown x v w) e g) c
 
--- the next pairs of one on the first letters were put behind, and the row holds true for sets alone that are found so
-pub record IsExpanding (a : Automaton) (keep : List Bool) (v w : Walk) (keys more : List Key) (row : List Bool) (place letters : ℕ) : Type 0 where
+-- The next pairs of one on the first letters were put behind, and what is known of the sets is right.
+pub record IsExpanding (a : Automaton) (keep : List Bool) (v w : Walk) (keys more : List Key) (r : Arrived) (place letters : ℕ) : Type 0 where
   pub following : IsFollowing a keep v w keys more place letters
-  pub arrived : AreArrived keep w more row
+  pub arrived : AreArrived keep w more r
 
--- the first pairs, up to a place, were looked at
-pub record IsJudging (a : Automaton) (keep : List Bool) (v w : Walk) (keys : List Key) (row : List Bool) (limit place : ℕ) : Type 0 where
+-- The first pairs, up to a place, were looked at.
+pub record IsJudging (a : Automaton) (keep : List Bool) (v w : Walk) (keys : List Key) (r : Arrived) (limit place : ℕ) : Type 0 where
   pub grown : IsGrown a v w
   pub are : AreKeys a w keys
-  pub arrived : AreArrived keep w keys row
+  pub arrived : AreArrived keep w keys r
   pub looking : IsLooking (trim_pairs a keep) limit place (pairs_in w keys)

@@ -5,6 +5,8 @@ pub mod OrderLaws
 pub mod TrimOrder
 pub mod LookLaws
 pub mod SetLaws
+pub mod TrimLaws
+pub mod RowLaws
 pub mod EndLaws
 pub mod ClosingLaws
 pub mod HolderLaws
@@ -16,3 +18,4 @@ pub mod CoverLaws
 pub mod ApartLaws
 pub mod QuickLaws
 pub mod BesideLaws
+pub mod TwinLaws

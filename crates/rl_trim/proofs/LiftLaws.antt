@@ -29,7 +29,7 @@ use Rattle.rl_trim.specs.internal.Trims.{trimmed, trim_on, trim_nexts, trim_diff
 
 -- ---- lists
 
-map-twice : {A B C : Type 0} (f : B → C) (g : A → B) (xs : List A) → map f (map g xs) ≡ map (λ x. f (g x)) xs
+pub map-twice : {A B C : Type 0} (f : B → C) (g : A → B) (xs : List A) → map f (map g xs) ≡ map (λ x. f (g x)) xs
 map-twice f g [] = refl
 map-twice {C = C} f g (x ∷ xs) = ap (λ (l : List C). f (g x) ∷ l) (map-twice f g xs)
 
@@ -74,7 +74,7 @@ sunk-rises keep q (suc r) le =
     by true e h = omega (arith, e, h)
     by false e h = omega (arith, e, h)
 
--- kept ones of the first numbers, numbered anew, are the first numbers
+-- Kept ones of the first numbers, numbered anew, are the first numbers.
 module _ (keep : List Bool) (p r : ℕ → Bool) where
   last-kept : (n : ℕ) (b : Bool) → is_kept keep n ≡ true → map (sunk keep) (filter (is_kept keep) (cond b (n ∷ []) [])) ≡ cond b (sunk keep n ∷ []) []
   last-kept n true e = ap (λ k. map (sunk keep) (cond k (n ∷ []) [])) e
@@ -104,11 +104,11 @@ module _ (keep : List Bool) (p r : ℕ → Bool) where
 
 -- ---- images of both trees
 
--- whether some member of a set moves to a state
+-- Whether some member of a set moves to a state.
 abbrev moves_there : List (ℕ → Bool) → Tree → ℕ → List ℕ → ℕ → ℕ → Bool
 moves_there sets t n set letter q = list_any (λ p. holds (moves_over sets t AtEnd n p letter) q) set
 
--- whether a state is in the image
+-- Whether a state is in the image.
 abbrev is_reached : List (ℕ → Bool) → Tree → ℕ → List ℕ → ℕ → ℕ → Bool
 is_reached sets t n set letter q = not (eqb q (dead t n)) && moves_there sets t n set letter q
 
@@ -156,7 +156,7 @@ module _ (sets : List (ℕ → Bool)) (n : ℕ) (keep : List Bool) (s t : Tree) 
             ap₂ (λ x y. not x && y) (ne_eqb (sunk keep q) (dead s n) (λ e. omega arith) ∙ sym (ne_eqb q (dead t n) other)) (moves-sunk set all letter q less kept)
       ]
 
-  -- the image without the states that aren't kept, numbered anew, is the image in the smaller tree
+  -- The image without the states that aren't kept, numbered anew, is the image in the smaller tree.
   image-sunk : (set : List ℕ) → list_all (is_kept keep) set ≡ true → (letter : ℕ)
       → map (sunk keep) (trimmed keep (image_over sets t n set letter)) ≡ image_over sets s n (map (sunk keep) set) letter
   unfolding image_over
@@ -165,7 +165,7 @@ module _ (sets : List (ℕ → Bool)) (n : ℕ) (keep : List Bool) (s t : Tree) 
       filter-sunk keep p (is_reached sets t n set letter) (state_count t n) (reached-sunk set all letter)
       ∙ ap (λ m. filter p (below m)) states-sunk
 
-  -- it has the accepting state where the image of the whole tree does
+  -- It has the accepting state where the image of the whole tree does.
   ends-sunk : (set : List ℕ) → list_all (is_kept keep) set ≡ true → (letter : ℕ)
       → holds (image_over sets t n set letter) (accepting t n) ≡ holds (image_over sets s n (map (sunk keep) set) letter) (accepting s n)
   unfolding image_over
@@ -179,11 +179,11 @@ module _ (sets : List (ℕ → Bool)) (n : ℕ) (keep : List Bool) (s t : Tree) 
 
 -- ---- pairs of the automaton and set pairs of both trees
 
--- the pair with the new numbers in its second set
+-- The pair with the new numbers in its second set.
 abbrev pub lifted : List Bool → SetPair → SetPair
 lifted keep p = record { first = p.first; second = map (sunk keep) p.second }
 
--- the next pair in both trees
+-- The next pair in both trees.
 abbrev next_over : List (ℕ → Bool) → ℕ → Tree → Tree → SetPair → ℕ → SetPair
 next_over sets n t s p letter = record { first = image_over sets t n p.first letter; second = image_over sets s n p.second letter }
 

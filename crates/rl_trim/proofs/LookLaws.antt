@@ -19,7 +19,7 @@ all-taken P l (suc n) le each =
     let one : n + 1 ≡ suc n = omega arith in
     subst (λ (m : ℕ). All P (take m l)) one (All-more P l n first_pair (omega arith) (all-taken P l n (omega arith) (λ k lt. each k (omega arith))) (each n (omega arith)))
 
--- the first ones, up to a place, show no difference; of as many of them as were looked for the next ones are found
+-- The first ones, up to a place, show no difference; of as many of them as were looked for the next ones are found.
 pub record IsLooking (d : SetPairs) (limit place : ℕ) (pairs : List SetPair) : Type 0 where
   pub upto : ℕ
   pub early : upto ≤ place
@@ -39,7 +39,7 @@ looking-start d limit pairs e = record {
 }
 
 module _ (d : SetPairs) (limit place : ℕ) (pairs : List SetPair) (l : IsLooking d limit place pairs) where
-  -- one more shows none
+  -- One more shows none.
   none-more : (more rest : List SetPair) → more ≡ pairs ++ rest → place < length pairs → differs d (get_or pairs place first_pair) ≡ false → (i : ℕ) → i < place + 1 → differs d (get_or more i first_pair) ≡ false
   none-more more rest e lt calm i less =
       let same : get_or more i first_pair ≡ get_or pairs i first_pair = ap (λ (xs : List SetPair). get_or xs i first_pair) e ∙ get_or_append_left pairs rest first_pair i (omega arith) in
@@ -82,7 +82,7 @@ module _ (d : SetPairs) (limit place : ℕ) (pairs : List SetPair) (l : IsLookin
     ];
   }
 
-  -- all are looked at
+  -- All are looked at.
   pub looking-equal : length pairs ≤ place → place ≤ limit → IsFound d limit Equal
   looking-equal all low = by l.full
     where
@@ -96,7 +96,7 @@ module _ (d : SetPairs) (limit place : ℕ) (pairs : List SetPair) (l : IsLookin
           let none : All (λ p. differs d p ≡ false) pairs = λ i x lt. ap (differs d) (get_or_default pairs i x first_pair lt) ∙ l.none i (omega arith) in
           (few, subst (All (λ p. differs d p ≡ false)) (whole ∙ sym (take_all limit (found_after d limit) few)) none)
 
-  -- one shows a difference
+  -- One shows a difference.
   pub looking-apart : place < length pairs → place < limit → differs d (get_or pairs place first_pair) ≡ true → IsFound d limit Apart
   looking-apart lt low apart =
       let p = get_or pairs place first_pair in
@@ -107,7 +107,7 @@ module _ (d : SetPairs) (limit place : ℕ) (pairs : List SetPair) (l : IsLookin
       get-taken (found_after d limit) limit place p low (ap (λ (xs : List SetPair). slice_get xs place) whole ∙ get_kept pairs x.0 place p there) in
       (place, p, slice_get_within (first_ones d limit) place p then, get_or_from_slice_get (first_ones d limit) place p p then, apart)
 
-  -- the first ones are looked at, and there are more
+  -- The first ones are looked at, and there are more.
   pub looking-passed : place ≡ limit → limit < length pairs → AreMore d limit
   looking-passed e many =
       let x = found-extends d l.upto limit (omega (arith, l.early)) in

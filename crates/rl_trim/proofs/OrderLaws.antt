@@ -99,7 +99,7 @@ module _ (d e : SetPairs) (P : SetPair → Type 0) (f : SetPair → SetPair)
       more-mapped found (d.nexts p) each (stays p here)
       ∙ ap (with_more (map f found)) (onward p here)
 
-  -- the order is carried along
+  -- The order is carried along.
   pub order-same : (k : ℕ) → map f (found_after d k) ≡ found_after e k
   order-same zero =
       ap (map f) (found-zero d) ∙ ap (λ (p : SetPair). p ∷ []) start ∙ sym (found-zero e)
@@ -120,7 +120,7 @@ module _ (d e : SetPairs) (P : SetPair → Type 0) (f : SetPair → SetPair)
   first-fit : (limit : ℕ) → All P (first_ones d limit)
   first-fit limit = All-take P limit (found_after d limit) (found-fit d P first stays limit)
 
-  -- and so are the set pairs that show a difference
+  -- And so are the set pairs that show a difference.
   module _ (alike : (p : SetPair) → P p → differs d p ≡ differs e (f p)) where
     pub none-same : (limit : ℕ) → NoneDiffers d limit → NoneDiffers e limit
     none-same limit none =

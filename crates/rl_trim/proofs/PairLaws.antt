@@ -51,11 +51,11 @@ put-new keys key = record {
   is = get_or_push keys key no_key (length keys) refl;
 }
 
--- a key that was read
+-- A key that was read.
 pub key-read : (keys : List Key) (place : ℕ) (key : Key) → slice_get keys place ≡ Some key → key_at keys place ≡ key
 key-read keys place key e = get_or_from_slice_get keys place key no_key e
 
--- what `insert` makes of the keys
+-- What `insert` makes of the keys.
 pub inserted : (keys more : List Key) (key : Key) → more ≡ cond (list_any (key_eq key) keys) keys (keys ++ key ∷ []) → IsPut keys more key
 inserted keys more key e = by (list_any (key_eq key) keys) refl e
   where
@@ -74,7 +74,7 @@ pair-grown a v w key g i =
     let f = g.same key.second i.second_in in
     λ j. record { first = e j; second = f j }
 
--- the next pair of a pair
+-- The next pair of a pair.
 pub next-key : (a : Automaton) (keep : List Bool) (v w x y : Walk) (key : Key) (letter first whole second : ℕ) → IsInside v key
     → IsNumbered a v w (image a (set_at v key.first) letter) first
     → IsNumbered a w x (image a (set_at w key.second) letter) whole
@@ -90,7 +90,7 @@ next-key a keep v w x y key letter first whole second i f g h =
       is = λ j. record { first = e j; second = s j };
     }
 
--- the same of one set with itself, of which one image is enough
+-- The same of one set with itself, of which one image is enough.
 pub next-same : (a : Automaton) (keep : List Bool) (v w y : Walk) (key : Key) (letter first second : ℕ) → IsInside v key → key.second ≡ key.first
     → IsNumbered a v w (image a (set_at v key.first) letter) first
     → IsNumbered a w y (trimmed keep (set_at w first)) second
@@ -100,7 +100,7 @@ next-same a keep v w y key letter first second i same f h =
     f.is ∙ ap (λ (l : List ℕ). image a l letter) (sym (f.grown.same key.first i.first_in) ∙ ap (set_at w) (sym same)) in
     next-key a keep v w w y key letter first first second i f (record { grown = grown-refl a w f.grown.made; inside = f.inside; is = again }) h
 
--- one set with itself shows no difference
+-- One set with itself shows no difference.
 same-ends : (b : Bool) → false ≡ not (beq b b)
 same-ends true = refl
 same-ends false = refl
@@ -135,7 +135,7 @@ has-onward a v w keys more p o each h = record {
   is = pair-onward a v w keys more o each h.place h.inside ∙ h.is;
 }
 
--- the pair of a key that was put
+-- The pair of a key that was put.
 pub has-put : (w : Walk) (keys more : List Key) (key : Key) (p : SetPair) → IsPut keys more key → pair_of w key ≡ p → HasPair w more p
 has-put w keys more key p put e = record { place = put.place; inside = put.inside; is = ap (pair_of w) put.is ∙ e }
 
@@ -178,7 +178,7 @@ rooted-none keep w keys e = record {
   roots = λ k lt. absurd (omega arith);
 }
 
--- one more set
+-- One more set.
 pub rooted-next : (keep : List Bool) (w : Walk) (done : ℕ) (keys : List Key) → AreRooted keep w done keys → (trimmed keep (set_at w done) ≡ set_at w done) ⊎ HasPair w keys (root keep w done) → AreRooted keep w (done + 1) keys
 rooted-next keep w done keys r here = record { each = r.each; roots = λ k less. by k less (cases_lt k done) }
   where
@@ -186,7 +186,7 @@ rooted-next keep w done keys r here = record { each = r.each; roots = λ k less.
     by k less (inl before) = r.roots k before
     by k less (inr after) = let same : done ≡ k = omega arith in subst (λ (m : ℕ). (trimmed keep (set_at w m) ≡ set_at w m) ⊎ HasPair w keys (root keep w m)) same here
 
--- one more set, which is put with itself without the states that aren't kept
+-- One more set, which is put with itself without the states that aren't kept.
 pub rooted-more : (a : Automaton) (keep : List Bool) (v w : Walk) (done count second : ℕ) (keys more : List Key) → done < count → IsClosedTo a v count count
     → IsNumbered a v w (trimmed keep (set_at v done)) second → IsPut keys more (record { first = done; second = second }) → AreRooted keep v done keys → AreRooted keep w (done + 1) more
 rooted-more a keep v w done count second keys more lt c n put r =
@@ -204,7 +204,7 @@ pairs-grown a keep v w count keys g p = record {
   rooted = rooted-grown a keep v w count keys p.closed.few g p.rooted;
 }
 
--- the next pair of the one at a place
+-- The next pair of the one at a place.
 module _ (a : Automaton) (keep : List Bool) (v w : Walk) (count : ℕ) (keys more : List Key) (place letter : ℕ) (key next : Key) (lt : place < length keys) (read : key_at keys place ≡ key)
     (p : ArePairs a keep v count keys) (is : IsKeyOf a v w (trim_on a keep (pair_of v key) letter) next) where
   pub visited-pairs : IsPut keys more next → ArePairs a keep w count more
@@ -219,7 +219,7 @@ module _ (a : Automaton) (keep : List Bool) (v w : Walk) (count : ℕ) (keys mor
   pub visited-there : IsPut keys more next → IsThere keep w count more (trim_on a keep (pair_at v keys place) letter)
   visited-there put = inr (subst (λ (k : Key). HasPair w more (trim_on a keep (pair_of v k) letter)) (sym read) (has-put w keys more next (trim_on a keep (pair_of v key) letter) put is.is))
 
-  -- one of the first sets with itself is there
+  -- One of the first sets with itself is there.
   pub visited-root : next.first ≡ next.second → next.first < count → IsThere keep w count keys (trim_on a keep (pair_at v keys place) letter)
   visited-root same inside =
       let q = trim_on a keep (pair_of v key) letter in
@@ -229,7 +229,7 @@ module _ (a : Automaton) (keep : List Bool) (v w : Walk) (count : ℕ) (keys mor
       let e : root keep w next.first ≡ q = λ j. record { first = first j; second = whole j } in
       inl (subst (λ (k : Key). IsRoot keep w count (trim_on a keep (pair_of v k) letter)) (sym read) (record { number = next.first; inside = inside; is = e }))
 
--- the next pairs of one pair on the first letters
+-- The next pairs of one pair on the first letters.
 pub record IsExpanding (a : Automaton) (keep : List Bool) (v w : Walk) (count : ℕ) (keys more : List Key) (place letters : ℕ) : Type 0 where
   pub pairs : ArePairs a keep w count more
   pub onward : IsOnward a v w keys more
@@ -266,13 +266,13 @@ expanding-done a keep v w n m keys more place letters lt p all e =
     let pair = pair-onward a v w keys more e.onward p.rooted.each place lt in
     inr (λ letter small. subst (λ (r : SetPair). IsThere keep w m more (trim_on a keep r letter)) (sym pair) (e.nexts letter (omega (arith, all))))
 
--- a pair that shows a difference
+-- A pair that shows a difference.
 pub differing-done : (a : Automaton) (keep : List Bool) (v w : Walk) (count : ℕ) (keys : List Key) (place : ℕ) (key : Key) → ArePairs a keep v count keys → place < length keys → key_at keys place ≡ key → IsGrown a v w
     → trim_differs a (pair_of v key) ≡ true → IsDone a keep w count keys place
 differing-done a keep v w count keys place key p lt read g e =
     inl (ap (trim_differs a) (pair-onward a v w keys keys (onward-grown a v w keys g) p.rooted.each place lt) ∙ ap (λ (k : Key). trim_differs a (pair_of v k)) read ∙ e)
 
--- what is done stays
+-- What is done stays.
 done-onward : (a : Automaton) (keep : List Bool) (v w : Walk) (count : ℕ) (keys more : List Key) (i : ℕ) → i < length keys → ArePairs a keep v count keys → IsOnward a v w keys more
     → IsDone a keep v count keys i → IsDone a keep w count more i
 done-onward a keep v w count keys more i lt p o d = by d
@@ -295,7 +295,7 @@ done-more a keep v w count keys more places lt p o done here i less = by (cases_
     by (inl before) = done-onward a keep v w count keys more i (omega arith) p o (done i before)
     by (inr after) = let same : places ≡ i = omega arith in subst (IsDone a keep w count more) same here
 
--- one more pair that shows no difference
+-- One more pair that shows no difference.
 pub none-more : (a : Automaton) (v w : Walk) (keys : List Key) (place : ℕ) (key : Key) → IsGrown a v w → IsInside v (key_at keys place) → key_at keys place ≡ key → trim_differs a (pair_of w key) ≡ false
     → NoneApart a v keys place → NoneApart a v keys (place + 1)
 none-more a v w keys place key g inside read e none i less = by (cases_lt i place)
@@ -307,6 +307,6 @@ none-more a v w keys place key g inside read e none i less = by (cases_lt i plac
         subst (λ (k : ℕ). trim_differs a (pair_at v keys k) ≡ false) same
         (ap (trim_differs a) (sym (pair-grown a v w (key_at keys place) g inside)) ∙ ap (λ (k : Key). trim_differs a (pair_of w k)) read ∙ e)
 
--- looking at a pair that has no difference goes on from a walk that has grown
+-- Looking at a pair that has no difference goes on from a walk that has grown.
 pub look-onward : (a : Automaton) (v w x : Walk) (keys more : List Key) → IsGrown a v w → IsOnward a w x keys more → IsOnward a v x keys more
 look-onward a v w x keys more g o = onward-onward a v w x keys keys more (onward-grown a v w keys g) o

@@ -62,7 +62,7 @@ module _ (a : Automaton) (keep : List Bool) (w : Walk) (count : ℕ) (keys : Lis
       let e : root keep w 0 ≡ first_pair = ap (λ (s : List ℕ). let r : SetPair = record { first = s; second = trimmed keep s } in r) p.closed.start in
       root-in first_pair (record { number = 0; inside = p.closed.some; is = e })
 
-  -- one set with itself shows no difference, and its next pairs are there
+  -- One set with itself shows no difference, and its next pairs are there.
   abbrev IsCalm : SetPair → Type 0
   IsCalm q = (differs (trim_pairs a keep) q ≡ false) × All (Contains cover) ((trim_pairs a keep).nexts q)
 
@@ -82,7 +82,7 @@ module _ (a : Automaton) (keep : List Bool) (w : Walk) (count : ℕ) (keys : Lis
           λ j. record { first = h.is j; second = trimmed keep ((h.is ∙ ap (λ (s : List ℕ). image a s letter) (sym whole)) j) } in
           record { number = h.number; inside = h.inside; is = e }
 
-  -- what holds of those that are found holds of the others
+  -- What holds of those that are found holds of the others.
   roots-so : (P : SetPair → Type 0) → ((q : SetPair) → IsCalm q → P q) → ((i : ℕ) → i < length keys → P (pair_at w keys i)) → (k : ℕ) → k < count → P (root keep w k)
   roots-so P calm each k lt = by (p.rooted.roots k lt)
     where

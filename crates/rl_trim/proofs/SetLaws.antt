@@ -1,20 +1,19 @@
 -- Laws of walks that grow, and of sets without the states that aren't kept.
-use Rattle.std.proofs.Common.{◌≡◌, ◌≢◌, ◌∙◌, ℕ, ◌+◌, ◌<◌, ◌≤◌, ◌⊎◌, inl, inr, List, [], ◌∷◌, ◌++◌, length, get_or, filter, All, Contains, Bool, true, false, ◌&&◌, ◌||◌, cond, eqb, eqb-true, eq-eqb, refl, sym, ap, subst, arith}
-use Rattle.std.specs.List.{list_any, list_all}
-use Rattle.std.proofs.lemmas.Bool.{cases_Bool, cases_lt, both_ways, and_from, or_left, or_right}
+use Rattle.std.proofs.Common.{◌≡◌, ◌≢◌, ◌∙◌, ℕ, ◌<◌, ◌≤◌, ◌⊎◌, inl, inr, List, [], ◌∷◌, ◌++◌, length, get_or, filter, All, Contains, Bool, true, false, ◌&&◌, ◌||◌, cond, eqb, eqb-true, eq-eqb, refl, sym, ap, subst, arith}
+use Rattle.std.specs.List.{list_all}
+use Rattle.std.proofs.lemmas.Bool.{cases_Bool, both_ways, and_from}
 use Rattle.std.proofs.lemmas.List.{get_or_append_left}
-use Rattle.std.proofs.lemmas.List.Elements.{All-filter, All-head, All-tail, All-push, All-weaker}
-use Rattle.std.proofs.lemmas.List.Folds.{list_any_at, list_any-append}
+use Rattle.std.proofs.lemmas.List.Elements.{All-head, All-tail}
+use Rattle.std.proofs.lemmas.List.Folds.{list_any_at}
 use Rattle.std.proofs.lemmas.List.Sums.{AllPass-from_list_all}
 use Rattle.std.proofs.lemmas.Option.{get_or_from_slice_get}
 use Rattle.rl_prio.specs.Automaton.{Automaton, dead_state}
-use Rattle.rl_sets.specs.Live.{below, holds}
-use Rattle.rl_sets.specs.Walk.{Walk, set_at, set_of, IsSetOf, IsMadeFor, IsListed}
-use Rattle.rl_sets.proofs.LiveLemmas.{found_from}
-use Rattle.rl_sets.proofs.SetLemmas.{filter_same, holds-there}
+use Rattle.rl_sets.specs.Live.{holds}
+use Rattle.rl_sets.specs.Walk.{Walk, set_at, IsSetOf, IsMadeFor, IsListed}
+use Rattle.rl_sets.proofs.SetLemmas.{holds-there}
 use Rattle.rl_trim.specs.internal.Sunk.{is_kept}
 use Rattle.rl_trim.specs.internal.Trims.{trimmed}
-use Rattle.rl_trim.specs.internal.Quick.{IsGrown, IsNumbered, AreGone}
+use Rattle.rl_trim.specs.internal.Quick.{IsGrown, IsNumbered}
 
 -- ---- walks that grow
 
@@ -28,7 +27,7 @@ grown-grown a v w x g h = record {
   same = λ k lt. h.same k (omega (arith, g.longer)) ∙ g.same k lt;
 }
 
--- the number that a walk gives
+-- The number that a walk gives.
 pub numbered : (a : Automaton) (old new : Walk) (set : List ℕ) (n : ℕ) → IsMadeFor new a → n < length new.sets → length old.sets ≤ length new.sets → IsListed old.sets new.sets set n → IsNumbered a old new set n
 numbered a old new set n made inside longer listed = record {
   grown = record { made = made; longer = longer; same = λ k lt. by k lt listed.grown };
@@ -60,9 +59,6 @@ members-states a set is k d lt =
       member-small a set is (get_or set k d) there,
       λ e. both_ways (holds set (dead_state a)) is.no_dead (subst (λ q. holds set q ≡ true) e there),
     )
-
-pub trimmed-states : (a : Automaton) (keep : List Bool) (set : List ℕ) → IsSetOf a set → All (λ q. (q < a.states) × (q ≢ dead_state a)) (trimmed keep set)
-trimmed-states a keep set is = All-filter (is_kept keep) (λ q. (q < a.states) × (q ≢ dead_state a)) set (members-states a set is)
 
 -- ---- filters
 
@@ -113,45 +109,6 @@ filter-passes p (x ∷ rest) = all-step p x rest (p x) refl (filter-passes p res
 
 -- ---- sets without the states that aren't kept
 
--- such a set is the set of its members
-pub set-trimmed : (a : Automaton) (keep : List Bool) (set : List ℕ) → IsSetOf a set → set_of a (trimmed keep set) ≡ trimmed keep set
-set-trimmed a keep set is =
-    filter_same (holds (trimmed keep set)) (λ q. is_kept keep q && holds set q) a.states (λ q lt. holds-trimmed (is_kept keep) set q)
-    ∙ filter-both (is_kept keep) (holds set) (below a.states)
-    ∙ ap (filter (is_kept keep)) (sym is.rising)
-
--- without them once more it is the same
+-- Without them once more it is the same.
 pub trimmed-twice : (keep : List Bool) (set : List ℕ) → trimmed keep (trimmed keep set) ≡ trimmed keep set
 trimmed-twice keep set = filter-all (is_kept keep) (trimmed keep set) (AllPass-from_list_all (is_kept keep) (trimmed keep set) (filter-passes (is_kept keep) set))
-
--- a set that holds none of them is the same without them
-pub untouched : (a : Automaton) (keep : List Bool) (set gone : List ℕ) → IsSetOf a set → AreGone keep a.states gone → list_any (holds set) gone ≡ false → trimmed keep set ≡ set
-untouched a keep set gone is are none = filter-all (is_kept keep) set (λ k d lt. by (get_or set k d) (holds-member set k d lt) (cases_Bool (is_kept keep (get_or set k d))))
-  where
-    by : (q : ℕ) → holds set q ≡ true → (is_kept keep q ≡ true) ⊎ (is_kept keep q ≡ false) → is_kept keep q ≡ true
-    by q there (inl e) = e
-    by q there (inr e) = absurd (both_ways (list_any (holds set) gone) none (found_from (holds set) gone q (are.all q (member-small a set is q there) e) there))
-
--- one more state
-pub gone-none : (keep : List Bool) (gone : List ℕ) → gone ≡ [] → AreGone keep 0 gone
-gone-none keep gone e = record { small = λ k d lt. absurd (omega (arith, ap length e)); all = λ q lt f. absurd (omega arith) }
-
-pub gone-kept : (keep : List Bool) (states : ℕ) (gone : List ℕ) → is_kept keep states ≡ true → AreGone keep states gone → AreGone keep (states + 1) gone
-gone-kept keep states gone e are = record {
-  small = All-weaker (λ q. q < states) (λ q. q < states + 1) (λ q lt. omega arith) gone are.small;
-  all = λ q lt f. by q lt f (cases_lt q states);
-}
-  where
-    by : (q : ℕ) → q < states + 1 → is_kept keep q ≡ false → (q < states) ⊎ (states ≤ q) → holds gone q ≡ true
-    by q lt f (inl less) = are.all q less f
-    by q lt f (inr more) = let same : states ≡ q = omega arith in absurd (both_ways (is_kept keep q) f (subst (λ k. is_kept keep k ≡ true) same e))
-
-pub gone-more : (keep : List Bool) (states : ℕ) (gone more : List ℕ) → more ≡ gone ++ states ∷ [] → AreGone keep states gone → AreGone keep (states + 1) more
-gone-more keep states gone more e are = subst (AreGone keep (states + 1)) (sym e) (record {
-  small = All-push (λ q. q < states + 1) gone states (All-weaker (λ q. q < states) (λ q. q < states + 1) (λ q lt. omega arith) gone are.small) (omega arith);
-  all = λ q lt f. list_any-append (λ x. eqb x q) gone (states ∷ []) ∙ by q lt f (cases_lt q states);
-})
-  where
-    by : (q : ℕ) → q < states + 1 → is_kept keep q ≡ false → (q < states) ⊎ (states ≤ q) → (holds gone q || (eqb states q || false)) ≡ true
-    by q lt f (inl less) = or_left (holds gone q) (eqb states q || false) (are.all q less f)
-    by q lt f (inr here) = let same : states ≡ q = omega arith in or_right (holds gone q) (eqb states q || false) (or_left (eqb states q) false (eq-eqb states q same))

@@ -65,7 +65,7 @@ lifted-one keep p q k l e =
 
 -- ---- pairs that a trial finds
 
--- the second set has only kept states; both rise and have no other states than the start and those of places
+-- The second set has only kept states; both rise and have no other states than the start and those of places.
 record Fits (a : Automaton) (keep : List Bool) (p : SetPair) : Type 0 where
   pub kept : list_all (is_kept keep) p.second ≡ true
   pub first_proper : all_proper a p.first ≡ true
@@ -75,7 +75,7 @@ pub all-below : (P : ℕ → Type 0) (n : ℕ) → ((l : ℕ) → l < n → P l)
 all-below P zero each = All-nil P
 all-below P (suc n) each = All-push P (below n) n (all-below P n (λ l lt. each l (omega arith))) (each n (omega arith))
 
--- kept states that rise between two bounds do so by their new numbers too
+-- Kept states that rise between two bounds do so by their new numbers too.
 sunk-rise : (keep : List Bool) (low high : ℕ) (xs : List ℕ) → list_all (is_kept keep) xs ≡ true → rises low high xs ≡ true → rises (sunk keep low) (sunk keep high) (map (sunk keep) xs) ≡ true
 sunk-rise keep low high [] k e = refl
 sunk-rise keep low high (x ∷ xs) k e =
@@ -134,7 +134,7 @@ module _ (u : Universe) (a : Automaton) (s t : Tree) (keep : List Bool) (base : 
       (rises-lower 0 (sunk keep 0) (accepting s n) (map (sunk keep) p.second) (omega arith)
       (subst (λ (k : ℕ). rises (sunk keep 0) k (map (sunk keep) p.second) ≡ true) under (sunk-rise keep 0 (accepting t n) p.second h.kept rising)))
 
-  -- the order of the trial's pairs is that of the set pairs
+  -- The order of the trial's pairs is that of the set pairs.
   pub trim-order : (k : ℕ) → map (lifted keep) (found_after (trim_pairs a keep) k) ≡ found_after (set_pairs u t s) k
   trim-order = order-same (trim_pairs a keep) (set_pairs u t s) (Fits a keep) (lifted keep) refl first-fits nexts-fit next-carried apart-carried
 
@@ -160,7 +160,7 @@ module _ (u : Universe) (a : Automaton) (s t : Tree) (keep : List Bool) (base : 
   judged-sunk limit Apart h = trim-any limit h
   judged-sunk limit Passed h = record { more = omega (arith, h.more, trim-length limit); none_differs = trim-none limit h.none_differs }
 
--- what a trial on the automaton of the whole tree tells is so of both trees
+-- What a trial on the automaton of the whole tree tells is so of both trees.
 pub judged : (u : Universe) (a : Automaton) (s t : Tree) (keep : List Bool) (limit : ℕ) (j : Judgement) → IsBase u t a → guards_in t ≡ [] → Without keep s t
     → IsFound (trim_pairs a keep) limit j → IsJudged (set_pairs u t s) limit j
 judged u a s t keep limit j base unguarded without =

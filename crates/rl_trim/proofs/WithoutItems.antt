@@ -12,13 +12,13 @@ use Rattle.rl_trim.specs.Without.{may_be_empty, Without, whole, in_both, in_eith
 
 -- ---- what lists of items test, and whether they end
 
--- whether some item tests the place
+-- Whether some item tests the place.
 abbrev pub has_test : List Item → ℕ → Bool
 has_test [] p = false
 has_test (test_at gs q ∷ l) p = q == p || has_test l p
 has_test (pass gs ∷ l) p = has_test l p
 
--- whether some item is an end
+-- Whether some item is an end.
 abbrev pub has_pass : List Item → Bool
 has_pass [] = false
 has_pass (test_at gs q ∷ l) = has_pass l
@@ -93,7 +93,7 @@ pass_more false l = refl
 
 -- ---- the places that are tested are those of the tree
 
--- no place before `b` is tested, and none from `c` on
+-- No place before `b` is tested, and none from `c` on.
 pub record Ranges (l : List Item) (b c : ℕ) : Type 0 where
   pub low : (p : ℕ) → p < b → has_test l p ≡ false
   pub high : (p : ℕ) → c ≤ p → has_test l p ≡ false
@@ -165,7 +165,7 @@ ranges_after (either e f) b q =
 ranges_after (many e greedy) b q =
     ranges_replaced (after e b q) (first (many e greedy) b) b (b + places e) (ranges_after e b q) (ranges_first (many e greedy) b)
 
--- a tree that may not span the empty text doesn't end at once
+-- A tree that may not span the empty text doesn't end at once.
 only_both : (a b : Bool) → (a && b) ≡ false → (a ≡ false) ⊎ (b ≡ false)
 only_both true b e = inr e
 only_both false b e = inl refl
@@ -190,14 +190,14 @@ goes_on (many e greedy) b h = absurd (cc h)
 
 -- ---- kept places
 
--- how many flags are true
+-- How many flags are true.
 abbrev pub count : List Bool → ℕ
 count [] = 0
 count (true ∷ k) = suc (count k)
 count (false ∷ k) = count k
 
--- the flags are those of the places from `b` on, and the kept ones of these are numbered anew from `c` on: `x` is kept, and its
--- new number is `y`
+-- The flags are those of the places from `b` on, and the kept ones of these are numbered anew from `c` on: `x` is kept, and its
+-- new number is `y`.
 pub data At : List Bool → ℕ → ℕ → ℕ → ℕ → Type 0 where
   here : {k : List Bool} {b c : ℕ} → At (true ∷ k) b c b c
   stays : {k : List Bool} {b c x y : ℕ} → At k (suc b) (suc c) x y → At (true ∷ k) b c x y
@@ -225,14 +225,14 @@ split (true ∷ k) m b c n i x y p q (stays h) =
 split (false ∷ k) m b c n i x y p q (goes h) =
     ⊎_elim (λ (a : At k (suc b) c x y). inl (goes a)) (λ (a : At m n i x y). inr a) (split k m (suc b) c n i x y (omega (arith, p)) (omega (arith, q)) h)
 
--- no place of flags that are all false is kept
+-- No place of flags that are all false is kept.
 none_gone : (n b c x y : ℕ) → At (replicate n false) b c x y → ⊥
 none_gone zero b c x y h = elim h [ ]
 none_gone (suc n) b c x y (goes h) = none_gone n (suc b) c x y h
 
 -- ---- lists of items of both trees
 
--- the lists test the same kept places, and both end or neither
+-- The lists test the same kept places, and both end or neither.
 pub record Same (k : List Bool) (b c : ℕ) (l m : List Item) : Type 0 where
   pub tests : (x y : ℕ) → At k b c x y → has_test l x ≡ has_test m y
   pub passes : has_pass l ≡ has_pass m
@@ -255,7 +255,7 @@ same_more greedy k b c l l2 r = record {
   passes = pass_more greedy l ∙ sym (pass_more greedy l2);
 }
 
--- the lists of a part, among the flags of both parts; `n` and `i` are the numbers of the second part's first place
+-- The lists of a part, among the flags of both parts; `n` and `i` are the numbers of the second part's first place.
 in_left : (k m : List Bool) (b c n i : ℕ) (l l2 : List Item) → n ≡ b + length k → i ≡ c + count k → Same k b c l l2 → Ranges l b n → Ranges l2 c i → Same (k ++ m) b c l l2
 in_left k m b c n i l l2 p q s r r2 = record {
   tests = λ x y h. ⊎_elim (λ (a : At k b c x y). s.tests x y a) (λ (a : At m n i x y). let z = inside a in r.high x z.x_low ∙ sym (r2.high y z.y_low)) (split k m b c n i x y p q h);
@@ -276,7 +276,7 @@ same_as k b c l l2 m m2 p q s = record {
 
 -- ---- trees without branches
 
--- as `Without`, and down to the leaves
+-- As `Without`, and down to the leaves.
 pub data Trim : List Bool → Tree → Tree → Type 0 where
   nothing : Trim [] empty empty
   a_guard : {g : Guard} → Trim [] (guard g) (guard g)
@@ -316,7 +316,7 @@ count_gone : (n : ℕ) → count (replicate n false) ≡ 0
 count_gone zero = refl
 count_gone (suc n) = count_gone n
 
--- a flag for each place
+-- A flag for each place.
 pub flags_are_places : {k : List Bool} {s t : Tree} → Trim k s t → length k ≡ places t
 flags_are_places nothing = refl
 flags_are_places a_guard = refl
@@ -327,7 +327,7 @@ flags_are_places (of_many h) = flags_are_places h
 flags_are_places (not_first {k = k} {e = e} x h) = omega (arith, length-append (replicate (places e) false) k, length-replicate (places e) false, flags_are_places h)
 flags_are_places (not_second {k = k} {f = f} x h) = omega (arith, length-append k (replicate (places f) false), length-replicate (places f) false, flags_are_places h)
 
--- as many are kept as the smaller tree has
+-- As many are kept as the smaller tree has.
 pub kept_are_places : {k : List Bool} {s t : Tree} → Trim k s t → count k ≡ places s
 kept_are_places nothing = refl
 kept_are_places a_guard = refl
@@ -338,7 +338,7 @@ kept_are_places (of_many h) = kept_are_places h
 kept_are_places (not_first {k = k} {e = e} x h) = omega (arith, count-append (replicate (places e) false) k, count_gone (places e), kept_are_places h)
 kept_are_places (not_second {k = k} {f = f} x h) = omega (arith, count-append k (replicate (places f) false), count_gone (places f), kept_are_places h)
 
--- the number of the second part's first place, by the flags of the first part
+-- The number of the second part's first place, by the flags of the first part.
 next_place : (b : ℕ) {k : List Bool} {s t : Tree} → Trim k s t → b + places t ≡ b + length k
 next_place b h = let e = flags_are_places h in omega (arith, e)
 
@@ -347,7 +347,7 @@ next_kept c h = let e = kept_are_places h in omega (arith, e)
 
 -- ---- the items of both trees
 
--- the places of a branch that goes aren't kept
+-- The places of a branch that goes aren't kept.
 not_before : (n : ℕ) (k : List Bool) (b c x y : ℕ) → At (replicate n false ++ k) b c x y → At k (b + n) c x y
 not_before n k b c x y h =
     ⊎_elim (λ (a : At (replicate n false) b c x y). absurd (none_gone n b c x y a)) (λ (a : At k (b + n) c x y). a)
@@ -399,7 +399,7 @@ same_first (not_second {k = k} {s = s} {e = e} {f = f} x h) b c =
       passes = pass_join (first e b) (first f (b + places e)) ∙ ap (λ w. has_pass (first e b) || w) (goes_on f (b + places e) x) ∙ or-false (has_pass (first e b)) ∙ i.passes;
     }
 
--- what is so in the part that a place is in
+-- What is so in the part that a place is in.
 below_part : {A : Type 0} (q n : ℕ) (l r : A) → q < n → (if nat_lt q n then l else r) ≡ l
 below_part q n l r z = cond-true (nat_lt q n) l r (lt-ltb q n z)
 
@@ -455,7 +455,7 @@ same_after (not_second {k = k} {s = s} {e = e} {f = f} x h) b c q r at =
 
 -- ---- the sets of both trees
 
--- the set of a place is that of one of the parts
+-- The set of a place is that of one of the parts.
 set_in_parts : {k m : List Bool} {a b e f : Tree} → Trim k a b → Trim m e f → (c d q r code : ℕ) → At (k ++ m) c d q r
     → (At k c d q r → set_of b c q code ≡ set_of a d r code) → (At m (c + places b) (d + places a) q r → set_of f (c + places b) q code ≡ set_of e (d + places a) r code)
     → (if nat_lt q (c + places b) then set_of b c q code else set_of f (c + places b) q code) ≡ (if nat_lt r (d + places a) then set_of a d r code else set_of e (d + places a) r code)

@@ -35,7 +35,7 @@ nil_right (x ∷ xs) ys e = cc
 nil_join : {A : Type 0} (xs ys : List A) → xs ≡ [] → ys ≡ [] → xs ++ ys ≡ []
 nil_join xs ys p q = ap (λ z. z ++ ys) p ∙ q
 
--- a tree without some branches has no guard where the whole tree has none
+-- A tree without some branches has no guard where the whole tree has none.
 pub without_guards : {keep : List Bool} {s t : Tree} → Without keep s t → guards_in t ≡ [] → guards_in s ≡ []
 without_guards whole x = x
 without_guards (in_both {a = a} {b = b} {e = e} {f = f} h j) x =
@@ -75,14 +75,14 @@ guards_tell (in_many h) c d x = guards_tell h c d x
 guards_tell (first_goes {e = e} {f = f} y h) c d x = guards_tell h c d (right_alike (guard_sets e) (guard_sets f) c d x)
 guards_tell (second_goes {e = e} {f = f} y h) c d x = guards_tell h c d (left_alike (guard_sets e) (guard_sets f) c d x)
 
--- a tree without some branches tells no more codes apart
+-- A tree without some branches tells no more codes apart.
 pub without_tells : {keep : List Bool} {s t : Tree} → Without keep s t → TellsNoMore t s
 without_tells {s = s} {t = t} h = λ c d x.
     both_alike (sets_in s) (guard_sets s) c d (sets_tell h c d (left_alike (sets_in t) (guard_sets t) c d x)) (guards_tell h c d (right_alike (sets_in t) (guard_sets t) c d x))
 
 -- ---- items without guards
 
--- each item is without guards
+-- Each item is without guards.
 abbrev Free : List Item → Type 0
 Free [] = Unit {0}
 Free (test_at gs p ∷ l) = (gs ≡ []) × Free l
@@ -131,7 +131,7 @@ free_after (many e greedy) b q x =
 
 -- ---- one kind of codes
 
--- a place has one state
+-- A place has one state.
 record IsPlain (t : Tree) (n : ℕ) : Type 0 where
   pub kinds_one : length (kinds t n) ≡ 1
   pub kind_none : (code : ℕ) → kind_of t n code ≡ 0
@@ -180,7 +180,7 @@ not_start false a d = ne_eqb (suc d) 0 (λ e. omega (arith, e))
 taken : (gs : List Guard) (before next : Option ℕ) (x : ℕ) → gs ≡ [] → (if all_hold gs before next then x ∷ [] else []) ≡ x ∷ []
 taken gs before next x e = ap (λ g. if all_hold g before next then x ∷ [] else []) e
 
--- where the test of a place goes
+-- Where the test of a place goes.
 hits : (t : Tree) (n q p code : ℕ) → IsPlain t n → suc p < dead t n → (test_target t n q (Some code) == suc p) ≡ ((q == p) && set_of t 0 p code)
 hits t n q p code x low =
     goes_to (set_of t 0 q code) (state_of t n q (kind_of t n code)) (dead t n) (suc p) (λ e. omega (arith, e, low))
@@ -197,7 +197,7 @@ hits t n q p code x low =
     ∙ ap (λ z. z && set_of t 0 p code) (sym (ne_eqb q p e)))
     (cases_eq q p)
 
--- the moves on a code to the state of a place, or to where that of the place behind the last one would be
+-- The moves on a code to the state of a place, or to where that of the place behind the last one would be.
 moves_to : (t : Tree) (n : ℕ) (before : Option ℕ) (code p : ℕ) (l : List Item) → IsPlain t n → Free l → suc p < dead t n
     → holds (moves_on t AtEnd n before (Some code) l) (suc p) ≡ (has_test l p && set_of t 0 p code)
 moves_to t n before code p [] x h low = refl
@@ -209,7 +209,7 @@ moves_to t n before code p (pass gs ∷ l) x h low =
     ap (λ z. holds (z ++ moves_on t AtEnd n before (Some code) l) (suc p)) (taken gs before (Some code) (dead t n) h.0)
     ∙ ap₂ (λ y z. y || z) (ne_eqb (dead t n) (suc p) (λ e. omega (arith, e, low))) (moves_to t n before code p l x h.1 low)
 
--- no move on a code leads to the start
+-- No move on a code leads to the start.
 moves_from : (t : Tree) (n : ℕ) (before : Option ℕ) (code : ℕ) (l : List Item) → Free l → holds (moves_on t AtEnd n before (Some code) l) 0 ≡ false
 moves_from t n before code [] h = refl
 moves_from t n before code (test_at gs q ∷ l) h =
@@ -219,7 +219,7 @@ moves_from t n before code (pass gs ∷ l) h =
     ap (λ z. holds (z ++ moves_on t AtEnd n before (Some code) l) 0) (taken gs before (Some code) (dead t n) h.0)
     ∙ ap₂ (λ y z. y || z) (ne_eqb (dead t n) 0 (λ e. omega (arith, e))) (moves_from t n before code l h.1)
 
--- the moves on the end letter
+-- The moves on the end letter.
 moves_end : (t : Tree) (n : ℕ) (before : Option ℕ) (r : ℕ) (l : List Item) → Free l → r < dead t n
     → holds (moves_on t AtEnd n before None l) r ≡ (has_pass l && (accepting t n == r))
 moves_end t n before r [] h low = refl
@@ -256,7 +256,7 @@ kept_past (false ∷ k) (suc p) low = let e = kept_past k p (omega (arith, low))
 
 -- ---- both trees
 
--- what is known of them
+-- What is known of them.
 record Known (keep : List Bool) (n : ℕ) (s t : Tree) : Type 0 where
   pub trim : Trim keep s t
   pub first_free : guards_in s ≡ []
@@ -264,7 +264,7 @@ record Known (keep : List Bool) (n : ℕ) (s t : Tree) : Type 0 where
   pub first_plain : IsPlain s n
   pub second_plain : IsPlain t n
 
--- the place has its number in the smaller tree
+-- The place has its number in the smaller tree.
 place_at : {keep : List Bool} {n : ℕ} {s t : Tree} → Known keep n s t → (p : ℕ) → p < places t → slice_index_or keep p true ≡ true → At keep 0 0 p (kept_before keep p)
 place_at {keep = keep} h p low is =
     let f = flags_are_places h.trim in
@@ -280,7 +280,7 @@ place_high {keep = keep} h p high =
 place_last : {keep : List Bool} {n : ℕ} {s t : Tree} → Known keep n s t → places s ≡ kept_before keep (places t)
 place_last {keep = keep} h = sym (kept_are_places h.trim) ∙ sym (kept_all keep) ∙ ap (kept_before keep) (flags_are_places h.trim)
 
--- the items of two states
+-- The items of two states.
 record Alike (keep : List Bool) (s t : Tree) (l m : List Item) : Type 0 where
   pub same : Same keep 0 0 l m
   pub of_second : Ranges l 0 (places t)
@@ -303,7 +303,7 @@ alike_none keep s t = record {
 from_zero : (l : List Item) (n : ℕ) → Ranges l 0 (0 + n) → Ranges l 0 n
 from_zero l n r = wider l 0 0 (0 + n) n (omega arith) (omega arith) r
 
--- the items of a place
+-- The items of a place.
 place_items : (t : Tree) (n p : ℕ) → IsPlain t n → p < places t → items_of t n (suc p) ≡ after t 0 p
 place_items t n p x low =
     let e = states_are t n x in
@@ -341,7 +341,7 @@ items_alike keep n s t h (suc p) is =
     alike_as keep s t [] [] (items_of t n (suc p)) (items_of s n (suc r)) (no_items t n p h.second_plain high) (no_items s n r h.first_plain (place_high h p high)) (alike_none keep s t))
     (cases_lt p (places t))
 
--- the accepting state
+-- The accepting state.
 ends_alike : (keep : List Bool) (n : ℕ) (s t : Tree) → Known keep n s t → (r : ℕ) → r < dead t n → is_kept keep r ≡ true → (accepting s n == sunk keep r) ≡ (accepting t n == r)
 ends_alike keep n s t h zero low is = ne_eqb (accepting s n) 0 (λ e. omega (arith, e)) ∙ sym (ne_eqb (accepting t n) 0 (λ e. omega (arith, e)))
 ends_alike keep n s t h (suc p) low is =
@@ -367,7 +367,7 @@ low_too keep n s t h (suc p) low is =
     let i = place_last h in let k = ap (kept_before keep) same in omega (arith, a, i, k))
     (cases_lt p (places t))
 
--- the moves of items that are alike
+-- The moves of items that are alike.
 moves_alike : (keep : List Bool) (n : ℕ) (s t : Tree) → Known keep n s t → (l m : List Item) → Alike keep s t l m → (before before2 next : Option ℕ) (r : ℕ) → r < dead t n → is_kept keep r ≡ true
     → holds (moves_on s AtEnd n before next m) (sunk keep r) ≡ holds (moves_on t AtEnd n before2 next l) r
 moves_alike keep n s t h l m a before before2 None r low is =
@@ -388,7 +388,7 @@ moves_alike keep n s t h l m a before before2 (Some code) (suc p) low is =
     (cases_lt p (places t))
     ∙ sym (moves_to t n before2 code p l h.second_plain a.second_free low)
 
--- the states and moves of a tree without some branches are the kept ones of the whole tree
+-- The states and moves of a tree without some branches are the kept ones of the whole tree.
 pub sunk_states : (sets : List (ℕ → Bool)) (n : ℕ) {keep : List Bool} {s t : Tree} → 0 < n → guards_in t ≡ [] → Without keep s t → AreSunk sets n keep s t
 sunk_states sets n {keep} {s} {t} some x w =
     let y = without_guards w x in

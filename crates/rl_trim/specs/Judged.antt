@@ -9,19 +9,19 @@ use Rattle.rl_equiv.specs.Languages.{SameLanguage}
 use Rattle.rl_trim.specs.declared.judgement.Judgement.{Judgement}
 use Rattle.rl_trim.specs.declared.judgement.Judgement.TheVariants.{Equal, Apart, Passed}
 
--- the judgement is the right one for a limit
+-- The judgement is the right one for a limit.
 abbrev pub IsJudged : SetPairs → ℕ → Judgement → Type 0
 IsJudged d limit Equal = (relation : List SetPair) × AreAll d limit relation
 IsJudged d limit Apart = Any (λ p. differs d p ≡ true) (first_ones d limit)
 IsJudged d limit Passed = AreMore d limit
 
--- the same, stated only with the order of the set pairs
+-- The same, stated only with the order of the set pairs.
 abbrev pub IsFound : SetPairs → ℕ → Judgement → Type 0
 IsFound d limit Equal = (length (found_after d limit) ≤ limit) × NoneDiffers d limit
 IsFound d limit Apart = Any (λ p. differs d p ≡ true) (first_ones d limit)
 IsFound d limit Passed = AreMore d limit
 
--- what a judgement says about two languages
+-- What a judgement says about two languages.
 abbrev pub IsTold : Universe → Tree → Tree → Judgement → Type 0
 IsTold u s t Equal = SameLanguage u s t
 IsTold u s t Apart = Unit {0}

@@ -2,3 +2,5 @@ pub mod Without
 pub mod Reached
 pub mod internal
 pub mod Judged
+pub mod Targets
+pub mod Known

@@ -2,7 +2,7 @@
 use Rattle.std.specs.Prelude.{◌≡◌, Bool, true, false, ◌&&◌, ◌||◌, List, ◌++◌, replicate}
 use Rattle.rl_syntax.specs.Tree.{Tree, empty, one, guard, both, either, many, places}
 
--- whether a tree may span the empty text
+-- Whether a tree may span the empty text.
 abbrev pub may_be_empty : Tree → Bool
 may_be_empty empty = true
 may_be_empty (one set) = false
@@ -11,8 +11,8 @@ may_be_empty (both e f) = may_be_empty e && may_be_empty f
 may_be_empty (either e f) = may_be_empty e || may_be_empty f
 may_be_empty (many e greedy) = true
 
--- the first tree is the second without some of its branches, none of which may span the empty text. There is one flag for each
--- place of the second tree, from left to right, that says whether it is kept
+-- The first tree is the second without some of its branches, none of which may span the empty text. There is one flag for each
+-- place of the second tree, from left to right, that says whether it is kept.
 pub data Without : List Bool → Tree → Tree → Type 0 where
   whole : {t : Tree} → Without (replicate (places t) true) t t
   in_both : {k m : List Bool} {a b e f : Tree} → Without k a b → Without m e f → Without (k ++ m) (both a e) (both b f)

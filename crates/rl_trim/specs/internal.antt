@@ -5,3 +5,4 @@ pub mod Orders
 pub mod Quick
 pub mod Sunk
 pub mod Trims
+pub mod Twins

@@ -1,16 +1,16 @@
 //! Sets of states with the states of a branch left out.
 
-ghost use Rattle.std.specs.Prelude.{◌≡◌, ◌<◌, ◌≤◌, false, length, slice_index_or, All, IfOk, OnOk};
-ghost use Rattle.std.specs.List.{list_any};
+ghost use Rattle.std.specs.Prelude.{◌≡◌, ℕ, ◌<◌, ◌≤◌, ◌⊎◌, [], length, slice_index_or, None, Some, IfOk, OnOk};
 ghost use Rattle.rl_prio.specs.Automaton.{letters_count};
-ghost use Rattle.rl_sets.specs.Live.{holds, image};
+ghost use Rattle.rl_sets.specs.Live.{image};
 ghost use Rattle.rl_sets.specs.Walk.{set_at, IsMadeFor};
 ghost use Rattle.rl_trim.specs.internal.Sunk.{is_kept as is_kept_in};
 ghost use Rattle.rl_trim.specs.internal.Trims.{trimmed, trim_on, state_ends as state_ends_in, AreEnding, set_ends, trim_differs};
-ghost use Rattle.rl_trim.specs.internal.Quick.{IsGrown, IsNumbered, IsInside, IsKeyOf, AreGone, pair_of};
+ghost use Rattle.rl_trim.specs.internal.Quick.{IsNumbered, IsInside, IsKeyOf, AreGone, AreTrims, pair_of};
 
 use crate::key::Key;
-use rl_lists::{Members, OutOfMemory};
+use rl_lanes::BitRow;
+use rl_lists::OutOfMemory;
 use rl_prio::Prio;
 use rl_sets::{SetWalk, SetsError};
 use std::alloc::Global;
@@ -25,11 +25,18 @@ pub(crate) struct Branch<'a> {
     /// For each place, whether it is kept.
     pub keep: &'a [bool],
     /// The states that aren't kept.
-    gone: Vec<u32>,
-    /// For each state, whether the end letter leads it to the accepting state.
-    ending: Vec<bool>,
-    ghost are_gone: { AreGone keep.now automaton.now.states gone.items },
-    ghost are_ending: { AreEnding automaton.now automaton.now.states ending.items },
+    pub gone: BitRow,
+    /// The states that the end letter leads to the accepting state.
+    ending: BitRow,
+    ghost are_gone: { AreGone keep.now automaton.now.states gone },
+    ghost are_ending: { AreEnding automaton.now automaton.now.states ending },
+}
+
+/// The numbers of sets with the states of a branch left out, as far as a trial of the branch has found them.
+#[derive(Drop)]
+pub(crate) struct Trims {
+    /// For each set, its number without these states.
+    numbers: Vec<Option<u32>>,
 }
 
 /// Whether a state is kept.
@@ -47,13 +54,13 @@ pub(crate) fn is_kept(keep: &[bool], state: u32) -> bool
 }
 
 /// The states that aren't kept.
-fn gone_of(alloc: Global, keep: &[bool], states: u32) -> Result<Vec<u32>, OutOfMemory>
-    ensures { IfOk result (λ v. AreGone keep.now states v.items) }
+fn gone_of(alloc: Global, keep: &[bool], states: u32) -> Result<BitRow, OutOfMemory>
+    ensures { IfOk result (AreGone keep.now states) }
 {
-    let mut gone = Vec::new(alloc);
+    let mut gone = BitRow::zeros(alloc, states as usize)?;
     for state in 0..states {
         if !is_kept(keep, state) {
-            gone.push(state)?;
+            gone.set(state as usize, true);
         }
     }
     Ok(gone)
@@ -73,55 +80,18 @@ fn state_ends(a: &Prio, state: u32) -> bool
     false
 }
 
-/// For each state, whether the end letter leads it to the accepting state.
-fn ending_of(alloc: Global, a: &Prio) -> Result<Vec<bool>, OutOfMemory>
-    ensures { IfOk result (λ v. AreEnding a.now a.now.states v.items) }
+/// The states that the end letter leads to the accepting state.
+fn ending_of(alloc: Global, a: &Prio) -> Result<BitRow, OutOfMemory>
+    ensures { IfOk result (AreEnding a.now a.now.states) }
 {
-    let mut ending = Vec::new(alloc);
-    for state in 0..a.states() {
-        ending.push(state_ends(a, state))?;
+    let states = a.states();
+    let mut ending = BitRow::zeros(alloc, states as usize)?;
+    for state in 0..states {
+        if state_ends(a, state) {
+            ending.set(state as usize, true);
+        }
     }
     Ok(ending)
-}
-
-/// Whether the flag of one of the states is set.
-fn any_flagged(flags: &[bool], states: &[u32]) -> bool
-    requires { All (λ q. q < length flags.now) states.now }
-    ensures { result ≡ list_any (λ q. slice_index_or flags.now q false) states.now }
-{
-    for state in states {
-        if flags[*state as usize] {
-            return true;
-        }
-    }
-    false
-}
-
-/// The members that are kept.
-fn kept_of(alloc: Global, keep: &[bool], members: &Members) -> Result<Vec<u32>, OutOfMemory>
-    ensures { IfOk result (λ v. v.items ≡ trimmed keep.now members.now) }
-{
-    let mut kept = Vec::new(alloc);
-    for state in members.as_slice() {
-        if is_kept(keep, *state) {
-            kept.push(*state)?;
-        }
-    }
-    Ok(kept)
-}
-
-/// Whether a set holds one of the given states.
-fn touches(walk: &SetWalk, states: &[u32], set: u32) -> bool
-    requires set_in { set < length walk.now.sets }
-    requires states_in { All (λ q. q < walk.now.kept.states) states.now }
-    ensures { result ≡ list_any (holds (set_at walk.now set)) states.now }
-{
-    for state in states {
-        if walk.holds(set, *state) {
-            return true;
-        }
-    }
-    false
 }
 
 /// The number of the image of a set on a letter.
@@ -132,6 +102,40 @@ pub(crate) fn step(walk: &mut SetWalk, a: &Prio, set: u32, letter: u32) -> Resul
     ensures { IfOk result (IsNumbered a.now walk.old walk.new (image a.now (set_at walk.old set) letter)) }
 {
     walk.step(a, set, letter)
+}
+
+impl Trims {
+    /// None yet.
+    pub(crate) fn new(alloc: Global) -> Trims
+        ensures { result.numbers.items ≡ [] }
+    {
+        Trims {
+            numbers: Vec::new(alloc),
+        }
+    }
+
+    /// The number for a set, if it was found.
+    fn known(&self, set: u32) -> Option<u32>
+        ensures { result ≡ slice_index_or self.now.numbers.items set None }
+    {
+        match self.numbers.get(set as usize) {
+            Some(number) => *number,
+            None => None,
+        }
+    }
+
+    /// Notes the number for a set.
+    fn note(&mut self, set: u32, number: u32) -> Result<(), OutOfMemory>
+        ensures { OnOk result ((k n : ℕ) → slice_index_or self.new.numbers.items k None ≡ Some n
+            → (slice_index_or self.old.numbers.items k None ≡ Some n) ⊎ ((k ≡ set) × (n ≡ number))) }
+    {
+        let place = set as usize;
+        if place >= self.numbers.len() {
+            self.numbers.resize(place + 1, None)?;
+        }
+        self.numbers[place] = Some(number);
+        Ok(())
+    }
 }
 
 impl<'a> Branch<'a> {
@@ -158,66 +162,87 @@ impl<'a> Branch<'a> {
         })
     }
 
-    /// The number of a set with the states that aren't kept left out.
-    pub(crate) fn trim(&self, walk: &mut SetWalk, set: u32) -> Result<u32, SetsError>
+    /// Finds the number of a set with the states that aren't kept left out. The function isn't inlined, so that `trim` stays small.
+    #[inline(never)]
+    fn leave_out(&self, walk: &mut SetWalk, set: u32) -> Result<u32, SetsError>
         requires made { IsMadeFor walk.old self.now.automaton.now }
         requires set_in { set < length walk.old.sets }
         ensures { IfOk result (IsNumbered self.now.automaton.now walk.old walk.new (trimmed self.now.keep.now (set_at walk.old set))) }
     {
-        if !touches(walk, &self.gone, set) {
+        if !walk.meets(set, &self.gone) {
             return Ok(set);
         }
-        let members = walk.members(set)?;
-        let listed = kept_of(self.alloc, self.keep, &members);
-        drop(members);
-        let kept = listed?;
-        let interned = walk.intern(self.automaton, &kept);
-        drop(kept);
-        let number = interned?;
+        let number = walk.leave_out(set, &self.gone)?;
+        Ok(number)
+    }
+
+    /// The number of a set with the states that aren't kept left out. Each set's number is found only once.
+    pub(crate) fn trim(
+        &self,
+        walk: &mut SetWalk,
+        trims: &mut Trims,
+        set: u32,
+    ) -> Result<u32, SetsError>
+        requires made { IsMadeFor walk.old self.now.automaton.now }
+        requires set_in { set < length walk.old.sets }
+        requires trims { AreTrims self.now.keep.now walk.old trims.old }
+        ensures numbered { IfOk result (IsNumbered self.now.automaton.now walk.old walk.new (trimmed self.now.keep.now (set_at walk.old set))) }
+        ensures trims { OnOk result (AreTrims self.now.keep.now walk.new trims.new) }
+    {
+        if let Some(number) = trims.known(set) {
+            return Ok(number);
+        }
+        let number = self.leave_out(walk, set)?;
+        trims.note(set, number)?;
         Ok(number)
     }
 
     /// The next pair of a pair on a letter.
-    pub(crate) fn next(&self, walk: &mut SetWalk, key: Key, letter: u32) -> Result<Key, SetsError>
+    pub(crate) fn next(
+        &self,
+        walk: &mut SetWalk,
+        trims: &mut Trims,
+        key: Key,
+        letter: u32,
+    ) -> Result<Key, SetsError>
         requires made { IsMadeFor walk.old self.now.automaton.now }
         requires inside { IsInside walk.old key }
         requires letter_in { letter < letters_count self.now.automaton.now }
-        ensures { IfOk result (IsKeyOf self.now.automaton.now walk.old walk.new
+        requires trims { AreTrims self.now.keep.now walk.old trims.old }
+        ensures next { IfOk result (IsKeyOf self.now.automaton.now walk.old walk.new
             (trim_on self.now.automaton.now self.now.keep.now (pair_of walk.old key) letter)) }
+        ensures trims { OnOk result (AreTrims self.now.keep.now walk.new trims.new) }
     {
         let first = step(walk, self.automaton, key.first, letter)?;
         if key.second == key.first {
-            let second = self.trim(walk, first)?;
+            let second = self.trim(walk, trims, first)?;
             return Ok(Key { first, second });
         }
         let whole = step(walk, self.automaton, key.second, letter)?;
-        let second = self.trim(walk, whole)?;
+        let second = self.trim(walk, trims, whole)?;
         Ok(Key { first, second })
     }
 
     /// Whether the end letter leads a set to the accepting state.
-    fn ends(&self, walk: &SetWalk, set: u32) -> Result<bool, OutOfMemory>
+    fn ends(&self, walk: &SetWalk, set: u32) -> bool
         requires made { IsMadeFor walk.now self.now.automaton.now }
         requires set_in { set < length walk.now.sets }
-        ensures { IfOk result (λ ended. ended ≡ set_ends self.now.automaton.now (set_at walk.now set)) }
+        ensures { result ≡ set_ends self.now.automaton.now (set_at walk.now set) }
     {
         // Reading the number of states shows that it is a whole automaton.
         let _states = self.automaton.states();
-        let members = walk.members(set)?;
-        Ok(any_flagged(&self.ending, members.as_slice()))
+        walk.meets(set, &self.ending)
     }
 
     /// Whether the end letter leads exactly one set of a pair to the accepting state.
-    pub(crate) fn differs(&self, walk: &SetWalk, key: Key) -> Result<bool, OutOfMemory>
+    pub(crate) fn differs(&self, walk: &SetWalk, key: Key) -> bool
         requires made { IsMadeFor walk.now self.now.automaton.now }
         requires inside { IsInside walk.now key }
-        ensures { IfOk result (λ told. told ≡ trim_differs self.now.automaton.now (pair_of walk.now key)) }
+        ensures { result ≡ trim_differs self.now.automaton.now (pair_of walk.now key) }
     {
         if key.first == key.second {
-            return Ok(false);
+            return false;
         }
-        let first = self.ends(walk, key.first)?;
-        let second = self.ends(walk, key.second)?;
-        Ok(first != second)
+        self.ends(walk, key.first) != self.ends(walk, key.second)
     }
 }

@@ -3,9 +3,9 @@
 ghost use Rattle.std.specs.Prelude.{◌≡◌, ◌<◌, ◌≤◌, length, All, IfOk};
 ghost use Rattle.rl_sets.specs.Walk.{IsMadeFor};
 ghost use Rattle.rl_trim.specs.Reached.{AreHolders};
-ghost use Rattle.rl_trim.specs.internal.Noting.{IsNoting, IsWide, AreChosen, AreTouched};
+ghost use Rattle.rl_trim.specs.internal.Noting.{IsNoting, IsWide, AreTouched};
 
-use crate::branch::{Branch, is_kept};
+use crate::branch::Branch;
 use rl_lanes::{BitRow, BitTable};
 use rl_lists::OutOfMemory;
 use rl_prio::Prio;
@@ -42,20 +42,6 @@ pub(crate) fn holders_of(
     Ok(table)
 }
 
-/// The states that aren't kept.
-fn chosen_states(alloc: Global, branch: &Branch) -> Result<BitRow, OutOfMemory>
-    ensures { IfOk result (AreChosen branch.now.keep.now branch.now.automaton.now.states) }
-{
-    let states = branch.automaton.states();
-    let mut chosen = BitRow::zeros(alloc, states as usize)?;
-    for state in 0..states {
-        if !is_kept(branch.keep, state) {
-            chosen.set(state as usize, true);
-        }
-    }
-    Ok(chosen)
-}
-
 /// Which of the first `count` sets of a walk hold a state that isn't kept.
 pub(crate) fn touched_sets(
     alloc: Global,
@@ -69,12 +55,7 @@ pub(crate) fn touched_sets(
     requires holders { AreHolders branch.now.automaton.now walk.now count holders.now }
     ensures { IfOk result (AreTouched branch.now.keep.now walk.now count) }
 {
-    let chosen = chosen_states(alloc, branch)?;
-    let Ok(mut touched) = BitRow::zeros(alloc, count as usize) else {
-        drop(chosen);
-        return Err(OutOfMemory);
-    };
-    holders.image(&chosen, &mut touched);
-    drop(chosen);
+    let mut touched = BitRow::zeros(alloc, count as usize)?;
+    holders.image(&branch.gone, &mut touched);
     Ok(touched)
 }

@@ -2,9 +2,10 @@
 //!
 //! Removing a branch from a tree removes the states of the branch's places from its automaton. So a [`Trimmer`] builds the
 //! automaton once, and keeps the sets of states that earlier trials found. [`Trimmer::judge`] is told which places to keep, and
-//! searches the pairs of sets with and without the branch: in any order if the limit allows it, otherwise breadth first. It
-//! returns a [`Judgement`], or `None` if there is no room for the trial; the caller then compares both trees with `rl_equiv`.
-//! This crate exists only for speed.
+//! searches the pairs of sets with and without the branch: in any order if the limit allows it, otherwise breadth first. One
+//! breadth-first search serves all branches that have an equal one beside them. [`Trimmer::judge`] returns a [`Judgement`], or
+//! `None` if there is no room for the trial; the caller then compares both trees with `rl_equiv`. This crate exists only for
+//! speed.
 //!
 //! # What is proved
 //!
@@ -33,6 +34,7 @@ mod pairs;
 mod quick;
 mod store;
 mod trimmer;
+mod twins;
 mod word;
 
 pub use judgement::Judgement;

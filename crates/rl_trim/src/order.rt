@@ -11,7 +11,7 @@ ghost use Rattle.rl_trim.specs.declared.store.TheConstants.{MOST_SETS};
 ghost use Rattle.rl_trim.specs.internal.Changing.{AreChanges, AreChangesIf};
 ghost use Rattle.rl_trim.specs.internal.Orders.{with_key, pairs_in, AreKeys, AreArrived};
 
-use crate::branch::{Branch, step};
+use crate::branch::{Branch, Trims, step};
 use crate::changes::{Changes, changes_on, changes_or, is_changed};
 use crate::judgement::Judgement;
 use crate::key::Key;
@@ -28,22 +28,32 @@ const MANY_LETTERS: u32 = 16;
 /// The number of first places whose next pairs are found on every letter.
 const PLAIN_PLACES: usize = 100;
 
+/// What is known of the sets that the search arrived at.
+#[derive(Drop)]
+pub(crate) struct Arrived {
+    /// The sets whose pair with themselves without the branch was found as the next pair of a set with itself.
+    pub whole: BitRow,
+    /// The numbers of sets without the branch.
+    pub trims: Trims,
+}
+
 /// The pairs found so far, in the order in which they were found.
 #[derive(Drop)]
 pub(crate) struct Order {
     /// The pairs.
     pub keys: IndexSet<Key>,
-    /// The sets whose pair with themselves without the branch was found as the next pair of a set with itself.
-    pub arrived: BitRow,
+    /// What is known of their sets.
+    pub arrived: Arrived,
 }
 
 impl Order {
     /// Only the first pair.
     pub(crate) fn new(alloc: Global) -> Result<Order, OutOfMemory>
         ensures keys { IfOk result (λ o. o.keys.keys ≡ no_key ∷ []) }
-        ensures arrived { IfOk result (λ o. o.arrived ≡ replicate MOST_SETS false) }
+        ensures whole { IfOk result (λ o. o.arrived.whole ≡ replicate MOST_SETS false) }
+        ensures trims { IfOk result (λ o. o.arrived.trims.numbers.items ≡ []) }
     {
-        let arrived = BitRow::zeros(alloc, MOST_SETS as usize)?;
+        let whole = BitRow::zeros(alloc, MOST_SETS as usize)?;
         let mut keys = IndexSet::new(alloc);
         let first = Key {
             first: 0,
@@ -51,31 +61,36 @@ impl Order {
         };
         let Ok(_) = keys.insert(first) else {
             drop(keys);
-            drop(arrived);
+            drop(whole);
             return Err(OutOfMemory);
+        };
+        let arrived = Arrived {
+            whole,
+            trims: Trims::new(alloc),
         };
         Ok(Order { keys, arrived })
     }
 
     /// Whether a set's pair with itself without the branch is noted as found.
     fn has_arrived(&self, set: u32) -> bool
-        ensures { result ≡ true → slice_index_or self.now.arrived set false ≡ true }
+        ensures { result ≡ true → slice_index_or self.now.arrived.whole set false ≡ true }
     {
-        if set as usize >= self.arrived.len() {
+        if set as usize >= self.arrived.whole.len() {
             return false;
         }
-        self.arrived.get(set as usize)
+        self.arrived.whole.get(set as usize)
     }
 
     /// Notes that a set's pair with itself without the branch was found.
     fn note(&mut self, set: u32)
-        ensures arrived { (k : ℕ) → slice_index_or self.new.arrived k false ≡ true → (slice_index_or self.old.arrived k false ≡ true) ⊎ (k ≡ set) }
+        ensures whole { (k : ℕ) → slice_index_or self.new.arrived.whole k false ≡ true → (slice_index_or self.old.arrived.whole k false ≡ true) ⊎ (k ≡ set) }
+        ensures trims { self.new.arrived.trims ≡ self.old.arrived.trims }
         ensures keys { self.new.keys ≡ self.old.keys }
     {
-        if set as usize >= self.arrived.len() {
+        if set as usize >= self.arrived.whole.len() {
             return;
         }
-        self.arrived.set(set as usize, true);
+        self.arrived.whole.set(set as usize, true);
     }
 
     /// Appends a pair unless it is already there.
@@ -110,7 +125,7 @@ impl Order {
         if self.has_arrived(first) {
             return Ok(());
         }
-        let second = branch.trim(walk, first)?;
+        let second = branch.trim(walk, &mut self.arrived.trims, first)?;
         self.put(Key { first, second })?;
         self.note(first);
         Ok(())
@@ -138,7 +153,7 @@ impl Order {
         if key.second == key.first {
             return self.visit_whole(branch, walk, key, letter);
         }
-        let next = branch.next(walk, key, letter)?;
+        let next = branch.next(walk, &mut self.arrived.trims, key, letter)?;
         self.put(next)?;
         Ok(())
     }
@@ -224,14 +239,12 @@ impl Order {
     }
 
     /// Whether the pair at a place shows a difference.
-    fn differs(&self, branch: &Branch, walk: &SetWalk, place: usize) -> Result<bool, OutOfMemory>
+    fn differs(&self, branch: &Branch, walk: &SetWalk, place: usize) -> bool
         requires keys { AreKeys branch.now.automaton.now walk.now self.now.keys.keys }
         requires place_in { place < length self.now.keys.keys }
-        ensures { IfOk result (λ told. told ≡ trim_differs branch.now.automaton.now (pair_at walk.now self.now.keys.keys place)) }
+        ensures { result ≡ trim_differs branch.now.automaton.now (pair_at walk.now self.now.keys.keys place) }
     {
-        let key = self.keys[place];
-        let told = branch.differs(walk, key)?;
-        Ok(told)
+        branch.differs(walk, self.keys[place])
     }
 
     /// Looks at the first `limit` pairs one after another, up to the first one that shows a difference. Once more than `limit`
@@ -253,7 +266,7 @@ impl Order {
             if place == self.keys.len() {
                 return Ok(Judgement::Equal);
             }
-            if self.differs(branch, walk, place)? {
+            if self.differs(branch, walk, place) {
                 return Ok(Judgement::Apart);
             }
             if self.keys.len() <= limit {

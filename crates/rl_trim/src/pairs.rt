@@ -5,9 +5,9 @@ ghost use Rattle.rl_prio.specs.Automaton.{letters_count};
 ghost use Rattle.rl_trim.specs.internal.Trims.{trim_on};
 ghost use Rattle.rl_trim.specs.Reached.{IsClosedTo};
 ghost use Rattle.rl_trim.specs.internal.Noting.{AreTouched};
-ghost use Rattle.rl_trim.specs.internal.Quick.{IsGrown, IsThere, AreRooted, ArePairs, IsOnward, IsPut, IsDone, AreDone, NoneApart, pair_at};
+ghost use Rattle.rl_trim.specs.internal.Quick.{IsGrown, IsThere, AreRooted, ArePairs, IsOnward, IsPut, IsDone, AreDone, NoneApart, AreTrims, pair_at};
 
-use crate::branch::Branch;
+use crate::branch::{Branch, Trims};
 use crate::key::{Key, Way, put};
 use indexmap::IndexSet;
 use rl_lanes::BitRow;
@@ -28,6 +28,8 @@ pub(crate) struct Pairs {
     pub keys: IndexSet<Key>,
     /// How each pair was found.
     pub ways: Vec<Way>,
+    /// The numbers of sets without the branch.
+    pub trims: Trims,
 }
 
 impl Pairs {
@@ -35,6 +37,7 @@ impl Pairs {
     fn add(&mut self, key: Key, place: usize, letter: u32) -> Result<(), OutOfMemory>
         ensures put { OnOk result (IsPut self.old.keys.keys self.new.keys.keys key) }
         ensures count { self.new.count ≡ self.old.count }
+        ensures trims { self.new.trims ≡ self.old.trims }
     {
         if put(&mut self.keys, key)? {
             self.ways.push(Way {
@@ -57,16 +60,18 @@ impl Pairs {
         requires closed { IsClosedTo branch.now.automaton.now walk.old self.old.count self.old.count }
         requires rooted { AreRooted branch.now.keep.now walk.old set self.old.keys.keys }
         requires set_in { set < self.old.count }
+        requires trims { AreTrims branch.now.keep.now walk.old self.old.trims }
         ensures grown { OnOk result (IsGrown branch.now.automaton.now walk.old walk.new) }
         ensures touched { OnOk result (AreTouched branch.now.keep.now walk.new self.new.count touched.now) }
         ensures closed { OnOk result (IsClosedTo branch.now.automaton.now walk.new self.new.count self.new.count) }
         ensures rooted { OnOk result (AreRooted branch.now.keep.now walk.new (set + 1) self.new.keys.keys) }
         ensures count { self.new.count ≡ self.old.count }
+        ensures trims { OnOk result (AreTrims branch.now.keep.now walk.new self.new.trims) }
     {
         if !touched.get(set as usize) {
             return Ok(());
         }
-        let second = branch.trim(walk, set)?;
+        let second = branch.trim(walk, &mut self.trims, set)?;
         let place = self.keys.len();
         self.add(Key { first: set, second }, place, 0)?;
         Ok(())
@@ -85,11 +90,13 @@ impl Pairs {
         ensures grown { OnOk result (IsGrown branch.now.automaton.now walk.old walk.new) }
         ensures pairs { IfOk result (λ p. ArePairs branch.now.automaton.now branch.now.keep.now walk.new count p.keys.keys) }
         ensures count { IfOk result (λ p. p.count ≡ count) }
+        ensures trims { IfOk result (λ p. AreTrims branch.now.keep.now walk.new p.trims) }
     {
         let mut pairs = Pairs {
             count,
             keys: IndexSet::new(alloc),
             ways: Vec::new(alloc),
+            trims: Trims::new(alloc),
         };
         for set in 0..count {
             pairs.plant(branch, walk, touched, set)?;
@@ -108,14 +115,16 @@ impl Pairs {
         requires pairs { ArePairs branch.now.automaton.now branch.now.keep.now walk.old self.old.count self.old.keys.keys }
         requires place_in { place < length self.old.keys.keys }
         requires letter_in { letter < letters_count branch.now.automaton.now }
+        requires trims { AreTrims branch.now.keep.now walk.old self.old.trims }
         ensures pairs { OnOk result (ArePairs branch.now.automaton.now branch.now.keep.now walk.new self.new.count self.new.keys.keys) }
         ensures onward { OnOk result (IsOnward branch.now.automaton.now walk.old walk.new self.old.keys.keys self.new.keys.keys) }
         ensures there { OnOk result (IsThere branch.now.keep.now walk.new self.new.count self.new.keys.keys
             (trim_on branch.now.automaton.now branch.now.keep.now (pair_at walk.old self.old.keys.keys place) letter)) }
         ensures count { self.new.count ≡ self.old.count }
+        ensures trims { OnOk result (AreTrims branch.now.keep.now walk.new self.new.trims) }
     {
         let key = self.keys[place];
-        let next = branch.next(walk, key, letter)?;
+        let next = branch.next(walk, &mut self.trims, key, letter)?;
         if next.first == next.second && next.first < self.count {
             return Ok(());
         }
@@ -127,10 +136,12 @@ impl Pairs {
     fn expand(&mut self, branch: &Branch, walk: &mut SetWalk, place: usize) -> Result<(), SetsError>
         requires pairs { ArePairs branch.now.automaton.now branch.now.keep.now walk.old self.old.count self.old.keys.keys }
         requires place_in { place < length self.old.keys.keys }
+        requires trims { AreTrims branch.now.keep.now walk.old self.old.trims }
         ensures pairs { OnOk result (ArePairs branch.now.automaton.now branch.now.keep.now walk.new self.new.count self.new.keys.keys) }
         ensures onward { OnOk result (IsOnward branch.now.automaton.now walk.old walk.new self.old.keys.keys self.new.keys.keys) }
         ensures done { OnOk result (IsDone branch.now.automaton.now branch.now.keep.now walk.new self.new.count self.new.keys.keys place) }
         ensures count { self.new.count ≡ self.old.count }
+        ensures trims { OnOk result (AreTrims branch.now.keep.now walk.new self.new.trims) }
     {
         for letter in 0..branch.automaton.letters().count() {
             self.visit(branch, walk, place, letter)?;
@@ -142,13 +153,15 @@ impl Pairs {
     fn look(&mut self, branch: &Branch, walk: &mut SetWalk, place: usize) -> Result<(), SetsError>
         requires pairs { ArePairs branch.now.automaton.now branch.now.keep.now walk.old self.old.count self.old.keys.keys }
         requires place_in { place < length self.old.keys.keys }
+        requires trims { AreTrims branch.now.keep.now walk.old self.old.trims }
         ensures pairs { OnOk result (ArePairs branch.now.automaton.now branch.now.keep.now walk.new self.new.count self.new.keys.keys) }
         ensures onward { OnOk result (IsOnward branch.now.automaton.now walk.old walk.new self.old.keys.keys self.new.keys.keys) }
         ensures done { OnOk result (IsDone branch.now.automaton.now branch.now.keep.now walk.new self.new.count self.new.keys.keys place) }
         ensures count { self.new.count ≡ self.old.count }
+        ensures trims { OnOk result (AreTrims branch.now.keep.now walk.new self.new.trims) }
     {
         let key = self.keys[place];
-        if branch.differs(walk, key)? {
+        if branch.differs(walk, key) {
             return Ok(());
         }
         self.expand(branch, walk, place)?;
@@ -157,12 +170,14 @@ impl Pairs {
 
     /// Looks at all pairs. Returns false if there are too many.
     pub(crate) fn grow(&mut self, branch: &Branch, walk: &mut SetWalk) -> Result<bool, SetsError>
-        requires { ArePairs branch.now.automaton.now branch.now.keep.now walk.old self.old.count self.old.keys.keys }
+        requires pairs { ArePairs branch.now.automaton.now branch.now.keep.now walk.old self.old.count self.old.keys.keys }
+        requires trims { AreTrims branch.now.keep.now walk.old self.old.trims }
         ensures grown { OnOk result (IsGrown branch.now.automaton.now walk.old walk.new) }
         ensures pairs { OnOk result (ArePairs branch.now.automaton.now branch.now.keep.now walk.new self.new.count self.new.keys.keys) }
         ensures done { IfOk result (λ all. all ≡ true
             → AreDone branch.now.automaton.now branch.now.keep.now walk.new self.new.count self.new.keys.keys (length self.new.keys.keys)) }
         ensures count { self.new.count ≡ self.old.count }
+        ensures trims { OnOk result (AreTrims branch.now.keep.now walk.new self.new.trims) }
     {
         for place in 0..MOST_PAIRS {
             if place == self.keys.len() {
@@ -174,20 +189,16 @@ impl Pairs {
     }
 
     /// The place of the first pair that shows a difference, if there is one.
-    pub(crate) fn apart(
-        &self,
-        branch: &Branch,
-        walk: &SetWalk,
-    ) -> Result<Option<usize>, OutOfMemory>
+    pub(crate) fn apart(&self, branch: &Branch, walk: &SetWalk) -> Option<usize>
         requires { ArePairs branch.now.automaton.now branch.now.keep.now walk.now self.now.count self.now.keys.keys }
-        ensures { IfOk result (λ place. place ≡ None → NoneApart branch.now.automaton.now walk.now self.now.keys.keys (length self.now.keys.keys)) }
+        ensures { result ≡ None → NoneApart branch.now.automaton.now walk.now self.now.keys.keys (length self.now.keys.keys) }
     {
         for place in 0..self.keys.len() {
             let key = self.keys[place];
-            if branch.differs(walk, key)? {
-                return Ok(Some(place));
+            if branch.differs(walk, key) {
+                return Some(place);
             }
         }
-        Ok(None)
+        None
     }
 }

@@ -5,7 +5,7 @@ ghost use Rattle.std.specs.Prelude.{IfOk, OnOk, IfSome};
 ghost use Rattle.rl_trim.specs.Judged.{IsFound};
 ghost use Rattle.rl_trim.specs.Reached.{AreReached};
 ghost use Rattle.rl_trim.specs.internal.Trims.{trim_pairs};
-ghost use Rattle.rl_trim.specs.internal.Quick.{IsGrown, ArePairs};
+ghost use Rattle.rl_trim.specs.internal.Quick.{IsGrown, ArePairs, AreTrims};
 
 use crate::branch::Branch;
 use crate::holders::touched_sets;
@@ -26,7 +26,8 @@ fn judge_pairs(
     ways: &[Way],
     limit: u32,
 ) -> Result<Option<Judgement>, SetsError>
-    requires { ArePairs branch.now.automaton.now branch.now.keep.now walk.old pairs.old.count pairs.old.keys.keys }
+    requires pairs { ArePairs branch.now.automaton.now branch.now.keep.now walk.old pairs.old.count pairs.old.keys.keys }
+    requires trims { AreTrims branch.now.keep.now walk.old pairs.old.trims }
     ensures found { IfOk result (λ o. IfSome o (IsFound (trim_pairs branch.now.automaton.now branch.now.keep.now) limit)) }
     ensures grown { OnOk result (IsGrown branch.now.automaton.now walk.old walk.new) }
 {
@@ -35,11 +36,11 @@ fn judge_pairs(
     if !all || pairs.keys.len() + count as usize > limit as usize {
         return Ok(None);
     }
-    let Some(place) = pairs.apart(branch, walk)? else {
+    let Some(place) = pairs.apart(branch, walk) else {
         return Ok(Some(Judgement::Equal));
     };
     let word = word_to(alloc, ways, &pairs.ways, &pairs.keys, place)?;
-    if leads_apart(branch, walk, word.as_slice())? {
+    if leads_apart(branch, walk, &mut pairs.trims, word.as_slice())? {
         return Ok(Some(Judgement::Apart));
     }
     Ok(None)

@@ -1,13 +1,16 @@
 //! The sets of states that trials on one automaton share.
 
-ghost use Rattle.std.specs.Prelude.{◌+◌, ◌<◌, length, IfOk, OnOk};
+ghost use Rattle.std.specs.Prelude.{◌≡◌, ◌+◌, ◌<◌, None, length, IfOk, OnOk};
 ghost use Rattle.rl_prio.specs.Automaton.{letters_count};
 ghost use Rattle.rl_sets.specs.Walk.{IsMadeFor};
 ghost use Rattle.rl_trim.specs.Reached.{HasImage, IsClosedTo, IsStored, IsStore};
+ghost use Rattle.rl_trim.specs.Known.{IsKnown};
 ghost use Rattle.rl_trim.specs.internal.Quick.{IsGrown};
 
 use crate::holders::holders_of;
+use crate::judgement::Judgement;
 use crate::key::Way;
+use crate::twins::Targets;
 use rl_lanes::BitTable;
 use rl_prio::Prio;
 use rl_sets::{SetWalk, SetsError};
@@ -37,6 +40,24 @@ pub(crate) struct Reached {
     pub ways: Vec<Way>,
 }
 
+/// The result of the trial that leaves nothing out of an automaton.
+#[derive(Clone, Copy)]
+pub(crate) struct Whole {
+    /// The limit of that trial.
+    pub limit: u32,
+    /// Its result.
+    pub found: Judgement,
+}
+
+/// What trials have found out about an automaton, other than its sets.
+#[derive(Drop)]
+pub(crate) struct Known {
+    /// The targets of its states, if they were asked for.
+    pub targets: Option<Targets>,
+    /// The result of the trial that leaves nothing out, if there was one.
+    pub whole: Option<Whole>,
+}
+
 /// The sets that trials have found so far.
 #[derive(Drop)]
 pub(crate) struct Store {
@@ -46,6 +67,8 @@ pub(crate) struct Store {
     pub reached: Option<Reached>,
     /// How many pairs trials in order may still look at before these are searched for again.
     pub patience: usize,
+    /// What they have found out about the automaton besides.
+    pub known: Known,
 }
 
 /// A walk that holds only the start.
@@ -130,9 +153,23 @@ fn reach(
     Ok(None)
 }
 
+impl Known {
+    /// Nothing yet.
+    pub(crate) fn nothing() -> Known
+        ensures targets { result.targets ≡ None }
+        ensures whole { result.whole ≡ None }
+    {
+        Known {
+            targets: None,
+            whole: None,
+        }
+    }
+}
+
 impl Store {
-    /// Only the start.
-    pub(crate) fn begun(alloc: Global, a: &Prio) -> Result<Store, SetsError>
+    /// Only the start, with what is known of the automaton.
+    pub(crate) fn begun(alloc: Global, a: &Prio, known: Known) -> Result<Store, SetsError>
+        requires { IsKnown a.now known }
         ensures { IfOk result (IsStore a.now) }
     {
         let walk = begin(alloc, a)?;
@@ -140,6 +177,7 @@ impl Store {
             walk,
             reached: None,
             patience: MOST_LOOKED,
+            known,
         })
     }
 
@@ -151,11 +189,11 @@ impl Store {
     pub(crate) fn first(alloc: Global, a: &Prio) -> Result<Store, SetsError>
         ensures { IfOk result (IsStore a.now) }
     {
-        Store::closed(alloc, a, a.states(), MOST_LOOKED)
+        Store::closed(alloc, a, a.states(), MOST_LOOKED, Known::nothing())
     }
 
     /// These sets, or sets to start anew with: only the start if there is little room left for trials in order, and the sets reached
-    /// from the start after trials in order have looked at many pairs.
+    /// from the start after trials in order have looked at many pairs. What is known of the automaton besides is kept.
     ///
     /// # Errors
     /// Those of [`Store::closed`].
@@ -164,21 +202,27 @@ impl Store {
         ensures { IfOk result (IsStore a.now) }
     {
         if self.reached.is_none() && self.walk.len() > MOST_SHARED {
-            drop(self);
-            return Store::begun(alloc, a);
+            return Store::begun(alloc, a, self.known);
         }
         if self.patience > 0 || self.walk.len() > MOST_REACHED {
             return Ok(self);
         }
-        drop(self);
-        Store::closed(alloc, a, MOST_REACHED, usize::MAX)
+        Store::closed(alloc, a, MOST_REACHED, usize::MAX, self.known)
     }
 
-    /// The sets reached from the start, or only the first of them if there are `most` or more.
+    /// The sets reached from the start, or only the first of them if there are `most` or more, with what is known of the automaton
+    /// besides.
     ///
     /// # Errors
     /// [`SetsError::Sets`] if there are more than a walk can hold, and [`SetsError::OutOfMemory`] if there was no memory for them.
-    fn closed(alloc: Global, a: &Prio, most: u32, patience: usize) -> Result<Store, SetsError>
+    fn closed(
+        alloc: Global,
+        a: &Prio,
+        most: u32,
+        patience: usize,
+        known: Known,
+    ) -> Result<Store, SetsError>
+        requires { IsKnown a.now known }
         ensures { IfOk result (IsStore a.now) }
     {
         let mut walk = begin(alloc, a)?;
@@ -187,6 +231,7 @@ impl Store {
                 walk,
                 reached,
                 patience,
+                known,
             }),
             Err(error) => {
                 drop(walk);

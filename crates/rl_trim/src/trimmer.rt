@@ -1,6 +1,6 @@
 //! Compares a tree with the same tree without some of its branches.
 
-ghost use Rattle.std.specs.Prelude.{◌≡◌, length, [], IfOk, OnOk, IfSome};
+ghost use Rattle.std.specs.Prelude.{◌≡◌, true, length, [], IfOk, OnOk, IfSome};
 ghost use Rattle.rl_ranges.specs.declared.universe.Universe.{Universe as AnyUniverse};
 ghost use Rattle.rl_syntax.specs.Tree.{Tree, tree_of, IsOver, guards_in};
 ghost use Rattle.rl_equiv.specs.Bases.{IsBase};
@@ -11,12 +11,15 @@ ghost use Rattle.rl_trim.specs.Judged.{IsJudged, IsFound, IsTold};
 ghost use Rattle.rl_trim.specs.Reached.{IsClosedTo, IsStore, IsStoreIf};
 ghost use Rattle.rl_trim.specs.internal.Trims.{trim_pairs};
 ghost use Rattle.rl_trim.specs.internal.Quick.{IsGrown};
+ghost use Rattle.rl_trim.specs.internal.Twins.{HasTwin};
+ghost use Rattle.rl_trim.specs.Known.{whole_pairs};
 
 use crate::branch::Branch;
 use crate::judgement::Judgement;
 use crate::order::Order;
 use crate::quick::quick_trial;
-use crate::store::Store;
+use crate::store::{Known, Store, Whole};
+use crate::twins::{Targets, has_twin};
 use rl_lists::OutOfMemory;
 use rl_prio::{Prio, PrioError};
 use rl_ranges::Universe;
@@ -74,7 +77,60 @@ fn trial_in_order(
     found
 }
 
-/// The result of a trial: of a quick one if that decides, otherwise of one in order.
+/// The result of a quick trial, if the sets reached from the start are known and it decides the trial.
+fn quick_trial_in(
+    alloc: Global,
+    branch: &Branch,
+    store: &mut Store,
+    limit: u32,
+) -> Result<Option<Judgement>, SetsError>
+    requires { IsStore branch.now.automaton.now store.old }
+    ensures found { IfOk result (λ o. IfSome o (IsFound (trim_pairs branch.now.automaton.now branch.now.keep.now) limit)) }
+    ensures store { OnOk result (IsStore branch.now.automaton.now store.new) }
+{
+    let Some(reached) = &store.reached else {
+        return Ok(None);
+    };
+    let told = quick_trial(alloc, branch, &mut store.walk, reached, limit)?;
+    Ok(told)
+}
+
+/// The result of the trial that leaves nothing out: the one found earlier, if there is one for this limit.
+fn whole_trial(
+    alloc: Global,
+    store: &mut Store,
+    a: &Prio,
+    limit: u32,
+) -> Result<Judgement, SetsError>
+    requires { IsStore a.now store.old }
+    ensures found { IfOk result (IsFound (whole_pairs a.now) limit) }
+    ensures store { OnOk result (IsStore a.now store.new) }
+{
+    if let Some(whole) = store.known.whole
+        && whole.limit == limit
+    {
+        return Ok(whole.found);
+    }
+    let nothing = Branch::new(alloc, a, &[])?;
+    let found = trial_in_order(alloc, &nothing, &mut store.walk, &mut store.patience, limit)?;
+    store.known.whole = Some(Whole { limit, found });
+    Ok(found)
+}
+
+/// Whether a branch has an equal one beside it, as far as a short search shows.
+fn finds_twin(alloc: Global, branch: &Branch, store: &mut Store) -> Result<bool, OutOfMemory>
+    requires { IsStore branch.now.automaton.now store.old }
+    ensures twin { IfOk result (λ told. told ≡ true → HasTwin branch.now.automaton.now branch.now.keep.now) }
+    ensures store { OnOk result (IsStore branch.now.automaton.now store.new) }
+{
+    let targets = Targets::found_or_new(alloc, branch.automaton, store.known.targets.take())?;
+    let told = has_twin(branch, &targets);
+    store.known.targets = Some(targets);
+    Ok(told)
+}
+
+/// The result of a trial: of a quick one if that decides. Otherwise it is that of the trial that leaves nothing out if the branch
+/// has an equal one beside it, and that of one in order if not.
 fn trial_of(
     alloc: Global,
     branch: &Branch,
@@ -85,12 +141,11 @@ fn trial_of(
     ensures found { IfOk result (IsFound (trim_pairs branch.now.automaton.now branch.now.keep.now) limit) }
     ensures store { OnOk result (IsStore branch.now.automaton.now store.new) }
 {
-    let Some(reached) = &store.reached else {
-        return trial_in_order(alloc, branch, &mut store.walk, &mut store.patience, limit);
-    };
-    let told = quick_trial(alloc, branch, &mut store.walk, reached, limit)?;
-    if let Some(found) = told {
+    if let Some(found) = quick_trial_in(alloc, branch, store, limit)? {
         return Ok(found);
+    }
+    if finds_twin(alloc, branch, store)? {
+        return whole_trial(alloc, store, branch.automaton, limit);
     }
     trial_in_order(alloc, branch, &mut store.walk, &mut store.patience, limit)
 }
@@ -144,7 +199,7 @@ fn judge_afresh(
     ensures found { IfOk result (λ o. IfSome o (λ r. IsFound (trim_pairs a.now keep.now) limit r.0)) }
     ensures store { IfOk result (λ o. IfSome o (λ r. IsStore a.now r.1)) }
 {
-    let begun = Store::begun(alloc, a);
+    let begun = Store::begun(alloc, a, Known::nothing());
     match begun {
         Ok(store) => match judge_on(alloc, store, a, keep, limit) {
             Ok(found) => Ok(Some(found)),

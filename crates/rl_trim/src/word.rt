@@ -3,9 +3,9 @@
 ghost use Rattle.std.specs.Prelude.{◌≡◌, true, length, IfOk, OnOk};
 ghost use Rattle.rl_trim.specs.internal.Trims.{LeadsApart};
 ghost use Rattle.rl_trim.specs.Reached.{IsClosedTo};
-ghost use Rattle.rl_trim.specs.internal.Quick.{IsGrown};
+ghost use Rattle.rl_trim.specs.internal.Quick.{IsGrown, AreTrims};
 
-use crate::branch::Branch;
+use crate::branch::{Branch, Trims};
 use crate::key::{Key, Way};
 use indexmap::IndexSet;
 use rl_lists::OutOfMemory;
@@ -43,9 +43,11 @@ pub(crate) fn word_to(
 pub(crate) fn leads_apart(
     branch: &Branch,
     walk: &mut SetWalk,
+    trims: &mut Trims,
     word: &[u32],
 ) -> Result<bool, SetsError>
-    requires { IsClosedTo branch.now.automaton.now walk.old 0 (length walk.old.sets) }
+    requires closed { IsClosedTo branch.now.automaton.now walk.old 0 (length walk.old.sets) }
+    requires trims { AreTrims branch.now.keep.now walk.old trims.old }
     ensures apart { IfOk result (λ apart. apart ≡ true → LeadsApart branch.now.automaton.now branch.now.keep.now word.now) }
     ensures grown { OnOk result (IsGrown branch.now.automaton.now walk.old walk.new) }
 {
@@ -58,9 +60,8 @@ pub(crate) fn leads_apart(
         if *letter >= letters {
             return Ok(false);
         }
-        let next = branch.next(walk, key, *letter)?;
+        let next = branch.next(walk, trims, key, *letter)?;
         key = next;
     }
-    let apart = branch.differs(walk, key)?;
-    Ok(apart)
+    Ok(branch.differs(walk, key))
 }

@@ -8,11 +8,12 @@ use Rattle.rl_alike.specs.declared.answer.Answer.{Answer}
 use Rattle.rl_alike.specs.declared.plan.Plan.{Plan}
 use Rattle.rl_alike.specs.declared.plan.Plan.TheVariants.{Refuses, Writes}
 
+-- The ending that a plan is.
 abbrev pub ending_of : Plan → Ending
 ending_of (Refuses text) = refuses (string_bytes text)
 ending_of (Writes text differs) = writes (string_bytes text) differs
 
--- the ending by a right answer
+-- The ending by a right answer.
 pub record IsPlanFor (q : Asked) (ending : Ending) : Type 0 where
   pub found : Answer
   pub right : IsRight q found

@@ -1,6 +1,6 @@
 -- Replies, as the program keeps them.
 use Rattle.std.specs.Prelude.{◌≡◌, Option}
-use Rattle.rl_alike.specs.Names.{Text}
+use Rattle.rl_report.specs.Names.{Text}
 use Rattle.rl_alike.specs.Answers.{IsRight}
 use Rattle.rl_alike.specs.Document.{reply_text}
 use Rattle.rl_alike.specs.Endings.{SinkChange}
@@ -12,16 +12,18 @@ use Rattle.rl_alike.specs.declared.replies.Reply.TheVariants.{Fixed, Made}
 use Rattle.rl_alike.specs.declared.replies.RepliesEnd.{RepliesEnd}
 use Rattle.rl_alike.specs.declared.replies.RepliesEnd.TheVariants.{AtEnd, Unreadable, WriteFault, OutOfMemory}
 
+-- The bytes of a reply.
 abbrev pub reply_bytes : Reply → Text
 reply_bytes (Fixed text) = text.now
 reply_bytes (Made line) = line
 
--- the line of a right answer
+-- The line of a right answer.
 pub record AnswersWell (q : Asked) (line : Text) : Type 0 where
   pub found : Answer
   pub right : IsRight q found
   pub is : line ≡ reply_text q.terms found
 
+-- What was written up to the end of the replies.
 abbrev pub RepliesUntil : Option Text → SinkChange → RepliesEnd → Type 0
 RepliesUntil input out AtEnd = WritesAllReplies input out
 RepliesUntil input out Unreadable = WritesReplies input out

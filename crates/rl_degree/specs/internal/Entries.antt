@@ -5,20 +5,20 @@ use Rattle.std.specs.Int.{bit_at}
 use Rattle.rl_graph.specs.Paths.{Has}
 use Rattle.rl_graph.specs.Graph.{Graph, edges_of}
 
--- the letter's bit is set in the state's word
+-- The letter's bit is set in the state's word.
 abbrev pub HasLetter : List ℕ → ℕ → ℕ → Type 0
 HasLetter entries q l = bit_at (slice_index entries q) (l % 64) ≡ 1
 
--- no bit was cleared
+-- No bit was cleared.
 abbrev pub KeepsLetters : List ℕ → List ℕ → Type 0
 KeepsLetters old new = (q l : ℕ) → HasLetter old q l → HasLetter new q l
 
--- the bits of the moves of the states below `end` are set
+-- The bits of the moves of the states below `end` are set.
 pub record AreEntriesUpTo (g : Graph) (end : ℕ) (entries : List ℕ) : Type 0 where
   pub size : length entries ≡ g.states
   pub entered : (q l m : ℕ) → q < end → Has m (edges_of g q l) → HasLetter entries m l
 
--- the bits of all moves are set
+-- The bits of all moves are set.
 pub record AreEntries (g : Graph) (entries : List ℕ) : Type 0 where
   pub size : length entries ≡ g.states
   pub entered : (q l m : ℕ) → Has m (edges_of g q l) → HasLetter entries m l

@@ -6,32 +6,32 @@ use Rattle.rl_graph.specs.Paths.{Reaches, OnCycle}
 use Rattle.rl_graph.specs.Product.{pair_moves}
 use Rattle.rl_graph.specs.Parts.{PartTable, number_of, cycle_of}
 
--- the second state of the pair is in a lower component than its first; `levels` are the numbers of the components
+-- The second state of the pair is in a lower component than its first. `levels` are the numbers of the components.
 abbrev pub falls : List ℕ → ℕ → ℕ → Bool
 falls levels n x = nat_lt (slice_index levels (x % n)) (slice_index levels (x / n))
 
--- the moves of the pairs that fall; other pairs have none
+-- The moves of the pairs that fall. Other pairs have none.
 abbrev pub falling_moves : (ℕ → ℕ → List ℕ) → List ℕ → ℕ → ℕ → ℕ → List ℕ
 falling_moves next levels n x l = if falls levels n x then pair_moves next n x l else []
 
--- the words of the two states share a bit
+-- The words of the two states share a bit.
 abbrev pub shares : List ℕ → ℕ → ℕ → Bool
 shares entries n x = not (nat_eq (bit_and (slice_index entries (x / n)) (slice_index entries (x % n))) 0)
 
--- the pair falls, and a move may lead to it
+-- The pair falls, and a move may lead to it.
 abbrev pub is_walked : List ℕ → List ℕ → ℕ → ℕ → Bool
 is_walked levels entries n x = falls levels n x && shares entries n x
 
--- for each pair below `end`, whether it falls and a move may lead to it
+-- Each flag of a pair below `end` says whether the pair falls and a move may lead to it.
 pub record AreFlagsUpTo (levels entries : List ℕ) (n end : ℕ) (flags : List Bool) : Type 0 where
   pub size : length flags ≡ end
   pub right : (x : ℕ) → x < end → slice_index_or flags x false ≡ is_walked levels entries n x
 
--- for each pair, whether it falls and a move may lead to it
+-- Each pair's flag says whether the pair falls and a move may lead to it.
 abbrev pub AreFlags : List ℕ → List ℕ → ℕ → List Bool → Type 0
 AreFlags levels entries n flags = AreFlagsUpTo levels entries n (n * n) flags
 
--- two of the first `n` states are in one part exactly if each reaches the other; the parts are numbered in no particular order
+-- Two of the first `n` states are in one part exactly if each reaches the other. The parts are numbered in no particular order.
 pub record IsParted (next : ℕ → ℕ → List ℕ) (n : ℕ) (p : PartTable) : Type 0 where
   pub size : length p.numbers ≡ n
   pub below : (q : ℕ) → q < n → number_of p q < n

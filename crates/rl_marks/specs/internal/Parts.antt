@@ -3,7 +3,7 @@ use Rattle.std.specs.Prelude.{List, [], ◌∷◌, Option, None, Some}
 use Rattle.rl_marks.specs.declared.tree.MarkTree.{MarkTree}
 use Rattle.rl_marks.specs.Marked.{Marked, marked_of}
 
--- the one tree that is held, or none
+-- The one tree that is held, or none.
 abbrev pub held : Option MarkTree → List Marked
 held None = []
 held (Some tree) = marked_of tree ∷ []

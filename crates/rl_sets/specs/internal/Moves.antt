@@ -1,17 +1,18 @@
 -- For the contracts of private functions: the targets of the members of a set.
 use Rattle.std.specs.Prelude.{◌≡◌, ℕ, ◌<◌, Bool, true, false, List, length, slice_index_or}
 use Rattle.std.specs.List.{list_any, flat_map}
-use Rattle.rl_prio.specs.Automaton.{Automaton, moves_at}
+use Rattle.rl_prio.specs.Automaton.{Automaton, dead_state, moves_at}
 use Rattle.rl_sets.specs.Live.{holds}
 
 -- The targets of the members of a set on a letter, member by member.
 abbrev pub targets_of : Automaton → List ℕ → ℕ → List ℕ
 targets_of a set letter = flat_map (λ q. moves_at a q letter) set
 
--- The row has a bit for each state, which is set if and only if a member of the set moves to the state on the letter.
+-- The row has a bit for each state. Except for the dead state's, it is set if and only if a member of the set moves to the
+-- state on the letter.
 pub record IsReached (a : Automaton) (set : List ℕ) (letter : ℕ) (row : List Bool) : Type 0 where
   pub wide : length row ≡ a.states
-  pub moves : (t : ℕ) → t < a.states → slice_index_or row t false ≡ list_any (λ q. holds (moves_at a q letter) t) set
+  pub moves : (t : ℕ) → t < dead_state a → slice_index_or row t false ≡ list_any (λ q. holds (moves_at a q letter) t) set
 
 -- Each state below `upto` whose bit is set in the row has the same moves on `letter` as on `before`.
 abbrev pub MoveAlike : Automaton → List Bool → ℕ → ℕ → ℕ → Type 0

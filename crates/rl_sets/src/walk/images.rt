@@ -1,14 +1,28 @@
-//! The numbers of the images that a walk has computed.
+//! The images of the sets of a walk, and their numbers.
 
-ghost use Rattle.std.specs.Prelude.{◌≡◌, ◌+◌, ◌*◌, ◌<◌, ◌≤◌, suc, length, slice_get, slice_index_or, None, Some, OnOk};
+ghost use Rattle.std.specs.Prelude.{◌≡◌, ◌+◌, ◌*◌, ◌<◌, ◌≤◌, suc, length, replicate, false, slice_get, slice_index_or, None, Some, IfOk, IfSome, OnOk};
 ghost use Rattle.rl_prio.specs.Automaton.{letters_count};
 ghost use Rattle.rl_sets.specs.Live.{image};
+ghost use Rattle.rl_sets.specs.Rows.{members_of};
 ghost use Rattle.rl_sets.specs.Walk.{set_at, image_place, IsMadeFor};
+ghost use Rattle.rl_sets.specs.internal.Moves.{IsReached};
+ghost use Rattle.rl_sets.specs.internal.Steps.{IsAsked};
 
+use crate::error::SetsError;
 use crate::fill::lengthen;
+use crate::rows::{mark_moves, move_alike};
+use crate::split::SplitMoves;
 use crate::walk::SetWalk;
+use rl_lanes::BitRow;
 use rl_lists::OutOfMemory;
 use rl_prio::Prio;
+
+/// The number of sets whose moves are kept once the moves of the automaton are split.
+const RECENT: usize = 8;
+
+/// The moves of an automaton are split once this many members have been passed over, to find images, for each of its pairs of
+/// a state and a letter. Splitting them is about as much work.
+const PATIENCE: usize = 4;
 
 /// Returns the index at which the number of the image of a set on a letter is kept.
 fn place_of(a: &Prio, set: u32, letter: u32) -> usize
@@ -32,7 +46,7 @@ impl SetWalk {
     }
 
     /// Makes room for the numbers of the images of a set.
-    pub(crate) fn make_room(&mut self, a: &Prio, set: u32) -> Result<(), OutOfMemory>
+    fn make_room(&mut self, a: &Prio, set: u32) -> Result<(), OutOfMemory>
         requires made { IsMadeFor self.old a.now }
         requires set_in { set < length self.old.sets }
         ensures room { OnOk result (suc set * suc (letters_count a.now) ≤ length self.new.kept.images) }
@@ -45,7 +59,7 @@ impl SetWalk {
     }
 
     /// Records the number of the image of a set on a letter.
-    pub(crate) fn keep_image(&mut self, a: &Prio, set: u32, letter: u32, number: u32)
+    fn keep_image(&mut self, a: &Prio, set: u32, letter: u32, number: u32)
         requires made { IsMadeFor self.old a.now }
         requires set_in { set < length self.old.sets }
         requires letter_in { letter ≤ letters_count a.now }
@@ -56,5 +70,136 @@ impl SetWalk {
         ensures limit { self.new.limit ≡ self.old.limit }
     {
         self.images[place_of(a, set, letter)] = Some(number);
+    }
+
+    /// Finds the image of a set on a letter, records its number, and returns it. The function isn't inlined, so that `step`
+    /// stays small.
+    #[inline(never)]
+    pub(crate) fn find_image(&mut self, a: &Prio, set: u32, letter: u32) -> Result<u32, SetsError>
+        requires made { IsMadeFor self.old a.now }
+        requires set_in { set < length self.old.sets }
+        requires letter_in { letter ≤ letters_count a.now }
+        ensures { IsAsked a.now self.old self.new (image a.now (set_at self.old set) letter) result }
+    {
+        self.make_room(a, set)?;
+        let number = self.image_number(a, set, letter)?;
+        self.keep_image(a, set, letter, number);
+        Ok(number)
+    }
+
+    /// Returns the number of the image of a set on a letter, which is appended if it is new. If the members move alike on this
+    /// letter and the one before, the number is that of the image on the letter before; otherwise the row of the image is
+    /// computed.
+    fn image_number(&mut self, a: &Prio, set: u32, letter: u32) -> Result<u32, SetsError>
+        requires made { IsMadeFor self.old a.now }
+        requires set_in { set < length self.old.sets }
+        requires letter_in { letter ≤ letters_count a.now }
+        ensures asked { IsAsked a.now self.old self.new (image a.now (set_at self.old set) letter) result }
+        ensures images { self.new.kept.images ≡ self.old.kept.images }
+    {
+        if let Some(number) = self.image_before(a, set, letter) {
+            return Ok(number);
+        }
+        let row = self.image_row(a, set, letter)?;
+        self.add(row)
+    }
+
+    /// Returns the number of the image of a set on the letter before if it is known and the members move alike on both
+    /// letters. Once the moves are split, computing the image is cheaper than comparing the moves.
+    fn image_before(&self, a: &Prio, set: u32, letter: u32) -> Option<u32>
+        requires made { IsMadeFor self.now a.now }
+        requires set_in { set < length self.now.sets }
+        requires letter_in { letter ≤ letters_count a.now }
+        ensures { IfSome result (λ n. slice_get self.now.sets n ≡ Some (image a.now (set_at self.now set) letter)) }
+    {
+        if letter == 0 || self.split.is_some() {
+            return None;
+        }
+        let number = self.known_image(a, set, letter - 1)?;
+        if move_alike(a, &self.rows[set as usize], letter) {
+            Some(number)
+        } else {
+            None
+        }
+    }
+
+    /// Returns the row of the image of a set on a letter.
+    fn image_row(&mut self, a: &Prio, set: u32, letter: u32) -> Result<BitRow, OutOfMemory>
+        requires made { IsMadeFor self.old a.now }
+        requires set_in { set < length self.old.sets }
+        requires letter_in { letter ≤ letters_count a.now }
+        ensures image { IfOk result (λ row. members_of row ≡ image a.now (set_at self.old set) letter) }
+        ensures len { IfOk result (λ row. length row ≡ a.now.states) }
+        ensures made { IsMadeFor self.new a.now }
+        ensures sets { self.new.sets ≡ self.old.sets }
+        ensures limit { self.new.limit ≡ self.old.limit }
+        ensures images { self.new.kept.images ≡ self.old.kept.images }
+    {
+        self.split_moves(a, set)?;
+        let states = a.states() as usize;
+        let mut row = self.take_row(states)?;
+        row.clear();
+        self.mark_targets(a, set, letter, &mut row)?;
+        row.set(states - 1, false);
+        Ok(row)
+    }
+
+    /// Splits the moves of the automaton unless they are split, once passing over the members of sets has become about as
+    /// much work as splitting the moves.
+    fn split_moves(&mut self, a: &Prio, set: u32) -> Result<(), OutOfMemory>
+        requires made { IsMadeFor self.old a.now }
+        requires set_in { set < length self.old.sets }
+        ensures made { IsMadeFor self.new a.now }
+        ensures sets { self.new.sets ≡ self.old.sets }
+        ensures limit { self.new.limit ≡ self.old.limit }
+        ensures images { self.new.kept.images ≡ self.old.kept.images }
+    {
+        if self.split.is_some() {
+            return Ok(());
+        }
+        self.work = self.work.saturating_add(self.rows[set as usize].count());
+        let width = a.letters().count() as usize + 1;
+        if self.work / PATIENCE < a.states() as usize * width {
+            return Ok(());
+        }
+        let split = SplitMoves::of(self.allocator(), a)?;
+        self.recent.clear();
+        self.split = Some(split);
+        Ok(())
+    }
+
+    /// Marks in an empty row the states to which the members of a set move on a letter.
+    fn mark_targets(
+        &mut self,
+        a: &Prio,
+        set: u32,
+        letter: u32,
+        row: &mut BitRow,
+    ) -> Result<(), OutOfMemory>
+        requires made { IsMadeFor self.old a.now }
+        requires set_in { set < length self.old.sets }
+        requires letter_in { letter ≤ letters_count a.now }
+        requires bare { row.old ≡ replicate a.now.states false }
+        ensures reached { OnOk result (IsReached a.now (set_at self.old set) letter row.new) }
+        ensures same { self.new ≡ self.old }
+    {
+        let members = &self.rows[set as usize];
+        let Some(split) = &self.split else {
+            mark_moves(row, a, members, letter);
+            return Ok(());
+        };
+        for moves in &self.recent {
+            if moves.set == set {
+                split.mark(row, a, moves, letter);
+                return Ok(());
+            }
+        }
+        let moves = split.moves_of(set, members)?;
+        split.mark(row, a, &moves, letter);
+        if self.recent.len() == RECENT {
+            self.recent.clear();
+        }
+        self.recent.push(moves)?;
+        Ok(())
     }
 }

@@ -1,4 +1,4 @@
-//! What a walk knows of the rests that its sets refuse.
+//! What a walk knows of the rests that its sets refuse, and the search for them.
 
 ghost use Rattle.std.specs.Prelude.{◌≡◌, ℕ, ◌+◌, ◌<◌, ◌≤◌, [], ◌∷◌, ◌++◌, List, length, slice_index_or, IfOk, OnOk, OnErr};
 ghost use Rattle.rl_prio.specs.Automaton.{Automaton, letters_count};
@@ -6,9 +6,11 @@ ghost use Rattle.rl_sets.specs.declared.life.Life.TheVariants.{Unknown};
 ghost use Rattle.rl_sets.specs.declared.life.Route.TheVariants.{On};
 ghost use Rattle.rl_sets.specs.Rests.{IsLife, Routed};
 ghost use Rattle.rl_sets.specs.Walk.{set_at, IsMadeFor};
+ghost use Rattle.rl_sets.specs.internal.Search.{found_of, root_of};
 
 use crate::fill::lengthen;
 use crate::life::{Life, Route, word_of};
+use crate::rests::RestSearch;
 use crate::walk::SetWalk;
 use rl_lists::{OutOfMemory, Word};
 use rl_prio::Prio;
@@ -61,5 +63,25 @@ impl SetWalk {
             route,
             a.letters().count(),
         )
+    }
+
+    /// Returns a search that begins with a set: the kept search, restarted, or a new one.
+    pub(crate) fn take_search(&mut self, set: u32) -> Result<RestSearch, OutOfMemory>
+        ensures root { IfOk result (λ s. found_of s ≡ root_of set) }
+        ensures same { self.new ≡ self.old }
+    {
+        let mut search = match self.idle.take() {
+            Some(search) => search,
+            None => RestSearch::new(self.allocator()),
+        };
+        search.begin(set)?;
+        Ok(search)
+    }
+
+    /// Keeps a search for later use.
+    pub(crate) fn keep_search(&mut self, search: RestSearch)
+        ensures { self.new ≡ self.old }
+    {
+        self.idle = Some(search);
     }
 }

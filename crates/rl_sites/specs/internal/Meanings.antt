@@ -1,5 +1,5 @@
 -- For private contracts: a table of the meanings of names.
-use Rattle.std.specs.Prelude.{◌≡◌, ℕ, true, false, ◌||◌, List, Option, Some, None, nat_lt, find, unwrap_or, bytes_eq, if◌then◌else◌}
+use Rattle.std.specs.Prelude.{◌≡◌, ℕ, Bool, true, false, ◌||◌, List, [], ◌∷◌, codes, Option, Some, None, nat_lt, find, unwrap_or, bytes_eq, if◌then◌else◌}
 use Rattle.std.specs.Map.{lookup}
 use denote.Ref.{Bor}
 use Rattle.rl_sites.specs.declared.significant.SignificantToken.{SignificantToken}
@@ -19,6 +19,26 @@ call_of word = find (λ call. bytes_eq word (call_word call)) calls
 -- The flag with this name, if there is one.
 unfoldable pub flag_of : List ℕ → Option Flag
 flag_of word = lookup (bytes_eq word) flag_names
+
+-- All flags, in the order of `flag_names`.
+abbrev pub flags : List Flag
+flags =
+    flag.Ascii ∷ flag.IgnoreCase ∷ flag.Locale ∷ flag.Multiline ∷ flag.DotAll ∷ flag.Unicode ∷ flag.Verbose ∷ flag.Nothing ∷ []
+
+-- The two names of a flag.
+abbrev pub flag_words : Flag → List ℕ × List ℕ
+flag_words flag.Ascii = (codes "A", codes "ASCII")
+flag_words flag.IgnoreCase = (codes "I", codes "IGNORECASE")
+flag_words flag.Locale = (codes "L", codes "LOCALE")
+flag_words flag.Multiline = (codes "M", codes "MULTILINE")
+flag_words flag.DotAll = (codes "S", codes "DOTALL")
+flag_words flag.Unicode = (codes "U", codes "UNICODE")
+flag_words flag.Verbose = (codes "X", codes "VERBOSE")
+flag_words flag.Nothing = (codes "DEBUG", codes "NOFLAG")
+
+-- Whether the word is one of the names of the flag.
+abbrev pub is_word_of : List ℕ → Flag → Bool
+is_word_of word flag = bytes_eq word (flag_words flag).0 || bytes_eq word (flag_words flag).1
 
 -- The first function that the name is an alias of, if there is one.
 unfoldable pub first_call : List ℕ → List Alias → List ℕ → Option Call

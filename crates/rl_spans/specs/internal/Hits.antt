@@ -9,18 +9,20 @@ use Rattle.rl_marks.specs.internal.Threads.{thread, first_ended, walks}
 use Rattle.rl_spans.specs.declared.running.Hit.{Hit}
 use Rattle.rl_spans.specs.declared.side.Side.{Side}
 
+-- The end of a run that a hit is.
 abbrev pub end_of : Hit → Ended
 end_of hit = record { place = hit.end; caps = hit.caps }
 
+-- The end of a run, if there is a hit.
 abbrev pub ended_of : Option Hit → Option Ended
 ended_of None = None
 ended_of (Some hit) = Some (end_of hit)
 
--- what the threads stop with at a place, or else what was found before
+-- What the threads stop with at a place, or else what was found before.
 abbrev pub later_of : ℕ → Option Caps → Option Ended → Option Ended
 later_of i None x = x
 later_of i (Some c) x = Some (record { place = i; caps = c })
 
--- what a side finds on a text from a place on; the flag says that the match may not be empty
+-- What a side finds on a text from a place on; the flag says that the match may not be empty.
 abbrev pub found_at : Side → List ℕ → Bool → ℕ → Option Ended
 found_at side w advance i = first_ended (is_hit_from side.ending advance w i) (walks (marked_of side.tree) w (thread 0 no_caps ∷ []) i)

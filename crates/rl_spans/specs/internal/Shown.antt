@@ -1,4 +1,4 @@
--- What guards see of a code.
+-- What guards see of a code, and what threads try there.
 use Rattle.std.specs.Prelude.{◌≡◌, ℕ, suc, slice_index_or, Bool, true, false, not, ◌||◌, ◌&&◌, List, [], ◌∷◌, ◌++◌, if◌then◌else◌, Option, is_none}
 use Rattle.std.proofs.Math.Bool.{beq}
 use Rattle.rl_syntax.specs.declared.anchors.Guard.{Guard}
@@ -16,32 +16,36 @@ use Rattle.rl_marks.specs.declared.threads.Act.TheVariants.{Check as check, Open
 use Rattle.rl_marks.specs.declared.threads.MarkItem.TheVariants.{Test as test_at, Pass as pass}
 use Rattle.rl_marks.specs.declared.threads.Try.TheVariants.{Goes as goes, Stops as stops}
 
+-- This is what guards see of the code, or of the start or the end of the text.
 pub record IsShown (o : Option ℕ) (s : Shown) : Type 0 where
   pub none : s.none ≡ is_none o
   pub line_feed : s.line_feed ≡ is_in is_line_feed o
   pub word : s.word ≡ is_in (is_word false) o
   pub ascii_word : s.ascii_word ≡ is_in (is_word true) o
 
-abbrev pub shown_word : Bool → Shown → Bool
-shown_word true s = s.ascii_word
-shown_word false s = s.word
+-- Whether guards see a word character. The flag says whether only ASCII characters count.
+abbrev pub sees_word : Bool → Shown → Bool
+sees_word true s = s.ascii_word
+sees_word false s = s.word
 
--- whether the guard holds between what is shown
+-- Whether the guard holds, by what guards see of the code before and of the next one.
 abbrev pub met : Guard → Shown → Shown → Bool
 met Start before next = before.none
 met LineStart before next = before.none || before.line_feed
 met LineEnd before next = next.none || next.line_feed
 met TextEnd before next = next.none
-met (Word ascii) before next = not (beq (shown_word ascii before) (shown_word ascii next))
-met (NotWord ascii) before next = beq (shown_word ascii before) (shown_word ascii next)
+met (Word ascii) before next = not (beq (sees_word ascii before) (sees_word ascii next))
+met (NotWord ascii) before next = beq (sees_word ascii before) (sees_word ascii next)
 
+-- Whether each guard among the acts holds.
 abbrev pub all_met : List Act → Shown → Shown → Bool
 all_met [] before next = true
 all_met (check g ∷ acts) before next = met g before next && all_met acts before next
 all_met (open_group ∷ acts) before next = all_met acts before next
 all_met (close_group n ∷ acts) before next = all_met acts before next
 
--- what is tried between what is shown
+-- What a thread tries at position `i`, in order: each of its items whose guards hold, by what guards see of the code before and
+-- of the next one. `c` is what is known of the groups so far.
 abbrev pub shown_tries : Shown → Shown → ℕ → List MarkItem → Caps → List Try
 shown_tries before next i [] c = []
 shown_tries before next i (test_at acts p ∷ l) c =
@@ -49,12 +53,12 @@ shown_tries before next i (test_at acts p ∷ l) c =
 shown_tries before next i (pass acts ∷ l) c =
     (if all_met acts before next then stops (performed acts i c) ∷ [] else []) ++ shown_tries before next i l c
 
--- what the threads try, by the items of each state
+-- What the threads try, one thread after another. `rows` has the items of each state.
 abbrev pub shown_spread : List (List MarkItem) → Shown → Shown → ℕ → List Thread → List Try
 shown_spread rows before next i [] = []
 shown_spread rows before next i (t ∷ l) = shown_tries before next i (slice_index_or rows t.state []) t.caps ++ shown_spread rows before next i l
 
--- the threads behind a letter, by whether the test of each place takes it
+-- The threads after a letter, for tries in order: those whose test accepts the letter, and none after the first end if ends count.
 abbrev pub taken_by : List Bool → Bool → List Try → List Thread
 taken_by takes accepts [] = []
 taken_by takes accepts (goes p c ∷ l) = (if slice_index_or takes p false then thread (suc p) c ∷ [] else []) ++ taken_by takes accepts l

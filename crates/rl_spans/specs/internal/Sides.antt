@@ -9,24 +9,25 @@ use Rattle.rl_marks.specs.internal.MarkItems.{places}
 use Rattle.rl_marks.specs.internal.Threads.{items_at}
 use Rattle.rl_spans.specs.declared.side.Side.{Side}
 
--- the rows have the items of each state
+-- The rows have the items of each state.
 pub record HasItems (m : Marked) (rows : List (List MarkItem)) : Type 0 where
   pub count : length rows ≡ suc (places m)
   pub items : (q : ℕ) → q < length rows → slice_index_or rows q [] ≡ items_at m q
 
--- for each code of the list there is, for each place, whether its test takes the code
+-- For each code of the list there is, for each place, whether its test takes the code.
 abbrev pub HasTests : Marked → List ℕ → List (List Bool) → Type 0
 HasTests m codes tests = tests ≡ map (λ code. map (λ (set : ℕ → Bool). set code) (sets_in (plain m))) codes
 
+-- The side knows the items of its states and the tests of the codes, and has no more places than a tree has nodes.
 pub record IsSide (codes : List ℕ) (side : Side) : Type 0 where
   pub items : HasItems (marked_of side.tree) side.rows
   pub tests : HasTests (marked_of side.tree) codes side.tests
   pub few : places (marked_of side.tree) ≤ MOST_NODES
 
--- the matcher of a side
+-- The matcher of a side.
 abbrev pub matcher_of : Side → Matcher
 matcher_of side = record { tree = marked_of side.tree; ending = side.ending }
 
--- for each place, whether its test takes the code
+-- For each place, whether its test takes the code.
 abbrev pub tests_at : Marked → ℕ → List Bool
 tests_at m code = map (λ (set : ℕ → Bool). set code) (sets_in (plain m))

@@ -6,24 +6,24 @@ use Rattle.rl_syntax.specs.Tree.{Tree, places}
 use Rattle.rl_prio.specs.States.{dead, state_count, moves_over}
 use Rattle.rl_sets.specs.Live.{holds}
 
--- how many of the first places are kept
+-- How many of the first places are kept.
 abbrev pub kept_before : List Bool → ℕ → ℕ
 kept_before keep zero = 0
 kept_before [] (suc p) = suc (kept_before [] p)
 kept_before (k ∷ keep) (suc p) = (if k then 1 else 0) + kept_before keep p
 
--- whether a state is kept: every state is, except those of the places that aren't kept
+-- Whether a state is kept: every state is, except those of the places that aren't kept.
 abbrev pub is_kept : List Bool → ℕ → Bool
 is_kept keep zero = true
 is_kept keep (suc p) = slice_index_or keep p true
 
--- the number that a kept state has in the smaller tree
+-- The number that a kept state has in the smaller tree.
 abbrev pub sunk : List Bool → ℕ → ℕ
 sunk keep zero = 0
 sunk keep (suc p) = suc (kept_before keep p)
 
--- the states of the first tree are the kept states of the second, and their moves, over the letters of any sets, are the moves
--- between these; `n` is the number of codes
+-- The states of the first tree are the kept states of the second, and their moves, over the letters of any sets, are the moves
+-- between these; `n` is the number of codes.
 pub record AreSunk (sets : List (ℕ → Bool)) (n : ℕ) (keep : List Bool) (s t : Tree) : Type 0 where
   pub flags : length keep ≡ places t
   pub kept : places s ≡ kept_before keep (places t)

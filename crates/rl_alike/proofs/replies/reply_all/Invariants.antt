@@ -2,7 +2,7 @@
 use Rattle.std.proofs.Common.{◌≤◌}
 use Rattle.std.specs.Io.KnownBytes.{Appends}
 use Rattle.rl_alike.specs.Lines.{Replies}
-use Rattle.rl_alike.specs.Names.{Text}
+use Rattle.rl_report.specs.Names.{Text}
 use Rattle.rl_alike.proofs.replies.reply_all.Given as goal
 
 abbrev pub invariant-loop : goal.invariant-loop

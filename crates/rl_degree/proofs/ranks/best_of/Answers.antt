@@ -1,88 +1,13 @@
-use Rattle.std.proofs.Common.{◌≡◌, ◌+◌, ◌<◌, ◌≤◌, ℕ, get_or, refl, sym, ◌∙◌, subst, arith}
-use Rattle.std.proofs.lemmas.List.{get_or_read}
 use Rattle.rl_graph.specs.Graph.{edges_of}
-use Rattle.rl_graph.specs.Parts.{number_of}
-use Rattle.rl_degree.specs.internal.Groups.{IsFirstFrom}
-use Rattle.rl_degree.specs.internal.Ranks.{no_best, AreBests, BeatsMoves, BeatsSplits}
-use Rattle.rl_degree.proofs.RankLaws.{good-none, good-same, moves-raised, splits-raised}
-use Rattle.rl_degree.proofs.GroupLaws.{each-below}
+use Rattle.rl_degree.proofs.RankLaws.{moves-raised}
 use Rattle.rl_degree.proofs.ranks.best_of.Goals as goal
-
-pub loop-state-preserved : goal.loop-state-preserved
-loop-state-preserved c =
-    let g = c.args.g.now in
-    let next = edges_of g in
-    let n = g.states in
-    let p = c.args.table.now.components in
-    let bests = c.args.bests.now in
-    let k = c.loop-state.state in
-    let i = c.loop-state.invariant in
-    let hk : k < n = omega (arith, c.states-count.ensures.number) in
-    let same = i.member hk in
-    let nexts = c.args.groups.now.nexts.items in
-    let e : c.index-next.result.now ≡ get_or nexts k 0 = get_or_read nexts k c.index-next.result.now (omega (arith, c.requires.groups.nexts_size)) c.index-next.ensures 0 in
-    let after : IsFirstFrom p n c.args.component (k + 1) c.index-next.result.now =
-    subst (λ (z : ℕ). IsFirstFrom p n z (k + 1) c.index-next.result.now) same (subst (IsFirstFrom p n (number_of p k) (k + 1)) (sym e) (c.requires.groups.next k (omega arith) hk)) in
-    let r = c.in_ok-best.best in
-    let m = c.best_by_moves-by_moves.result in
-    let rises : c.loop-state.best.rank ≤ r.rank = omega (arith, c.best_by_moves-by_moves.ensures.least, c.in_ok-best.ensures.least) in
-    record {
-      within = after.within;
-      member = after.member;
-      good = λ q hq f. good-same next n p bests q k r c.requires.table.components hq hk (f ∙ sym same) c.in_ok-best.ensures.good;
-      moves = each-below (λ q. BeatsMoves next p bests q r.rank) p n k c.args.component c.index-next.result.now after
-          (λ q h f. moves-raised next p bests q c.loop-state.best.rank r.rank (i.moves q h f) rises)
-          (moves-raised next p bests k m.rank r.rank c.best_by_moves-by_moves.ensures.moves c.in_ok-best.ensures.least);
-      splits = each-below (λ q. BeatsSplits next n p bests q r.rank) p n k c.args.component c.index-next.result.now after
-          (λ q h f. splits-raised next n p bests q c.loop-state.best.rank r.rank (i.splits q h f) rises)
-          c.in_ok-best.ensures.splits;
-      marks = c.in_ok-best.ensures.marks;
-    }
-
-pub index-state-requires : goal.index-state-requires
-index-state-requires c = omega (arith, c.requires.groups.firsts_size, c.args.groups.now.firsts.ok.0)
-
-pub index-next-requires : goal.index-next-requires
-index-next-requires c = omega (arith, c.requires.groups.nexts_size, c.args.groups.now.nexts.ok.0, c.states-count.ensures.number)
-
-pub loop-state-init : goal.loop-state-init
-loop-state-init c =
-    let g = c.args.g.now in
-    let p = c.args.table.now.components in
-    let n = g.states in
-    let k = c.args.component in
-    let firsts = c.args.groups.now.firsts.items in
-    let e : c.index-state.result.now ≡ get_or firsts k 0 = get_or_read firsts k c.index-state.result.now (omega (arith, c.requires.groups.firsts_size)) c.index-state.ensures 0 in
-    let first : IsFirstFrom p n k 0 c.index-state.result.now = subst (IsFirstFrom p n k 0) (sym e) (c.requires.groups.first k c.requires.component_in) in
-    record {
-      within = first.within;
-      member = first.member;
-      good = λ q hq f. good-none (edges_of g) n p c.args.bests.now q no_best refl;
-      moves = λ q h f. absurd (first.least q (omega arith) h f);
-      splits = λ q h f. absurd (first.least q (omega arith) h f);
-      marks = c.requires.marks;
-    }
-
-pub best_by_moves-by_moves-requires-clause-bests : goal.best_by_moves-by_moves-requires-clause-bests
-best_by_moves-by_moves-requires-clause-bests c =
-    let g = c.args.g.now in
-    let same = c.loop-state.invariant.member (omega (arith, c.states-count.ensures.number)) in
-    subst (λ (k : ℕ). AreBests (edges_of g) g.states c.args.table.now.components k c.args.bests.now) (sym same) c.requires.bests
-
-pub best_by_moves-by_moves-requires-clause-start : goal.best_by_moves-by_moves-requires-clause-start
-best_by_moves-by_moves-requires-clause-start c =
-    let i = c.loop-state.invariant in
-    let below : c.loop-state.state < c.args.g.now.states = omega (arith, c.states-count.ensures.number) in
-    i.good c.loop-state.state below (i.member below)
-
-pub best_by_splits-requires-clause-bests : goal.best_by_splits-requires-clause-bests
-best_by_splits-requires-clause-bests c =
-    let g = c.args.g.now in
-    let same = c.loop-state.invariant.member (omega (arith, c.states-count.ensures.number)) in
-    subst (λ (k : ℕ). AreBests (edges_of g) g.states c.args.table.now.components k c.args.bests.now) (sym same) c.requires.bests
 
 pub returns-clause-best : goal.returns-clause-best
 returns-clause-best c =
-    let i = c.loop-state.invariant in
-    let all : c.args.g.now.states ≤ c.loop-state.state = omega (arith, c.states-count.ensures.number) in
-    λ q hq f. record { good = i.good q hq f; moves = i.moves q (omega (arith, hq, all)) f; splits = i.splits q (omega (arith, hq, all)) f }
+    let m = c.best_by_all_moves-by_moves in
+    let o = c.in_ok-best.ensures in
+    λ q hq f. record {
+      good = o.good q hq f;
+      moves = moves-raised (edges_of c.args.g.now) c.args.table.now.components c.args.bests.now q m.result.rank c.in_ok-best.best.rank (m.ensures.moves q hq f) o.least;
+      splits = o.splits q hq f;
+    }

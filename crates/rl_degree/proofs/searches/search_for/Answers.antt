@@ -1,11 +1,13 @@
-use Rattle.std.proofs.Common.{ℕ, ◌≡◌, false, length, refl, inl, get_or, ◌∙◌, ap, subst, arith, sym}
+use Rattle.std.proofs.Common.{ℕ, ◌≡◌, ◌<◌, [], false, length, refl, inl, get_or, ◌∙◌, ap, subst, arith, sym}
 use Rattle.std.proofs.lemmas.List.{get_or_read, length-replicate}
 use Rattle.rl_graph.specs.Graph.{edges_of}
 use Rattle.rl_graph.specs.Twins.{IsSplit}
+use Rattle.rl_graph.specs.Parts.{number_of}
+use Rattle.rl_degree.specs.internal.Reached.{IsHopeless}
 use Rattle.rl_degree.specs.internal.Splits.{HasSplit}
 use Rattle.rl_degree.specs.internal.Pairs.{lists_of}
 use Rattle.rl_degree.specs.internal.Rows.{Stand, field_of, stand_of, word_at, behind, IsSearching}
-use Rattle.rl_degree.proofs.SearchLaws.{for-behind, search-start, search-further, search-found, search-word, search-none}
+use Rattle.rl_degree.proofs.SearchLaws.{for-behind, hopeless-there, search-start, search-further, search-found, search-word, search-none}
 use Rattle.rl_degree.proofs.searches.search_for.Goals as goal
 
 pub loop-found-init : goal.loop-found-init
@@ -16,7 +18,12 @@ loop-found-init c =
     let places = (lists_of t.placed).places in
     let at : c.index.result.now ≡ get_or places x 0 =
     get_or_read places x c.index.result.now (omega (arith, c.requires.pair.within, c.requires.table.placed.size)) c.index.ensures 0 in
-    let s = search-start g t c.requires.table.whole c.requires.table c.args.keeps c.in_ok-hopeless.hopeless x c.of-part.result _ c.index.result.now c.args.from c.args.to (stand_of c.in_ok-search.search) c.requires.from_in c.requires.to_in c.in_ok-hopeless.ensures c.requires.pair
+    let k = number_of t.components c.args.to in
+    let small : c.of.result < length t.hopeless.items = omega (arith, c.of.ensures, c.requires.table.components.below c.args.to c.requires.to_in, c.requires.table.hopeless.size) in
+    let row : c.index-hopeless.result.now ≡ get_or t.hopeless.items k [] =
+    get_or_read t.hopeless.items c.of.result c.index-hopeless.result.now small c.index-hopeless.ensures [] ∙ ap (λ z. get_or t.hopeless.items z []) c.of.ensures in
+    let hopeless = subst (IsHopeless g.states t.components t.reached.items k) (sym row) (hopeless-there g t c.requires.table.whole c.requires.table c.args.from c.args.to x c.requires.pair) in
+    let s = search-start g t c.requires.table.whole c.requires.table c.args.keeps c.index-hopeless.result.now x c.of-part.result _ c.index.result.now c.args.from c.args.to (stand_of c.in_ok-search.search) c.requires.from_in c.requires.to_in hopeless c.requires.pair
     c.of-part.ensures at (ap length c.members_of-pairs.ensures) c.in_ok-search.ensures in
     record {
       searching = s.0;
@@ -142,4 +149,15 @@ follow-requires-clause-searching c =
     subst (IsSearching (field_of c.args.g.now c.args.table.now c.of-part.result)) c.in-Some.ensures.found c.loop-found.invariant.searching
 
 pub new-requires-clause-from_in : goal.new-requires-clause-from_in
-new-requires-clause-from_in c = omega (arith, c.in_ok-hopeless.ensures.wide, c.requires.from_in)
+new-requires-clause-from_in c =
+    let g = c.args.g.now in
+    let t = c.args.table.now in
+    let k = number_of t.components c.args.to in
+    let small : c.of.result < length t.hopeless.items = omega (arith, c.of.ensures, c.requires.table.components.below c.args.to c.requires.to_in, c.requires.table.hopeless.size) in
+    let row : c.index-hopeless.result.now ≡ get_or t.hopeless.items k [] =
+    get_or_read t.hopeless.items c.of.result c.index-hopeless.result.now small c.index-hopeless.ensures [] ∙ ap (λ z. get_or t.hopeless.items z []) c.of.ensures in
+    omega (arith, ap length row, (hopeless-there g t c.requires.table.whole c.requires.table c.args.from c.args.to c.args.pair c.requires.pair).wide, c.requires.from_in)
+
+pub index-hopeless-requires : goal.index-hopeless-requires
+index-hopeless-requires c =
+    omega (arith, c.of.ensures, c.requires.table.components.below c.args.to c.requires.to_in, c.requires.table.hopeless.size, c.args.table.now.hopeless.ok.0)

@@ -31,4 +31,4 @@ returns-clause-codes c =
     subst (λ t. AreEnough (all_sets (plain (marked_of t)) ++ all_sets (plain (marked_of c.in_ok-second-2.second.tree))) (code_count c.args.a.now.universe) c.in_ok-codes.codes)
     (sym c.in_ok-first-2.ensures.tree)
     (subst (λ t. AreEnough (all_sets (plain (marked_of c.in_ok-first.first)) ++ all_sets (plain (marked_of t))) (code_count c.args.a.now.universe) c.in_ok-codes.codes)
-    (sym c.in_ok-second-2.ensures.tree) c.in_ok-codes.ensures)
+    (sym c.in_ok-second-2.ensures.tree) c.in_ok-codes.ensures.enough)

@@ -1,4 +1,4 @@
-use Rattle.std.proofs.Common.{◌≡◌, ◌≤◌, length, refl, subst, arith}
+use Rattle.std.proofs.Common.{◌≤◌, length, refl, subst, arith}
 use Rattle.rl_ranges.specs.Text.{IsText}
 use Rattle.rl_marks.specs.Hits.{match_at, SameHit}
 use Rattle.rl_marks.specs.internal.Seeking.{origin_in, IsFrom}
@@ -6,8 +6,8 @@ use Rattle.rl_spans.specs.internal.Sides.{matcher_of}
 use Rattle.rl_spans.proofs.AnswerLaws.{seen-differ}
 use Rattle.rl_spans.proofs.comparing.seen_apart.Goals as goal
 
-pub returns-in-Ok-true : goal.returns-in-Ok-true
-returns-in-Ok-true c =
+pub returns-in-Ok-true-clause-answer : goal.returns-in-Ok-true-clause-answer
+returns-in-Ok-true-clause-answer c =
     let p = c.args.a.now in
     let w = c.args.witness.text in
     let i = c.args.witness.from in

@@ -1,4 +1,4 @@
-use Rattle.std.proofs.Common.{◌∙◌, ap, refl}
+use Rattle.std.proofs.Common.{◌≡◌, ◌∙◌, IfOk, length, ap, refl, subst}
 use Rattle.rl_marks.specs.Marked.{marked_of}
 use Rattle.rl_spans.specs.internal.Shown.{shown_spread}
 use Rattle.rl_spans.proofs.HitLaws.{spread-at}
@@ -6,7 +6,8 @@ use Rattle.rl_spans.proofs.running.tries_at_place.Goals as goal
 
 pub returns : goal.returns
 returns c =
-    c.in_ok-tries.ensures
-    ∙ ap (λ rows. shown_spread rows c.args.before.shown c.args.next.shown c.args.place c.args.threads.now) c.as_slice.ensures
+    subst (λ tries. IfOk c.spread_of.result (λ l. l ≡ tries))
+    (ap (λ rows. shown_spread rows c.args.before.shown c.args.next.shown c.args.place c.args.threads.now) c.as_slice.ensures
     ∙ spread-at (marked_of c.args.side.now.tree) c.args.side.now.rows c.requires.side.items c.args.before.shown c.args.next.shown
-    c.args.before.code c.args.next.code c.requires.before c.requires.next c.args.place c.len.result c.len.ensures c.args.threads.now (c.if-not-are_inside.ensures refl)
+    c.args.before.code c.args.next.code c.requires.before c.requires.next c.args.place (length c.args.side.now.rows) refl c.args.threads.now c.requires.inside)
+    c.spread_of.ensures

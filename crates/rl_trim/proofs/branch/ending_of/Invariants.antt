@@ -1,5 +1,6 @@
-use Rattle.rl_trim.specs.internal.Trims.{AreEnding}
+use Rattle.rl_trim.specs.internal.Trims.{state_ends}
+use Rattle.rl_trim.proofs.RowLaws.{IsFilled}
 use Rattle.rl_trim.proofs.branch.ending_of.Given as goal
 
 abbrev pub invariant-loop-state : goal.invariant-loop-state
-invariant-loop-state l = AreEnding l.a l.state l.ending.items
+invariant-loop-state l = IsFilled (state_ends l.a) l.states l.state l.ending

@@ -1,23 +1,21 @@
-use Rattle.std.proofs.Common.{◌≡◌, sym, subst, arith}
-use Rattle.rl_trim.specs.internal.Quick.{AreGone}
-use Rattle.rl_trim.proofs.SetLaws.{gone-none, gone-kept, gone-more}
+use Rattle.std.proofs.Common.{ℕ, not, sym, ap, arith}
+use Rattle.rl_trim.specs.internal.Sunk.{is_kept}
+use Rattle.rl_trim.proofs.RowLaws.{filled-none, filled-set, filled-unset, gone-all}
 use Rattle.rl_trim.proofs.branch.gone_of.Goals as goal
-use Rattle.rl_trim.proofs.branch.gone_of.Goals.{then-not-is_kept+in_ok-push, else-not-is_kept}
+use Rattle.rl_trim.proofs.branch.gone_of.Goals.{then-not-is_kept, else-not-is_kept}
 
 pub loop-state-init : goal.loop-state-init
-loop-state-init c = gone-none c.args.keep.now c.new-gone.result.items c.new-gone.ensures.items
+loop-state-init c = filled-none (λ q. not (is_kept c.args.keep.now q)) c.args.states c.in_ok-gone.gone c.in_ok-gone.ensures
 
 pub loop-state-preserved : goal.loop-state-preserved
 loop-state-preserved c =
-    let keep = c.args.keep.now in
+    let f = λ (q : ℕ). not (is_kept c.args.keep.now q) in
+    let states = c.args.states in
     let state = c.loop-state.state in
-    let gone = c.loop-state.gone.items in
     elim c.if-not-is_kept.branch [
-      | then-not-is_kept+in_ok-push w ↦ rw w.gone-is (gone-more keep state gone w.push.new.self.items w.in_ok-push.ensures.items c.loop-state.invariant)
-      | else-not-is_kept w ↦ rw w.gone-is (gone-kept keep state gone (sym w.if-not-is_kept.ensures) c.loop-state.invariant)
+      | then-not-is_kept w ↦ rw w.gone-is (filled-set f states state c.loop-state.gone w.set.new.self (ap not (sym w.if-not-is_kept.ensures)) w.set.ensures c.loop-state-test.true c.loop-state.invariant)
+      | else-not-is_kept w ↦ rw w.gone-is (filled-unset f states state c.loop-state.gone (ap not (sym w.if-not-is_kept.ensures)) c.loop-state.invariant)
     ]
 
 pub returns : goal.returns
-returns c =
-    let all : c.loop-state.state ≡ c.args.states = omega (arith, c.loop-state-test.false, c.loop-state.auto) in
-    subst (λ n. AreGone c.args.keep.now n c.loop-state.gone.items) all c.loop-state.invariant
+returns c = gone-all c.args.keep.now c.args.states c.loop-state.state c.loop-state.gone (omega (arith, c.loop-state-test.false, c.loop-state.auto)) c.loop-state.invariant

@@ -1,4 +1,4 @@
-use Rattle.std.proofs.Common.{◌≡◌, ◌∙◌, ◌<◌, ◌≤◌, ℕ, List, length, get_or, sym, ap, subst, arith}
+use Rattle.std.proofs.Common.{◌≡◌, ◌∙◌, ◌<◌, ◌≤◌, ℕ, List, length, get_or, sym, ap, arith}
 use Rattle.rl_sets.specs.Walk.{set_at}
 use Rattle.rl_trim.proofs.ChangeLaws.{row-read, member-low, adding-more, adding-all}
 use Rattle.rl_trim.proofs.changes.add_changes.Goals as goal

@@ -6,6 +6,7 @@ use Rattle.rl_trim.proofs.holders.touched_sets.Goals as goal
 
 pub returns : goal.returns
 returns c =
-    let n : length c.in-Ok.touched ≡ c.args.count = ap length c.in-Ok.ensures ∙ length-replicate c.args.count false in
-    touched-sets c.args.branch.now.automaton.now c.args.branch.now.keep.now c.args.walk.now c.args.count c.args.holders.now c.in_ok-chosen.chosen c.image.new.into c.requires.made c.requires.few c.requires.holders
-    c.in_ok-chosen.ensures (c.image.ensures.image ∙ ap (union c.args.holders.now c.in_ok-chosen.chosen) n)
+    let b = c.args.branch.now in
+    let n : length c.in_ok-touched.touched ≡ c.args.count = ap length c.in_ok-touched.ensures ∙ length-replicate c.args.count false in
+    touched-sets b.automaton.now b.keep.now c.args.walk.now c.args.count c.args.holders.now b.gone c.image.new.into c.requires.made c.requires.few c.requires.holders
+    b.are_gone (c.image.ensures.image ∙ ap (union c.args.holders.now b.gone) n)

@@ -9,10 +9,10 @@ returns-in_default-clause-found c =
     let keys = c.grow.new.self.keys.keys in
     let few : length keys + c.grow.new.self.count ≤ c.args.limit = omega (arith, c.if-len-count.false, c.len.ensures.len, c.in_ok-all.ensures.count) in
     quick-equal c.args.branch.now.automaton.now c.args.branch.now.keep.now c.grow.new.walk c.grow.new.self.count keys c.in_ok-all.ensures.pairs c.args.limit (c.in_ok-all.ensures.done c.if-not-all.false)
-    (c.in_ok-place.ensures c.in_default.is) few
+    (c.apart.ensures c.in_default.is) few
 
-pub leads_apart-requires : goal.leads_apart-requires
-leads_apart-requires c =
+pub leads_apart-requires-clause-closed : goal.leads_apart-requires-clause-closed
+leads_apart-requires-clause-closed c =
     let count = c.grow.new.self.count in
     stored-begun c.args.branch.now.automaton.now c.grow.new.walk count count c.in_ok-all.ensures.pairs.closed
 

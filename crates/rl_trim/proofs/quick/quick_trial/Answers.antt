@@ -5,13 +5,13 @@ use Rattle.rl_trim.specs.internal.Quick.{IsGrown, ArePairs}
 use Rattle.rl_trim.proofs.SetLaws.{grown-grown}
 use Rattle.rl_trim.proofs.quick.quick_trial.Goals as goal
 
--- a walk that has grown before has grown
+-- A walk that has grown before has grown.
 then-grown : {A E : Type 0} (a : Automaton) (v w x : Walk) (r : Result A E) → IsGrown a v w → OnOk r (IsGrown a w x) → OnOk r (IsGrown a v x)
 then-grown a v w x (Ok o) g h = grown-grown a v w x g h
 then-grown a v w x (Err e) g h = tt
 
-pub judge_pairs-told-requires : goal.judge_pairs-told-requires
-judge_pairs-told-requires c =
+pub judge_pairs-told-requires-clause-pairs : goal.judge_pairs-told-requires-clause-pairs
+judge_pairs-told-requires-clause-pairs c =
     subst (λ n. ArePairs c.args.branch.now.automaton.now c.args.branch.now.keep.now c.new-begun.new.walk n c.in_ok-pairs.pairs.keys.keys) (sym c.in_ok-pairs.ensures.count) c.in_ok-pairs.ensures.pairs
 
 pub returns-clause-found : goal.returns-clause-found

@@ -9,7 +9,7 @@ judge-found-requires-clause-keys c =
     keys-start c.args.branch.now.automaton.now c.args.walk.now c.in_ok-order.order.keys.keys 0 (length c.args.walk.now.sets) c.requires c.in_ok-order.ensures.keys
 
 pub judge-found-requires-clause-arrived : goal.judge-found-requires-clause-arrived
-judge-found-requires-clause-arrived c = arrived-none c.args.branch.now.keep.now c.args.walk.now c.in_ok-order.order.keys.keys c.in_ok-order.order.arrived MOST_SETS c.in_ok-order.ensures.arrived
+judge-found-requires-clause-arrived c = arrived-none c.args.branch.now.keep.now c.args.walk.now c.in_ok-order.order.keys.keys c.in_ok-order.order.arrived MOST_SETS c.in_ok-order.ensures.whole c.in_ok-order.ensures.trims
 
 pub judge-found-requires-clause-one : goal.judge-found-requires-clause-one
 judge-found-requires-clause-one c =

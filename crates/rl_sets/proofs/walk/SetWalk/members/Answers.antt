@@ -4,7 +4,7 @@ use Rattle.rl_sets.proofs.WalkLemmas.{row_at, row_wide}
 use Rattle.rl_sets.proofs.walk.SetWalk.members.Goals as goal
 
 pub members-requires : goal.members-requires
-members-requires c = omega (arith, row_wide c.self.inside.states c.self.inside.limit c.self.inside.rows.keys c.index.result.now c.args.set c.self.invariant c.index.ensures)
+members-requires c = omega (arith, row_wide c.self.inside.states c.self.inside.limit c.self.inside.rows.keys c.index.result.now c.args.set c.self.invariant.rows c.index.ensures)
 
 pub returns : goal.returns
 returns c =

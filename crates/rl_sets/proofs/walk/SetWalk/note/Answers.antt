@@ -9,7 +9,7 @@ use Rattle.rl_sets.proofs.walk.SetWalk.note.Goals as goal
 pub returns-clause-made : goal.returns-clause-made
 returns-clause-made c a made is =
     let fields = c.self.inside in
-    let before : Walk = record { sets = map members_of fields.rows.keys; limit = fields.limit; kept = record { states = fields.states; tables = fields.tables.items; images = fields.images.items; routes = fields.routes.items; lives = fields.lives.items } } in
+    let before : Walk = record { sets = map members_of fields.rows.keys; limit = fields.limit; kept = record { states = fields.states; split = fields.split; images = fields.images.items; routes = fields.routes.items; lives = fields.lives.items } } in
     let was = subst (λ (w : Walk). IsMadeFor w a) (sym c.self.view_is) made in
     let life = subst (λ (w : Walk). IsLife a w.kept.routes (set_at w c.args.set) c.args.life) (sym c.self.view_is) is in
     let here = subst (λ (w : Walk). c.args.set < length w.sets) (sym c.self.view_is) c.requires in

@@ -7,4 +7,4 @@ pub returns-then-key : goal.returns-then-key
 returns-then-key c = same-calm c.args.self.now.automaton.now c.args.walk.now c.args.key c.if-key.true
 
 pub returns : goal.returns
-returns c = ap₂ (λ x y. not (beq x y)) c.in_ok-first.ensures c.in_ok-second.ensures
+returns c = ap₂ (λ x y. not (beq x y)) c.ends.ensures c.ends-2.ensures

@@ -1,10 +1,9 @@
-use Rattle.std.proofs.Common.{◌≡◌, ◌∙◌, ◌+◌, ◌<◌, ◌-◌, ℕ, suc, length, get_or, Bool, false, List, sym, ap, subst, arith}
+use Rattle.std.proofs.Common.{◌≡◌, ◌∙◌, ◌+◌, ◌<◌, ◌-◌, ℕ, suc, length, get_or, false, sym, ap, subst, arith}
 use Rattle.rl_ranges.specs.Letters.{LetterTable}
 use Rattle.rl_prio.specs.Automaton.{letters_count}
-use Rattle.rl_sets.specs.Walk.{Walk, set_at}
-use Rattle.rl_equiv.specs.declared.pair.SetPair.{SetPair}
+use Rattle.rl_sets.specs.Walk.{Walk}
 use Rattle.rl_trim.specs.internal.Trims.{trim_on}
-use Rattle.rl_trim.specs.internal.Quick.{IsInside, pair_of, pair_at}
+use Rattle.rl_trim.specs.internal.Quick.{IsInside, pair_of}
 use Rattle.rl_trim.specs.declared.key.Key.{Key}
 use Rattle.rl_trim.specs.declared.order.Order.{Order}
 use Rattle.rl_trim.proofs.PairLaws.{key-read}

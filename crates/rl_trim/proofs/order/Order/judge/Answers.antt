@@ -1,4 +1,4 @@
-use Rattle.std.proofs.Common.{◌≡◌, ◌<◌, ◌+◌, length, refl, sym, subst, arith}
+use Rattle.std.proofs.Common.{◌<◌, ◌+◌, length, refl, sym, subst, arith}
 use Rattle.rl_trim.specs.internal.Trims.{trim_pairs}
 use Rattle.rl_trim.specs.internal.Orders.{pairs_in}
 use Rattle.rl_trim.specs.internal.Changing.{AreChangesIf}
@@ -29,10 +29,10 @@ returns-then-place-len-clause-found c =
     looking-equal (trim_pairs c.args.branch.now.automaton.now c.args.branch.now.keep.now) c.args.limit c.loop-place.place (pairs_in c.loop-place.walk keys) c.loop-place.invariant.judging.looking
     (omega (arith, pairs-length c.loop-place.walk keys, c.len.ensures.len, c.if-place-len.true)) (omega (arith, c.loop-place-test.true, c.loop-place.auto))
 
-pub returns-then-branch-clause-found : goal.returns-then-branch-clause-found
-returns-then-branch-clause-found c =
-    told-apart c.args.branch.now.automaton.now c.args.branch.now.keep.now c.loop-place.walk c.loop-place.walk c.loop-place.self.keys.keys c.args.limit c.loop-place.place c.in_ok-differs.field-0 c.loop-place.invariant.judging.looking
-    (omega (arith, c.len.ensures.len, c.if-place-len.false, c.loop-place.invariant.judging.looking.inside, pairs-length c.loop-place.walk c.loop-place.self.keys.keys)) c.in_ok-differs.ensures c.if-branch.true (omega (arith, c.loop-place-test.true, c.loop-place.auto))
+pub returns-then-differs-clause-found : goal.returns-then-differs-clause-found
+returns-then-differs-clause-found c =
+    told-apart c.args.branch.now.automaton.now c.args.branch.now.keep.now c.loop-place.walk c.loop-place.walk c.loop-place.self.keys.keys c.args.limit c.loop-place.place c.differs.result c.loop-place.invariant.judging.looking
+    (omega (arith, c.len.ensures.len, c.if-place-len.false, c.loop-place.invariant.judging.looking.inside, pairs-length c.loop-place.walk c.loop-place.self.keys.keys)) c.differs.ensures c.if-differs.true (omega (arith, c.loop-place-test.true, c.loop-place.auto))
 
 pub loop-place-preserved : goal.loop-place-preserved
 loop-place-preserved c =
@@ -47,14 +47,14 @@ loop-place-preserved c =
       judging = elim c.if-len-limit.branch [
         | then-len-limit+in_ok-expand w ↦
             let looking =
-            told-few a keep walk walk keys c.args.limit place c.in_ok-differs.field-0 inv.looking lt c.in_ok-differs.ensures w.expand.new.walk w.expand.new.self.keys.keys c.if-branch.false
+            told-few a keep walk walk keys c.args.limit place c.differs.result inv.looking lt c.differs.ensures w.expand.new.walk w.expand.new.self.keys.keys c.if-differs.false
             (omega (arith, c.len-in-loop-place.ensures.len, w.if-len-limit.true)) refl w.in_ok-expand.ensures.pairs in
             subst (λ (x : Walk). IsJudging a keep c.args.walk.now x c.if-len-limit.self.keys.keys c.if-len-limit.self.arrived c.args.limit (place + 1)) (sym w.walk-is)
             (subst (λ (o : Order). IsJudging a keep c.args.walk.now w.expand.new.walk o.keys.keys o.arrived c.args.limit (place + 1)) (sym w.self-is)
             (record { grown = grown-grown a c.args.walk.now walk w.expand.new.walk inv.grown w.in_ok-expand.ensures.grown; are = w.in_ok-expand.ensures.keys; arrived = w.in_ok-expand.ensures.arrived; looking = looking }))
         | else-len-limit w ↦
             let looking =
-            told-many a keep walk walk keys c.args.limit place c.in_ok-differs.field-0 inv.looking lt c.in_ok-differs.ensures c.if-branch.false (omega (arith, c.len-in-loop-place.ensures.len, w.if-len-limit.false)) refl in
+            told-many a keep walk walk keys c.args.limit place c.differs.result inv.looking lt c.differs.ensures c.if-differs.false (omega (arith, c.len-in-loop-place.ensures.len, w.if-len-limit.false)) refl in
             subst (λ (x : Walk). IsJudging a keep c.args.walk.now x c.if-len-limit.self.keys.keys c.if-len-limit.self.arrived c.args.limit (place + 1)) (sym w.walk-is)
             (subst (λ (o : Order). IsJudging a keep c.args.walk.now walk o.keys.keys o.arrived c.args.limit (place + 1)) (sym w.self-is)
             (record { grown = inv.grown; are = inv.are; arrived = inv.arrived; looking = looking }))
@@ -100,8 +100,8 @@ expand-requires-clause-place_in c =
 pub returns-then-place-len-clause-grown : goal.returns-then-place-len-clause-grown
 returns-then-place-len-clause-grown c = c.loop-place.invariant.judging.grown
 
-pub returns-then-branch-clause-grown : goal.returns-then-branch-clause-grown
-returns-then-branch-clause-grown c = c.loop-place.invariant.judging.grown
+pub returns-then-differs-clause-grown : goal.returns-then-differs-clause-grown
+returns-then-differs-clause-grown c = c.loop-place.invariant.judging.grown
 
 pub returns-then-len-limit-2-clause-grown : goal.returns-then-len-limit-2-clause-grown
 returns-then-len-limit-2-clause-grown c = c.loop-place.invariant.judging.grown

@@ -23,15 +23,16 @@ pub returns-clause-arrived : goal.returns-clause-arrived
 returns-clause-arrived c =
     let keys = c.args.self.now.keys.keys in
     subst (AreArrived c.args.branch.now.keep.now c.next.new.walk c.put.new.self.keys.keys) (sym c.in_ok-put.ensures.arrived)
-    (arrived-put c.args.branch.now.automaton.now c.args.branch.now.keep.now c.args.walk.now c.next.new.walk keys c.put.new.self.keys.keys c.in_ok-next.next c.args.self.now.arrived c.in_ok-next.ensures.grown c.in_ok-put.ensures.keys c.requires.keys c.requires.arrived)
+    (arrived-put c.args.branch.now.automaton.now c.args.branch.now.keep.now c.args.walk.now c.next.new.walk keys c.put.new.self.keys.keys c.in_ok-next.next c.args.self.now.arrived c.next.new.trims
+    c.in_ok-next.ensures.next.grown c.in_ok-put.ensures.keys c.requires.keys c.requires.arrived c.in_ok-next.ensures.trims)
 
 pub returns-clause-pairs : goal.returns-clause-pairs
 returns-clause-pairs c =
     let a = c.args.branch.now.automaton.now in
     let keep = c.args.branch.now.keep.now in
     let keys = c.args.self.now.keys.keys in
-    let is = c.in_ok-next.ensures.is ∙ ap (λ (k : Key). trim_on a keep (pair_of c.args.walk.now k) c.args.letter) (sym (key-read keys c.args.place c.index-key.result.now c.index-key.ensures)) in
-    pairs-put a c.args.walk.now c.next.new.walk keys c.put.new.self.keys.keys c.in_ok-next.next _ c.in_ok-next.ensures.grown c.in_ok-next.ensures.inside is c.in_ok-put.ensures.keys c.requires.keys
+    let is = c.in_ok-next.ensures.next.is ∙ ap (λ (k : Key). trim_on a keep (pair_of c.args.walk.now k) c.args.letter) (sym (key-read keys c.args.place c.index-key.result.now c.index-key.ensures)) in
+    pairs-put a c.args.walk.now c.next.new.walk keys c.put.new.self.keys.keys c.in_ok-next.next _ c.in_ok-next.ensures.next.grown c.in_ok-next.ensures.next.inside is c.in_ok-put.ensures.keys c.requires.keys
 
 pub visit_whole-requires-clause-inside : goal.visit_whole-requires-clause-inside
 visit_whole-requires-clause-inside c =
@@ -43,6 +44,9 @@ next-requires-clause-inside c =
 
 pub next-requires-clause-made : goal.next-requires-clause-made
 next-requires-clause-made c = c.requires.keys.made
+
+pub next-requires-clause-trims : goal.next-requires-clause-trims
+next-requires-clause-trims c = c.requires.arrived.trims
 
 pub visit_whole-requires-clause-whole : goal.visit_whole-requires-clause-whole
 visit_whole-requires-clause-whole c = c.if-key.true
@@ -57,8 +61,8 @@ pub returns-then-key-clause-arrived : goal.returns-then-key-clause-arrived
 returns-then-key-clause-arrived c = c.visit_whole.ensures.arrived
 
 pub returns-clause-grown : goal.returns-clause-grown
-returns-clause-grown c = c.in_ok-next.ensures.grown
+returns-clause-grown c = c.in_ok-next.ensures.next.grown
 
 pub returns-clause-keys : goal.returns-clause-keys
 returns-clause-keys c =
-    keys-put c.args.branch.now.automaton.now c.args.walk.now c.next.new.walk c.args.self.now.keys.keys c.put.new.self.keys.keys c.in_ok-next.next c.in_ok-next.ensures.grown c.in_ok-next.ensures.inside c.in_ok-put.ensures.keys c.requires.keys
+    keys-put c.args.branch.now.automaton.now c.args.walk.now c.next.new.walk c.args.self.now.keys.keys c.put.new.self.keys.keys c.in_ok-next.next c.in_ok-next.ensures.next.grown c.in_ok-next.ensures.next.inside c.in_ok-put.ensures.keys c.requires.keys

@@ -2,6 +2,7 @@ use Rattle.std.proofs.Common.{◌≡◌, ◌∙◌, List, sym, ap, subst, arith}
 use Rattle.rl_trim.specs.declared.key.Key.{Key}
 use Rattle.rl_trim.specs.internal.Orders.{pairs_in, AreKeys, AreArrived}
 use Rattle.rl_trim.proofs.SetLaws.{grown-grown}
+use Rattle.rl_trim.proofs.TrimLaws.{trims-grown}
 use Rattle.rl_trim.proofs.PairLaws.{next-same}
 use Rattle.rl_trim.proofs.KeyOrder.{keys-grown, keys-put, pairs-put}
 use Rattle.rl_trim.proofs.ArrivedLaws.{arrived-grown, arrived-put, arrived-noted, whole-there, whole-put}
@@ -33,11 +34,11 @@ returns-clause-arrived c =
     let first = c.in_ok-first.first in
     let second = c.in_ok-second.second in
     let key : Key = record { first = first; second = second } in
-    let is = next-same a keep v c.step.new.walk x c.args.key c.args.letter first second c.requires.inside c.requires.whole c.in_ok-first.ensures c.in_ok-second.ensures in
-    let put = arrived-put a keep v x keys more key c.args.self.now.arrived is.grown c.in_ok-put.ensures.keys c.requires.keys c.requires.arrived in
-    let here = whole-put a keep v c.step.new.walk c.args.key c.args.letter first c.requires.whole c.in_ok-first.ensures x keys more second is c.in_ok-second.ensures.grown c.in_ok-put.ensures.keys in
+    let is = next-same a keep v c.step.new.walk x c.args.key c.args.letter first second c.requires.inside c.requires.whole c.in_ok-first.ensures c.in_ok-second.ensures.numbered in
+    let put = arrived-put a keep v x keys more key c.args.self.now.arrived c.trim.new.trims is.grown c.in_ok-put.ensures.keys c.requires.keys c.requires.arrived c.in_ok-second.ensures.trims in
+    let here = whole-put a keep v c.step.new.walk c.args.key c.args.letter first c.requires.whole c.in_ok-first.ensures x keys more second is c.in_ok-second.ensures.numbered.grown c.in_ok-put.ensures.keys in
     let row : AreArrived keep x more c.put.new.self.arrived = subst (AreArrived keep x more) (sym c.in_ok-put.ensures.arrived) put in
-    let all = arrived-noted keep x more c.put.new.self.arrived c.note.new.self.arrived first c.note.ensures.arrived is.inside.first_in here row in
+    let all = arrived-noted keep x more c.put.new.self.arrived c.note.new.self.arrived first c.note.ensures.whole c.note.ensures.trims is.inside.first_in here row in
     let same : c.note.new.self.keys.keys ≡ more = ap (λ o. o.keys) c.note.ensures.keys in
     subst (λ (l : List Key). AreArrived keep x l c.note.new.self.arrived) (sym same) all
 
@@ -51,7 +52,7 @@ returns-clause-pairs c =
     let first = c.in_ok-first.first in
     let second = c.in_ok-second.second in
     let key : Key = record { first = first; second = second } in
-    let is = next-same a keep v c.step.new.walk x c.args.key c.args.letter first second c.requires.inside c.requires.whole c.in_ok-first.ensures c.in_ok-second.ensures in
+    let is = next-same a keep v c.step.new.walk x c.args.key c.args.letter first second c.requires.inside c.requires.whole c.in_ok-first.ensures c.in_ok-second.ensures.numbered in
     ap (λ o. pairs_in x o.keys) c.note.ensures.keys
     ∙ pairs-put a v x keys c.put.new.self.keys.keys key _ is.grown is.inside is.is c.in_ok-put.ensures.keys c.requires.keys
 
@@ -73,9 +74,13 @@ trim-requires-clause-made c = c.in_ok-first.ensures.grown.made
 pub trim-requires-clause-set_in : goal.trim-requires-clause-set_in
 trim-requires-clause-set_in c = c.in_ok-first.ensures.inside
 
+pub trim-requires-clause-trims : goal.trim-requires-clause-trims
+trim-requires-clause-trims c =
+    trims-grown c.args.branch.now.automaton.now c.args.branch.now.keep.now c.args.walk.now c.step.new.walk c.args.self.now.arrived.trims c.in_ok-first.ensures.grown c.requires.arrived.trims
+
 pub returns-clause-grown : goal.returns-clause-grown
 returns-clause-grown c =
-    grown-grown c.args.branch.now.automaton.now c.args.walk.now c.step.new.walk c.trim.new.walk c.in_ok-first.ensures.grown c.in_ok-second.ensures.grown
+    grown-grown c.args.branch.now.automaton.now c.args.walk.now c.step.new.walk c.trim.new.walk c.in_ok-first.ensures.grown c.in_ok-second.ensures.numbered.grown
 
 pub returns-clause-keys : goal.returns-clause-keys
 returns-clause-keys c =
@@ -84,6 +89,6 @@ returns-clause-keys c =
     let first = c.in_ok-first.first in
     let second = c.in_ok-second.second in
     let key : Key = record { first = first; second = second } in
-    let is = next-same a c.args.branch.now.keep.now c.args.walk.now c.step.new.walk x c.args.key c.args.letter first second c.requires.inside c.requires.whole c.in_ok-first.ensures c.in_ok-second.ensures in
+    let is = next-same a c.args.branch.now.keep.now c.args.walk.now c.step.new.walk x c.args.key c.args.letter first second c.requires.inside c.requires.whole c.in_ok-first.ensures c.in_ok-second.ensures.numbered in
     let same : c.note.new.self.keys.keys ≡ c.put.new.self.keys.keys = ap (λ o. o.keys) c.note.ensures.keys in
     subst (AreKeys a x) (sym same) (keys-put a c.args.walk.now x c.args.self.now.keys.keys c.put.new.self.keys.keys key is.grown is.inside c.in_ok-put.ensures.keys c.requires.keys)

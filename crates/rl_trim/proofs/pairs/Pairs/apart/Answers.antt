@@ -18,4 +18,4 @@ loop-place-preserved c =
     let key = c.index-key.result.now in
     let place = c.loop-place.place in
     let lt : place < length keys = omega (arith, c.loop-place-test.true) in
-    none-more a walk walk keys place key (grown-refl a walk c.requires.closed.made) (c.requires.rooted.each place lt) (key-read keys place key c.index-key.ensures) (sym c.in_ok-differs.ensures ∙ c.if-branch.false) c.loop-place.invariant
+    none-more a walk walk keys place key (grown-refl a walk c.requires.closed.made) (c.requires.rooted.each place lt) (key-read keys place key c.index-key.ensures) (sym c.differs.ensures ∙ c.if-differs.false) c.loop-place.invariant

@@ -11,6 +11,7 @@ loop-letter-preserved c = record {
       c.args.self.now.keys.keys c.loop-letter.self.keys.keys c.visit.new.self.keys.keys c.args.place c.loop-letter.letter c.requires.place_in c.requires.pairs c.in_ok-visit.ensures.count c.loop-letter.invariant.expanding
       c.in_ok-visit.ensures.pairs c.in_ok-visit.ensures.onward c.in_ok-visit.ensures.there;
   count = c.in_ok-visit.ensures.count ∙ c.loop-letter.invariant.count;
+  trims = c.in_ok-visit.ensures.trims;
 }
 
 pub returns-clause-done : goal.returns-clause-done

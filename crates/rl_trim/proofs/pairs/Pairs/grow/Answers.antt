@@ -18,19 +18,24 @@ loop-place-preserved c =
           (subst (λ (n : ℕ). IsDone c.args.branch.now.automaton.now c.args.branch.now.keep.now c.look.new.walk n c.look.new.self.keys.keys c.loop-place.place) c.in_ok-look.ensures.count c.in_ok-look.ensures.done));
       inside = omega (arith, c.in_ok-look.ensures.onward.longer);
       count = c.in_ok-look.ensures.count ∙ c.loop-place.invariant.count;
+      trims = c.in_ok-look.ensures.trims;
     }
 
 pub loop-place-init : goal.loop-place-init
 loop-place-init c = record {
-  grown = grown-refl c.args.branch.now.automaton.now c.args.walk.now c.requires.closed.made;
-  pairs = c.requires;
+  grown = grown-refl c.args.branch.now.automaton.now c.args.walk.now c.requires.pairs.closed.made;
+  pairs = c.requires.pairs;
   done = λ i lt. absurd (omega arith);
   inside = omega arith;
   count = refl;
+  trims = c.requires.trims;
 }
 
 pub look-requires-clause-pairs : goal.look-requires-clause-pairs
 look-requires-clause-pairs c = c.loop-place.invariant.pairs
+
+pub look-requires-clause-trims : goal.look-requires-clause-trims
+look-requires-clause-trims c = c.loop-place.invariant.trims
 
 pub look-requires-clause-place_in : goal.look-requires-clause-place_in
 look-requires-clause-place_in c = omega (arith, c.loop-place.invariant.inside, c.len.ensures.len, c.if-place-len.false)
@@ -48,6 +53,9 @@ returns-then-place-len-clause-done c = λ e.
 pub returns-then-place-len-clause-count : goal.returns-then-place-len-clause-count
 returns-then-place-len-clause-count c = c.loop-place.invariant.count
 
+pub returns-then-place-len-clause-trims : goal.returns-then-place-len-clause-trims
+returns-then-place-len-clause-trims c = c.loop-place.invariant.trims
+
 pub returns-clause-grown : goal.returns-clause-grown
 returns-clause-grown c = c.loop-place.invariant.grown
 
@@ -59,3 +67,6 @@ returns-clause-done c = λ e. absurd (false≢true e)
 
 pub returns-clause-count : goal.returns-clause-count
 returns-clause-count c = c.loop-place.invariant.count
+
+pub returns-clause-trims : goal.returns-clause-trims
+returns-clause-trims c = c.loop-place.invariant.trims

@@ -1,5 +1,5 @@
 use Rattle.std.proofs.Common.{◌≡◌, ◌≤◌, length}
-use Rattle.rl_trim.specs.internal.Quick.{IsGrown, ArePairs, AreDone}
+use Rattle.rl_trim.specs.internal.Quick.{IsGrown, ArePairs, AreDone, AreTrims}
 use Rattle.rl_trim.proofs.pairs.Pairs.grow.Given as goal
 
 abbrev pub invariant-loop-place : goal.invariant-loop-place
@@ -9,4 +9,5 @@ invariant-loop-place l = record {
   done : AreDone l.branch.automaton.now l.branch.keep.now l.walk l.self.count l.self.keys.keys l.place;
   inside : l.place ≤ length l.self.keys.keys;
   count : l.self.count ≡ l.fn.self.count;
+  trims : AreTrims l.branch.keep.now l.walk l.self.trims;
 }

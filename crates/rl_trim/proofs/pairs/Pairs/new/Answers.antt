@@ -3,6 +3,7 @@ use Rattle.rl_trim.specs.Reached.{IsClosedTo}
 use Rattle.rl_trim.specs.internal.Noting.{AreTouched}
 use Rattle.rl_trim.specs.internal.Quick.{AreRooted}
 use Rattle.rl_trim.proofs.SetLaws.{grown-refl, grown-grown}
+use Rattle.rl_trim.proofs.TrimLaws.{trims-none}
 use Rattle.rl_trim.proofs.PairLaws.{rooted-none}
 use Rattle.rl_trim.proofs.pairs.Pairs.new.Goals as goal
 
@@ -13,6 +14,7 @@ loop-set-init c = record {
   touched = c.requires.touched;
   rooted = rooted-none c.args.branch.now.keep.now c.args.walk.now c.new.result.keys c.new.ensures.empty;
   count = refl;
+  trims = trims-none c.args.branch.now.keep.now c.args.walk.now c.new-3.result c.new-3.ensures;
 }
 
 pub plant-requires-clause-touched : goal.plant-requires-clause-touched
@@ -23,6 +25,9 @@ plant-requires-clause-closed c = subst (λ n. IsClosedTo c.args.branch.now.autom
 
 pub plant-requires-clause-rooted : goal.plant-requires-clause-rooted
 plant-requires-clause-rooted c = c.loop-set.invariant.rooted
+
+pub plant-requires-clause-trims : goal.plant-requires-clause-trims
+plant-requires-clause-trims c = c.loop-set.invariant.trims
 
 pub plant-requires-clause-set_in : goal.plant-requires-clause-set_in
 plant-requires-clause-set_in c = omega (arith, c.loop-set-test.true, c.loop-set.invariant.count)
@@ -38,6 +43,7 @@ loop-set-preserved c =
       touched = subst (λ n. AreTouched c.args.branch.now.keep.now w n c.args.touched.now) count c.in_ok-plant.ensures.touched;
       rooted = c.in_ok-plant.ensures.rooted;
       count = count;
+      trims = c.in_ok-plant.ensures.trims;
     }
 
 pub returns-clause-grown : goal.returns-clause-grown
@@ -53,3 +59,6 @@ returns-clause-pairs c =
 
 pub returns-clause-count : goal.returns-clause-count
 returns-clause-count c = c.loop-set.invariant.count
+
+pub returns-clause-trims : goal.returns-clause-trims
+returns-clause-trims c = c.loop-set.invariant.trims
